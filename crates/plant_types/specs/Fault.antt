@@ -1,0 +1,64 @@
+-- The texts of faults and of places.
+use Rattle.std.specs.Prelude.{codes, ℕ, List, ◌++◌, slice_index_or}
+use Rattle.std.specs.Fmt.{decimal}
+use Rattle.plant_types.specs.declared.fault.PlantFault.{PlantFault}
+use Rattle.plant_types.specs.declared.fault.PlantFault.TheVariants as faults
+use Rattle.plant_types.specs.declared.fault.Part.{Part}
+use Rattle.plant_types.specs.declared.fault.Part.TheVariants as parts
+use Rattle.plant_types.specs.declared.fault.Place.{Place}
+
+-- The number of a fault. This project's own.
+abbrev pub fault_number : PlantFault → ℕ
+fault_number faults.BadToml = 1
+fault_number faults.BadKey = 2
+fault_number faults.BadValue = 3
+fault_number faults.BadVersion = 4
+fault_number faults.BadRef = 5
+fault_number faults.BadCell = 6
+fault_number faults.BadShape = 7
+fault_number faults.CoilTwice = 8
+fault_number faults.BadOrder = 9
+fault_number faults.BadDrop = 10
+fault_number faults.BadScript = 11
+fault_number faults.BadNode = 12
+fault_number faults.TooLarge = 13
+fault_number faults.NotBuilt = 14
+
+-- The name of a fault. This project's own.
+abbrev pub fault_name : PlantFault → List ℕ
+fault_name faults.BadToml = codes "BadToml"
+fault_name faults.BadKey = codes "BadKey"
+fault_name faults.BadValue = codes "BadValue"
+fault_name faults.BadVersion = codes "BadVersion"
+fault_name faults.BadRef = codes "BadRef"
+fault_name faults.BadCell = codes "BadCell"
+fault_name faults.BadShape = codes "BadShape"
+fault_name faults.CoilTwice = codes "CoilTwice"
+fault_name faults.BadOrder = codes "BadOrder"
+fault_name faults.BadDrop = codes "BadDrop"
+fault_name faults.BadScript = codes "BadScript"
+fault_name faults.BadNode = codes "BadNode"
+fault_name faults.TooLarge = codes "TooLarge"
+fault_name faults.NotBuilt = codes "NotBuilt"
+
+-- A fault as its number and its name. This project's own.
+abbrev pub fault_text : PlantFault → List ℕ
+fault_text fault = decimal (fault_number fault) ++ codes " " ++ fault_name fault
+
+abbrev text_of : Part → ℕ → ℕ → ℕ → ℕ → List ℕ
+text_of parts.Plant a b c d = codes "plant"
+text_of parts.Net a b c d = codes "net"
+text_of parts.Controller a b c d = codes "controller " ++ decimal a
+text_of parts.Drop a b c d = codes "controller " ++ decimal a ++ codes " drop " ++ decimal b
+text_of parts.Module a b c d = codes "controller " ++ decimal a ++ codes " drop " ++ decimal b ++ codes " module " ++ decimal c
+text_of parts.Script a b c d = codes "controller " ++ decimal a ++ codes " drop " ++ decimal b ++ codes " script " ++ decimal c
+text_of parts.Segment a b c d = codes "controller " ++ decimal a ++ codes " segment " ++ decimal b
+text_of parts.Cell a b c d = codes "controller " ++ decimal a ++ codes " segment " ++ decimal b ++ codes " network " ++ decimal c ++ codes " cell " ++ decimal d
+text_of parts.Order a b c d = codes "controller " ++ decimal a ++ codes " order " ++ decimal b
+text_of parts.Panel a b c d = codes "controller " ++ decimal a ++ codes " panel " ++ decimal b
+text_of parts.Host a b c d = codes "host " ++ decimal a
+text_of parts.HostRequest a b c d = codes "host " ++ decimal a ++ codes " request " ++ decimal b
+
+-- A place as its words and numbers. This project's own.
+abbrev pub place_text : Place → List ℕ
+place_text place = text_of place.part (slice_index_or place.at 0 0) (slice_index_or place.at 1 0) (slice_index_or place.at 2 0) (slice_index_or place.at 3 0)

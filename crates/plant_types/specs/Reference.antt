@@ -1,0 +1,44 @@
+-- References of a controller: their kinds, order and texts.
+use Rattle.std.specs.Prelude.{ℕ, ◌+◌, ◌-◌, Bool, true, false, List, ◌++◌, length, replicate}
+use Rattle.std.specs.Fmt.{decimal}
+use Rattle.std.specs.Ordering.{nat_cmp, ordering_then}
+use Rattle.std.specs.declared.cmp.Ordering.{Ordering}
+use Rattle.plant_types.specs.declared.reference.RefKind.{RefKind}
+use Rattle.plant_types.specs.declared.reference.RefKind.TheVariants.{Coil, Input, InputRegister, Register}
+use Rattle.plant_types.specs.declared.reference.Ref.{Ref}
+
+-- The place of a kind in the order of the kinds. This project's own.
+abbrev pub rank_of : RefKind → ℕ
+rank_of Coil = 0
+rank_of Input = 1
+rank_of InputRegister = 2
+rank_of Register = 3
+
+-- Coils and inputs are discretes: they are on or off. Modicon Ladder Logic Block Library User Guide.
+abbrev pub is_discrete : RefKind → Bool
+is_discrete Coil = true
+is_discrete Input = true
+is_discrete _ = false
+
+-- By kind, and then by number. This project's own.
+abbrev pub ref_cmp : Ref → Ref → Ordering
+ref_cmp a b = ordering_then (nat_cmp (rank_of a.kind) (rank_of b.kind)) (nat_cmp a.number b.number)
+
+-- The references of a kind, and the one that stands count places on. Modicon Ladder Logic Block Library User Guide.
+abbrev pub ref_from : Ref → ℕ → Ref
+ref_from at count = record { kind = at.kind; number = at.number + count }
+
+-- The first digit of a reference tells its kind. Modicon Ladder Logic Block Library User Guide.
+abbrev pub leading_digit : RefKind → ℕ
+leading_digit Coil = 0
+leading_digit Input = 1
+leading_digit InputRegister = 3
+leading_digit Register = 4
+
+-- A number in decimal digits, with zeros before it up to a width. This project's own.
+abbrev pub padded : ℕ → ℕ → List ℕ
+padded width n = replicate (width - length (decimal n)) 48 ++ decimal n
+
+-- The text of a reference: the digit of its kind, then four digits. Modicon Ladder Logic Block Library User Guide.
+abbrev pub reference_text : Ref → List ℕ
+reference_text at = decimal (leading_digit at.kind) ++ padded 4 at.number

@@ -1,0 +1,39 @@
+-- How many references of each kind a controller has, and its store when it starts.
+use Rattle.std.specs.Prelude.{◌≡◌, ℕ, zero, suc, Bool, ◌&&◌, nat_le, List, [], ◌∷◌, ◌++◌, Option, Some, None, if◌then◌else◌}
+use Rattle.std.specs.FinMap.{get, from_entries}
+use Rattle.plant_types.specs.declared.reference.RefKind.{RefKind}
+use Rattle.plant_types.specs.declared.reference.RefKind.TheVariants.{Coil, Input, InputRegister, Register}
+use Rattle.plant_types.specs.declared.reference.Ref.{Ref}
+use Rattle.plant_types.specs.Store.{Contents}
+
+-- How many references of each kind there are. This project's own.
+pub record Sizes : Type 0 where
+  pub coils : ℕ
+  pub inputs : ℕ
+  pub input_registers : ℕ
+  pub registers : ℕ
+
+-- How many of a kind there are. This project's own.
+abbrev pub count_of : Sizes → RefKind → ℕ
+count_of sizes Coil = sizes.coils
+count_of sizes Input = sizes.inputs
+count_of sizes InputRegister = sizes.input_registers
+count_of sizes Register = sizes.registers
+
+-- A reference of a map of these sizes: its number counts from 1. This project's own.
+abbrev pub has_reference : Sizes → Ref → Bool
+has_reference sizes at = nat_le 1 at.number && nat_le at.number (count_of sizes at.kind)
+
+-- The references of a kind from 1 to a number, each 0. This project's own.
+abbrev pub zeros : RefKind → ℕ → List (Ref × ℕ)
+zeros kind zero = []
+zeros kind (suc count) = (record { kind = kind; number = suc count }, 0) ∷ zeros kind count
+
+-- All references of a map of these sizes, each 0. This project's own.
+abbrev pub cleared : Sizes → Contents
+cleared sizes =
+    from_entries (zeros Coil sizes.coils ++ (zeros Input sizes.inputs ++ (zeros InputRegister sizes.input_registers ++ zeros Register sizes.registers)))
+
+-- A store when it starts has the references of its sizes, each 0, and no others. This project's own.
+abbrev pub StartsCleared : Type 0
+StartsCleared = (sizes : Sizes) (at : Ref) → get (cleared sizes) at ≡ (if has_reference sizes at then Some 0 else None)

@@ -1,0 +1,106 @@
+//! Why a plant file is refused, and where.
+ghost use Rattle.std.specs.Prelude.{◌≡◌, Some};
+ghost use Rattle.plant_types.specs.Fault.{fault_number, fault_name, fault_text};
+
+use std::fmt;
+
+/// What is wrong with a plant file. This project's own.
+#[derive(Clone, Copy, Debug, PartialEq, Eq)]
+pub enum PlantFault {
+    BadToml,
+    BadKey,
+    BadValue,
+    BadVersion,
+    BadRef,
+    BadCell,
+    BadShape,
+    CoilTwice,
+    BadOrder,
+    BadDrop,
+    BadScript,
+    BadNode,
+    TooLarge,
+    /// What a later version of the program will take.
+    NotBuilt,
+}
+
+impl PlantFault {
+    /// The number that a refusal line shows.
+    pub fn number(self) -> u8
+        ensures { result ≡ fault_number self }
+    {
+        match self {
+            PlantFault::BadToml => 1,
+            PlantFault::BadKey => 2,
+            PlantFault::BadValue => 3,
+            PlantFault::BadVersion => 4,
+            PlantFault::BadRef => 5,
+            PlantFault::BadCell => 6,
+            PlantFault::BadShape => 7,
+            PlantFault::CoilTwice => 8,
+            PlantFault::BadOrder => 9,
+            PlantFault::BadDrop => 10,
+            PlantFault::BadScript => 11,
+            PlantFault::BadNode => 12,
+            PlantFault::TooLarge => 13,
+            PlantFault::NotBuilt => 14,
+        }
+    }
+
+    /// The name that a refusal line shows.
+    pub fn name(self) -> &'static str
+        ensures { result.now ≡ fault_name self }
+    {
+        match self {
+            PlantFault::BadToml => "BadToml",
+            PlantFault::BadKey => "BadKey",
+            PlantFault::BadValue => "BadValue",
+            PlantFault::BadVersion => "BadVersion",
+            PlantFault::BadRef => "BadRef",
+            PlantFault::BadCell => "BadCell",
+            PlantFault::BadShape => "BadShape",
+            PlantFault::CoilTwice => "CoilTwice",
+            PlantFault::BadOrder => "BadOrder",
+            PlantFault::BadDrop => "BadDrop",
+            PlantFault::BadScript => "BadScript",
+            PlantFault::BadNode => "BadNode",
+            PlantFault::TooLarge => "TooLarge",
+            PlantFault::NotBuilt => "NotBuilt",
+        }
+    }
+}
+
+/// The number and the name, as in `8 CoilTwice`.
+impl fmt::Display for PlantFault {
+    ghost output = { λ fault. Some (fault_text fault) };
+
+    fn fmt<W: fmt::Write>(&self, f: &mut fmt::Formatter<W>) -> fmt::Result {
+        let number = self.number();
+        let name = self.name();
+        write!(f, "{number} {name}")
+    }
+}
+
+/// The part of a plant file that a place is in. This project's own.
+#[derive(Clone, Copy, Debug, PartialEq, Eq)]
+pub enum Part {
+    Plant,
+    Net,
+    Controller,
+    Drop,
+    Module,
+    Script,
+    Segment,
+    Cell,
+    Order,
+    Panel,
+    Host,
+    HostRequest,
+}
+
+/// A place in a plant file: the numbers of its text in order, from 1 in file order, 0 where unused.
+#[derive(Clone, Copy, Debug, PartialEq, Eq)]
+pub struct Place {
+    pub part: Part,
+    pub at: [u32; 4],
+}

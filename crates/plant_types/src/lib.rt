@@ -1,0 +1,26 @@
+//! The plan of a plant, the references of its controllers, and the stores that hold them.
+#![tactic(auto)]
+
+pub mod copied;
+pub mod element;
+pub mod fault;
+pub mod list;
+pub mod map_ram;
+pub mod network;
+pub mod plan;
+pub mod power;
+pub mod reference;
+pub mod store;
+pub mod words;
+
+pub use copied::Copied;
+pub use element::{Element, Operand, Unit};
+pub use fault::{Part, Place, PlantFault};
+pub use list::List;
+pub use map_ram::MapRam;
+pub use network::{Cell, Network, Segment, Short};
+pub use plan::{ControllerPlan, Plant};
+pub use power::NodePower;
+pub use reference::{Ref, RefKind};
+pub use store::RefStore;
+pub use words::{Block, Pdu, Words};

@@ -1,0 +1,31 @@
+//! Ladder networks: cells, and the vertical shorts between their rows.
+use crate::element::Element;
+use crate::list::List;
+
+/// An element at the place of its top node: row 1 to 7, column 1 to 11.
+#[derive(Clone, Copy, Debug, PartialEq, Eq)]
+pub struct Cell {
+    pub row: u8,
+    pub column: u8,
+    pub element: Element,
+}
+
+/// A vertical short of a row (1 to 6) and the one below it, at the right border of a column.
+#[derive(Clone, Copy, Debug, PartialEq, Eq)]
+pub struct Short {
+    pub row: u8,
+    pub column: u8,
+}
+
+/// One network, its cells and shorts in the order of its text.
+#[derive(Drop)]
+pub struct Network {
+    pub cells: List<Cell>,
+    pub shorts: List<Short>,
+}
+
+/// Networks that are solved together, in their order.
+#[derive(Drop)]
+pub struct Segment {
+    pub networks: List<Network>,
+}
