@@ -3,13 +3,12 @@ use Rattle.std.proofs.Common.{◌≡◌, ℕ, zero, suc, Bool, true, false, cond
 use Rattle.std.specs.Ordering.{is_eq, ordering_then}
 use Rattle.std.proofs.lemmas.Bool.Decides.{nat_tests}
 use Rattle.std.proofs.lemmas.List.{append-nil}
-use Rattle.std.specs.FinMap.{get}
 use Rattle.std.specs.Prelude.{nat_le}
 use Rattle.plant_types.specs.declared.reference.RefKind.{RefKind}
 use Rattle.plant_types.specs.declared.reference.RefKind.TheVariants.{Coil, Input, InputRegister, Register}
 use Rattle.plant_types.specs.declared.reference.Ref.{Ref}
 use Rattle.plant_types.specs.Reference.{rank_of}
-use Rattle.plant_types.specs.Sizes.{Sizes, zeros, cleared, count_of, has_reference, StartsCleared}
+use Rattle.plant_types.specs.Sizes.{Sizes, zeros, count_of, StartsCleared}
 use Rattle.plant_types.proofs.Contents.{found_at, get_ref}
 
 -- a number from 1 to a count

@@ -5,3 +5,6 @@ pub mod Sizes
 pub mod MapRam
 pub mod Power
 pub mod Fault
+pub mod Wire
+pub mod Network
+pub mod Checks

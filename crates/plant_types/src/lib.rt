@@ -1,6 +1,7 @@
 //! The plan of a plant, the references of its controllers, and the stores that hold them.
 #![tactic(auto)]
 
+pub mod checks;
 pub mod copied;
 pub mod element;
 pub mod fault;
@@ -13,6 +14,7 @@ pub mod reference;
 pub mod store;
 pub mod words;
 
+pub use checks::checked_plans_find_all;
 pub use copied::Copied;
 pub use element::{Element, Operand, Unit};
 pub use fault::{Part, Place, PlantFault};

@@ -1,0 +1,8 @@
+//! What the tests of a plan promise of its store.
+ghost use Rattle.plant_types.specs.Checks.{CheckedPlansFindAll};
+
+/// A plan that passes its tests finds each operand and each panel reference in the store that its
+/// sizes make.
+pub fn checked_plans_find_all()
+    ensures { CheckedPlansFindAll }
+{}
