@@ -45,20 +45,11 @@ fault_name faults.NotBuilt = codes "NotBuilt"
 abbrev pub fault_text : PlantFault → List ℕ
 fault_text fault = decimal (fault_number fault) ++ codes " " ++ fault_name fault
 
-abbrev text_of : Part → ℕ → ℕ → ℕ → ℕ → List ℕ
-text_of parts.Plant a b c d = codes "plant"
-text_of parts.Net a b c d = codes "net"
-text_of parts.Controller a b c d = codes "controller " ++ decimal a
-text_of parts.Drop a b c d = codes "controller " ++ decimal a ++ codes " drop " ++ decimal b
-text_of parts.Module a b c d = codes "controller " ++ decimal a ++ codes " drop " ++ decimal b ++ codes " module " ++ decimal c
-text_of parts.Script a b c d = codes "controller " ++ decimal a ++ codes " drop " ++ decimal b ++ codes " script " ++ decimal c
-text_of parts.Segment a b c d = codes "controller " ++ decimal a ++ codes " segment " ++ decimal b
-text_of parts.Cell a b c d = codes "controller " ++ decimal a ++ codes " segment " ++ decimal b ++ codes " network " ++ decimal c ++ codes " cell " ++ decimal d
-text_of parts.Order a b c d = codes "controller " ++ decimal a ++ codes " order " ++ decimal b
-text_of parts.Panel a b c d = codes "controller " ++ decimal a ++ codes " panel " ++ decimal b
-text_of parts.Host a b c d = codes "host " ++ decimal a
-text_of parts.HostRequest a b c d = codes "host " ++ decimal a ++ codes " request " ++ decimal b
+-- A place as its words and numbers, which are those of its controller, segment, network and cell. This project's own.
+abbrev pub text_of : Part → ℕ → ℕ → ℕ → ℕ → List ℕ
+text_of parts.Plant controller segment network cell = codes "plant"
+text_of parts.Cell controller segment network cell =
+    (codes "controller " ++ decimal controller ++ codes " segment " ++ decimal segment) ++ (codes " network " ++ decimal network ++ codes " cell " ++ decimal cell)
 
--- A place as its words and numbers. This project's own.
 abbrev pub place_text : Place → List ℕ
 place_text place = text_of place.part (slice_index_or place.at 0 0) (slice_index_or place.at 1 0) (slice_index_or place.at 2 0) (slice_index_or place.at 3 0)

@@ -1,5 +1,5 @@
 -- References of a controller: their kinds, order and texts.
-use Rattle.std.specs.Prelude.{ℕ, ◌+◌, ◌-◌, Bool, true, false, List, ◌++◌, length, replicate}
+use Rattle.std.specs.Prelude.{ℕ, ◌+◌, ◌/◌, ◌%◌, Bool, true, false, List, ◌++◌}
 use Rattle.std.specs.Fmt.{decimal}
 use Rattle.std.specs.Ordering.{nat_cmp, ordering_then}
 use Rattle.std.specs.declared.cmp.Ordering.{Ordering}
@@ -35,10 +35,10 @@ leading_digit Input = 1
 leading_digit InputRegister = 3
 leading_digit Register = 4
 
--- A number in decimal digits, with zeros before it up to a width. This project's own.
-abbrev pub padded : ℕ → ℕ → List ℕ
-padded width n = replicate (width - length (decimal n)) 48 ++ decimal n
+-- The four decimal digits of a number below 10,000. This project's own.
+abbrev pub four_digits : ℕ → List ℕ
+four_digits n = decimal (n / 1000) ++ decimal (n / 100 % 10) ++ decimal (n / 10 % 10) ++ decimal (n % 10)
 
--- The text of a reference: the digit of its kind, then four digits. Modicon Ladder Logic Block Library User Guide.
+-- The text of a reference: the digit of its kind, then the four of its number. Modicon Ladder Logic Block Library User Guide.
 abbrev pub reference_text : Ref → List ℕ
-reference_text at = decimal (leading_digit at.kind) ++ padded 4 at.number
+reference_text at = decimal (leading_digit at.kind) ++ four_digits at.number

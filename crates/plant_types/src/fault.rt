@@ -1,6 +1,6 @@
 //! Why a plant file is refused, and where.
 ghost use Rattle.std.specs.Prelude.{◌≡◌, Some};
-ghost use Rattle.plant_types.specs.Fault.{fault_number, fault_name, fault_text};
+ghost use Rattle.plant_types.specs.Fault.{fault_number, fault_name, fault_text, place_text};
 
 use std::fmt;
 
@@ -84,18 +84,10 @@ impl fmt::Display for PlantFault {
 /// The part of a plant file that a place is in. This project's own.
 #[derive(Clone, Copy, Debug, PartialEq, Eq)]
 pub enum Part {
+    /// The file as a whole.
     Plant,
-    Net,
-    Controller,
-    Drop,
-    Module,
-    Script,
-    Segment,
+    /// A piece of a network's text: controller, segment, network and cell.
     Cell,
-    Order,
-    Panel,
-    Host,
-    HostRequest,
 }
 
 /// A place in a plant file: the numbers of its text in order, from 1 in file order, 0 where unused.
@@ -103,4 +95,28 @@ pub enum Part {
 pub struct Place {
     pub part: Part,
     pub at: [u32; 4],
+}
+
+impl Place {
+    /// The file as a whole.
+    pub const PLANT: Place = Place {
+        part: Part::Plant,
+        at: [0; 4],
+    };
+}
+
+/// As in `controller 1 segment 1 network 1 cell 4`.
+impl fmt::Display for Place {
+    ghost output = { λ place. Some (place_text place) };
+
+    fn fmt<W: fmt::Write>(&self, f: &mut fmt::Formatter<W>) -> fmt::Result {
+        let [controller, segment, network, cell] = self.at;
+        match self.part {
+            Part::Plant => write!(f, "plant"),
+            Part::Cell => {
+                write!(f, "controller {controller} segment {segment}")?;
+                write!(f, " network {network} cell {cell}")
+            }
+        }
+    }
 }

@@ -1,6 +1,8 @@
 //! The references of a controller.
-ghost use Rattle.std.specs.Prelude.{◌≡◌};
-ghost use Rattle.plant_types.specs.Reference.{leading_digit};
+ghost use Rattle.std.specs.Prelude.{◌≡◌, Some};
+ghost use Rattle.plant_types.specs.Reference.{reference_text, leading_digit};
+
+use std::fmt;
 
 /// The four kinds of reference: 0x, 1x, 3x and 4x
 /// (*Modicon Ladder Logic Block Library User Guide*).
@@ -35,4 +37,18 @@ impl RefKind {
 pub struct Ref {
     pub kind: RefKind,
     pub number: u16,
+}
+
+/// Five digits: the kind's, then the number's four.
+impl fmt::Display for Ref {
+    ghost output = { λ at. Some (reference_text at) };
+
+    fn fmt<W: fmt::Write>(&self, f: &mut fmt::Formatter<W>) -> fmt::Result {
+        let kind = self.kind.leading_digit();
+        let thousands = self.number / 1000;
+        let hundreds = self.number / 100 % 10;
+        let tens = self.number / 10 % 10;
+        let ones = self.number % 10;
+        write!(f, "{kind}{thousands}{hundreds}{tens}{ones}")
+    }
 }
