@@ -1,3 +1,4 @@
 pub mod Contents
+pub mod RunLemmas
 pub mod SizesLemmas
 pub mod ChecksLemmas

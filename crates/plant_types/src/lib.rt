@@ -11,6 +11,7 @@ pub mod network;
 pub mod plan;
 pub mod power;
 pub mod reference;
+pub mod runs;
 pub mod store;
 pub mod words;
 
@@ -24,5 +25,6 @@ pub use network::{Cell, Network, Segment, Short};
 pub use plan::{ControllerPlan, Plant};
 pub use power::NodePower;
 pub use reference::{Ref, RefKind};
+pub use runs::{load_words, ref_after, store_words};
 pub use store::RefStore;
 pub use words::{Block, Pdu, Words};
