@@ -28,3 +28,6 @@ pub use reference::{Ref, RefKind};
 pub use runs::{load_words, ref_after, store_words};
 pub use store::RefStore;
 pub use words::{Block, Pdu, Words};
+
+#[cfg(test)]
+mod tests;

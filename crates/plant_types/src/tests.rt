@@ -1,0 +1,121 @@
+//! Values from outside: each public call once, with ample memory.
+use crate::{
+    Block, Copied, List, MapRam, Network, NodePower, Part, Pdu, Place, PlantFault, Ref, RefKind,
+    RefStore, Short, Words,
+};
+use std::alloc::AllocError;
+
+const COIL_16: Ref = Ref {
+    kind: RefKind::Coil,
+    number: 16,
+};
+
+const REGISTER_3: Ref = Ref {
+    kind: RefKind::Register,
+    number: 3,
+};
+
+#[test]
+fn a_store_holds_its_references(rt: HostRuntime) -> Result<(), AllocError> {
+    let mut ram = MapRam::new(rt.alloc(), 16, 0, 2, 3)?;
+    for (kind, number, there) in [
+        (RefKind::Coil, 0, false),
+        (RefKind::Coil, 1, true),
+        (RefKind::Coil, 17, false),
+        (RefKind::Input, 1, false),
+        (RefKind::InputRegister, 2, true),
+        (RefKind::InputRegister, 3, false),
+        (RefKind::Register, 4, false),
+    ] {
+        assert_eq!(rt; ram.has(Ref { kind, number }), there, "{number}");
+    }
+    if ram.has(COIL_16) && ram.has(REGISTER_3) {
+        assert!(rt; !ram.bit(COIL_16));
+        assert_eq!(rt; ram.word(REGISTER_3), 0);
+        ram.set_bit(COIL_16, true);
+        ram.set_word(REGISTER_3, 65_535);
+        assert!(rt; ram.bit(COIL_16));
+        assert_eq!(rt; ram.word(REGISTER_3), 65_535);
+        ram.set_bit(COIL_16, false);
+        assert!(rt; !ram.bit(COIL_16));
+    }
+    Ok(())
+}
+
+#[test]
+fn lists_and_their_copies(rt: HostRuntime) -> Result<(), AllocError> {
+    let alloc = rt.alloc();
+    let mut list = List::new(alloc);
+    list.push(7u16)?;
+    assert_eq!(rt; list.as_slice(), [7].as_slice());
+    assert_eq!(rt; Words::of(alloc, &[7])?.words(), [7].as_slice());
+    let mut shorts = List::new(alloc);
+    shorts.push(Short { row: 1, column: 11 })?;
+    let network = Network {
+        cells: List::new(alloc),
+        shorts,
+    };
+    let copy = network.copied(alloc)?;
+    assert_eq!(rt;
+        copy.shorts.as_slice(),
+        [Short { row: 1, column: 11 }].as_slice()
+    );
+    assert!(rt; copy.cells.as_slice().is_empty());
+    Ok(())
+}
+
+#[test]
+fn requests_and_blocks_have_bounds(rt: HostRuntime) -> Result<(), AllocError> {
+    let alloc = rt.alloc();
+    let bytes = [3u8; 254];
+    for (count, is_pdu) in [(0, false), (1, true), (253, true), (254, false)] {
+        let made = Pdu::of(alloc, &bytes[..count])?;
+        assert_eq!(rt; made.is_some(), is_pdu, "{count}");
+        if let Some(pdu) = made {
+            assert_eq!(rt; pdu.copied(alloc)?.bytes(), &bytes[..count]);
+        }
+    }
+    let block = Block::of(&[1, 2, 65_535]).copied(alloc)?;
+    assert_eq!(rt; block.words(), [1, 2, 65_535].as_slice());
+    assert!(rt; Block::of(&[]).words().is_empty());
+    Ok(())
+}
+
+#[test]
+fn texts_of_references_faults_and_places(rt: HostRuntime) -> Result<(), AllocError> {
+    let alloc = rt.alloc();
+    assert_eq!(rt; COIL_16.to_string(alloc)?.as_str(), "00016");
+    let last = Ref {
+        kind: RefKind::Register,
+        number: 9984,
+    };
+    assert_eq!(rt; last.to_string(alloc)?.as_str(), "49984");
+    let cell = Place {
+        part: Part::Cell,
+        at: [1, 1, 12, 4],
+    };
+    assert_eq!(rt;
+        format!(in alloc; "{} {cell}", PlantFault::CoilTwice)?.as_str(),
+        "8 CoilTwice controller 1 segment 1 network 12 cell 4"
+    );
+    assert_eq!(rt;
+        format!(in alloc; "{} {}", PlantFault::NotBuilt, Place::PLANT)?.as_str(),
+        "14 NotBuilt plant"
+    );
+    Ok(())
+}
+
+#[test]
+fn nodes_have_power_by_bits(rt: HostRuntime) {
+    let nodes = NodePower::of_bits(5);
+    assert_eq!(rt;
+        nodes,
+        NodePower {
+            top: true,
+            middle: false,
+            bottom: true
+        }
+    );
+    assert_eq!(rt; nodes.bits(), 5);
+    assert_eq!(rt; NodePower::OFF.bits(), 0);
+}
