@@ -8,3 +8,4 @@ pub mod Fault
 pub mod Wire
 pub mod Network
 pub mod Checks
+pub mod Effect
