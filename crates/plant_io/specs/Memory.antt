@@ -1,0 +1,19 @@
+-- What a caller sees of a source and a sink in memory.
+use Rattle.std.specs.Prelude.{ℕ, List}
+
+-- The bytes left, the most that a read gives, the numbers of the calls that fail, the calls made and those that failed. This project's own.
+pub record Input : Type 0 where
+  pub left : List ℕ
+  pub piece : ℕ
+  pub fails : List ℕ
+  pub calls : ℕ
+  pub faults : ℕ
+
+-- The bytes taken, how many fit without new memory, the most that a write takes, the numbers of the calls that fail, the calls made and those that failed. This project's own.
+pub record Output : Type 0 where
+  pub taken : List ℕ
+  pub room : ℕ
+  pub piece : ℕ
+  pub fails : List ℕ
+  pub calls : ℕ
+  pub faults : ℕ
