@@ -59,10 +59,7 @@ impl Source for MemSource {
 
     fn read(&mut self, buf: &mut [u8]) -> Result<usize, Failed>
         requires { 0 < length buf.old }
-        ensures within { IfOk result (λ count. count ≤ length buf.new) }
-        ensures gave { IfOk result (λ count. Gave (Some self.old.left) (Some self.new.left) (take count buf.new)) }
         ensures end { IfOk result (λ count. (count ≡ 0) ↔ (self.old.left ≡ [])) }
-        ensures kept { OnErr result (self.new.left ≡ self.old.left) }
         ensures cause { HasCause self.old.faults self.new.faults result }
 
         // Exactly the calls of the list fail, and each other one gives all that it can.
@@ -70,7 +67,7 @@ impl Source for MemSource {
         ensures count { IfOk result (λ count. count ≡ min self.old.piece (min (length buf.old) (length self.old.left))) }
         ensures ok { IfOk result (λ count. self.new ≡ record self.old { left = drop count self.old.left; calls = counted self.old.calls }) }
         ensures err { OnErr result (self.new ≡ record self.old { calls = counted self.old.calls; faults = counted self.old.faults }) }
-        ensures rest { IfOk result (λ count. drop count buf.new ≡ drop count buf.old) }
+        ensures filled { IfOk result (λ count. buf.new ≡ take count self.old.left ++ drop count buf.old) }
         ensures untouched { OnErr result (buf.new ≡ buf.old) }
     {
         if self.calls.fails_next() {
@@ -142,9 +139,6 @@ impl Sink for MemSink {
     fn write(&mut self, piece: &[u8]) -> Result<usize, Failed>
         requires { 0 < length piece.now }
         ensures some { IfOk result (λ count. 0 < count) }
-        ensures within { IfOk result (λ count. count ≤ length piece.now) }
-        ensures took { IfOk result (λ count. Took (Some self.old.taken) (Some self.new.taken) (take count piece.now)) }
-        ensures kept { OnErr result (Some self.new.taken ≡ Some self.old.taken) }
         ensures cause { HasCause self.old.faults self.new.faults result }
 
         // The calls of the list fail, and no other one unless it finds no room for more.

@@ -5,6 +5,8 @@ ghost use Rattle.plant_io.specs.declared.reading.ReadEnd.TheVariants.{Fault, NoM
 
 use crate::Failed;
 use std::alloc::{AllocError, Global};
+use std::error::Error;
+use std::fmt;
 
 /// Where bytes come from.
 pub trait Source {
@@ -31,6 +33,18 @@ pub enum ReadEnd {
     TooLong,
     NoMemory,
 }
+
+impl fmt::Display for ReadEnd {
+    fn fmt<W: fmt::Write>(&self, f: &mut fmt::Formatter<W>) -> fmt::Result {
+        f.write_str(match self {
+            ReadEnd::Fault => "the input could not be read",
+            ReadEnd::TooLong => "the input is too long",
+            ReadEnd::NoMemory => "out of memory",
+        })
+    }
+}
+
+impl Error for ReadEnd {}
 
 impl From<Failed> for ReadEnd {
     ghost from_gives = { λ _ end. end ≡ Fault };

@@ -1,5 +1,6 @@
 // The adapters over std's readers and writers, which tell nothing of bytes.
-ghost use Rattle.std.specs.Prelude.{◌≡◌, None, is_err};
+ghost use Rattle.std.specs.Prelude.{◌≡◌, ◌<◌, ◌≤◌, length, None, IfOk, is_err, if◌then◌else◌};
+ghost use Rattle.plant_io.specs.Causes.{HasCause, counted};
 
 use crate::{Failed, Sink, Source};
 use std::io::{Read, Write};
@@ -33,7 +34,11 @@ impl<R: Read> Source for StdSource<R> {
 
     ghost faults = { λ faults. faults };
 
-    fn read(&mut self, buf: &mut [u8]) -> Result<usize, Failed> {
+    fn read(&mut self, buf: &mut [u8]) -> Result<usize, Failed>
+        ensures within { IfOk result (λ count. count ≤ length buf.new) }
+        ensures cause { HasCause self.old self.new result }
+        ensures faults { self.new ≡ (if is_err result then counted self.old else self.old) }
+    {
         match self.reader.read(buf) {
             Ok(count) => Ok(count),
             Err(_) => {
@@ -72,7 +77,12 @@ impl<W: Write> Sink for StdSink<W> {
 
     ghost faults = { λ faults. faults };
 
-    fn write(&mut self, piece: &[u8]) -> Result<usize, Failed> {
+    fn write(&mut self, piece: &[u8]) -> Result<usize, Failed>
+        ensures some { IfOk result (λ count. 0 < count) }
+        ensures within { IfOk result (λ count. count ≤ length piece.now) }
+        ensures cause { HasCause self.old self.new result }
+        ensures faults { self.new ≡ (if is_err result then counted self.old else self.old) }
+    {
         match self.writer.write(piece) {
             Ok(count) if count > 0 => Ok(count),
             _ => {
