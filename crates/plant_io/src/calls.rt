@@ -2,7 +2,7 @@ ghost use Rattle.std.specs.Prelude.{◌≡◌, ◌+◌, ◌↔◌, IsTrue, Conta
 ghost use Rattle.plant_io.specs.Causes.{counted};
 
 /// The calls made so far, and those of them that failed.
-#[derive(Drop)]
+#[derive(Debug, Drop)]
 pub struct Calls {
     pub fails: Vec<u64>,
     pub made: u64,

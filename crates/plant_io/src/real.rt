@@ -1,29 +1,23 @@
-// The adapters over std's readers and writers, which tell nothing of bytes.
+// The adapters over std's readers and writers. To those above they tell nothing of bytes.
 ghost use Rattle.std.specs.Prelude.{◌≡◌, ◌<◌, ◌≤◌, length, None, IfOk, is_err, if◌then◌else◌};
+ghost use Rattle.std.specs.Io.KnownBytes.{ReadConsumes, WriteAppends};
 ghost use Rattle.plant_io.specs.Causes.{HasCause, counted};
+ghost use Rattle.plant_io.specs.Real.{reader_of, failed_reads, writer_of, failed_writes};
 
 use crate::{Failed, Sink, Source};
 use std::io::{Read, Write};
-use std::marker::Model;
 
 /// Any reader of std. Each `Err` of a read is a fault.
-#[derive(Drop)]
+#[derive(Debug, Drop)]
 pub struct StdSource<R> {
     reader: R,
     faults: u64,
 }
 
-impl<R> Model for StdSource<R> {
-    ghost use Rattle.std.specs.Prelude.{ℕ};
-
-    ghost Value = { ℕ };
-
-    ghost view = { λ source. source.faults };
-}
-
 impl<R: Read> StdSource<R> {
     pub fn new(reader: R) -> StdSource<R>
-        ensures { result ≡ 0 }
+        ensures reader { reader_of result ≡ reader }
+        ensures fresh { failed_reads result ≡ 0 }
     {
         StdSource { reader, faults: 0 }
     }
@@ -32,12 +26,15 @@ impl<R: Read> StdSource<R> {
 impl<R: Read> Source for StdSource<R> {
     ghost left = { λ _. None };
 
-    ghost faults = { λ faults. faults };
+    ghost faults = { λ source. failed_reads source };
 
     fn read(&mut self, buf: &mut [u8]) -> Result<usize, Failed>
         ensures within { IfOk result (λ count. count ≤ length buf.new) }
-        ensures cause { HasCause self.old self.new result }
-        ensures faults { self.new ≡ (if is_err result then counted self.old else self.old) }
+        ensures cause { HasCause (failed_reads self.old) (failed_reads self.new) result }
+
+        // The bytes are the reader's, where it tells them, and each of its errors is counted.
+        ensures bytes { ReadConsumes (R.remaining (reader_of self.old)) (R.remaining (reader_of self.new)) result buf.new }
+        ensures faults { failed_reads self.new ≡ (if is_err result then counted (failed_reads self.old) else failed_reads self.old) }
     {
         match self.reader.read(buf) {
             Ok(count) => Ok(count),
@@ -50,23 +47,16 @@ impl<R: Read> Source for StdSource<R> {
 }
 
 /// Any writer of std. Each `Err` of a write is a fault, and so is a write that takes nothing.
-#[derive(Drop)]
+#[derive(Debug, Drop)]
 pub struct StdSink<W> {
     writer: W,
     faults: u64,
 }
 
-impl<W> Model for StdSink<W> {
-    ghost use Rattle.std.specs.Prelude.{ℕ};
-
-    ghost Value = { ℕ };
-
-    ghost view = { λ sink. sink.faults };
-}
-
 impl<W: Write> StdSink<W> {
     pub fn new(writer: W) -> StdSink<W>
-        ensures { result ≡ 0 }
+        ensures writer { writer_of result ≡ writer }
+        ensures fresh { failed_writes result ≡ 0 }
     {
         StdSink { writer, faults: 0 }
     }
@@ -75,13 +65,16 @@ impl<W: Write> StdSink<W> {
 impl<W: Write> Sink for StdSink<W> {
     ghost taken = { λ _. None };
 
-    ghost faults = { λ faults. faults };
+    ghost faults = { λ sink. failed_writes sink };
 
     fn write(&mut self, piece: &[u8]) -> Result<usize, Failed>
         ensures some { IfOk result (λ count. 0 < count) }
         ensures within { IfOk result (λ count. count ≤ length piece.now) }
-        ensures cause { HasCause self.old self.new result }
-        ensures faults { self.new ≡ (if is_err result then counted self.old else self.old) }
+        ensures cause { HasCause (failed_writes self.old) (failed_writes self.new) result }
+
+        // The bytes go to the writer, where it tells them, and each failed write is counted.
+        ensures bytes { WriteAppends (W.contents (writer_of self.old)) (W.contents (writer_of self.new)) result piece.now }
+        ensures faults { failed_writes self.new ≡ (if is_err result then counted (failed_writes self.old) else failed_writes self.old) }
     {
         match self.writer.write(piece) {
             Ok(count) if count > 0 => Ok(count),
