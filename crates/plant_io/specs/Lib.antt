@@ -2,3 +2,4 @@ pub mod Causes
 pub mod Memory
 pub mod Real
 pub mod Streams
+pub mod Texts

@@ -1,4 +1,4 @@
--- What a caller sees of a source and a sink in memory.
+-- What a caller sees of a source and a sink in memory. Each count stands still at its type's end.
 use Rattle.std.specs.Prelude.{ℕ, List}
 
 -- The bytes left, the most that a read gives, the numbers of the calls that fail, the calls made and those that failed. This project's own.

@@ -35,12 +35,17 @@ pub enum ReadEnd {
 }
 
 impl fmt::Display for ReadEnd {
+    ghost use Rattle.plant_io.specs.Texts.{end_text};
+    ghost use Rattle.std.specs.Prelude.{Some};
+
+    ghost output = { λ end. Some (end_text end) };
+
     fn fmt<W: fmt::Write>(&self, f: &mut fmt::Formatter<W>) -> fmt::Result {
-        f.write_str(match self {
-            ReadEnd::Fault => "the input could not be read",
-            ReadEnd::TooLong => "the input is too long",
-            ReadEnd::NoMemory => "out of memory",
-        })
+        match self {
+            ReadEnd::Fault => f.write_str("the input could not be read"),
+            ReadEnd::TooLong => f.write_str("the input is too long"),
+            ReadEnd::NoMemory => f.write_str("out of memory"),
+        }
     }
 }
 
