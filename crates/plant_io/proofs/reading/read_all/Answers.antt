@@ -1,5 +1,5 @@
 use Rattle.std.proofs.Common.{◌++◌, take, arith, length-append, length-take, ℕ}
-use Rattle.plant_io.proofs.Gaves.{Gave-then}
+use Rattle.plant_io.proofs.Transfers.{Gave-then}
 use Rattle.plant_io.proofs.reading.read_all.Goals as goal
 
 pub returns-in_err-extend_from_slice-clause-memory_front :

@@ -1,6 +1,6 @@
 use Rattle.std.proofs.Common.{arith, length-drop}
 use Rattle.std.proofs.lemmas.List.{take_rest}
-use Rattle.plant_io.proofs.Gaves.{Took-front}
+use Rattle.plant_io.proofs.Transfers.{Took-front}
 use Rattle.plant_io.proofs.writing.write_all.Goals as goal
 
 pub loop-done-preserved : goal.loop-done-preserved
