@@ -1,18 +1,16 @@
 -- What each step leaves of the agreement between flags and definitions.
 use Rattle.std.proofs.Common.{◌≡◌, ℕ, ◌+◌, ◌-◌, ◌<◌, ◌≤◌, zero, suc, get_or, Bool, true, false, ◌&&◌, ◌||◌, ◌==◌, List, [], ◌∷◌, ◌++◌, refl, ◌∙◌, sym, ap, subst, add-zero, length, take, drop, ◌⊎◌, inl, inr, arith}
-use Rattle.std.specs.Prelude.{map, replicate, nat_le, if◌then◌else◌}
+use Rattle.std.specs.Prelude.{map, replicate, if◌then◌else◌}
 use Rattle.std.proofs.lemmas.Bool.Decides.{nat_tests}
 use Rattle.std.proofs.lemmas.List.{get_or-replicate, get_or_past, take_more}
-use Rattle.plant_types.specs.declared.element.Element.{Element}
 use Rattle.plant_types.specs.declared.network.Cell.{Cell}
 use Rattle.plant_types.specs.declared.network.Short.{Short}
 use Rattle.plant_types.specs.declared.network.Network.{Network}
 use Rattle.plant_types.specs.declared.power.NodePower.{NodePower}
 use Rattle.plant_types.specs.Network.{is_row}
-use Rattle.plant_types.specs.Wire.{is_joined}
 use Rattle.plant_types.specs.Store.{Contents}
 use Rattle.ladder_solver.specs.State.{State}
-use Rattle.ladder_solver.specs.Network.{Power, Place, inputs_at, with_output, with_outputs, element_at, rows_after, columns_after}
+use Rattle.ladder_solver.specs.Network.{Power, inputs_at, with_output, with_outputs, element_at, rows_after, columns_after}
 use Rattle.ladder_solver.specs.Rows.{flag_of, marks_of, are_linked, Feeds}
 use Rattle.ladder_solver.specs.declared.layout.Column.{Column}
 use Rattle.ladder_solver.specs.declared.layout.Grid.{Grid}

@@ -1,6 +1,5 @@
 -- Power that spreads along marked pairs of rows.
-use Rattle.std.proofs.Common.{◌≡◌, ◌≢◌, ℕ, ◌+◌, ◌-◌, ◌≤◌, ◌<◌, zero, suc, length, get_or, set, Bool, true, false, ◌&&◌, ◌||◌, ◌==◌, ◌⊎◌, inl, inr, List, [], ◌∷◌, refl, sym, ap, ◌∙◌, subst, add-one, add-zero, arith, get_or-set_other, get_or-set_same}
-use Rattle.std.proofs.lemmas.Bool.Decides.{nat_tests}
+use Rattle.std.proofs.Common.{◌≡◌, ◌≢◌, ℕ, ◌+◌, ◌-◌, ◌≤◌, ◌<◌, zero, suc, length, set, Bool, true, false, ◌&&◌, ◌||◌, ◌⊎◌, inl, inr, List, refl, sym, ap, ◌∙◌, add-zero, arith, get_or-set_other, get_or-set_same}
 use Rattle.plant_types.specs.declared.network.Short.{Short}
 use Rattle.plant_types.specs.Wire.{is_shorted, are_shorted, is_joined}
 use Rattle.ladder_solver.specs.Rows.{flag_of, marks_of, are_marked, are_linked, SpreadsDown, SpreadsUp}

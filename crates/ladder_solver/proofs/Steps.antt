@@ -1,18 +1,17 @@
 -- Networks laid out: one more row and column, and what their cells ask.
-use Rattle.std.proofs.Common.{◌≡◌, ℕ, ◌+◌, ◌-◌, ◌≤◌, ◌<◌, zero, suc, length, get_or, Bool, true, false, cond, ◌&&◌, ◌==◌, List, [], ◌∷◌, ◌++◌, Option, Some, None, refl, sym, ap, ◌∙◌, subst, add-one, add-zero, append_assoc, arith}
+use Rattle.std.proofs.Common.{◌≡◌, ℕ, ◌+◌, ◌-◌, ◌≤◌, ◌<◌, zero, suc, length, get_or, Bool, true, false, cond, ◌&&◌, ◌==◌, List, [], ◌∷◌, ◌++◌, Option, Some, None, refl, ap, ◌∙◌, subst, add-zero, append_assoc, arith}
 use Rattle.std.proofs.lemmas.Bool.Decides.{nat_tests}
-use Rattle.std.specs.Prelude.{find, map, slice_get}
-use Rattle.std.specs.List.{AllByRecursion}
+use Rattle.std.specs.Prelude.{find, map}
 use Rattle.plant_types.specs.declared.network.Cell.{Cell}
 use Rattle.plant_types.specs.declared.network.Network.{Network}
 use Rattle.plant_types.specs.declared.network.Segment.{Segment}
-use Rattle.plant_types.specs.Checks.{HasOperands, HasCellOperands, HasNetworkOperands}
+use Rattle.plant_types.specs.Checks.{HasCellOperands, HasNetworkOperands}
 use Rattle.plant_types.specs.Store.{Contents}
 use Rattle.ladder_solver.specs.declared.layout.Column.{Column}
 use Rattle.ladder_solver.specs.declared.layout.Grid.{Grid}
-use Rattle.ladder_solver.specs.Network.{Power, cell_at, solved_at, element_at, place_after, rows_after}
+use Rattle.ladder_solver.specs.Network.{Power, cell_at, solved_at, element_at, rows_after}
 use Rattle.ladder_solver.specs.Segment.{networks_of}
-use Rattle.ladder_solver.specs.Layout.{before, cells_from, column_of, columns_from, grid_of, segment_grids, grids_of}
+use Rattle.ladder_solver.specs.Layout.{before, cells_from, column_of, columns_from, grid_of, grids_of}
 use Rattle.ladder_solver.specs.Agreement.{cells_after}
 use Rattle.ladder_solver.specs.Conditions.{CanSolve, CanSolveCells, CanSolveColumns, CanSolveGrids}
 use Rattle.ladder_solver.proofs.Stored.{HasOperands-found}

@@ -6,7 +6,6 @@ use Rattle.plant_types.specs.declared.network.Short.{Short}
 use Rattle.plant_types.specs.declared.network.Network.{Network}
 use Rattle.plant_types.specs.declared.power.NodePower.{NodePower}
 use Rattle.plant_types.specs.Store.{Contents}
-use Rattle.ladder_solver.specs.declared.layout.Column.{Column}
 use Rattle.ladder_solver.specs.declared.layout.Grid.{Grid}
 use Rattle.ladder_solver.specs.State.{State}
 use Rattle.ladder_solver.specs.Element.{effect}

@@ -10,6 +10,9 @@ use plant_types::{ControllerPlan, Copied, List, RefStore, Segment};
 use std::alloc::{AllocError, Global};
 use std::marker::Model;
 
+#[cfg(test)]
+mod tests;
+
 /// The segments of a controller, ready to be solved.
 #[derive(Drop)]
 pub struct Ladder {
@@ -35,7 +38,12 @@ impl Ladder {
         requires { passes_check plan.now ≡ true }
         ensures { IfOk result (λ ladder. ladder ≡ plan.now.segments) }
     {
-        let segments = plan.segments.copied(alloc)?;
+        Ladder::of_segments(alloc, plan.segments.copied(alloc)?)
+    }
+
+    fn of_segments(alloc: Global, segments: List<Segment>) -> Result<Ladder, AllocError>
+        ensures { IfOk result (λ ladder. ladder ≡ segments) }
+    {
         let grids = grids_of(alloc, segments.as_slice())?;
         Ok(Ladder { segments, grids })
     }

@@ -1,6 +1,5 @@
-use Rattle.std.proofs.Common.{◌≡◌, ◌++◌, sym, ◌∙◌, arith}
+use Rattle.std.proofs.Common.{sym, ◌∙◌}
 use Rattle.std.proofs.lemmas.List.{append-nil}
-use Rattle.ladder_solver.specs.Layout.{cells_from}
 use Rattle.ladder_solver.proofs.Steps.{cells_from-end, found_none, found_some}
 use Rattle.ladder_solver.proofs.layout.cells_of.Goals as goal
 use Rattle.ladder_solver.proofs.layout.cells_of.Goals.{in-Some+in_ok-push, in_default}

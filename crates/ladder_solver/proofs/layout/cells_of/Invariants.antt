@@ -1,4 +1,4 @@
-use Rattle.std.proofs.Common.{◌≡◌, ◌+◌, ◌-◌, ◌++◌}
+use Rattle.std.proofs.Common.{◌≡◌, ◌-◌, ◌++◌}
 use Rattle.ladder_solver.specs.Layout.{cells_from}
 use Rattle.ladder_solver.proofs.layout.cells_of.Given as goal
 

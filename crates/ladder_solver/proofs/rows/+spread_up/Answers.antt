@@ -1,5 +1,4 @@
-use Rattle.std.proofs.Common.{◌≡◌, ◌-◌, length, inl, inr, false, arith, ◌∙◌, ap}
-use Rattle.ladder_solver.specs.Rows.{flag_of}
+use Rattle.std.proofs.Common.{◌≡◌, ◌-◌, length, inl, inr, arith}
 use Rattle.ladder_solver.proofs.Spread.{SpreadsUp-stop, SpreadsUp-go}
 use Rattle.ladder_solver.proofs.rows.+spread_up.Goals as goal
 use Rattle.ladder_solver.proofs.rows.+spread_up.Goals.{else-row-gt1-via-then-row-gt1+else-marks-row, else-row-gt1-via-else-row-gt1}

@@ -1,4 +1,4 @@
-use Rattle.std.proofs.Common.{◌≡◌, ◌<◌, ◌≤◌, length, take, arith}
+use Rattle.std.proofs.Common.{◌<◌, ◌≤◌, length}
 use Rattle.std.proofs.lemmas.List.{take_all}
 use Rattle.ladder_solver.specs.Conditions.{CanSolve}
 use Rattle.ladder_solver.proofs.Stored.{all_at, CanSolveCells-kept}

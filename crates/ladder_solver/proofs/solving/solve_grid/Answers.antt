@@ -1,5 +1,4 @@
-use Rattle.std.proofs.Common.{◌≡◌, ◌<◌, ◌≤◌, length, sym, refl, ap, ◌∙◌, arith, get_or}
-use Rattle.plant_types.specs.Store.{Contents}
+use Rattle.std.proofs.Common.{◌≡◌, ◌<◌, ◌≤◌, length, sym, ap, ◌∙◌, arith, get_or}
 use Rattle.ladder_solver.specs.declared.layout.Column.{Column}
 use Rattle.ladder_solver.specs.Conditions.{CanSolveCells}
 use Rattle.ladder_solver.specs.Network.{columns_after}

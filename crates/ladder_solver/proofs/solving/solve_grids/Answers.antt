@@ -1,7 +1,5 @@
-use Rattle.std.proofs.Common.{◌≡◌, ◌<◌, ◌≤◌, length, drop, get_or, sym, ap, ◌∙◌, List, arith}
-use Rattle.std.specs.Prelude.{map}
+use Rattle.std.proofs.Common.{◌≤◌, length, sym, ap, ◌∙◌}
 use Rattle.std.proofs.lemmas.List.{at_drop_all, length-map}
-use Rattle.plant_types.specs.declared.network.Network.{Network}
 use Rattle.ladder_solver.specs.declared.layout.Grid.{Grid}
 use Rattle.ladder_solver.specs.State.{State}
 use Rattle.ladder_solver.specs.Conditions.{CanSolveColumns}
