@@ -1,0 +1,4 @@
+pub mod Stored
+pub mod Steps
+pub mod Spread
+pub mod Simulation

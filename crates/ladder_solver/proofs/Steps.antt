@@ -1,0 +1,130 @@
+-- Networks laid out: one more row and column, and what their cells ask.
+use Rattle.std.proofs.Common.{◌≡◌, ℕ, ◌+◌, ◌-◌, ◌≤◌, ◌<◌, zero, suc, length, get_or, Bool, true, false, cond, ◌&&◌, ◌==◌, List, [], ◌∷◌, ◌++◌, Option, Some, None, refl, ap, ◌∙◌, subst, add-zero, append_assoc, arith}
+use Rattle.std.proofs.lemmas.Bool.Decides.{nat_tests}
+use Rattle.std.specs.Prelude.{find, map}
+use Rattle.plant_types.specs.declared.network.Cell.{Cell}
+use Rattle.plant_types.specs.declared.network.Network.{Network}
+use Rattle.plant_types.specs.declared.network.Segment.{Segment}
+use Rattle.plant_types.specs.Checks.{HasCellOperands, HasNetworkOperands}
+use Rattle.plant_types.specs.Store.{Contents}
+use Rattle.ladder_solver.specs.declared.layout.Column.{Column}
+use Rattle.ladder_solver.specs.declared.layout.Grid.{Grid}
+use Rattle.ladder_solver.specs.Network.{Power, cell_at, solved_at, element_at, rows_after}
+use Rattle.ladder_solver.specs.Segment.{networks_of}
+use Rattle.ladder_solver.specs.Layout.{before, cells_from, column_of, columns_from, grid_of, grids_of}
+use Rattle.ladder_solver.specs.Agreement.{cells_after}
+use Rattle.ladder_solver.specs.Conditions.{CanSolve, CanSolveCells, CanSolveColumns, CanSolveGrids}
+use Rattle.ladder_solver.proofs.Stored.{HasOperands-found}
+
+-- the next row of a column
+pub cells_from-next : (cells : List Cell) (column row : ℕ) → row < 8 → cells_from cells column row (8 - row) ≡ before (cell_at cells column row) (cells_from cells column (row + 1) (8 - (row + 1)))
+unfolding cells_from
+cells_from-next cells column row h =
+    let e : 8 - row ≡ suc (8 - (row + 1)) = omega arith in
+    rw e refl
+
+pub cells_from-end : (cells : List Cell) (column row : ℕ) → 8 ≤ row → cells_from cells column row (8 - row) ≡ []
+unfolding cells_from
+cells_from-end cells column row h =
+    let e : 8 - row ≡ 0 = omega arith in
+    rw e refl
+
+-- one column more
+pub columns_from-more : (network : Network) (column count : ℕ) → columns_from network column (suc count) ≡ columns_from network column count ++ column_of network (column + count) ∷ []
+unfolding columns_from
+columns_from-more network column zero = rw add-zero refl
+columns_from-more network column (suc count) =
+    let e : column + suc count ≡ column + 1 + count = omega arith in
+    rw e (ap (λ columns. column_of network column ∷ columns) (columns_from-more network (column + 1) count))
+
+pub length-columns_from : (network : Network) (column count : ℕ) → length (columns_from network column count) ≡ count
+unfolding columns_from
+length-columns_from network column zero = refl
+length-columns_from network column (suc count) = ap suc (length-columns_from network (column + 1) count)
+
+-- a column by its index
+pub get_or-columns_from : (network : Network) (column count i : ℕ) (d : Column) → i < count → get_or (columns_from network column count) i d ≡ column_of network (column + i)
+unfolding columns_from
+get_or-columns_from network column zero i d h = absurd (omega arith)
+get_or-columns_from network column (suc count) zero d h = rw add-zero refl
+get_or-columns_from network column (suc count) (suc i) d h =
+    let e : column + suc i ≡ column + 1 + i = omega arith in
+    rw e (get_or-columns_from network (column + 1) count i d (omega arith))
+
+stands_or : (b : Bool) (p : Cell → Bool) (x c : Cell) (rest : Option Cell) → p x ≡ b → (rest ≡ Some c → p c ≡ true) → cond b (Some x) rest ≡ Some c → p c ≡ true
+stands_or true p x c rest here there e = let same : x ≡ c = cc in subst (λ (y : Cell). p y ≡ true) same here
+stands_or false p x c rest here there e = there e
+
+-- a cell that is found passes the test
+find-passes : (p : Cell → Bool) (cells : List Cell) (c : Cell) → find p cells ≡ Some c → p c ≡ true
+find-passes p [] c e = absurd (cc)
+find-passes p (x ∷ cells) c e = stands_or (p x) p x c (find p cells) refl (find-passes p cells c) e
+
+same_row : (a b c d : ℕ) → (a == b) && (c == d) ≡ true → c ≡ d
+same_row a b c d h = grind (arith, nat_tests)
+
+-- it stands in the row where it is looked for
+pub cell_at-row : (cells : List Cell) (column row : ℕ) (cell : Cell) → cell_at cells column row ≡ Some cell → cell.row ≡ row
+cell_at-row cells column row cell e = same_row cell.column column cell.row row (find-passes (λ c. (c.column == column) && (c.row == row)) cells cell e)
+
+place_of : (network : Network) (column row count : ℕ) (o : Option Cell) (p : Power) → ((cell : Cell) → o ≡ Some cell → cell.row ≡ row)
+    → ((q : Power) → rows_after network column (row + 1) count q ≡ cells_after network.shorts column (cells_from network.cells column (row + 1) count) q)
+    → rows_after network column (row + 1) count (solved_at network.shorts column row o p) ≡ cells_after network.shorts column (before o (cells_from network.cells column (row + 1) count)) p
+place_of network column row count None p stands rest = rest p
+place_of network column row count (Some cell) p stands rest =
+    rw (stands cell refl) (rest (element_at network.shorts column row cell.element p))
+
+-- the cells of a column, one after another, do what its rows do
+pub rows_after-cells : (network : Network) (column row count : ℕ) (p : Power) → rows_after network column row count p ≡ cells_after network.shorts column (cells_from network.cells column row count) p
+unfolding rows_after cells_from
+rows_after-cells network column row zero p = refl
+rows_after-cells network column row (suc count) p =
+    place_of network column row count (cell_at network.cells column row) p (cell_at-row network.cells column row) (rows_after-cells network column (row + 1) count)
+
+before_solve : (m : Contents) (o : Option Cell) (cells : List Cell) → ((cell : Cell) → o ≡ Some cell → CanSolve m cell) → CanSolveCells m cells → CanSolveCells m (before o cells)
+before_solve m None cells here rest = rest
+before_solve m (Some cell) cells here rest = (here cell refl, rest)
+
+CanSolveCells-laid : (m : Contents) (cells : List Cell) (column row count : ℕ) → 1 ≤ row → row + count ≤ 8 → HasCellOperands m cells → CanSolveCells m (cells_from cells column row count)
+unfolding cells_from
+CanSolveCells-laid m cells column row zero low high h = tt
+CanSolveCells-laid m cells column row (suc count) low high h =
+    before_solve m (cell_at cells column row) (cells_from cells column (row + 1) count)
+    (λ cell e.
+    let same : cell.row ≡ row = cell_at-row cells column row cell e in
+    record { first = omega arith; last = omega arith; operands = HasOperands-found m (λ c. (c.column == column) && (c.row == row)) cells cell h e })
+    (CanSolveCells-laid m cells column (row + 1) count (omega arith) (omega arith) h)
+
+CanSolveColumns-laid : (m : Contents) (network : Network) (column count : ℕ) → HasCellOperands m network.cells → CanSolveColumns m (columns_from network column count)
+unfolding columns_from
+CanSolveColumns-laid m network column zero h = tt
+CanSolveColumns-laid m network column (suc count) h =
+    (CanSolveCells-laid m network.cells column 1 7 (omega arith) (omega arith) h, CanSolveColumns-laid m network (column + 1) count h)
+
+-- networks that are laid out ask no more than they did
+pub CanSolveGrids-laid : (m : Contents) (networks : List Network) → HasNetworkOperands m networks → CanSolveGrids m (map grid_of networks)
+CanSolveGrids-laid m [] h = tt
+CanSolveGrids-laid m (network ∷ networks) h = (CanSolveColumns-laid m network 1 11 h.0, CanSolveGrids-laid m networks h.1)
+
+-- a row with no cell
+pub found_none : (found cells : List Cell) (column row : ℕ) → row < 8 → cell_at cells column row ≡ None → found ++ cells_from cells column row (8 - row) ≡ found ++ cells_from cells column (row + 1) (8 - (row + 1))
+found_none found cells column row h none = rw (cells_from-next cells column row h, none) refl
+
+-- a row with a cell
+pub found_some : (found cells : List Cell) (column row : ℕ) (cell : Cell) → row < 8 → cell_at cells column row ≡ Some cell → found ++ cells_from cells column row (8 - row) ≡ (found ++ cell ∷ []) ++ cells_from cells column (row + 1) (8 - (row + 1))
+found_some found cells column row cell h some = rw (cells_from-next cells column row h, some, append_assoc) refl
+
+-- the grids of a segment, by its place
+pub grids_at : (segments : List Segment) (i : ℕ) (d : List Grid) → i < length segments → get_or (grids_of segments) i d ≡ map grid_of (networks_of segments (i + 1))
+grids_at [] i d h = absurd (omega arith)
+grids_at (segment ∷ segments) zero d h = refl
+grids_at (segment ∷ segments) (suc i) d h =
+    let back : suc i + 1 - 1 ≡ suc i = omega arith in
+    let inner : i + 1 - 1 ≡ i = omega arith in
+    rw back (grids_at segments i d (omega arith) ∙ rw inner refl)
+
+-- the grids of the segment that is asked for
+pub laid_at : (segments : List Segment) (grids : List (List Grid)) (segment : ℕ) (x : List Grid) → grids ≡ grids_of segments → 0 < segment → segment ≤ length segments → x ≡ get_or grids (segment - 1) x → x ≡ map grid_of (networks_of segments segment)
+laid_at segments grids segment x laid low high is =
+    let back : segment - 1 + 1 ≡ segment = omega arith in
+    is ∙ rw laid (rw back at (grids_at segments (segment - 1) x (omega arith)))
