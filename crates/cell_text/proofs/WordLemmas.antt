@@ -1,0 +1,129 @@
+-- The first word of a text, and the words behind it.
+use Rattle.std.proofs.Common.{◌≡◌, ℕ, suc, ◌+◌, ◌<◌, ◌≤◌, Bool, true, false, cond, not, List, [], ◌∷◌, length, take, drop, get_or, nat_lt, Some, None, refl, sym, ap, ◌∙◌, arith, add-one}
+use Rattle.std.specs.Prelude.{filter, ◌==◌}
+use Rattle.std.specs.List.{slice_split, position, position_or_len}
+use Rattle.std.proofs.Math.Nat.{add_comm}
+use Rattle.std.proofs.Math.Seq.{drop-length}
+use Rattle.std.proofs.lemmas.List.{drop_more}
+use Rattle.std.proofs.lemmas.List.Quantifiers.{position-Some}
+use Rattle.std.proofs.lemmas.List.Sums.{position_or_len_is}
+use Rattle.std.proofs.lemmas.Bool.Decides.{nat_tests}
+use Rattle.cell_text.specs.Words.{is_blank, words_of}
+
+abbrev is_some_byte : List ℕ → Bool
+is_some_byte word = not (length word == 0)
+
+abbrev is_word_byte : ℕ → Bool
+is_word_byte byte = not (is_blank byte)
+
+take-front : (n b : ℕ) (bs : List ℕ) → take (1 + n) (b ∷ bs) ≡ b ∷ take n bs
+take-front n b bs = rw (add_comm 1 n, add-one) refl
+
+drop-front : (n b : ℕ) (bs : List ℕ) → drop (1 + n) (b ∷ bs) ≡ drop n bs
+drop-front n b bs = rw (add_comm 1 n, add-one) refl
+
+-- blanks in front are no words
+words_of-blank : (b : ℕ) (bs : List ℕ) → is_blank b ≡ true → words_of (b ∷ bs) ≡ words_of bs
+unfolding words_of
+words_of-blank b bs h = rw h refl
+
+skipped : (v : Bool) (b : ℕ) (bs : List ℕ) → is_blank b ≡ v → words_of bs ≡ words_of (drop (position_or_len is_word_byte bs) bs)
+    → words_of (b ∷ bs) ≡ words_of (drop (cond (not (not v)) (1 + position_or_len is_word_byte bs) 0) (b ∷ bs))
+skipped true b bs h ih = words_of-blank b bs h ∙ ih ∙ ap words_of (sym (drop-front (position_or_len is_word_byte bs) b bs))
+skipped false b bs h ih = refl
+
+words_of-skip : (t : List ℕ) → words_of t ≡ words_of (drop (position_or_len is_word_byte t) t)
+words_of-skip [] = refl
+words_of-skip (b ∷ bs) = skipped (is_blank b) b bs refl (words_of-skip bs)
+
+words_as_filter : (t : List ℕ) → filter is_some_byte (slice_split is_blank t) ≡ words_of t
+unfolding words_of
+words_as_filter t = refl
+
+words_of_nil : words_of [] ≡ []
+unfolding words_of
+words_of_nil = refl
+
+words_as_filter_nil : [] ≡ words_of []
+words_as_filter_nil = sym words_of_nil
+
+len_more : (v : Bool) (m n : ℕ) → m ≤ n → cond v (1 + m) 0 ≤ suc n
+len_more true m n h = omega arith
+len_more false m n h = omega arith
+
+-- a place found or the length is within the length
+position_or_len-le : {A : Type 0} (p : A → Bool) (xs : List A) → position_or_len p xs ≤ length xs
+position_or_len-le p [] = omega arith
+position_or_len-le p (x ∷ xs) = len_more (not (p x)) _ _ (position_or_len-le p xs)
+
+-- a text is cut into its first part and others, which are those of the text behind that part
+record Cut (t : List ℕ) : Type 0 where
+  others : List (List ℕ)
+  parts : slice_split is_blank t ≡ take (position_or_len is_blank t) t ∷ others
+  behind : filter is_some_byte others ≡ words_of (drop (position_or_len is_blank t) t)
+
+cut_more : (v : Bool) (b : ℕ) (bs : List ℕ) → is_blank b ≡ v → Cut bs → Cut (b ∷ bs)
+cut_more true b bs h c =
+    let same : b ∷ bs ≡ drop (position_or_len is_blank (b ∷ bs)) (b ∷ bs) = rw h refl in
+    record {
+      others = slice_split is_blank bs;
+      parts = rw h refl;
+      behind = words_as_filter bs ∙ sym (words_of-blank b bs h) ∙ ap words_of same;
+    }
+cut_more false b bs h c =
+    let same : drop (position_or_len is_blank bs) bs ≡ drop (position_or_len is_blank (b ∷ bs)) (b ∷ bs) = rw (h, drop-front) refl in
+    record {
+      others = c.others;
+      parts = rw (h, c.parts, take-front) refl;
+      behind = c.behind ∙ ap words_of same;
+    }
+
+cut : (t : List ℕ) → Cut t
+cut [] = record { others = []; parts = refl; behind = words_as_filter_nil }
+cut (b ∷ bs) = cut_more (is_blank b) b bs refl (cut bs)
+
+some_byte : (n : ℕ) → not (suc n == 0) ≡ true
+some_byte n = grind (arith, nat_tests)
+
+some_first : (word : List ℕ) (others rest : List (List ℕ)) (b : ℕ) (bs : List ℕ) → word ≡ b ∷ bs → filter is_some_byte others ≡ rest → filter is_some_byte (word ∷ others) ≡ word ∷ rest
+some_first word others rest b bs same h = rw (same, h, some_byte (length bs)) refl
+
+-- a text that begins with a word has that word first
+words_of-first : (b : ℕ) (bs : List ℕ) → is_blank b ≡ false → words_of (b ∷ bs) ≡ take (position_or_len is_blank (b ∷ bs)) (b ∷ bs) ∷ words_of (drop (position_or_len is_blank (b ∷ bs)) (b ∷ bs))
+words_of-first b bs h =
+    let c = cut (b ∷ bs) in
+    let word : take (position_or_len is_blank (b ∷ bs)) (b ∷ bs) ≡ b ∷ take (position_or_len is_blank bs) bs = rw (h, take-front) refl in
+    sym (words_as_filter (b ∷ bs)) ∙ ap (filter is_some_byte) c.parts ∙ some_first (take (position_or_len is_blank (b ∷ bs)) (b ∷ bs)) c.others (words_of (drop (position_or_len is_blank (b ∷ bs)) (b ∷ bs))) b (take (position_or_len is_blank bs) bs) word c.behind
+
+not_blank : (v : Bool) → not v ≡ true → v ≡ false
+not_blank true h = sym h
+not_blank false h = refl
+
+-- the parts of a text behind its first blanks
+pub words_of-split : (t rest word behind : List ℕ) (start end : ℕ) → Some start ≡ position is_word_byte t → rest ≡ drop start t → end ≡ position_or_len is_blank rest → word ≡ take end rest → behind ≡ drop end rest
+    → words_of t ≡ word ∷ words_of behind
+words_of-split t rest word behind start end found r e w b =
+    let s = position-Some is_word_byte t start 0 (sym found) in
+    let within : start < length t = s.0 in
+    let at : position_or_len is_word_byte t ≡ start = position_or_len_is is_word_byte t start 0 (omega arith) s.2 (λ _. s.1) in
+    let front : drop start t ≡ get_or t start 0 ∷ drop (start + 1) t = drop_more t start 0 within in
+    let first = words_of-first (get_or t start 0) (drop (start + 1) t) (not_blank (is_blank (get_or t start 0)) s.1) in
+    let again : words_of rest ≡ take (position_or_len is_blank rest) rest ∷ words_of (drop (position_or_len is_blank rest) rest) = rw (r, front) first in
+    words_of-skip t ∙ ap (λ n. words_of (drop n t)) at ∙ ap words_of (sym r) ∙ again ∙ rw (w, b, e) refl
+
+position_none : (v : Bool) (m n : ℕ) → cond v (Some m) None ≡ None → v ≡ false
+position_none true m n h = cc
+position_none false m n h = refl
+
+-- where a place is not found, it counts as the length
+pub position_or_len-none : {A : Type 0} (p : A → Bool) (xs : List A) → None ≡ position p xs → length xs ≡ position_or_len p xs
+position_or_len-none p xs h =
+    let past = position_none (nat_lt (position_or_len p xs) (length xs)) (position_or_len p xs) 0 (sym h) in
+    let low = position_or_len-le p xs in
+    grind (arith, nat_tests)
+
+-- a text in which no word starts has none
+pub words_of-none : (t : List ℕ) → None ≡ position is_word_byte t → words_of t ≡ []
+words_of-none t h =
+    let past : length t ≡ position_or_len is_word_byte t = position_or_len-none is_word_byte t h in
+    words_of-skip t ∙ ap (λ n. words_of (drop n t)) (sym past) ∙ ap words_of (drop-length t) ∙ words_of_nil

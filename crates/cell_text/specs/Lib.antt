@@ -1,0 +1,6 @@
+pub mod Steps
+pub mod Words
+pub mod Numbers
+pub mod Names
+pub mod Pieces
+pub mod Texts

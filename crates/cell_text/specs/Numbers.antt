@@ -1,0 +1,46 @@
+-- The numbers, places and references that words stand for.
+use Rattle.std.specs.Prelude.{ℕ, ◌+◌, ◌*◌, ◌-◌, Bool, not, ◌&&◌, ◌||◌, ◌==◌, nat_le, if◌then◌else◌, List, Option, Some, None, fold, length, drop, slice_index, option_and_then}
+use Rattle.std.specs.List.{list_all, before_first, after_first}
+use Rattle.plant_types.specs.declared.reference.RefKind.{RefKind}
+use Rattle.plant_types.specs.declared.reference.RefKind.TheVariants.{Coil, Input, InputRegister, Register}
+use Rattle.plant_types.specs.declared.reference.Ref.{Ref}
+use Rattle.plant_types.specs.Network.{is_row, is_column}
+
+-- A decimal digit. This project's own.
+abbrev pub is_digit : ℕ → Bool
+is_digit byte = nat_le 48 byte && nat_le byte 57
+
+-- The number that decimal digits stand for, the highest first. This project's own.
+abbrev pub value_of : List ℕ → ℕ
+value_of digits = fold (λ value digit. value * 10 + (digit - 48)) 0 digits
+
+-- One to four digits without a sign, and without a leading zero. This project's own.
+abbrev pub is_number : List ℕ → Bool
+is_number word = list_all is_digit word && ((nat_le 1 (length word) && nat_le (length word) 4) && ((length word == 1) || not (slice_index word 0 == 48)))
+
+-- The number that a word stands for. This project's own.
+abbrev pub number_of : List ℕ → Option ℕ
+number_of word = if is_number word then Some (value_of word) else None
+
+-- The row and the column that a word stands for, parted by a comma. This project's own.
+abbrev pub position_of : List ℕ → Option (ℕ × ℕ)
+position_of word =
+    option_and_then (λ row. option_and_then (λ column. if is_row row && is_column column then Some (row, column) else None) (number_of (after_first (λ byte. byte == 44) word))) (number_of (before_first (λ byte. byte == 44) word))
+
+-- Five digits are a reference, or the fault of one. This project's own.
+abbrev pub is_reference_word : List ℕ → Bool
+is_reference_word word = list_all is_digit word && (length word == 5)
+
+-- The kind that the first digit of a reference tells. Modicon Ladder Logic Block Library User Guide.
+abbrev pub kind_of : ℕ → Option RefKind
+kind_of digit =
+    if digit == 48 then Some Coil else if digit == 49 then Some Input else if digit == 51 then Some InputRegister else if digit == 52 then Some Register else None
+
+-- A reference has a number from 1 to 9984. This project's own.
+abbrev pub numbered : RefKind → ℕ → Option Ref
+numbered kind number = if nat_le 1 number && nat_le number 9984 then Some (record { kind = kind; number = number }) else None
+
+-- The reference that a word stands for: the digit of its kind, then the four of its number. Modicon Ladder Logic Block Library User Guide.
+abbrev pub reference_of : List ℕ → Option Ref
+reference_of word =
+    if is_reference_word word then option_and_then (λ kind. numbered kind (value_of (drop 1 word))) (kind_of (slice_index word 0)) else None

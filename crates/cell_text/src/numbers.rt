@@ -1,0 +1,118 @@
+//! The numbers, places and references that words stand for.
+ghost use Rattle.std.specs.Prelude.{◌≡◌, ◌≤◌, ◌==◌, true, length};
+ghost use Rattle.std.specs.List.{list_all, position, before_first, after_first};
+ghost use Rattle.cell_text.specs.Numbers.{is_digit, value_of, is_number, number_of, position_of, is_reference_word, kind_of, reference_of};
+
+use plant_types::{Ref, RefKind};
+
+fn is_digit(byte: u8) -> bool
+    ensures { result ≡ is_digit byte }
+{
+    b'0' <= byte && byte <= b'9'
+}
+
+fn are_digits(word: &[u8]) -> bool
+    ensures { result ≡ list_all is_digit word.now }
+{
+    word.iter().all(|byte| is_digit(*byte))
+}
+
+/// The number that decimal digits stand for.
+fn value_of(digits: &[u8]) -> u16
+    requires read { list_all is_digit digits.now ≡ true }
+    requires few { length digits.now ≤ 4 }
+    ensures { result ≡ value_of digits.now }
+{
+    let mut value = 0u16;
+    for digit in digits {
+        value = value * 10 + u16::from(*digit - b'0');
+    }
+    value
+}
+
+fn is_number(word: &[u8]) -> bool
+    ensures { result ≡ is_number word.now }
+{
+    let len = word.len();
+    are_digits(word) && 1 <= len && len <= 4 && (len == 1 || word[0] != b'0')
+}
+
+/// The number that one to four digits without a leading zero stand for.
+pub fn number_of(word: &[u8]) -> Option<u16>
+    ensures { result ≡ number_of word.now }
+{
+    if is_number(word) {
+        Some(value_of(word))
+    } else {
+        None
+    }
+}
+
+fn comma_of(word: &[u8]) -> Option<usize>
+    ensures { result ≡ position (λ byte. byte == 44) word.now }
+{
+    word.iter().position(|byte| *byte == b',')
+}
+
+/// What stands before the first comma of a word, and what stands behind it.
+fn comma_parts(word: &[u8]) -> (&[u8], &[u8])
+    ensures before { result.0.now ≡ before_first (λ byte. byte == 44) word.now }
+    ensures behind { result.1.now ≡ after_first (λ byte. byte == 44) word.now }
+{
+    match comma_of(word) {
+        Some(comma) => (word.split_at(comma).0, word.split_at(comma + 1).1),
+        None => (word, &[]),
+    }
+}
+
+/// The row and the column that a word stands for.
+pub fn position_of(word: &[u8]) -> Option<(u8, u8)>
+    ensures { result ≡ position_of word.now }
+{
+    let (row, column) = comma_parts(word);
+    let Some(row) = number_of(row) else {
+        return None;
+    };
+    let Some(column) = number_of(column) else {
+        return None;
+    };
+    if 1 <= row && row <= 7 && 1 <= column && column <= 11 {
+        Some((row as u8, column as u8))
+    } else {
+        None
+    }
+}
+
+pub fn is_reference_word(word: &[u8]) -> bool
+    ensures { result ≡ is_reference_word word.now }
+{
+    are_digits(word) && word.len() == 5
+}
+
+fn kind_of(digit: u8) -> Option<RefKind>
+    ensures { result ≡ kind_of digit }
+{
+    match digit {
+        b'0' => Some(RefKind::Coil),
+        b'1' => Some(RefKind::Input),
+        b'3' => Some(RefKind::InputRegister),
+        b'4' => Some(RefKind::Register),
+        _ => None,
+    }
+}
+
+/// The reference that a word of five digits stands for; numbers go from 1 to 9984.
+pub fn reference_of(word: &[u8]) -> Option<Ref>
+    ensures { result ≡ reference_of word.now }
+{
+    if !is_reference_word(word) {
+        return None;
+    }
+    let kind = kind_of(word[0])?;
+    let number = value_of(&word[1..]);
+    if 1 <= number && number <= 9984 {
+        Some(Ref { kind, number })
+    } else {
+        None
+    }
+}

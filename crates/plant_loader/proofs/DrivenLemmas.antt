@@ -1,0 +1,83 @@
+-- A set of references beside a list of them.
+use Rattle.std.proofs.Common.{◌≡◌, ℕ, Bool, true, false, cond, ◌&&◌, ◌||◌, ◌==◌, List, [], ◌∷◌, ◌++◌, Option, Some, None, Result, Ok, Err, is_some, nat_cmp, refl, sym, ap, ◌∙◌, append_assoc, arith}
+use Rattle.std.specs.List.{list_any, flat_map, cons_option}
+use Rattle.std.specs.Ordering.{is_eq, ordering_then}
+use Rattle.std.specs.BTreeMap.{is_at}
+use Rattle.std.specs.Result.{is_err, OnOk}
+use Rattle.std.proofs.lemmas.Bool.Decides.{nat_tests}
+use Rattle.std.proofs.lemmas.List.{append-nil}
+use Rattle.std.proofs.lemmas.List.Folds.{list_any-append}
+use Rattle.plant_types.specs.declared.reference.Ref.{Ref}
+use Rattle.plant_types.specs.declared.network.Cell.{Cell}
+use Rattle.plant_types.specs.declared.network.Short.{Short}
+use Rattle.plant_types.specs.declared.network.Network.{Network}
+use Rattle.plant_types.specs.contracts.reference.RefOrd.TheImpl as derived
+use Rattle.plant_types.specs.Reference.{ref_cmp, rank_of}
+use Rattle.plant_types.specs.Network.{driven_by}
+use Rattle.plant_types.specs.Checks.{is_same, coils_of_network}
+use Rattle.plant_types.proofs.Contents.{found_by_code}
+use Rattle.plant_loader.specs.Driven.{HoldsJust}
+use Rattle.plant_loader.specs.Program.{driven_coils}
+use Rattle.plant_loader.proofs.Checked.{coils-push, driven_coils-with_network}
+
+same_then : (a b m n : ℕ) → is_eq (ordering_then (nat_cmp a b) (nat_cmp m n)) ≡ (a == b) && (m == n)
+same_then a b m n = grind (arith, nat_tests)
+
+same_turned : (a b m n : ℕ) → (a == b) && (m == n) ≡ (b == a) && (n == m)
+same_turned a b m n = grind (arith, nat_tests)
+
+is_same-turned : (at other : Ref) → is_same at other ≡ is_same other at
+is_same-turned at other = same_turned (rank_of at.kind) (rank_of other.kind) at.number other.number
+
+found_is : (b : Bool) → is_some {T = ℕ} (cond b (Some 0) None) ≡ b
+found_is true = refl
+found_is false = refl
+
+-- the order that the derive makes finds the references that are the same
+is_at-same : (at other : Ref) → is_at (derived.cmp-value.it at) other ≡ is_same at other
+is_at-same at other =
+    sym (found_is (is_at (derived.cmp-value.it at) other)) ∙ ap is_some (found_by_code ((other, 0) ∷ []) at) ∙ found_is (is_at (ref_cmp at) other)
+    ∙ same_then (rank_of at.kind) (rank_of other.kind) at.number other.number
+
+pub list_any-at : (at : Ref) (keys : List Ref) → list_any (is_at (derived.cmp-value.it at)) keys ≡ list_any (is_same at) keys
+list_any-at at [] = refl
+list_any-at at (key ∷ keys) = rw (is_at-same at key, list_any-at at keys) refl
+
+or_last : (here there : Bool) → cond here true there ≡ there || (here || false)
+or_last true true = refl
+or_last true false = refl
+or_last false true = refl
+or_last false false = refl
+
+-- one more key is one more reference
+pub HoldsJust-gain : (old new : List Ref) (drives : Option Ref) (coil : Ref) → Some coil ≡ drives
+    → ((q : Ref) → list_any (is_at (derived.cmp-value.it q)) new ≡ cond (is_at (derived.cmp-value.it coil) q) true (list_any (is_at (derived.cmp-value.it q)) old))
+    → HoldsJust new (old ++ cons_option drives [])
+HoldsJust-gain old new drives coil e put = λ at.
+    sym (list_any-at at new) ∙ put at ∙ rw (is_at-same coil at, list_any-at at old, is_same-turned coil at) (or_last (is_same at coil) (list_any (is_same at) old))
+    ∙ sym (list_any-append (is_same at) old (coil ∷ [])) ∙ ap (λ (o : Option Ref). list_any (is_same at) (old ++ cons_option o [])) e
+
+pub HoldsJust-none : (old : List Ref) (drives : Option Ref) → None ≡ drives → HoldsJust old (old ++ cons_option drives [])
+HoldsJust-none old drives e = λ at. ap (list_any (is_same at)) (sym (append-nil old)) ∙ ap (λ (o : Option Ref). list_any (is_same at) (old ++ cons_option o [])) e
+
+-- the keys hold the coils of one more cell
+pub HoldsJust-cell : (old new : List Ref) (networks : List Network) (cells more : List Cell) (shorts : List Short) (cell : Cell) (drives : Option Ref) → drives ≡ driven_by cell.element
+    → HoldsJust old (driven_coils (record { networks = networks; cells = cells; shorts = shorts })) → HoldsJust new (old ++ cons_option drives []) → more ≡ cells ++ cell ∷ []
+    → HoldsJust new (driven_coils (record { networks = networks; cells = more; shorts = shorts }))
+HoldsJust-cell old new networks cells more shorts cell drives d held gained e = λ at.
+    let coils = driven_coils (record { networks = networks; cells = cells; shorts = shorts }) in
+    let added = cons_option (driven_by cell.element) [] in
+    let same : coils ++ added ≡ driven_coils (record { networks = networks; cells = more; shorts = shorts }) = rw e (append_assoc (flat_map coils_of_network networks) (coils_of_network (record { cells = cells; shorts = shorts })) added ∙ ap (λ xs. flat_map coils_of_network networks ++ xs) (sym (coils-push cells shorts cell))) in
+    gained at ∙ ap (λ (o : Option Ref). list_any (is_same at) (old ++ cons_option o [])) d ∙ list_any-append (is_same at) old added ∙ rw (held at) (sym (list_any-append (is_same at) coils added)) ∙ ap (list_any (is_same at)) same
+
+-- the keys hold the coils of a network that is whole
+pub HoldsJust-network : (keys : List Ref) (networks more : List Network) (cells : List Cell) (shorts : List Short)
+    → HoldsJust keys (driven_coils (record { networks = networks; cells = cells; shorts = shorts })) → more ≡ networks ++ record { cells = cells; shorts = shorts } ∷ []
+    → HoldsJust keys (driven_coils (record { networks = more; cells = []; shorts = [] }))
+HoldsJust-network keys networks more cells shorts held e = λ at.
+    held at ∙ ap (list_any (is_same at)) (sym (driven_coils-with_network (record { networks = networks; cells = cells; shorts = shorts }))) ∙ rw e refl
+
+-- what holds after a call that went well
+pub on_ok : {T E P : Type 0} (r : Result T E) → is_err r ≡ false → OnOk r P → P
+on_ok (Ok x) e h = h
+on_ok (Err d) e h = cc

@@ -1,0 +1,5 @@
+pub mod Documents
+pub mod Checked
+pub mod DrivenLemmas
+pub mod PlantLemmas
+pub mod PieceSteps

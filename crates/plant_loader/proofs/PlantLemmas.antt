@@ -1,0 +1,188 @@
+-- The plant of bytes has one controller, whose plan passes its tests.
+use Rattle.std.proofs.Common.{◌≡◌, ℕ, Bool, true, false, ◌&&◌, List, [], ◌∷◌, ◌++◌, length, Option, Some, None, Result, Ok, Err, refl, sym, ap, ◌∙◌}
+use Rattle.std.specs.Prelude.{codes, ℤ, pos, negsuc, nat_le, ◌%◌, ◌==◌}
+use Rattle.std.specs.List.{list_all, flat_map}
+use Rattle.std.proofs.lemmas.Bool.{and_parts}
+use Rattle.std.proofs.lemmas.List.{append-nil}
+use Rattle.toml.specs.Data.{Data, integer, Items, no_items, item, Members, get_member, as_str}
+use Rattle.plant_types.specs.declared.reference.Ref.{Ref}
+use Rattle.plant_types.specs.declared.network.Network.{Network}
+use Rattle.plant_types.specs.declared.plan.ControllerPlan.{ControllerPlan}
+use Rattle.plant_types.specs.declared.plan.Plant.{Plant}
+use Rattle.plant_types.specs.Sizes.{Sizes, has_reference}
+use Rattle.plant_types.specs.Checks.{network_passes, coils_of_network, are_driven_once, is_size, is_discrete_size, passes_check}
+use Rattle.cell_text.specs.Steps.{◌>>=◌, or_fault, unless}
+use Rattle.cell_text.specs.Words.{words_of, only_word}
+use Rattle.cell_text.specs.Numbers.{reference_of}
+use Rattle.cell_text.proofs.StepLemmas.{step-ok, or_fault-ok, unless-ok, some-step, some-guard, or_fault-some}
+use Rattle.std.specs.Result.{IfOk}
+use Rattle.plant_loader.specs.declared.refusal.LoadEnd.{LoadEnd}
+use Rattle.plant_loader.specs.Refusals.{Gives, Refusal, bad_toml, not_built, as_not_built}
+use Rattle.plant_loader.specs.Keys.{has_only, only_table, number_from, number_of, number_at, size_in, size_at, in_sixteens, discrete_size_at, items_up_to}
+use Rattle.plant_loader.specs.Controller.{sizes_at, has_first_order, network_texts, in_map, panel_item, panel_items, panel_in, panel_at}
+use Rattle.plant_loader.specs.Pieces.{networks_of}
+use Rattle.plant_loader.specs.Plant.{document_of, controller_keys, controller_of, plant_in, plant_of}
+use Rattle.plant_loader.proofs.Checked.{networks_of-passes, ok_value, and_both}
+
+some_value : {A : Type 0} (x y : A) → Some x ≡ Some y → x ≡ y
+some_value x y h = cc
+
+number_from-within : (low high : ℕ) (z : ℤ) (n : ℕ) → number_from low high z ≡ Some n → nat_le low n && nat_le n high ≡ true
+number_from-within low high (pos m) n h =
+    let found = some-guard (nat_le low m && nat_le m high) (Some m) n h in
+    let same : m ≡ n = some_value m n found.1 in
+    rw (← same) found.0
+number_from-within low high (negsuc m) n h = cc
+
+number_of-within : (low high : ℕ) (d : Data) (n : ℕ) → number_of low high d ≡ Some n → nat_le low n && nat_le n high ≡ true
+number_of-within low high (integer z) n h = number_from-within low high z n h
+number_of-within low high _ n h = cc
+
+size_in-is_size : (d : Option Data) (n : ℕ) → size_in d ≡ Some n → is_size n ≡ true
+size_in-is_size None n h = let same : 0 ≡ n = some_value 0 n h in rw (← same) refl
+size_in-is_size (Some d) n h = let within = and_parts (nat_le 0 n) (nat_le n 9984) (number_of-within 0 9984 d n h) in within.1
+
+discrete_size_at-is_discrete_size : (key : List ℕ) (ms : Members) (n : ℕ) → discrete_size_at key ms ≡ Some n → is_discrete_size n ≡ true
+discrete_size_at-is_discrete_size key ms n h =
+    let size = some-step in_sixteens (size_at key ms) n h in
+    let whole = some-guard (size.0 % 16 == 0) (Some size.0) n size.1.1 in
+    let same : size.0 ≡ n = some_value size.0 n whole.1 in
+    rw (← same) (and_both _ _ (size_in-is_size (get_member key ms) size.0 size.1.0) whole.0)
+
+panel_item-held : (sizes : Sizes) (d : Data) (at : Ref) → panel_item sizes d ≡ Ok at → has_reference sizes at ≡ true
+unfolding panel_item
+panel_item-held sizes d at h =
+    let text = or_fault-ok not_built (as_str d) (λ text. or_fault not_built (only_word (words_of text)) >>= λ word. or_fault not_built (reference_of word) >>= in_map sizes) at h in
+    let word = or_fault-ok not_built (only_word (words_of text.0)) (λ word. or_fault not_built (reference_of word) >>= in_map sizes) at text.1.1 in
+    let found = or_fault-ok not_built (reference_of word.0) (in_map sizes) at word.1.1 in
+    let held = unless-ok (has_reference sizes found.0) not_built (λ held. Ok found.0) at found.1.1 in
+    let same : found.0 ≡ at = ok_value found.0 at held.1 in
+    rw (← same) held.0
+
+panel_items-held : (sizes : Sizes) (ds : Items) (panel : List Ref) → panel_items sizes ds ≡ Ok panel → list_all (has_reference sizes) panel ≡ true
+panel_items-held sizes no_items panel h = let same : [] ≡ panel = ok_value [] panel h in rw (← same) refl
+panel_items-held sizes (item d ds) panel h =
+    let at = step-ok (panel_item sizes d) (λ at. panel_items sizes ds >>= λ more. Ok (at ∷ more)) panel h in
+    let more = step-ok (panel_items sizes ds) (λ more. Ok (at.0 ∷ more)) panel at.1.1 in
+    let same : at.0 ∷ more.0 ≡ panel = ok_value (at.0 ∷ more.0) panel more.1.1 in
+    rw (← same) (and_both _ _ (panel_item-held sizes d at.0 at.1.0) (panel_items-held sizes ds more.0 more.1.0))
+
+panel_in-held : (sizes : Sizes) (d : Option Data) (panel : List Ref) → panel_in sizes d ≡ Ok panel → list_all (has_reference sizes) panel ≡ true
+panel_in-held sizes None panel h = let same : [] ≡ panel = ok_value [] panel h in rw (← same) refl
+panel_in-held sizes (Some d) panel h = let items = or_fault-ok not_built (items_up_to 64 d) (panel_items sizes) panel h in panel_items-held sizes items.0 panel items.1.1
+
+-- what a plan is made of passes
+record Parts (sizes : Sizes) (node : ℕ) (panel : List Ref) (networks : List Network) : Type 0 where
+  node_passes : nat_le 1 node && nat_le node 64 ≡ true
+  panel_passes : list_all (has_reference sizes) panel ≡ true
+  networks_pass : list_all (network_passes sizes) networks ≡ true
+  coils : are_driven_once [] (flat_map coils_of_network networks) ≡ true
+
+abbrev plan_of : ℕ → ℕ → ℕ → ℕ → List Ref → List Network → ControllerPlan
+plan_of node coils inputs registers panel networks = record { node = node; coils = coils; inputs = inputs; registers = registers; panel = panel; segments = record { networks = networks } ∷ [] }
+
+plan_of-passes : (node coils inputs registers : ℕ) (panel : List Ref) (networks : List Network) → Parts (record { coils = coils; inputs = inputs; input_registers = 0; registers = registers }) node panel networks
+    → is_discrete_size coils ≡ true → is_discrete_size inputs ≡ true → is_size registers ≡ true → passes_check (plan_of node coils inputs registers panel networks) ≡ true
+plan_of-passes node coils inputs registers panel networks p c i r =
+    let driven : are_driven_once [] (flat_map coils_of_network networks ++ []) ≡ true = ap (are_driven_once []) (append-nil (flat_map coils_of_network networks)) ∙ p.coils in
+    and_both _ _ (and_both _ _ p.node_passes (and_both _ _ c (and_both _ _ i r))) (and_both _ _ (and_both _ _ p.networks_pass refl) (and_both _ _ driven p.panel_passes))
+
+abbrev sizes_from : ℕ → ℕ → ℕ → Sizes
+sizes_from coils inputs registers = record { coils = coils; inputs = inputs; input_registers = 0; registers = registers }
+
+-- the sizes that a table gives
+record Sized (sizes : Sizes) : Type 0 where
+  coils : ℕ
+  inputs : ℕ
+  registers : ℕ
+  whole : record { coils = coils; inputs = inputs; input_registers = 0; registers = registers } ≡ sizes
+  coils_pass : is_discrete_size coils ≡ true
+  inputs_pass : is_discrete_size inputs ≡ true
+  registers_pass : is_size registers ≡ true
+
+sizes_at-sized : (ms : Members) (sizes : Sizes) → sizes_at ms ≡ Ok sizes → Sized sizes
+unfolding sizes_at
+sizes_at-sized ms sizes h =
+    let coils = or_fault-ok not_built (discrete_size_at (codes "coils") ms) (λ coils. or_fault not_built (discrete_size_at (codes "inputs") ms) >>= λ inputs. or_fault not_built (size_at (codes "registers") ms) >>= λ registers. Ok (sizes_from coils inputs registers)) sizes h in
+    let inputs = or_fault-ok not_built (discrete_size_at (codes "inputs") ms) (λ inputs. or_fault not_built (size_at (codes "registers") ms) >>= λ registers. Ok (sizes_from coils.0 inputs registers)) sizes coils.1.1 in
+    let registers = or_fault-ok not_built (size_at (codes "registers") ms) (λ registers. Ok (sizes_from coils.0 inputs.0 registers)) sizes inputs.1.1 in
+    record {
+      coils = coils.0;
+      inputs = inputs.0;
+      registers = registers.0;
+      whole = ok_value (sizes_from coils.0 inputs.0 registers.0) sizes registers.1.1;
+      coils_pass = discrete_size_at-is_discrete_size (codes "coils") ms coils.0 coils.1.0;
+      inputs_pass = discrete_size_at-is_discrete_size (codes "inputs") ms inputs.0 inputs.1.0;
+      registers_pass = size_in-is_size (get_member (codes "registers") ms) registers.0 registers.1.0;
+    }
+
+sized-passes : (sizes : Sizes) (node : ℕ) (panel : List Ref) (networks : List Network) → Sized sizes → Parts sizes node panel networks → passes_check (plan_of node sizes.coils sizes.inputs sizes.registers panel networks) ≡ true
+sized-passes sizes node panel networks s p =
+    let parts : Parts (record { coils = s.coils; inputs = s.inputs; input_registers = 0; registers = s.registers }) node panel networks = rw s.whole p in
+    rw (← s.whole) (plan_of-passes node s.coils s.inputs s.registers panel networks parts s.coils_pass s.inputs_pass s.registers_pass)
+
+as_not_built-ok : {A : Type 0} (r : Result A Refusal) (y : A) → as_not_built r ≡ Ok y → r ≡ Ok y
+as_not_built-ok (Ok x) y h = cc
+as_not_built-ok (Err e) y h = cc
+
+controller_of-passes : (ms : Members) (plan : ControllerPlan) → controller_of ms ≡ Ok plan → passes_check plan ≡ true
+unfolding controller_of
+controller_of-passes ms plan h =
+    let made = λ (node : ℕ) (sizes : Sizes) (panel : List Ref) (networks : List Network). plan_of node sizes.coils sizes.inputs sizes.registers panel networks in
+    let last = λ (node : ℕ) (sizes : Sizes) (panel : List Ref) (texts : List (List ℕ)). as_not_built (networks_of sizes texts) >>= λ networks. Ok (made node sizes panel networks) in
+    let third = λ (node : ℕ) (sizes : Sizes). panel_at sizes ms >>= λ panel. network_texts ms >>= last node sizes panel in
+    let second = λ (node : ℕ). sizes_at ms >>= λ sizes. unless (has_first_order ms) not_built >>= λ orders. third node sizes in
+    let keys = unless-ok (has_only controller_keys ms) not_built (λ keys. or_fault not_built (number_at (codes "node") 1 64 ms) >>= second) plan h in
+    let node = or_fault-ok not_built (number_at (codes "node") 1 64 ms) second plan keys.1 in
+    let sizes = step-ok (sizes_at ms) (λ sizes. unless (has_first_order ms) not_built >>= λ orders. third node.0 sizes) plan node.1.1 in
+    let orders = unless-ok (has_first_order ms) not_built (λ orders. third node.0 sizes.0) plan sizes.1.1 in
+    let panel = step-ok (panel_at sizes.0 ms) (λ panel. network_texts ms >>= last node.0 sizes.0 panel) plan orders.1 in
+    let texts = step-ok (network_texts ms) (last node.0 sizes.0 panel.0) plan panel.1.1 in
+    let networks = step-ok (as_not_built (networks_of sizes.0 texts.0)) (λ networks. Ok (made node.0 sizes.0 panel.0 networks)) plan texts.1.1 in
+    let same : plan_of node.0 sizes.0.coils sizes.0.inputs sizes.0.registers panel.0 networks.0 ≡ plan = ok_value (made node.0 sizes.0 panel.0 networks.0) plan networks.1.1 in
+    let value = some-step (number_of 1 64) (get_member (codes "node") ms) node.0 node.1.0 in
+    let read = networks_of-passes sizes.0 texts.0 networks.0 (as_not_built-ok (networks_of sizes.0 texts.0) networks.0 networks.1.0) in
+    let parts : Parts sizes.0 node.0 panel.0 networks.0 = record {
+      node_passes = number_of-within 1 64 value.0 node.0 value.1.1;
+      panel_passes = panel_in-held sizes.0 (get_member (codes "panel") ms) panel.0 panel.1.0;
+      networks_pass = read.0;
+      coils = read.1;
+    } in
+    rw (← same) (sized-passes sizes.0 node.0 panel.0 networks.0 (sizes_at-sized ms sizes.0 sizes.1.0) parts)
+
+-- a plant in a document is that of the table of its controller
+plant_in-table : (top : Members) (plant : Plant) → plant_in top ≡ Ok plant → (table : Members) × ((controller_of table >>= λ controller. Ok (record { controllers = controller ∷ [] })) ≡ Ok plant)
+unfolding plant_in
+plant_in-table top plant h =
+    let last = λ (table : Members). controller_of table >>= λ controller. Ok (record { controllers = controller ∷ [] }) in
+    let third = λ (controllers : Data). or_fault not_built (only_table controllers) >>= last in
+    let second = λ (version : ℕ). or_fault not_built (get_member (codes "controller") top) >>= third in
+    let keys = unless-ok (has_only (codes "version" ∷ codes "controller" ∷ []) top) not_built (λ keys. or_fault not_built (number_at (codes "version") 1 1 top) >>= second) plant h in
+    let version = or_fault-ok not_built (number_at (codes "version") 1 1 top) second plant keys.1 in
+    let controllers = or_fault-ok not_built (get_member (codes "controller") top) third plant version.1.1 in
+    let table = or_fault-ok not_built (only_table controllers.0) last plant controllers.1.1 in
+    (table.0, table.1.1)
+
+-- the plant of bytes has one controller, and its plan passes
+pub plant_of-checked : (bytes : List ℕ) (plant : Plant) → plant_of bytes ≡ Ok plant → (length plant.controllers ≡ 1) × (list_all passes_check plant.controllers ≡ true)
+unfolding plant_of
+plant_of-checked bytes plant h =
+    let top = or_fault-ok bad_toml (document_of bytes) plant_in plant h in
+    let controllers = plant_in-table top.0 plant top.1.1 in
+    let controller = step-ok (controller_of controllers.0) (λ controller. Ok (record { controllers = controller ∷ [] })) plant controllers.1 in
+    let same : record { controllers = controller.0 ∷ [] } ≡ plant = ok_value (record { controllers = controller.0 ∷ [] }) plant controller.1.1 in
+    rw (← same) (refl, and_both _ _ (controller_of-passes controllers.0 controller.0 controller.1.0) refl)
+
+-- what is read of a document is what is read of its bytes
+pub plant_of-document : (bytes : List ℕ) (top : Members) (r : Result Plant LoadEnd) → or_fault bad_toml (document_of bytes) ≡ Ok top → Gives (λ plant. plant) r (plant_in top) → Gives (λ plant. plant) r (plant_of bytes)
+unfolding plant_of
+plant_of-document bytes top r e g = rw e g
+
+-- so it is with what a call answered
+pub gives-one : (bytes : List ℕ) (r : Result Plant LoadEnd) → Gives (λ plant. plant) r (plant_of bytes) → IfOk r (λ plant. length plant.controllers ≡ 1)
+gives-one bytes (Ok plant) g = let c = plant_of-checked bytes plant g in c.0
+gives-one bytes (Err end) g = tt
+
+pub gives-checked : (bytes : List ℕ) (r : Result Plant LoadEnd) → Gives (λ plant. plant) r (plant_of bytes) → IfOk r (λ plant. list_all passes_check plant.controllers ≡ true)
+gives-checked bytes (Ok plant) g = let c = plant_of-checked bytes plant g in c.1
+gives-checked bytes (Err end) g = tt

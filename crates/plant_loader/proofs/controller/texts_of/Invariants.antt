@@ -1,0 +1,8 @@
+use Rattle.std.proofs.Common.{◌≡◌, map, drop}
+use Rattle.toml.specs.View.{items_view}
+use Rattle.plant_loader.specs.Controller.{texts_of, with_front}
+use Rattle.plant_loader.proofs.controller.texts_of.Given as goal
+
+-- the texts so far, before those of the items left
+abbrev pub invariant-loop-item : goal.invariant-loop-item
+invariant-loop-item l = with_front (map (λ t. t.now) l.texts.items) (texts_of (items_view (drop l.item-index l.items))) ≡ texts_of (items_view l.items)

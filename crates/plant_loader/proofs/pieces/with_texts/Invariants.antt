@@ -1,0 +1,8 @@
+use Rattle.std.proofs.Common.{◌≡◌, map, drop}
+use Rattle.plant_loader.specs.Counts.{sizes_of}
+use Rattle.plant_loader.specs.Pieces.{with_texts}
+use Rattle.plant_loader.proofs.pieces.with_texts.Given as goal
+
+-- what was read, with the texts left behind it
+abbrev pub invariant-loop-text : goal.invariant-loop-text
+invariant-loop-text l = with_texts (sizes_of l.counts) l.program (map (λ t. t.now) (drop l.text-index l.texts)) ≡ with_texts (sizes_of l.counts) l.initial.program (map (λ t. t.now) l.texts)

@@ -1,0 +1,8 @@
+use Rattle.std.proofs.Common.{sym}
+use Rattle.plant_loader.proofs.DrivenLemmas.{HoldsJust-cell, on_ok}
+use Rattle.plant_loader.proofs.program.Program.put_cell.Goals as goal
+
+pub invariant_of-result : goal.invariant_of-result
+invariant_of-result c =
+    let more = on_ok c.push.result (sym c.if-is_err.ensures.value) c.push.ensures.ok in
+    HoldsJust-cell c.self.inside.driven.keys c.in_ok-driven.driven.keys c.self.inside.networks c.self.inside.cells c.push.new.self c.self.inside.shorts c.args.cell c.driven_by.result c.driven_by.ensures c.self.invariant c.in_ok-driven.ensures more

@@ -1,0 +1,47 @@
+-- The plant that the bytes of a plant file stand for, or why they are refused.
+use Rattle.std.specs.Prelude.{codes, ℕ, if◌then◌else◌, List, [], ◌∷◌, Option, None, Result, Ok, Err}
+use Rattle.std.specs.Str.{is_utf8}
+use Rattle.toml.specs.Data.{Members, get_member}
+use Rattle.toml.specs.Parse.{parse_document}
+use Rattle.plant_types.specs.declared.plan.ControllerPlan.{ControllerPlan}
+use Rattle.plant_types.specs.declared.plan.Plant.{Plant}
+use Rattle.cell_text.specs.Steps.{◌>>=◌, or_fault, unless}
+use Rattle.plant_loader.specs.Refusals.{Refusal, bad_toml, not_built, as_not_built}
+use Rattle.plant_loader.specs.Keys.{has_only, number_at, only_table}
+use Rattle.plant_loader.specs.Controller.{sizes_at, has_first_order, panel_at, network_texts}
+use Rattle.plant_loader.specs.Pieces.{networks_of}
+
+-- The document that bytes are, where they are one: UTF-8 text of TOML. This project's own.
+abbrev pub document_of : List ℕ → Option Members
+document_of bytes = if is_utf8 bytes then parse_document bytes else None
+
+-- The keys of a controller. This project's own.
+abbrev pub controller_keys : List (List ℕ)
+controller_keys =
+    codes "node" ∷ codes "coils" ∷ codes "inputs" ∷ codes "registers" ∷ codes "panel" ∷ codes "orders" ∷ codes "segment" ∷ []
+
+-- The plan of a controller: its table apart from the pieces, then the pieces in their order. This project's own.
+unfoldable pub controller_of : Members → Result ControllerPlan Refusal
+controller_of ms = do
+  keys ← unless (has_only controller_keys ms) not_built
+  node ← or_fault not_built (number_at (codes "node") 1 64 ms)
+  sizes ← sizes_at ms
+  orders ← unless (has_first_order ms) not_built
+  panel ← panel_at sizes ms
+  texts ← network_texts ms
+  networks ← as_not_built (networks_of sizes texts)
+  Ok (record { node = node; coils = sizes.coils; inputs = sizes.inputs; registers = sizes.registers; panel = panel; segments = record { networks = networks } ∷ [] })
+
+-- The plant of a document: version 1 and one controller. This project's own.
+unfoldable pub plant_in : Members → Result Plant Refusal
+plant_in top = do
+  keys ← unless (has_only (codes "version" ∷ codes "controller" ∷ []) top) not_built
+  version ← or_fault not_built (number_at (codes "version") 1 1 top)
+  controllers ← or_fault not_built (get_member (codes "controller") top)
+  table ← or_fault not_built (only_table controllers)
+  controller ← controller_of table
+  Ok (record { controllers = controller ∷ [] })
+
+-- The plant of the bytes of a plant file, or the first fault with its place. This project's own.
+unfoldable pub plant_of : List ℕ → Result Plant Refusal
+plant_of bytes = or_fault bad_toml (document_of bytes) >>= plant_in

@@ -1,0 +1,48 @@
+-- Where a plant file is refused, and reading that stops there.
+use Rattle.std.specs.Prelude.{◌≡◌, ℕ, [], ◌∷◌, Result, Ok, Err}
+use Rattle.plant_types.specs.declared.fault.PlantFault.{PlantFault}
+use Rattle.plant_types.specs.declared.fault.PlantFault.TheVariants.{BadToml, NotBuilt}
+use Rattle.plant_types.specs.declared.fault.Part.TheVariants as parts
+use Rattle.plant_types.specs.declared.fault.Place.{Place}
+use Rattle.plant_loader.specs.declared.refusal.LoadEnd.{LoadEnd}
+use Rattle.plant_loader.specs.declared.refusal.LoadEnd.TheVariants as ends
+
+-- A fault and the place that has it. This project's own.
+abbrev pub Refusal : Type 0
+Refusal = PlantFault × Place
+
+-- The whole file. This project's own.
+abbrev pub plant_place : Place
+plant_place = record { part = parts.Plant; at = 0 ∷ 0 ∷ 0 ∷ 0 ∷ [] }
+
+-- A piece of a network of the first segment of the first controller; all numbers count from 1. This project's own.
+abbrev pub cell_place : ℕ → ℕ → Place
+cell_place network cell = record { part = parts.Cell; at = 1 ∷ 1 ∷ network ∷ cell ∷ [] }
+
+-- The bytes are no document. This project's own.
+abbrev pub bad_toml : Refusal
+bad_toml = (BadToml, plant_place)
+
+-- The document is not of a form that is taken. This project's own.
+abbrev pub not_built : Refusal
+not_built = (NotBuilt, plant_place)
+
+-- A fault that comes at a place. This project's own.
+abbrev pub at_place : {A : Type 0} → Place → Result A PlantFault → Result A Refusal
+at_place place (Ok x) = Ok x
+at_place place (Err fault) = Err (fault, place)
+
+-- A fault inside the networks makes the document one that is not of the form. This project's own.
+abbrev pub as_not_built : {A : Type 0} → Result A Refusal → Result A Refusal
+as_not_built (Ok x) = Ok x
+as_not_built (Err refusal) = Err not_built
+
+-- What a call answered is the first fault of what it reads, unless memory was refused. This project's own.
+abbrev pub Stops : {B : Type 0} → LoadEnd → Result B Refusal → Type 0
+Stops ends.NoMemory read = Unit {0}
+Stops (ends.Refused fault place) read = read ≡ Err (fault, place)
+
+-- What a call answered, seen by a view, is what it reads, or the first fault of that, unless memory was refused. This project's own.
+abbrev pub Gives : {A B : Type 0} → (A → B) → Result A LoadEnd → Result B Refusal → Type 0
+Gives view (Ok x) read = read ≡ Ok (view x)
+Gives view (Err e) read = Stops e read

@@ -1,0 +1,16 @@
+//! Reads the plan of a plant from the bytes of its file.
+#![tactic(auto)]
+
+mod cells;
+mod controller;
+mod counts;
+mod keys;
+mod pieces;
+mod program;
+mod reading;
+mod refusal;
+#[cfg(test)]
+mod tests;
+
+pub use reading::load;
+pub use refusal::LoadEnd;

@@ -1,0 +1,134 @@
+//! The whole file.
+ghost use Rattle.std.specs.Prelude.{◌≡◌, true, [], ◌∷◌, length, map, IfOk, MatchResult};
+ghost use Rattle.std.specs.List.{list_all};
+ghost use Rattle.toml.specs.View.{table_view};
+ghost use Rattle.plant_types.specs.Checks.{passes_check};
+ghost use Rattle.cell_text.specs.Steps.{or_fault};
+ghost use Rattle.plant_loader.specs.Counts.{sizes_of};
+ghost use Rattle.plant_loader.specs.Refusals.{Gives, bad_toml, as_not_built};
+ghost use Rattle.plant_loader.specs.Pieces.{networks_of};
+ghost use Rattle.plant_loader.specs.Plant.{document_of, controller_of, plant_in, plant_of};
+
+use crate::controller::{counts_at, has_first_order, network_texts, panel_at};
+use crate::counts::Counts;
+use crate::keys::{has_only, number_at, only_table, value_at};
+use crate::pieces::networks_of;
+use crate::refusal::{LoadEnd, bad_toml, not_built};
+use plant_types::{ControllerPlan, List, Network, Plant, Segment};
+use std::alloc::Global;
+use std::str;
+use toml::Table;
+
+fn document(alloc: Global, bytes: &[u8]) -> Result<Table, LoadEnd>
+    ensures { Gives table_view result (or_fault bad_toml (document_of bytes.now)) }
+{
+    let Ok(text) = str::from_utf8(bytes) else {
+        return Err(bad_toml());
+    };
+    match toml::table_from_str(alloc, text) {
+        Ok(table) => Ok(table),
+        Err(e) => {
+            if e.is_memory() {
+                Err(LoadEnd::NoMemory)
+            } else {
+                Err(bad_toml())
+            }
+        }
+    }
+}
+
+/// The networks, where each piece passes.
+fn built_networks(alloc: Global, counts: Counts, texts: &[&str]) -> Result<List<Network>, LoadEnd>
+    ensures { Gives (λ networks. networks) result (as_not_built (networks_of (sizes_of counts) (map (λ t. t.now) texts.now))) }
+{
+    match networks_of(alloc, counts, texts) {
+        Ok(networks) => Ok(networks),
+        Err(LoadEnd::Refused(_, _)) => Err(not_built()),
+        Err(LoadEnd::NoMemory) => Err(LoadEnd::NoMemory),
+    }
+}
+
+fn only_segment(alloc: Global, networks: List<Network>) -> Result<List<Segment>, LoadEnd>
+    ensures { MatchResult result (λ segments. segments ≡ record { networks = networks } ∷ []) (λ end. end ≡ LoadEnd.NoMemory) }
+{
+    let mut segments = List::new(alloc);
+    if segments.push(Segment { networks }).is_err() {
+        return Err(LoadEnd::NoMemory);
+    }
+    Ok(segments)
+}
+
+#[tactic(auto, unfolding(crate::specs::Plant::controller_of))]
+fn controller_of(alloc: Global, table: &Table) -> Result<ControllerPlan, LoadEnd>
+    ensures { Gives (λ plan. plan) result (controller_of (table_view table.now)) }
+{
+    if !has_only(
+        table,
+        &[
+            "node", "coils", "inputs", "registers", "panel", "orders", "segment",
+        ],
+    ) {
+        return Err(not_built());
+    }
+    let Some(node) = number_at(table, "node", 1, 64) else {
+        return Err(not_built());
+    };
+    let counts = counts_at(table)?;
+    if !has_first_order(table) {
+        return Err(not_built());
+    }
+    let panel = panel_at(alloc, counts, table)?;
+    let texts = network_texts(alloc, table)?;
+    let networks = built_networks(alloc, counts, &texts)?;
+    let segments = only_segment(alloc, networks)?;
+    Ok(ControllerPlan {
+        node: node as u8,
+        coils: counts.coils,
+        inputs: counts.inputs,
+        registers: counts.registers,
+        panel,
+        segments,
+    })
+}
+
+fn only_controller(alloc: Global, controller: ControllerPlan) -> Result<Plant, LoadEnd>
+    ensures { MatchResult result (λ plant. plant ≡ record { controllers = controller ∷ [] }) (λ end. end ≡ LoadEnd.NoMemory) }
+{
+    let mut controllers = List::new(alloc);
+    if controllers.push(controller).is_err() {
+        return Err(LoadEnd::NoMemory);
+    }
+    Ok(Plant { controllers })
+}
+
+#[tactic(auto, unfolding(crate::specs::Plant::plant_in))]
+fn plant_in(alloc: Global, top: &Table) -> Result<Plant, LoadEnd>
+    ensures { Gives (λ plant. plant) result (plant_in (table_view top.now)) }
+{
+    if !has_only(top, &["version", "controller"]) {
+        return Err(not_built());
+    }
+    let Some(_) = number_at(top, "version", 1, 1) else {
+        return Err(not_built());
+    };
+    let Some(controllers) = value_at(top, "controller") else {
+        return Err(not_built());
+    };
+    match only_table(controllers) {
+        Some(table) => only_controller(alloc, controller_of(alloc, table)?),
+        None => Err(not_built()),
+    }
+}
+
+/// Reads a plant. The answer is the plant of the file, or its first fault.
+#[tactic(auto, unfolding(crate::specs::Plant::plant_of))]
+pub fn load(alloc: Global, bytes: &[u8]) -> Result<Plant, LoadEnd>
+    ensures plant { Gives (λ plant. plant) result (plant_of bytes.now) }
+
+    // What is loaded can be solved and shown: there is one controller, and its plan passes.
+    ensures one { IfOk result (λ plant. length plant.controllers ≡ 1) }
+    ensures checked { IfOk result (λ plant. list_all passes_check plant.controllers ≡ true) }
+{
+    let top = document(alloc, bytes)?;
+    plant_in(alloc, &top)
+}
