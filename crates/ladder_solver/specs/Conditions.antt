@@ -13,11 +13,14 @@ pub record CanSolve (m : Contents) (cell : Cell) : Type 0 where
   pub last : cell.row ≤ 7
   pub operands : HasOperands m cell.element
 
+-- The same of each cell. This project's own.
 abbrev pub CanSolveCells : Contents → List Cell → Type 0
 CanSolveCells m cells = AllByRecursion (CanSolve m) cells
 
+-- The same of each cell of each column. This project's own.
 abbrev pub CanSolveColumns : Contents → List Column → Type 0
 CanSolveColumns m columns = AllByRecursion (λ column. CanSolveCells m column.cells) columns
 
+-- The same of each cell of each network. This project's own.
 abbrev pub CanSolveGrids : Contents → List Grid → Type 0
 CanSolveGrids m grids = AllByRecursion (λ grid. CanSolveColumns m grid.columns) grids

@@ -8,6 +8,7 @@ use Rattle.ladder_solver.specs.declared.layout.Grid.{Grid}
 use Rattle.ladder_solver.specs.Network.{cell_at}
 use Rattle.ladder_solver.specs.Rows.{marks_of}
 
+-- A cell that was found comes before the others. This project's own.
 abbrev pub before : Option Cell → List Cell → List Cell
 before None cells = cells
 before (Some cell) cells = cell ∷ cells
@@ -30,6 +31,7 @@ columns_from network column (suc count) = column_of network column ∷ columns_f
 abbrev pub grid_of : Network → Grid
 grid_of network = record { columns = columns_from network 1 11 }
 
+-- The networks of one segment, laid out. This project's own.
 abbrev pub segment_grids : Segment → List Grid
 segment_grids segment = map grid_of segment.networks
 

@@ -5,7 +5,8 @@ use Rattle.plant_types.specs.declared.network.Segment.{Segment}
 use Rattle.ladder_solver.specs.State.{State}
 use Rattle.ladder_solver.specs.Network.{network_after}
 
-abbrev networks_in : Option Segment → List Network
+-- The networks of a segment, if there is one. This project's own.
+abbrev pub networks_in : Option Segment → List Network
 networks_in None = []
 networks_in (Some segment) = segment.networks
 
