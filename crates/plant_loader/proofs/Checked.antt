@@ -1,6 +1,6 @@
 -- What was read passes the tests of a plan.
-use Rattle.std.proofs.Common.{◌≡◌, ℕ, ◌+◌, Bool, true, false, cond, not, ◌&&◌, List, [], ◌∷◌, ◌++◌, length, Option, Some, None, Result, Ok, Err, refl, sym, ap, ◌∙◌, append_assoc}
-use Rattle.std.specs.List.{list_any, list_all, filter_map, flat_map, cons_option}
+use Rattle.std.proofs.Common.{◌≡◌, ℕ, ◌+◌, Bool, true, false, not, ◌&&◌, List, [], ◌∷◌, ◌++◌, length, Option, Some, None, Result, Ok, Err, refl, sym, ap, ◌∙◌, append_assoc}
+use Rattle.std.specs.List.{list_any, list_all, flat_map, cons_option}
 use Rattle.std.proofs.lemmas.Bool.{and_parts}
 use Rattle.std.proofs.lemmas.List.{append-nil}
 use Rattle.std.proofs.lemmas.List.Folds.{list_all-append}
@@ -17,7 +17,7 @@ use Rattle.plant_types.specs.Sizes.{Sizes}
 use Rattle.plant_types.specs.Network.{driven_by, has_cell_place, has_short_place, same_short}
 use Rattle.plant_types.specs.Checks.{has_kinds, has_room, has_shape, cell_passes, cells_pass, short_passes, shorts_pass, network_passes, coils_of_network, is_same, are_driven_once}
 use Rattle.cell_text.specs.Steps.{◌>>=◌, unless}
-use Rattle.cell_text.proofs.StepLemmas.{step-ok, or_fault-ok, unless-ok}
+use Rattle.cell_text.proofs.StepLemmas.{step-ok, unless-ok}
 use Rattle.std.specs.Prelude.{if◌then◌else◌}
 use Rattle.plant_types.specs.declared.fault.Place.{Place}
 use Rattle.cell_text.specs.declared.piece.Piece.{Piece}

@@ -1,10 +1,11 @@
 -- The plant that the bytes of a plant file stand for, or why they are refused.
-use Rattle.std.specs.Prelude.{codes, ℕ, if◌then◌else◌, List, [], ◌∷◌, Option, None, Result, Ok, Err}
+use Rattle.std.specs.Prelude.{◌≡◌, codes, ℕ, true, if◌then◌else◌, List, [], ◌∷◌, length, Option, None, Result, Ok}
 use Rattle.std.specs.Str.{is_utf8}
 use Rattle.toml.specs.Data.{Members, get_member}
 use Rattle.toml.specs.Parse.{parse_document}
 use Rattle.plant_types.specs.declared.plan.ControllerPlan.{ControllerPlan}
 use Rattle.plant_types.specs.declared.plan.Plant.{Plant}
+use Rattle.plant_types.specs.Checks.{passes_check}
 use Rattle.cell_text.specs.Steps.{◌>>=◌, or_fault, unless}
 use Rattle.plant_loader.specs.Refusals.{Refusal, bad_toml, not_built, as_not_built}
 use Rattle.plant_loader.specs.Keys.{has_only, number_at, only_table}
@@ -45,3 +46,10 @@ plant_in top = do
 -- The plant of the bytes of a plant file, or the first fault with its place. This project's own.
 unfoldable pub plant_of : List ℕ → Result Plant Refusal
 plant_of bytes = or_fault bad_toml (document_of bytes) >>= plant_in
+
+-- A plant can be run: it has one controller, whose plan passes its tests and has one segment. This project's own.
+pub record IsRunnable (plant : Plant) : Type 0 where
+  pub controller : ControllerPlan
+  pub only : plant.controllers ≡ controller ∷ []
+  pub passes : passes_check controller ≡ true
+  pub segments : length controller.segments ≡ 1

@@ -146,7 +146,10 @@ impl Program {
     pub fn piece_count(&self) -> Option<usize>
         ensures { IfSome result (λ count. count ≡ piece_count self.now) }
     {
-        self.cells.as_slice().len().checked_add(self.shorts.as_slice().len())
+        self.cells
+            .as_slice()
+            .len()
+            .checked_add(self.shorts.as_slice().len())
     }
 
     /// The network that was being read is whole.

@@ -7,7 +7,7 @@ ghost use Rattle.cell_text.specs.Steps.{or_fault};
 ghost use Rattle.plant_loader.specs.Counts.{sizes_of};
 ghost use Rattle.plant_loader.specs.Refusals.{Gives, bad_toml, as_not_built};
 ghost use Rattle.plant_loader.specs.Pieces.{networks_of};
-ghost use Rattle.plant_loader.specs.Plant.{document_of, controller_of, plant_in, plant_of};
+ghost use Rattle.plant_loader.specs.Plant.{document_of, controller_of, plant_in, plant_of, IsRunnable};
 
 use crate::controller::{counts_at, has_first_order, network_texts, panel_at};
 use crate::counts::Counts;
@@ -65,7 +65,13 @@ fn controller_of(alloc: Global, table: &Table) -> Result<ControllerPlan, LoadEnd
     if !has_only(
         table,
         &[
-            "node", "coils", "inputs", "registers", "panel", "orders", "segment",
+            "node",
+            "coils",
+            "inputs",
+            "registers",
+            "panel",
+            "orders",
+            "segment",
         ],
     ) {
         return Err(not_built());
@@ -126,6 +132,7 @@ pub fn load(alloc: Global, bytes: &[u8]) -> Result<Plant, LoadEnd>
     ensures plant { Gives (λ plant. plant) result (plant_of bytes.now) }
 
     // What is loaded can be solved and shown: there is one controller, and its plan passes.
+    ensures runnable { IfOk result (λ plant. IsRunnable plant) }
     ensures one { IfOk result (λ plant. length plant.controllers ≡ 1) }
     ensures checked { IfOk result (λ plant. list_all passes_check plant.controllers ≡ true) }
 {

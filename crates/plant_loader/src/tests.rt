@@ -1,5 +1,7 @@
 use super::*;
-use plant_types::{Cell, ControllerPlan, Element, Part, Place, Plant, PlantFault, Ref, RefKind, Short};
+use plant_types::{
+    Cell, ControllerPlan, Element, Part, Place, Plant, PlantFault, Ref, RefKind, Short,
+};
 use std::alloc::{AllocError, Global};
 use std::test::Fail;
 
@@ -13,7 +15,9 @@ const NOT_BUILT: Option<LoadEnd> = Some(LoadEnd::Refused(PlantFault::NotBuilt, P
 // A controller of 16 coils, 16 inputs and 100 registers, with these lines of its table and these
 // network texts.
 fn plant_text(alloc: Global, lines: &str, networks: &str) -> Result<String, AllocError> {
-    format!(in alloc; "version = 1\n[[controller]]\nnode = 1\ncoils = 16\ninputs = 16\nregisters = 100\norders = [\"1 - - -\"]\n{lines}\n[[controller.segment]]\nnetworks = [{networks}]\n")
+    format!(in alloc;
+        "version = 1\n[[controller]]\nnode = 1\ncoils = 16\ninputs = 16\nregisters = 100\norders = [\"1 - - -\"]\n{lines}\n[[controller.segment]]\nnetworks = [{networks}]\n"
+    )
 }
 
 // Why these bytes are refused.
@@ -72,17 +76,35 @@ fn plans_are_read(rt: HostRuntime) -> Result<(), Fail> {
         kind: RefKind::Input,
         number: 1,
     };
-    let text = plant_text(alloc, "panel = [\"00001\"]", "\"1,1 NC 10001; 1,2 CO 00001\"")?;
-    let plant = load(alloc, text.as_bytes()).ok().ok_or("a contact and a coil")?;
+    let text = plant_text(
+        alloc,
+        "panel = [\"00001\"]",
+        "\"1,1 NC 10001; 1,2 CO 00001\"",
+    )?;
+    let plant = load(alloc, text.as_bytes())
+        .ok()
+        .ok_or("a contact and a coil")?;
     let plan = only_controller(&plant).ok_or("one controller")?;
-    assert!(rt; has_network(plan, &[one], &[cell(1, 1, Element::Closed(input)), cell(1, 2, Element::Coil(one))], &[]));
+    assert!(rt;
+        has_network(
+            plan,
+            &[one],
+            &[
+                cell(1, 1, Element::Closed(input)),
+                cell(1, 2, Element::Coil(one))
+            ],
+            &[]
+        )
+    );
 
     let text = plant_text(
         alloc,
         "panel = [\"00001\", \"\\t00002 \", \"00003\"]",
         "\"1,1 H; 1,2 NO 00001; 1,3 CO 00002; 2,1 H; 2,2 H; 2,3 H; 2,4 NO 00001; 2,5 CO 00003; 7,1 H; 7,2 H; 7,3 CO 00001\"",
     )?;
-    let plant = load(alloc, text.as_bytes()).ok().ok_or("contacts of three rows")?;
+    let plant = load(alloc, text.as_bytes())
+        .ok()
+        .ok_or("contacts of three rows")?;
     let plan = only_controller(&plant).ok_or("one controller")?;
     let cells = [
         cell(1, 1, Element::Wire),
@@ -104,7 +126,9 @@ fn plans_are_read(rt: HostRuntime) -> Result<(), Fail> {
         "panel = [\"00001\", \"00007\"]",
         "\"4,1 H; 1,1 V; 2,1 V; 3,1 V; 4,1 V; 5,1 V; 6,1 V; 1,2 CO 00001; 7,2 CO 00007\"",
     )?;
-    let plant = load(alloc, text.as_bytes()).ok().ok_or("shorts over all rows")?;
+    let plant = load(alloc, text.as_bytes())
+        .ok()
+        .ok_or("shorts over all rows")?;
     let plan = only_controller(&plant).ok_or("one controller")?;
     let cells = [
         cell(4, 1, Element::Wire),
@@ -253,7 +277,9 @@ fn documents_are_refused(rt: HostRuntime) -> Result<(), Fail> {
         let text = format!(in alloc; "version = 1\n[[controller]]\nnode = 1\n{end}")?;
         assert_eq!(rt; refusal(alloc, text.as_bytes()), NOT_BUILT, "{end}");
     }
-    let text = format!(in alloc; "version = 1\n[[controller]]\nnode = 64\norders = [\" 1\t- - - \"]\n[[controller.segment]]\nnetworks = []\n")?;
+    let text = format!(in alloc;
+        "version = 1\n[[controller]]\nnode = 64\norders = [\" 1\t- - - \"]\n[[controller.segment]]\nnetworks = []\n"
+    )?;
     assert_eq!(rt; refusal(alloc, text.as_bytes()), None);
     Ok(())
 }
@@ -266,7 +292,10 @@ fn other_bytes_are_no_document(rt: HostRuntime) -> Result<(), Fail> {
     assert_eq!(rt; refusal(alloc, b"version = 1\n# \xff"), BAD_TOML);
     assert_eq!(rt; refusal(alloc, b"version = \"1"), BAD_TOML);
     assert_eq!(rt; refusal(alloc, b"version = 1\nversion = 1\n"), BAD_TOML);
-    assert_eq!(rt; refusal(alloc, b"version = 99999999999999999999\n"), BAD_TOML);
+    assert_eq!(rt;
+        refusal(alloc, b"version = 99999999999999999999\n"),
+        BAD_TOML
+    );
     assert_eq!(rt; refusal(alloc, b"version 1\n"), BAD_TOML);
     let brackets = vec![in alloc; b'['; 10_000]?;
     let mut nested = b"x = ".to_vec(alloc)?;
@@ -296,7 +325,11 @@ fn limits_are_kept(rt: HostRuntime) -> Result<(), Fail> {
         let panel = repeated(alloc, "\"40100\",", count)?;
         let lines = format!(in alloc; "panel = [{panel}]")?;
         let text = plant_text(alloc, lines.as_str(), "")?;
-        assert_eq!(rt; refusal(alloc, text.as_bytes()), want, "{count} panel references");
+        assert_eq!(rt;
+            refusal(alloc, text.as_bytes()),
+            want,
+            "{count} panel references"
+        );
     }
     Ok(())
 }

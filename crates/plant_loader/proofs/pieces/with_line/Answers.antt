@@ -1,5 +1,5 @@
 use Rattle.plant_loader.proofs.pieces.with_line.Goals as goal
-use Rattle.std.proofs.Common.{◌≡◌, ℕ, ◌+◌, List, [], ◌∷◌, ◌++◌, length, sym, ap, ◌∙◌, lit<, arith, Err}
+use Rattle.std.proofs.Common.{length, sym, ◌∙◌, lit<}
 use Rattle.std.specs.Prelude.{◌==◌}
 use Rattle.std.specs.List.{slice_split}
 use Rattle.std.proofs.lemmas.List.{length_push}

@@ -1,5 +1,5 @@
 use Rattle.plant_loader.proofs.pieces.with_lines.Goals as goal
-use Rattle.std.proofs.Common.{◌≡◌, ℕ, ◌+◌, List, [], ◌∷◌, ◌++◌, length, sym, ap, ◌∙◌, arith, Err}
+use Rattle.std.proofs.Common.{length, sym, ◌∙◌}
 use Rattle.std.specs.Str.Lines.{lines}
 use Rattle.std.proofs.lemmas.List.{length_push}
 use Rattle.std.proofs.lemmas.Result.{err_from_is_err_and}

@@ -1,5 +1,5 @@
 use Rattle.std.proofs.Common.{sym}
-use Rattle.plant_loader.proofs.DrivenLemmas.{HoldsJust-gain, HoldsJust-none}
+use Rattle.plant_loader.proofs.DrivenLemmas.{HoldsJust-gain}
 use Rattle.plant_loader.proofs.program.with_coil.Goals as goal
 
 pub returns-in-Ok : goal.returns-in-Ok

@@ -1,0 +1,69 @@
+-- What is due for a command and an input, and what a call may have read and written.
+use Rattle.std.specs.Prelude.{◌≡◌, ℕ, ◌*◌, ◌^◌, ◌≤◌, codes, List, length, ◌++◌, Option, Result, Ok, Err, ◌⊎◌}
+use Rattle.plant_types.specs.declared.fault.PlantFault.{PlantFault}
+use Rattle.plant_types.specs.declared.fault.Place.{Place}
+use Rattle.plant_types.specs.declared.plan.Plant.{Plant}
+use Rattle.plant_types.specs.Fault.{fault_text, place_text}
+use Rattle.plant_io.specs.Streams.{IsWhole, Took, TookFront}
+use Rattle.plant_loader.specs.Refusals.{Refusal}
+use Rattle.plant_loader.specs.Plant.{plant_of}
+use Rattle.plant984.specs.declared.status.Status.{Status}
+use Rattle.plant984.specs.declared.status.Status.TheVariants as ends
+use Rattle.plant984.specs.declared.words.Command.{Command}
+use Rattle.plant984.specs.declared.words.Command.TheVariants.{Run}
+use Rattle.plant984.specs.Words.{Spells}
+use Rattle.plant984.specs.Run.{serial}
+use Rattle.plant984.specs.Panel.{panel}
+
+-- A status and the text that goes with it. This project's own.
+pub record Due : Type 0 where
+  pub status : Status
+  pub text : List ℕ
+
+-- The line that names a fault and its place. This project's own.
+abbrev pub refusal_text : PlantFault → Place → List ℕ
+refusal_text fault place = codes "refused " ++ (fault_text fault ++ (codes " " ++ (place_text place ++ codes "\n")))
+
+-- A plant that is accepted is run; one that has a fault is refused. This project's own.
+abbrev pub due_of : Command → Result Plant Refusal → Due
+due_of (Run scans) (Ok plant) = record { status = ends.Ok; text = panel (serial plant scans) }
+due_of (Run scans) (Err fault) = record { status = ends.Refused; text = refusal_text fault.0 fault.1 }
+
+-- What is due for a command and an input. This project's own.
+abbrev pub due : Command → List ℕ → Due
+due command input = due_of command (plant_of input)
+
+-- The most bytes of input that are taken, 64 MiB. This project's own.
+abbrev pub input_limit : ℕ
+input_limit = 64 * 2 ^ 20
+
+-- What was asked: the command that the words spell, over the whole input, which is within the limit. This project's own.
+pub record Asked (words : List (List ℕ)) (left rest : Option (List ℕ)) : Type 0 where
+  pub command : Command
+  pub spelled : Spells words command
+  pub input : List ℕ
+  pub whole : IsWhole left rest input
+  pub within : length input ≤ input_limit
+
+-- This status was due for what was asked, and the text that was due with it was written. This project's own.
+abbrev pub WroteDue : Status → List (List ℕ) → Option (List ℕ) → Option (List ℕ) → Option (List ℕ) → Option (List ℕ) → Type 0
+WroteDue status words left rest had has =
+    (asked : Asked words left rest) × ((due asked.command asked.input).status ≡ status) × Took had has (due asked.command asked.input).text
+
+-- Of the text that was due for what was asked a front was written, but not all of it. This project's own.
+abbrev pub WroteFrontOfDue : List (List ℕ) → Option (List ℕ) → Option (List ℕ) → Option (List ℕ) → Option (List ℕ) → Type 0
+WroteFrontOfDue words left rest had has = (asked : Asked words left rest) × TookFront had has (due asked.command asked.input).text
+
+-- The status is what was due, and the text that was due was written; or memory ran out. This project's own.
+abbrev pub EndsAsDue : Due → Status → Option (List ℕ) → Option (List ℕ) → Type 0
+EndsAsDue what status had has = ((status ≡ what.status) × Took had has what.text) ⊎ (status ≡ ends.NoMemory)
+
+-- The statuses that come before anything is written. This project's own.
+abbrev pub WritesNothing : Status → Type 0
+WritesNothing ends.NoMemory = Unit {0}
+WritesNothing ends.Usage = Unit {0}
+WritesNothing ends.ReadFault = Unit {0}
+WritesNothing ends.TooLong = Unit {0}
+WritesNothing ends.Ok = ⊥
+WritesNothing ends.Refused = ⊥
+WritesNothing ends.WriteFault = ⊥

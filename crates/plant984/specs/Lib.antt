@@ -1,0 +1,5 @@
+pub mod Status
+pub mod Words
+pub mod Run
+pub mod Panel
+pub mod Due

@@ -1,0 +1,41 @@
+// The scans of a controller.
+ghost use Rattle.std.specs.Prelude.{◌≡◌, ◌≤◌, IfOk, length, map, string_bytes, true};
+ghost use Rattle.std.specs.List.{range_with_len};
+ghost use Rattle.plant_types.specs.Checks.{passes_check};
+ghost use Rattle.plant984.specs.Run.{end_of};
+ghost use Rattle.plant984.specs.Panel.{panel};
+
+use crate::panel::{push_line, readings_of};
+use ladder_solver::Ladder;
+use plant_types::{ControllerPlan, MapRam, checked_plans_find_all};
+use std::alloc::{AllocError, Global};
+
+/// Runs a controller by itself, and answers its panel lines. A scan takes no memory but for its line.
+pub fn panel_of(
+    alloc: Global,
+    controller: &ControllerPlan,
+    scans: u32,
+) -> Result<String, AllocError>
+    requires passes { passes_check controller.now ≡ true }
+    requires segment { 1 ≤ length controller.now.segments }
+    requires scans { scans ≤ 2000 }
+    ensures { IfOk result (λ text. string_bytes text ≡ panel (map (λ scan. end_of scan controller.now) (range_with_len 1 scans))) }
+{
+    checked_plans_find_all();
+    let mut ladder = Ladder::new(alloc, controller)?;
+    let (coils, inputs, registers) = (controller.coils, controller.inputs, controller.registers);
+    let mut ram = MapRam::new(alloc, coils, inputs, 0, registers)?;
+    let readings = readings_of(alloc, controller.panel.as_slice())?;
+    let mut text = String::new(alloc);
+    for done in 0..scans {
+        ladder.solve(1, &mut ram);
+        push_line(
+            &mut text,
+            done + 1,
+            controller.node,
+            readings.as_slice(),
+            &ram,
+        )?;
+    }
+    Ok(text)
+}

@@ -1,0 +1,238 @@
+// Whole runs, over sources and sinks in memory.
+use crate::serial::INPUT_LIMIT;
+use crate::status::Status;
+use crate::top::plant_top;
+use plant_io::{MemSink, MemSource};
+use std::alloc::{AllocError, Global};
+use std::test::Fail;
+
+const CONTACT_AND_COIL: &str = r#"version = 1
+[[controller]]
+node = 1
+coils = 16
+inputs = 16
+registers = 100
+orders = ["1 - - -"]
+panel = ["00001"]
+[[controller.segment]]
+networks = ["1,1 NC 10001; 1,2 CO 00001"]
+"#;
+
+// The contact of column 2 sees the old state, that of column 4 the new one.
+const OLD_AND_NEW: &str = r#"version = 1
+[[controller]]
+node = 1
+coils = 16
+inputs = 16
+registers = 100
+orders = ["1 - - -"]
+panel = ["00001", "00002", "00003"]
+[[controller.segment]]
+networks = ["1,1 H; 1,2 NO 00001; 1,3 CO 00002; 2,1 H; 2,2 H; 2,3 H; 2,4 NO 00001; 2,5 CO 00003; 7,1 H; 7,2 H; 7,3 CO 00001"]
+"#;
+
+const SHORTS_OVER_ALL_ROWS: &str = r#"version = 1
+[[controller]]
+node = 1
+coils = 16
+inputs = 16
+registers = 100
+orders = ["1 - - -"]
+panel = ["00001", "00007"]
+[[controller.segment]]
+networks = ["4,1 H; 1,1 V; 2,1 V; 3,1 V; 4,1 V; 5,1 V; 6,1 V; 1,2 CO 00001; 7,2 CO 00007"]
+"#;
+
+const OTHER_NODE: &str = r#"version = 1
+[[controller]]
+node = 64
+coils = 16
+inputs = 16
+registers = 100
+orders = ["1 - - -"]
+panel = ["40100", "10016", "00016"]
+[[controller.segment]]
+networks = []
+"#;
+
+// One call: its words, input and failing calls; the status and the text that are wanted.
+struct Case {
+    words: &'static str,
+    input: &'static str,
+    failing_reads: &'static [u64],
+    failing_writes: &'static [u64],
+    status: Status,
+    text: &'static str,
+}
+
+const CASES: [Case; 10] = [
+    Case {
+        words: "run 1",
+        input: CONTACT_AND_COIL,
+        failing_reads: &[],
+        failing_writes: &[],
+        status: Status::Ok,
+        text: "S 1 N 1 00001=1\n",
+    },
+    Case {
+        words: "run 2",
+        input: OLD_AND_NEW,
+        failing_reads: &[],
+        failing_writes: &[],
+        status: Status::Ok,
+        text: "S 1 N 1 00001=1 00002=0 00003=1\nS 2 N 1 00001=1 00002=1 00003=1\n",
+    },
+    Case {
+        words: "run 1",
+        input: SHORTS_OVER_ALL_ROWS,
+        failing_reads: &[],
+        failing_writes: &[],
+        status: Status::Ok,
+        text: "S 1 N 1 00001=1 00007=1\n",
+    },
+    Case {
+        words: "run 1",
+        input: OTHER_NODE,
+        failing_reads: &[],
+        failing_writes: &[],
+        status: Status::Ok,
+        text: "S 1 N 64 40100=0 10016=0 00016=0\n",
+    },
+    Case {
+        words: "run 1",
+        input: "",
+        failing_reads: &[],
+        failing_writes: &[],
+        status: Status::Refused,
+        text: "refused 14 NotBuilt plant\n",
+    },
+    Case {
+        words: "run 1",
+        input: "version = \n",
+        failing_reads: &[],
+        failing_writes: &[],
+        status: Status::Refused,
+        text: "refused 1 BadToml plant\n",
+    },
+    Case {
+        words: "run 1",
+        input: CONTACT_AND_COIL,
+        failing_reads: &[1],
+        failing_writes: &[],
+        status: Status::ReadFault,
+        text: "",
+    },
+    Case {
+        words: "run 1",
+        input: CONTACT_AND_COIL,
+        failing_reads: &[],
+        failing_writes: &[1],
+        status: Status::WriteFault,
+        text: "",
+    },
+    // A sink that takes 7 bytes at a time.
+    Case {
+        words: "run 1",
+        input: CONTACT_AND_COIL,
+        failing_reads: &[],
+        failing_writes: &[3],
+        status: Status::WriteFault,
+        text: "S 1 N 1 00001=",
+    },
+    Case {
+        words: "run 1",
+        input: "",
+        failing_reads: &[],
+        failing_writes: &[2],
+        status: Status::WriteFault,
+        text: "refused",
+    },
+];
+
+fn words_of(alloc: Global, line: &str) -> Result<Vec<String>, AllocError> {
+    let mut words = Vec::new(alloc);
+    for word in line.split_whitespace() {
+        words.push(String::from_str(alloc, word)?)?;
+    }
+    Ok(words)
+}
+
+#[test]
+fn answers_each_case(rt: HostRuntime) -> Result<(), Fail> {
+    let alloc = rt.alloc();
+    for case in &CASES {
+        let words = words_of(alloc, case.words)?;
+        let bytes = Vec::from_slice(alloc, case.input.as_bytes())?;
+        let fails = Vec::from_slice(alloc, case.failing_reads)?;
+        let mut source = MemSource::new(bytes, 7, fails);
+        let mut sink = MemSink::new(alloc, 7, Vec::from_slice(alloc, case.failing_writes)?);
+        let status = plant_top(alloc, &words, &mut source, &mut sink);
+        assert_eq!(rt; status, case.status, "{} {}", case.words, case.input);
+        assert_eq!(rt;
+            sink.bytes(),
+            case.text.as_bytes(),
+            "{} {}",
+            case.words,
+            case.input
+        );
+    }
+    Ok(())
+}
+
+// Behind words that are no command, a run still finds the whole input.
+#[test]
+fn other_words_touch_nothing(rt: HostRuntime) -> Result<(), Fail> {
+    let alloc = rt.alloc();
+    let run = words_of(alloc, "run 1")?;
+    for line in [
+        "",
+        "run",
+        "run 0",
+        "run 01",
+        "run -5",
+        "run +1",
+        "run 2001",
+        "run 4294967297",
+        "run 1 1",
+        "run -- 1",
+        "run 1 --",
+        "-- run 1",
+        "walk 1",
+        "Run 1",
+        "1",
+        "run 1x",
+        "--help",
+    ] {
+        let words = words_of(alloc, line)?;
+        let bytes = Vec::from_slice(alloc, CONTACT_AND_COIL.as_bytes())?;
+        let mut source = MemSource::new(bytes, 64, Vec::new(alloc));
+        let mut sink = MemSink::new(alloc, 64, Vec::new(alloc));
+        let status = plant_top(alloc, &words, &mut source, &mut sink);
+        assert_eq!(rt; status, Status::Usage, "{line}");
+        assert!(rt; sink.bytes().is_empty(), "{line}");
+        let status = plant_top(alloc, &run, &mut source, &mut sink);
+        assert_eq!(rt; status, Status::Ok, "{line}");
+        assert_eq!(rt; sink.bytes(), b"S 1 N 1 00001=1\n".as_slice(), "{line}");
+    }
+    Ok(())
+}
+
+// The limit, and one byte more, by a comment behind the plant.
+#[test]
+fn stops_behind_the_limit(rt: HostRuntime) -> Result<(), Fail> {
+    let alloc = rt.alloc();
+    let words = words_of(alloc, "run 1")?;
+    for (len, want) in [
+        (INPUT_LIMIT, Status::Ok),
+        (INPUT_LIMIT + 1, Status::TooLong),
+    ] {
+        let mut bytes = Vec::from_slice(alloc, CONTACT_AND_COIL.as_bytes())?;
+        bytes.resize(len, b'#')?;
+        let mut source = MemSource::new(bytes, 65_536, Vec::new(alloc));
+        let mut sink = MemSink::new(alloc, 64, Vec::new(alloc));
+        let status = plant_top(alloc, &words, &mut source, &mut sink);
+        assert_eq!(rt; status, want);
+        assert_eq!(rt; sink.bytes().is_empty(), want == Status::TooLong);
+    }
+    Ok(())
+}
