@@ -85,7 +85,7 @@ module _ {V E F : Type 0} (m : Me (Option V) (View E F)) (keeps_one : m.0.kept �
 -- what pass 0 learns as it closes the gate, in the words of a contract
 pub closes_with : {V E F : Type 0} (entries : V → List E) (fixed : V → F) (maker : E → ℕ) (first : V) (id : TableId) (seat : ℕ) (m : Me (Option V) (View E F)) (p : PassFacts E F) (ws : List ℕ) (xs : List (Option V)) (o : Option V)
     → pass_facts id m ≡ p → IsSound m → p.stay ≡ None → p.number ≡ 0 → HasAllBack p → Final (Seen (Rule entries fixed maker first) seat m.0) ws xs → get_elem? xs 0 ≡ some o
-    → (x : V) × (o ≡ Some x) × Finds maker p (entries x) × Owns maker p (entries x) × (fixed x ≡ fixed first)
+    → (x : V) × (o ≡ Some x) × (entries x ≡ p.seen) × Owns maker p (entries x) × (fixed x ≡ fixed first)
 closes_with {F = F} entries fixed maker first id seat m p ws xs o is sound out number all_back final there =
     let idle = idle_of m.1 m.0.phase (ap (λ (q : PassFacts _ F). q.stay) is ∙ out) sound.carries in
     let zero_kept : KeepsNumber m.0 0 = subst (λ n. KeepsNumber m.0 n) (ap (λ (q : PassFacts _ F). q.number) is ∙ number) (keeps_own m sound.keeps_one) in
@@ -93,7 +93,7 @@ closes_with {F = F} entries fixed maker first id seat m p ws xs o is sound out n
     let h = closes entries fixed maker first seat m.0 ws xs idle.0 zero_kept (λ n given. keeps_number m sound.keeps_one n (back n given)) final in (
       h.x,
       some-injective _ _ (sym there ∙ h.is_there),
-      subst (λ q. Finds maker q (entries h.x)) is (finds m sound.keeps_one entries fixed maker id h.x h.handed),
-      subst (λ q. Owns maker q (entries h.x)) is (owns m sound.keeps_one maker id (entries h.x) h.handed.lists),
+      h.whole ∙ ap (λ (q : PassFacts _ F). q.seen) is,
+      subst (λ q. Owns maker q (entries h.x)) is (owns m sound.keeps_one maker id (entries h.x) h.lists),
       h.fixed_is,
     )

@@ -78,6 +78,11 @@ module _ {A : Type 0} where
   at_only a b zero e = some-injective a b e
   at_only a b (suc j) e = absurd (some-ne-none b (sym e))
 
+  -- a list with no element is empty
+  pub none_at : (l : List A) → ((k : ℕ) (a : A) → get_elem? l k ≡ some a → ⊥) → l ≡ []
+  none_at [] never = refl
+  none_at (x ∷ xs) never = absurd (never 0 x refl)
+
   empty_of : (xs : List A) → length xs ≡ 0 → xs ≡ []
   empty_of [] e = refl
   empty_of (x ∷ xs) e = absurd (omega arith)

@@ -27,6 +27,18 @@ module _ {E : Type 0} (maker : E → ℕ) where
   pub own-others : (by n : ℕ) (es : List E) → n ≢ by → ((k : ℕ) (e : E) → get_elem? es k ≡ some e → maker e ≡ by) → own maker n es ≡ []
   own-others by n es ne all = own-none n es (λ k e there is. ne (sym is ∙ all k e there))
 
+  -- the maker of an entry owns it
+  pub own-has : (es : List E) (k : ℕ) (e : E) → get_elem? es k ≡ some e → own maker (maker e) es ≡ [] → ⊥
+  own-has [] k e there none = absurd (some-ne-none e (sym there))
+  own-has (x ∷ xs) zero e there none =
+      let yes : eqb (maker x) (maker e) ≡ true = eq-eqb (maker x) (maker e) (ap maker (some-injective x e there)) in
+      let has : x ∷ own maker (maker e) xs ≡ [] = sym (ap (λ (b : Bool). cond b (x ∷ own maker (maker e) xs) (own maker (maker e) xs)) yes) ∙ none in cc
+  own-has (x ∷ xs) (suc k) e there none = either (eqb (maker x) (maker e)) (own-has xs k e there) none
+    where
+      either : (b : Bool) → (own maker (maker e) xs ≡ [] → ⊥) → cond b (x ∷ own maker (maker e) xs) (own maker (maker e) xs) ≡ [] → ⊥
+      either true later is = let has : x ∷ own maker (maker e) xs ≡ [] = is in cc
+      either false later is = later is
+
   -- what is owned of two lists together
   pub own-append : (n : ℕ) (es fs : List E) → own maker n (es ++ fs) ≡ own maker n es ++ own maker n fs
   own-append n es fs = filter-append (λ e. maker e == n) es fs

@@ -173,14 +173,14 @@ impl<V: Journal> Gate<V> {
         one
     }
 
-    /// Gives the value that was left last.
+    /// Gives the value that was left last: the pass, with all others joined into it, has seen all its entries.
     pub fn close(self, pass: Pass<V>) -> V
         requires gate { pass.gate ≡ self }
         requires outside { IsOutside pass }
         requires zero { pass.number ≡ 0 }
         requires all_back { HasAllBack pass }
         ensures fixed { self.fixed ≡ Some (V.fixed result) }
-        ensures found { Finds V.maker pass (V.entries result) }
+        ensures entries { V.entries result ≡ pass.seen }
         ensures own { Owns V.maker pass (V.entries result) }
     {
         let Gate { table } = self;
