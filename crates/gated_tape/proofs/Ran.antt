@@ -1,11 +1,11 @@
 -- Runs of writers, put together.
-use Rattle.std.proofs.Common.{◌≡◌, ℕ, zero, suc, ◌<◌, List, [], ◌∷◌, ◌++◌, All, Option, map, length, set, slice_index_or, refl, sym, ap, ◌∙◌, arith}
+use Rattle.std.proofs.Common.{◌≡◌, ℕ, zero, suc, ◌<◌, List, [], ◌∷◌, ◌++◌, Option, length, set, slice_index_or, refl, sym, ap, ◌∙◌, arith}
 use Rattle.std.proofs.lemmas.List.{map-append}
 use Rattle.std.proofs.lemmas.List.Elements.{All-append}
 use Rattle.gated_tape.specs.declared.tapes.Mark.{Mark}
 use Rattle.gated_tape.specs.declared.runs.Writer.{Writer}
 use Rattle.gated_tape.specs.Writers.{Wrote}
-use Rattle.gated_tape.specs.Ran.{nodes_of, RanEach}
+use Rattle.gated_tape.specs.Ran.{RanEach}
 
 module _ {S : Type 0} (known : S → List Mark) (writer : S → Option ℕ) (count : ℕ) where
   -- no writer ran

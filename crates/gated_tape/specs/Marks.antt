@@ -1,6 +1,5 @@
 -- Marks and tapes. All of it is this project's own.
-use Rattle.std.specs.Prelude.{◌≡◌, ℕ, zero, suc, List, [], ◌∷◌, ◌++◌, Result, Ok, Err}
-use Rattle.turn_gate.specs.Known.{own}
+use Rattle.std.specs.Prelude.{ℕ, zero, suc, List, [], ◌∷◌, ◌++◌, Result, Ok, Err}
 use Rattle.gated_tape.specs.declared.tapes.Mark.{Mark}
 
 -- a mark of these parts

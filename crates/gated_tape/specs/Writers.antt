@@ -1,5 +1,5 @@
 -- Writers over sides of their own. All of it is this project's own.
-use Rattle.std.specs.Prelude.{◌≡◌, ℕ, ◌≤◌, Bool, true, List, [], Option, Some}
+use Rattle.std.specs.Prelude.{◌≡◌, ℕ, zero, suc, ◌≤◌, Bool, true, List, [], ◌∷◌, Option, Some}
 use Rattle.turn_gate.specs.Known.{own}
 use Rattle.gated_tape.specs.declared.tapes.Mark.{Mark}
 use Rattle.gated_tape.specs.Marks.{node_of, marks_up_to}
@@ -16,3 +16,8 @@ module _ {S : Type 0} (known : S → List Mark) (writer : S → Option ℕ) (cou
   pub record Wrote (side : S) (node : ℕ) (done : Bool) : Type 0 where
     pub serves : writer side ≡ Some node
     pub written : done ≡ true → own node_of node (known side) ≡ marks_up_to node count
+
+-- the numbers from n down to 1
+unfoldable pub count_down : ℕ → List ℕ
+count_down zero = []
+count_down (suc n) = suc n ∷ count_down n

@@ -6,9 +6,11 @@ mod gated;
 mod runs;
 mod sides;
 mod tapes;
+#[cfg(test)]
+mod tests;
 
 pub use cells::TapeCell;
 pub use gated::{GatedSide, Naming};
-pub use runs::write_all;
+pub use runs::{Crew, write_all, write_in_turns};
 pub use sides::Side;
 pub use tapes::{Mark, Tape};

@@ -1,4 +1,4 @@
-use Rattle.std.proofs.Common.{◌≡◌, ◌≤◌, ◌<◌, ◌+◌, ◌++◌, ◌∙◌, Option, ℕ, refl, suc, subst, sym, ap, add-one, arith}
+use Rattle.std.proofs.Common.{◌≡◌, ◌++◌, ◌∙◌, Option, ℕ, refl, subst, sym, ap, add-one, arith}
 use Rattle.turn_gate.specs.Known.{own}
 use Rattle.gated_tape.specs.Marks.{node_of, marks_up_to}
 use Rattle.gated_tape.specs.Sides.{Serves}

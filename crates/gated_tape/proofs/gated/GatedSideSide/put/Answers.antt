@@ -1,4 +1,4 @@
-use Rattle.std.proofs.Common.{◌≡◌, ◌++◌, ap, ◌∙◌, sym}
+use Rattle.std.proofs.Common.{◌++◌, ap, ◌∙◌, sym}
 use Rattle.gated_tape.specs.Marks.{mark, added_on, TapeFacts}
 use Rattle.gated_tape.specs.Cells.{tape_in}
 use Rattle.gated_tape.proofs.Writing.{all_added}
