@@ -9,6 +9,10 @@ pub record GateFacts (E F : Type 0) : Type 0 where
   pub opening : List E
   pub fixed : Option F
 
+-- the name of no gate
+abbrev pub no_gate : {E F : Type 0} → GateFacts E F
+no_gate = record { id = record { words = 0; slots = 0; views_name = 0; atom = 0; block = 0; offset = 0; slot_names = [] }; opening = []; fixed = None }
+
 -- what a pass knows: its gate, its number, the entries that it has seen, those of them that it made, the numbers and own entries of the passes that were joined into it, the numbers that it gave, and the ticket of its stay while it is inside
 pub record PassFacts (E F : Type 0) : Type 0 where
   pub gate : GateFacts E F

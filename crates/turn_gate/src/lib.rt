@@ -7,6 +7,8 @@ mod journals;
 mod passes;
 mod plays;
 mod stays;
+#[cfg(test)]
+mod tests;
 mod views;
 
 pub use gates::Gate;
