@@ -1,6 +1,6 @@
 -- Passes dealt to writers, and gathered again.
 use Rattle.std.proofs.Common.{◌≡◌, ◌≢◌, ℕ, zero, suc, ◌<◌, ◌||◌, ◌&&◌, Bool, true, false, List, [], ◌∷◌, ◌++◌, All, Some, map, reverse, nat_eq, refl, sym, ap, ◌∙◌, subst, eq-eqb, eqb-true, ne_eqb, lit<, arith}
-use Rattle.std.proofs.lemmas.List.{map-append, reverse-append, append_assoc, append-nil}
+use Rattle.std.proofs.lemmas.List.{map-append, reverse-append, append_assoc}
 use Rattle.std.proofs.lemmas.List.Elements.{All-append}
 use Rattle.turn_gate.specs.Known.{GateFacts, PassFacts, first_pass, is_among, own, own_lists, longer}
 use Rattle.gated_tape.specs.declared.tapes.Mark.{Mark}
@@ -66,10 +66,6 @@ first_given gate = refl
 pub next_given : (gate : GateFacts Mark ℕ) (n m : ℕ) → m ≡ suc n → record (first_pass gate) { given = m ∷ count_down n } ≡ record (first_pass gate) { given = count_down m }
 unfolding count_down
 next_given gate n m is = ap (λ k. record (first_pass gate) { given = k ∷ count_down n }) is ∙ ap (λ k. record (first_pass gate) { given = count_down k }) (sym is)
-
--- a pass that was just split off is ready
-pub ready_new : (gate : GateFacts Mark ℕ) (n : ℕ) (given : List ℕ) → IsReady gate (record (first_pass gate) { number = n; given = given })
-ready_new gate n given = record { gate_is = refl; outside = refl; unjoined = refl; own_is = record { made = []; all_is = sym (append-nil gate.opening); mine_is = refl; joined_are = λ k d low. absurd (omega arith) } }
 
 -- a side over a new pass is fresh
 pub fresh_new : (gate : GateFacts Mark ℕ) (side : SideFacts) (n : ℕ) → gate.opening ≡ [] → side ≡ record { seen = gate.opening; number = n } → IsFresh (λ _. limit_of gate) (λ s. s.seen) (λ s. Some s.number) (limit_of gate) side n

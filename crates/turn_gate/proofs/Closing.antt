@@ -4,7 +4,6 @@ use Rattle.std.proofs.lemmas.List.{append-nil}
 use mathlib.Core.Option.{some, some-injective}
 use lib.ListN.{get_elem?}
 use Rattle.atomic_table.specs.Table.{State, Final, Seen}
-use Rattle.turn_gate.specs.declared.views.Phase.{Phase}
 use Rattle.turn_gate.specs.declared.views.Phase.TheVariants.{Idle, Inside}
 use Rattle.turn_gate.specs.declared.views.View.{View}
 use Rattle.turn_gate.specs.Known.{is_among}

@@ -22,10 +22,6 @@ use Rattle.turn_gate.proofs.Tickets.{tickets_held-set}
 
 -- lists by number, where the first has grown by entries that name its number
 module _ {E : Type 0} (maker : E → ℕ) (by : ℕ) (mine added : List E) (later : List (ℕ × List E)) (all_own : (k : ℕ) (e : E) → get_elem? added k ≡ some e → maker e ≡ by) where
-  -- the numbers are the same
-  numbers-grown : numbers_of (first_grown added ((by, mine) ∷ later)) ≡ numbers_of ((by, mine) ∷ later)
-  numbers-grown = refl
-
   -- a number that was kept is kept still
   still_kept : (n : ℕ) (es : List E) (k : ℕ) → get_elem? ((by, mine) ∷ later) k ≡ some (n, es) → (fs : List E) × ((i : ℕ) × (get_elem? (first_grown added ((by, mine) ∷ later)) i ≡ some (n, fs)))
   still_kept n es zero e = let p = some-injective _ _ e in (mine ++ added, (0, ap (λ (q : ℕ × List E). some (q.0, mine ++ added)) p))
