@@ -1,0 +1,11 @@
+mod Lists
+mod Owning
+mod Tickets
+mod Beginning
+mod Drawing
+mod Looking
+mod Releasing
+mod Splitting
+mod Joining
+mod Closing
+mod Between

@@ -1,0 +1,4 @@
+pub mod Known
+pub mod Rule
+pub mod Moves
+pub mod Seats
