@@ -1,0 +1,6 @@
+pub mod Bytes
+pub mod Requests
+pub mod Packing
+pub mod Coils
+pub mod Registers
+pub mod ReadWrites
