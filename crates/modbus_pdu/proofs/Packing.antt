@@ -1,6 +1,7 @@
 -- Bits that are packed and unpacked again.
-use Rattle.std.proofs.Common.{◌≡◌, ℕ, zero, suc, ◌+◌, ◌*◌, ◌/◌, ◌%◌, ◌^◌, ◌<◌, ◌≤◌, ◌-◌, ◌==◌, Bool, true, false, cond, eqb, List, [], ◌∷◌, ◌++◌, length, take, drop, get_or, refl, ap, sym, ◌∙◌, arith, inl, inr}
-use Rattle.std.proofs.lemmas.List.{take_at, drop_at, take-append-drop, length-append, length-take, length-drop, get_or_append_left, get_or-append_right}
+use Rattle.std.proofs.Common.{◌≡◌, ℕ, zero, suc, ◌+◌, ◌*◌, ◌/◌, ◌%◌, ◌^◌, ◌<◌, ◌≤◌, ◌-◌, ◌==◌, Bool, true, false, cond, eqb, List, [], ◌∷◌, ◌++◌, length, take, drop, replicate, get_or, add-one, refl, ap, sym, ◌∙◌, arith, inl, inr}
+use Rattle.std.proofs.lemmas.List.{take_at, drop_at, take-append-drop, length-append, length-take, length-drop, take_all, drop-drop, drop-append-le, get_or_append_left, get_or-append_right}
+use Rattle.std.specs.Prelude.{min}
 use Rattle.std.proofs.lemmas.Bool.{cases_lt}
 use Rattle.std.proofs.Math.Nat.{pow-succ', div-one, div-div-eq-div-mul}
 use Rattle.modbus_pdu.specs.Bytes.{bits_number, packed, bit_digits, unpacked}
@@ -95,4 +96,47 @@ unpacked-at (byte ∷ bytes) i lt =
           let place : i / 8 ≡ suc ((i - 8) / 8) = omega arith in
           let digit : i % 8 ≡ (i - 8) % 8 = omega arith in
           rw (get_or-append_right (bit_digits 8 byte) (unpacked bytes) 8 i false len far, place, digit) (unpacked-at bytes (i - 8) (omega arith))
+    ]
+
+-- Bits behind which only zeros stand make the same number.
+spare_number : (count spare : ℕ) → bits_number (take count (replicate spare false)) ≡ 0
+unfolding bits_number
+spare_number zero spare = refl
+spare_number (suc count) zero = refl
+spare_number (suc count) (suc spare) = rw (spare_number count spare) refl
+
+-- The same for the first so many of them.
+number_take : (count : ℕ) (bits : List Bool) (spare : ℕ) → bits_number (take count (bits ++ replicate spare false)) ≡ bits_number (take count bits)
+unfolding bits_number
+number_take zero bits spare = refl
+number_take (suc count) [] spare = spare_number (suc count) spare
+number_take (suc count) (bit ∷ bits) spare = ap (λ (n : ℕ). cond bit 1 0 + 2 * n) (number_take count bits spare)
+
+-- One more byte is packed behind those before it.
+packed-suc : (count : ℕ) (bits : List Bool) → packed (suc count) bits ≡ packed count bits ++ bits_number (take 8 (drop (8 * count) bits)) ∷ []
+unfolding packed
+packed-suc zero bits = refl
+packed-suc (suc count) bits =
+    let further : 8 * suc count ≡ 8 + 8 * count = omega arith in
+    let place : drop (8 * count) (drop 8 bits) ≡ drop (8 * suc count) bits = drop-drop (8 * count) 8 bits ∙ ap (λ (n : ℕ). drop n bits) (sym further) in
+    ap (λ (rest : List ℕ). bits_number (take 8 bits) ∷ rest) (packed-suc count (drop 8 bits) ∙ ap (λ (rest : List Bool). packed count (drop 8 bits) ++ bits_number (take 8 rest) ∷ []) place)
+
+-- One more byte of bits is packed.
+pub packed_more : (count : ℕ) (bits : List Bool) (spare : ℕ) → 8 * count ≤ length bits
+    → packed (count + 1) (bits ++ replicate spare false) ≡ packed count (bits ++ replicate spare false) ++ bits_number (take 8 (drop (8 * count) bits)) ∷ []
+packed_more count bits spare le =
+    let all = bits ++ replicate spare false in
+    let rest : drop (8 * count) all ≡ drop (8 * count) bits ++ replicate spare false = drop-append-le (8 * count) bits (replicate spare false) le in
+    rw (add-one, packed-suc count all, rest, number_take 8 (drop (8 * count) bits) spare) refl
+
+-- The first eight bits, or all where there are fewer.
+pub first_eight : (k end : ℕ) (bits : List Bool) → end ≡ min (length bits) (k + 8) → k ≤ length bits → take (end - k) (drop k bits) ≡ take 8 (drop k bits)
+first_eight k end bits is le =
+    elim (cases_lt (length bits) (k + 8)) [
+      | inl short ↦
+          let all : end - k ≡ length bits - k = omega arith in
+          take_all (end - k) (drop k bits) (omega (arith, length-drop k bits)) ∙ sym (take_all 8 (drop k bits) (omega (arith, length-drop k bits)))
+      | inr long ↦
+          let eight : end - k ≡ 8 = omega arith in
+          rw eight refl
     ]

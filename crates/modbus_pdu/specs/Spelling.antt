@@ -68,15 +68,56 @@ abbrev pub Spells : List ℕ → Request → Type 0
 Spells [] request = ⊥
 Spells (function ∷ fields) request = SpellsData function fields request
 
+-- Requests whose reply is the request again. Modicon Modbus Protocol Reference Guide.
+abbrev pub IsEchoed : Request → Type 0
+IsEchoed (requests.WriteCoil address on) = ⊤
+IsEchoed (requests.WriteRegister address value) = ⊤
+IsEchoed (requests.Echo word) = ⊤
+IsEchoed (requests.Mask address and_mask or_mask) = ⊤
+IsEchoed _ = ⊥
+
+-- The spare bits that an encoder writes are 0. This project's own.
+abbrev pub HasClearSpare : List ℕ → Request → Type 0
+HasClearSpare bytes (requests.WriteCoils address bits) = bytes ≡ 15 ∷ word_bytes address ++ word_bytes (length bits) ++ counted_bits bits (clear_spare (length bits))
+HasClearSpare bytes _ = ⊤
+
 -- A function code with its highest bit set. Modicon Modbus Protocol Reference Guide.
 abbrev pub exception_code : ℕ → ℕ
 exception_code function = if nat_lt function 128 then function + 128 else function
 
--- The bytes of a reply: the function code, then the fields of its form. Modicon Modbus Protocol Reference Guide.
-abbrev pub SpellsReply : List ℕ → Reply → Type 0
-SpellsReply bytes (replies.Bits function bits) = bytes ≡ function ∷ counted_bits bits (clear_spare (length bits))
-SpellsReply bytes (replies.Words function words) = bytes ≡ function ∷ counted_words words
-SpellsReply bytes (replies.Same request) = Spells bytes request
-SpellsReply bytes (replies.Written function address quantity) = bytes ≡ function ∷ word_bytes address ++ word_bytes quantity
-SpellsReply bytes (replies.Stats words) = bytes ≡ 8 ∷ word_bytes 21 ++ word_bytes (if length words == 0 then 4 else 3) ++ words_bytes words
-SpellsReply bytes (replies.Exception function code) = bytes ≡ exception_code function ∷ code ∷ []
+-- How many references a reply may tell of, and which functions it may have. This project's own bounds.
+abbrev pub IsReplyInRange : Reply → Type 0
+IsReplyInRange (replies.Bits function bits) = ((function ≡ 1) ⊎ (function ≡ 2)) × IsUpTo 2000 (length bits)
+IsReplyInRange (replies.Words function words) = ((function ≡ 3) ⊎ (function ≡ 4) ⊎ (function ≡ 23)) × IsUpTo 125 (length words)
+IsReplyInRange (replies.Same request) = IsEchoed request
+IsReplyInRange (replies.Written function address quantity) = ((function ≡ 15) × IsUpTo 1968 quantity) ⊎ ((function ≡ 16) × IsUpTo 123 quantity)
+IsReplyInRange (replies.Stats words) = (length words ≡ 0) ⊎ (length words ≡ 20)
+IsReplyInRange (replies.Exception function code) = ⊤
+
+-- The bytes of a reply: the function code, then its fields. Modicon Modbus Protocol Reference Guide.
+abbrev pub HasReplyForm : Reply → List ℕ → Type 0
+HasReplyForm (replies.Bits function bits) bytes = bytes ≡ function ∷ counted_bits bits (clear_spare (length bits))
+HasReplyForm (replies.Words function words) bytes = bytes ≡ function ∷ counted_words words
+HasReplyForm (replies.Same request) bytes = Spells bytes request
+HasReplyForm (replies.Written function address quantity) bytes = bytes ≡ function ∷ word_bytes address ++ word_bytes quantity
+HasReplyForm (replies.Stats words) bytes = bytes ≡ 8 ∷ word_bytes 21 ++ word_bytes (if length words == 0 then 4 else 3) ++ words_bytes words
+HasReplyForm (replies.Exception function code) bytes = bytes ≡ exception_code function ∷ code ∷ []
+
+-- The bytes are the reply. Modicon Modbus Protocol Reference Guide.
+pub record SpellsReply (bytes : List ℕ) (reply : Reply) : Type 0 where
+  pub range : IsReplyInRange reply
+  pub form : HasReplyForm reply bytes
+
+-- What a normal reply to a request is, or an exception reply of its function. Modicon Modbus Protocol Reference Guide.
+abbrev pub IsReplyTo : Request → Reply → Type 0
+IsReplyTo request (replies.Exception function code) = function ≡ function_of request
+IsReplyTo (requests.ReadCoils address quantity) (replies.Bits function bits) = (function ≡ 1) × (length bits ≡ quantity)
+IsReplyTo (requests.ReadInputs address quantity) (replies.Bits function bits) = (function ≡ 2) × (length bits ≡ quantity)
+IsReplyTo (requests.ReadRegisters address quantity) (replies.Words function words) = (function ≡ 3) × (length words ≡ quantity)
+IsReplyTo (requests.ReadInputRegisters address quantity) (replies.Words function words) = (function ≡ 4) × (length words ≡ quantity)
+IsReplyTo (requests.ReadWrite read quantity write written) (replies.Words function words) = (function ≡ 23) × (length words ≡ quantity)
+IsReplyTo (requests.WriteCoils address bits) (replies.Written function first quantity) = (function ≡ 15) × (first ≡ address) × (quantity ≡ length bits)
+IsReplyTo (requests.WriteRegisters address words) (replies.Written function first quantity) = (function ≡ 16) × (first ≡ address) × (quantity ≡ length words)
+IsReplyTo (requests.Stats clear) (replies.Stats words) = length words ≡ (if clear then 0 else 20)
+IsReplyTo request (replies.Same again) = again ≡ request
+IsReplyTo _ _ = ⊥

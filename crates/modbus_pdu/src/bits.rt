@@ -1,6 +1,6 @@
 //! Bits packed into bytes, the first in the lowest place.
-ghost use Rattle.std.specs.Prelude.{◌≡◌, ◌*◌, ◌<◌, ◌≤◌, false, length, take, slice_index_or, IfOk};
-ghost use Rattle.modbus_pdu.specs.Bytes.{bytes_for, unpacked};
+ghost use Rattle.std.specs.Prelude.{◌≡◌, ◌^◌, ◌*◌, ◌<◌, ◌≤◌, false, length, take, drop, slice_index_or, IfOk};
+ghost use Rattle.modbus_pdu.specs.Bytes.{bytes_for, bits_number, unpacked};
 
 use plant_types::List;
 use std::alloc::{AllocError, Global};
@@ -35,4 +35,27 @@ pub(crate) fn unpack(
         bits.push(bit_at(packed, place))?;
     }
     Ok(List::from_vec(bits))
+}
+
+/// The byte of up to eight bits.
+#[tactic(auto, unfolding(crate::specs::Bytes::bits_number))]
+fn byte_of(bits: &[bool]) -> u8
+    requires { length bits.now ≤ 8 }
+    ensures number { result ≡ bits_number bits.now }
+    ensures below { result < 2 ^ length bits.now }
+{
+    match bits {
+        [] => 0,
+        [bit, rest @ ..] => u8::from(*bit) + 2 * byte_of(rest),
+    }
+}
+
+/// The byte at an index of the bits, as they are packed.
+pub(crate) fn byte_at(bits: &[bool], index: usize) -> u8
+    requires { 8 * index < length bits.now }
+    ensures { result ≡ bits_number (take 8 (drop (8 * index) bits.now)) }
+{
+    let first = 8 * index;
+    let end = bits.len().min(first + 8);
+    byte_of(&bits[first..end])
 }

@@ -3,11 +3,15 @@
 
 mod bits;
 mod decoding;
+mod draft;
+mod encoding;
 mod end;
 mod numbers;
 mod reply;
 mod request;
 
+pub use decoding::decode;
+pub use encoding::{encode_reply, encode_request};
 pub use end::{BadReply, DecodeEnd};
 pub use reply::Reply;
 pub use request::Request;
