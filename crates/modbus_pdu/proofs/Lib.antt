@@ -4,3 +4,5 @@ pub mod Packing
 pub mod Coils
 pub mod Registers
 pub mod ReadWrites
+pub mod Replies
+pub mod Matching

@@ -1,5 +1,5 @@
 //! Bits packed into bytes, the first in the lowest place.
-ghost use Rattle.std.specs.Prelude.{◌≡◌, ◌^◌, ◌*◌, ◌<◌, ◌≤◌, false, length, take, drop, slice_index_or, IfOk};
+ghost use Rattle.std.specs.Prelude.{◌≡◌, ◌↔◌, ℕ, IsTrue, ◌^◌, ◌*◌, ◌<◌, ◌≤◌, false, length, take, drop, slice_index_or, IfOk};
 ghost use Rattle.modbus_pdu.specs.Bytes.{bytes_for, bits_number, unpacked};
 
 use plant_types::List;
@@ -58,4 +58,18 @@ pub(crate) fn byte_at(bits: &[bool], index: usize) -> u8
     let first = 8 * index;
     let end = bits.len().min(first + 8);
     byte_of(&bits[first..end])
+}
+
+/// Whether the bits behind the first so many are 0.
+pub(crate) fn spare_is_clear(packed: &[u8], quantity: usize) -> bool
+    requires { length packed.now ≤ 250 }
+    ensures { IsTrue result
+        ↔ ((place : ℕ) → quantity ≤ place → place < 8 * length packed.now → slice_index_or (unpacked packed.now) place false ≡ false) }
+{
+    for place in quantity..8 * packed.len() {
+        if bit_at(packed, place) {
+            return false;
+        }
+    }
+    true
 }

@@ -143,6 +143,13 @@ fn words_reply(alloc: Global, function: u8, words: &[u16]) -> Result<Pdu, AllocE
     draft.finish(alloc)
 }
 
+/// The operation that gives so many words of statistics: 4 clears and gives none, 3 gives them.
+pub(crate) fn stats_operation(quantity: usize) -> u16
+    ensures { result ≡ (if quantity == 0 then 4 else 3) }
+{
+    if quantity == 0 { 4 } else { 3 }
+}
+
 fn stats_reply(alloc: Global, words: &[u16]) -> Result<Pdu, AllocError>
     requires { length words.now ≤ 20 }
     ensures { IfOk result (λ pdu. pdu ≡ 8 ∷ word_bytes 21 ++ word_bytes (if length words.now == 0 then 4 else 3) ++ words_bytes words.now) }
@@ -150,7 +157,7 @@ fn stats_reply(alloc: Global, words: &[u16]) -> Result<Pdu, AllocError>
     let mut draft = Draft::new();
     draft.byte(8);
     draft.word(21);
-    draft.word(if words.is_empty() { 4 } else { 3 });
+    draft.word(stats_operation(words.len()));
     draft.words(words);
     draft.finish(alloc)
 }

@@ -8,10 +8,12 @@ mod encoding;
 mod end;
 mod numbers;
 mod reply;
+mod reply_decoding;
 mod request;
 
 pub use decoding::decode;
 pub use encoding::{encode_reply, encode_request};
 pub use end::{BadReply, DecodeEnd};
 pub use reply::Reply;
+pub use reply_decoding::decode_reply;
 pub use request::Request;
