@@ -17,3 +17,6 @@ pub use end::{BadReply, DecodeEnd};
 pub use reply::Reply;
 pub use reply_decoding::decode_reply;
 pub use request::Request;
+
+#[cfg(test)]
+mod tests;
