@@ -1,0 +1,7 @@
+//! What Modbus requests do to the references of a controller.
+#![tactic(auto)]
+
+mod end;
+mod runs;
+
+pub use end::ExecEnd;
