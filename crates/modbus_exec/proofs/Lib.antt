@@ -1,1 +1,3 @@
 pub mod RunLemmas
+pub mod Outcomes
+pub mod AnswerLemmas

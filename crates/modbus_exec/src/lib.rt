@@ -2,6 +2,10 @@
 #![tactic(auto)]
 
 mod end;
+mod executing;
+mod reading;
 mod runs;
+mod writing;
 
 pub use end::ExecEnd;
+pub use executing::exec;

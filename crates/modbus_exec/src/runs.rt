@@ -5,32 +5,36 @@ ghost use Rattle.plant_types.specs.Reference.{is_discrete, ref_from};
 ghost use Rattle.plant_types.specs.Store.{words_from, with_words};
 ghost use Rattle.modbus_exec.specs.Runs.{reference_at, is_in_map, are_in_map, HasRun, bits_from, with_bits};
 
-use plant_types::{List, Ref, RefKind, RefStore};
+use plant_types::{List, Ref, RefKind, RefStore, Words};
 use std::alloc::{AllocError, Global};
 
-/// The reference so many places behind an address, where the map has it.
-pub(crate) fn reference_in<R: RefStore>(
-    ram: &R,
-    kind: RefKind,
-    address: u16,
-    place: u16,
-) -> Option<Ref>
+/// The reference at an address, where the map has it.
+pub(crate) fn reference_in<R: RefStore>(ram: &R, kind: RefKind, address: u16) -> Option<Ref>
     ensures { MatchOption result
-        (is_in_map (R.contents ram.now) (ref_from (reference_at kind address) place) ≡ false)
-        (λ at. (at ≡ ref_from (reference_at kind address) place) × (map.contains_key (R.contents ram.now) at ≡ true)) }
+        (is_in_map (R.contents ram.now) (reference_at kind address) ≡ false)
+        (λ at. (at ≡ reference_at kind address) × (is_in_map (R.contents ram.now) at ≡ true) × (map.contains_key (R.contents ram.now) at ≡ true)) }
 {
-    let number = u32::from(address) + u32::from(place) + 1;
-    if number > 65535 {
-        return None;
-    }
-    let at = Ref {
-        kind,
-        number: number as u16,
-    };
+    let number = address.checked_add(1)?;
+    let at = Ref { kind, number };
     if !ram.has(at) {
         return None;
     }
     Some(at)
+}
+
+/// Whether the map has the reference so many places behind an address.
+fn is_in_map<R: RefStore>(ram: &R, kind: RefKind, address: u16, place: usize) -> bool
+    requires { place ≤ 2000 }
+    ensures { result ≡ is_in_map (R.contents ram.now) (ref_from (reference_at kind address) place) }
+{
+    let number = u32::from(address) + 1 + place as u32;
+    if number > 65535 {
+        return false;
+    }
+    ram.has(Ref {
+        kind,
+        number: number as u16,
+    })
 }
 
 /// Whether the map has so many references from an address on.
@@ -40,15 +44,14 @@ pub(crate) fn are_in_map<R: RefStore>(ram: &R, kind: RefKind, address: u16, coun
     ensures run { IsTrue result → HasRun (R.contents ram.now) (reference_at kind address) count }
 {
     for place in 0..count {
-        match reference_in(ram, kind, address, place as u16) {
-            Some(_) => {}
-            None => return false,
+        if !is_in_map(ram, kind, address, place) {
+            return false;
         }
     }
     true
 }
 
-fn reference_of(kind: RefKind, address: u16, place: usize) -> Ref
+pub(crate) fn reference_of(kind: RefKind, address: u16, place: usize) -> Ref
     requires { address + 1 + place < 65536 }
     ensures { result ≡ ref_from (reference_at kind address) place }
 {
@@ -78,7 +81,7 @@ pub(crate) fn read_bits<R: RefStore>(
 }
 
 /// Reads the registers from an address on, as many as `words` has places.
-pub(crate) fn read_words<R: RefStore>(ram: &R, kind: RefKind, address: u16, words: &mut [u16])
+fn read_words<R: RefStore>(ram: &R, kind: RefKind, address: u16, words: &mut [u16])
     requires run { HasRun (R.contents ram.now) (reference_at kind address) (length words.old) }
     requires kind { is_discrete kind ≡ false }
     ensures { words.new ≡ words_from (R.contents ram.now) (reference_at kind address) (length words.old) }
@@ -86,6 +89,25 @@ pub(crate) fn read_words<R: RefStore>(ram: &R, kind: RefKind, address: u16, word
     for (place, word) in words.iter_mut().enumerate() {
         *word = ram.word(reference_of(kind, address, place));
     }
+}
+
+/// The words of so many registers from an address on.
+pub(crate) fn read_run<R: RefStore>(
+    alloc: Global,
+    ram: &R,
+    kind: RefKind,
+    address: u16,
+    count: usize,
+) -> Result<Words, AllocError>
+    requires run { HasRun (R.contents ram.now) (reference_at kind address) count }
+    requires kind { is_discrete kind ≡ false }
+    requires most { count ≤ 125 }
+    ensures { IfOk result (λ words. words ≡ words_from (R.contents ram.now) (reference_at kind address) count) }
+{
+    let mut words = [0; 125];
+    let words = &mut words[..count];
+    read_words(ram, kind, address, words);
+    Words::of(alloc, words)
 }
 
 /// Sets the coils from an address on.
