@@ -16,7 +16,7 @@ use Rattle.modbus_pdu.specs.declared.reply.Reply.TheVariants as replies
 use Rattle.modbus_exec.specs.declared.end.ExecEnd.{ExecEnd}
 use Rattle.modbus_exec.specs.declared.end.ExecEnd.TheVariants.{Exception, NoMemory}
 use Rattle.modbus_exec.specs.Runs.{reference_at, is_in_map, are_in_map, bits_from, bit_words, with_bits}
-use Rattle.modbus_exec.specs.Answer.{Outcome, answer_of, masked, IsOneOf, Writes}
+use Rattle.modbus_exec.specs.Answer.{Outcome, answer_of, has_references, masked, IsOneOf, Writes}
 use Rattle.modbus_exec.specs.Executing.{Executes}
 use Rattle.modbus_exec.proofs.RunLemmas.{length-bits_from, length-bit_words}
 use Rattle.modbus_exec.proofs.Outcomes.{chosen}
@@ -151,3 +151,22 @@ pub executed_keeps : (request : Request) (old new : Contents) (result : Result R
 executed_keeps request old new (Ok reply) h = answer_keeps request old (record { reply = reply; stored = new }) h
 executed_keeps request old new (Err (Exception code)) h = subst (Keeps old) (sym h.1) (same_kept old)
 executed_keeps request old new (Err NoMemory) h = subst (Keeps old) (sym h.1) (same_kept old)
+
+holding : (b : Bool) (outcome found : Outcome) → chosen b outcome ≡ Ok found → b ≡ true
+holding true outcome found e = refl
+holding false outcome found e = absurd cc
+
+-- Where there is an outcome, the map has the references.
+pub answered_has : (request : Request) (m : Contents) (outcome : Outcome) → answer_of request m ≡ Ok outcome → has_references m request ≡ true
+answered_has (ReadCoils address quantity) m outcome e = holding _ _ outcome e
+answered_has (ReadInputs address quantity) m outcome e = holding _ _ outcome e
+answered_has (ReadRegisters address quantity) m outcome e = holding _ _ outcome e
+answered_has (ReadInputRegisters address quantity) m outcome e = holding _ _ outcome e
+answered_has (WriteCoil address on) m outcome e = holding _ _ outcome e
+answered_has (WriteRegister address value) m outcome e = holding _ _ outcome e
+answered_has (Echo word) m outcome e = refl
+answered_has (Stats clear) m outcome e = absurd cc
+answered_has (WriteCoils address bits) m outcome e = holding _ _ outcome e
+answered_has (WriteRegisters address words) m outcome e = holding _ _ outcome e
+answered_has (Mask address and_mask or_mask) m outcome e = holding _ _ outcome e
+answered_has (ReadWrite read quantity write words) m outcome e = holding _ _ outcome e

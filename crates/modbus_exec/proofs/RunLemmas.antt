@@ -19,7 +19,8 @@ and_false : (a b : Bool) → b ≡ false → (a && b) ≡ false
 and_false true b e = e
 and_false false b e = refl
 
-both_true : (a b : Bool) → (a && b) ≡ true → (a ≡ true) × (b ≡ true)
+-- Both of two tests that hold together.
+pub both_true : (a b : Bool) → (a && b) ≡ true → (a ≡ true) × (b ≡ true)
 both_true true b e = (refl, e)
 both_true false b e = absurd cc
 
@@ -27,7 +28,7 @@ next : (at : Ref) (place : ℕ) → ref_from (ref_from at 1) place ≡ ref_from 
 next at place = ref_from-ref_from at 1 place ∙ ap (ref_from at) (let e : 1 + place ≡ suc place = omega arith in e)
 
 -- A reference of the map has a number, and the map has it.
-in_map_is : (m : Contents) (at : Ref) → is_in_map m at ≡ true → (at.number < 65536) × (contains_key m at ≡ true)
+pub in_map_is : (m : Contents) (at : Ref) → is_in_map m at ≡ true → (at.number < 65536) × (contains_key m at ≡ true)
 in_map_is m at h = let both = both_true (nat_lt at.number 65536) (contains_key m at) h in (ltb-true _ _ both.0, both.1)
 
 -- What the map has under a number is of the map.
@@ -52,6 +53,27 @@ unfolding are_in_map
 not_in_map m at zero place lt h = absurd (omega arith)
 not_in_map m at (suc count) zero lt h = ap (λ b. b && are_in_map m (ref_from at 1) count) (ap (is_in_map m) (sym (ref_from-zero at)) ∙ h)
 not_in_map m at (suc count) (suc place) lt h = and_false (is_in_map m at) _ (not_in_map m (ref_from at 1) count place (omega arith) (ap (is_in_map m) (next at place) ∙ h))
+
+-- Where all are of the map, they are a run.
+pub run_of : (m : Contents) (at : Ref) (count : ℕ) → are_in_map m at count ≡ true → HasRun m at count
+unfolding are_in_map
+run_of m at zero h = record { fits = λ place lt. absurd (omega arith); held = λ place lt. absurd (omega arith) }
+run_of m at (suc count) h =
+    let both = both_true (is_in_map m at) (are_in_map m (ref_from at 1) count) h in
+    let here = in_map_is m at both.0 in
+    let rest = run_of m (ref_from at 1) count both.1 in
+    record {
+      fits = fits here.0 rest;
+      held = held here.1 rest;
+    }
+  where
+    fits : at.number < 65536 → HasRun m (ref_from at 1) count → (place : ℕ) → place < suc count → at.number + place < 65536
+    fits near rest zero lt = omega arith
+    fits near rest (suc place) lt = let far = rest.fits place (omega arith) in omega arith
+
+    held : contains_key m at ≡ true → HasRun m (ref_from at 1) count → (place : ℕ) → place < suc count → contains_key m (ref_from at place) ≡ true
+    held first rest zero lt = ap (contains_key m) (ref_from-zero at) ∙ first
+    held first rest (suc place) lt = ap (contains_key m) (sym (next at place)) ∙ rest.held place (omega arith)
 
 -- One more reference of a run.
 pub one_more : (m : Contents) (at here : Ref) (count : ℕ) → HasRun m at count → at.number + count < 65536 → here ≡ ref_from at count → contains_key m here ≡ true → HasRun m at (count + 1)

@@ -5,7 +5,13 @@ use Rattle.modbus_pdu.specs.declared.request.Request.{Request}
 use Rattle.modbus_pdu.specs.declared.reply.Reply.{Reply}
 use Rattle.modbus_exec.specs.declared.end.ExecEnd.{ExecEnd}
 use Rattle.modbus_exec.specs.declared.end.ExecEnd.TheVariants as ends
-use Rattle.modbus_exec.specs.Answer.{Outcome, answer_of}
+use Rattle.modbus_exec.specs.Answer.{Outcome, answer_of, stored_by}
+
+-- The reply of the outcome; or the code of the exception; or want of memory where there is an outcome. This project's own.
+abbrev pub Replies : Request → Contents → Result Reply ExecEnd → Type 0
+Replies request m (Ok reply) = answer_of request m ≡ Ok (record { reply = reply; stored = stored_by request m })
+Replies request m (Err (ends.Exception code)) = answer_of request m ≡ Err code
+Replies request m (Err ends.NoMemory) = (outcome : Outcome) × (answer_of request m ≡ Ok outcome)
 
 -- The reply and the contents of the outcome; or the code of the exception; or want of memory where there is an outcome. Without a reply the contents stay. This project's own.
 abbrev pub Executes : Request → Contents → Result Reply ExecEnd → Contents → Type 0

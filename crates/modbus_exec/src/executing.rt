@@ -5,10 +5,11 @@ ghost use Rattle.plant_types.specs.declared.reference.Ref.{Ref as Reference};
 ghost use Rattle.modbus_pdu.specs.Spelling.{IsInRange, IsReplyInRange, IsReplyTo};
 ghost use Rattle.plant_types.specs.Store.{Keeps};
 ghost use Rattle.modbus_exec.specs.Answer.{answer_of, Writes};
-ghost use Rattle.modbus_exec.specs.Executing.{Executes};
+ghost use Rattle.modbus_exec.specs.Executing.{Executes, Replies};
 
 use crate::end::ExecEnd;
 use crate::reading::{read_coils, read_input_registers, read_inputs, read_registers};
+use crate::storing::store;
 use crate::writing::{
     read_write, write_coil, write_coils, write_mask, write_register, write_registers,
 };
@@ -16,9 +17,14 @@ use modbus_pdu::{Reply, Request};
 use plant_types::RefStore;
 use std::alloc::Global;
 
-fn execute<R: RefStore>(alloc: Global, request: &Request, ram: &mut R) -> Result<Reply, ExecEnd>
+/// The reply to a request, found before anything is written.
+pub(crate) fn reply_to<R: RefStore>(
+    alloc: Global,
+    request: &Request,
+    ram: &R,
+) -> Result<Reply, ExecEnd>
     requires { IsInRange request.now }
-    ensures { Executes request.now (R.contents ram.old) result (R.contents ram.new) }
+    ensures { Replies request.now (R.contents ram.now) result }
 {
     match request {
         Request::ReadCoils { address, quantity } => read_coils(alloc, ram, *address, *quantity),
@@ -46,6 +52,20 @@ fn execute<R: RefStore>(alloc: Global, request: &Request, ram: &mut R) -> Result
             write,
             words,
         } => read_write(alloc, ram, *read, *quantity, *write, words),
+    }
+}
+
+#[tactic(auto, using(crate::proofs::AnswerLemmas::answered_has))]
+fn execute<R: RefStore>(alloc: Global, request: &Request, ram: &mut R) -> Result<Reply, ExecEnd>
+    requires { IsInRange request.now }
+    ensures { Executes request.now (R.contents ram.old) result (R.contents ram.new) }
+{
+    match reply_to(alloc, request, ram) {
+        Ok(reply) => {
+            store(request, ram);
+            Ok(reply)
+        }
+        Err(end) => Err(end),
     }
 }
 

@@ -1,11 +1,14 @@
 //! What Modbus requests do to the references of a controller.
 #![tactic(auto)]
 
+mod answering;
 mod end;
 mod executing;
 mod reading;
 mod runs;
+mod storing;
 mod writing;
 
+pub use answering::answer;
 pub use end::ExecEnd;
 pub use executing::exec;

@@ -1,6 +1,6 @@
 //! Requests that read.
 ghost use Rattle.std.specs.Prelude.{◌≤◌};
-ghost use Rattle.modbus_exec.specs.Executing.{Executes};
+ghost use Rattle.modbus_exec.specs.Executing.{Replies};
 
 use crate::end::ExecEnd;
 use crate::runs::{are_in_map, read_bits, read_run};
@@ -15,7 +15,7 @@ pub(crate) fn read_coils<R: RefStore>(
     quantity: u16,
 ) -> Result<Reply, ExecEnd>
     requires { quantity ≤ 2000 }
-    ensures { Executes (Request.ReadCoils address quantity) (R.contents ram.now) result (R.contents ram.now) }
+    ensures { Replies (Request.ReadCoils address quantity) (R.contents ram.now) result }
 {
     let count = quantity as usize;
     if !are_in_map(ram, RefKind::Coil, address, count) {
@@ -32,7 +32,7 @@ pub(crate) fn read_inputs<R: RefStore>(
     quantity: u16,
 ) -> Result<Reply, ExecEnd>
     requires { quantity ≤ 2000 }
-    ensures { Executes (Request.ReadInputs address quantity) (R.contents ram.now) result (R.contents ram.now) }
+    ensures { Replies (Request.ReadInputs address quantity) (R.contents ram.now) result }
 {
     let count = quantity as usize;
     if !are_in_map(ram, RefKind::Input, address, count) {
@@ -49,7 +49,7 @@ pub(crate) fn read_registers<R: RefStore>(
     quantity: u16,
 ) -> Result<Reply, ExecEnd>
     requires { quantity ≤ 125 }
-    ensures { Executes (Request.ReadRegisters address quantity) (R.contents ram.now) result (R.contents ram.now) }
+    ensures { Replies (Request.ReadRegisters address quantity) (R.contents ram.now) result }
 {
     let count = quantity as usize;
     if !are_in_map(ram, RefKind::Register, address, count) {
@@ -66,7 +66,7 @@ pub(crate) fn read_input_registers<R: RefStore>(
     quantity: u16,
 ) -> Result<Reply, ExecEnd>
     requires { quantity ≤ 125 }
-    ensures { Executes (Request.ReadInputRegisters address quantity) (R.contents ram.now) result (R.contents ram.now) }
+    ensures { Replies (Request.ReadInputRegisters address quantity) (R.contents ram.now) result }
 {
     let count = quantity as usize;
     if !are_in_map(ram, RefKind::InputRegister, address, count) {

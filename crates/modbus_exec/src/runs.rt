@@ -1,6 +1,5 @@
 //! Runs of references: whether the map has them, and what they hold.
-ghost use Rattle.std.specs.Prelude.{◌≡◌, ◌+◌, ◌<◌, ◌≤◌, true, false, length, IsTrue, IfOk, MatchOption};
-ghost use Rattle.std.specs.FinMap as map;
+ghost use Rattle.std.specs.Prelude.{◌≡◌, ◌+◌, ◌<◌, ◌≤◌, true, false, length, IsTrue, IfOk};
 ghost use Rattle.plant_types.specs.Reference.{is_discrete, ref_from};
 ghost use Rattle.plant_types.specs.Store.{words_from, with_words};
 ghost use Rattle.modbus_exec.specs.Runs.{reference_at, is_in_map, are_in_map, HasRun, bits_from, with_bits};
@@ -8,22 +7,18 @@ ghost use Rattle.modbus_exec.specs.Runs.{reference_at, is_in_map, are_in_map, Ha
 use plant_types::{List, Ref, RefKind, RefStore, Words};
 use std::alloc::{AllocError, Global};
 
-/// The reference at an address, where the map has it.
-pub(crate) fn reference_in<R: RefStore>(ram: &R, kind: RefKind, address: u16) -> Option<Ref>
-    ensures { MatchOption result
-        (is_in_map (R.contents ram.now) (reference_at kind address) ≡ false)
-        (λ at. (at ≡ reference_at kind address) × (is_in_map (R.contents ram.now) at ≡ true) × (map.contains_key (R.contents ram.now) at ≡ true)) }
+/// Whether the map has the reference at an address.
+pub(crate) fn is_in_map<R: RefStore>(ram: &R, kind: RefKind, address: u16) -> bool
+    ensures { result ≡ is_in_map (R.contents ram.now) (reference_at kind address) }
 {
-    let number = address.checked_add(1)?;
-    let at = Ref { kind, number };
-    if !ram.has(at) {
-        return None;
+    if address == 65535 {
+        return false;
     }
-    Some(at)
+    ram.has(reference_of(kind, address))
 }
 
 /// Whether the map has the reference so many places behind an address.
-fn is_in_map<R: RefStore>(ram: &R, kind: RefKind, address: u16, place: usize) -> bool
+fn is_in_map_behind<R: RefStore>(ram: &R, kind: RefKind, address: u16, place: usize) -> bool
     requires { place ≤ 2000 }
     ensures { result ≡ is_in_map (R.contents ram.now) (ref_from (reference_at kind address) place) }
 {
@@ -44,14 +39,26 @@ pub(crate) fn are_in_map<R: RefStore>(ram: &R, kind: RefKind, address: u16, coun
     ensures run { IsTrue result → HasRun (R.contents ram.now) (reference_at kind address) count }
 {
     for place in 0..count {
-        if !is_in_map(ram, kind, address, place) {
+        if !is_in_map_behind(ram, kind, address, place) {
             return false;
         }
     }
     true
 }
 
-pub(crate) fn reference_of(kind: RefKind, address: u16, place: usize) -> Ref
+/// The reference at an address.
+pub(crate) fn reference_of(kind: RefKind, address: u16) -> Ref
+    requires { address < 65535 }
+    ensures { result ≡ reference_at kind address }
+{
+    Ref {
+        kind,
+        number: address + 1,
+    }
+}
+
+/// The reference so many places behind an address.
+pub(crate) fn reference_behind(kind: RefKind, address: u16, place: usize) -> Ref
     requires { address + 1 + place < 65536 }
     ensures { result ≡ ref_from (reference_at kind address) place }
 {
@@ -75,7 +82,7 @@ pub(crate) fn read_bits<R: RefStore>(
 {
     let mut bits = Vec::with_capacity(alloc, count)?;
     for place in 0..count {
-        bits.push(ram.bit(reference_of(kind, address, place)))?;
+        bits.push(ram.bit(reference_behind(kind, address, place)))?;
     }
     Ok(List::from_vec(bits))
 }
@@ -87,7 +94,7 @@ fn read_words<R: RefStore>(ram: &R, kind: RefKind, address: u16, words: &mut [u1
     ensures { words.new ≡ words_from (R.contents ram.now) (reference_at kind address) (length words.old) }
 {
     for (place, word) in words.iter_mut().enumerate() {
-        *word = ram.word(reference_of(kind, address, place));
+        *word = ram.word(reference_behind(kind, address, place));
     }
 }
 
@@ -116,7 +123,7 @@ pub(crate) fn write_bits<R: RefStore>(ram: &mut R, address: u16, bits: &[bool])
     ensures { R.contents ram.new ≡ with_bits (R.contents ram.old) (reference_at RefKind.Coil address) bits.now }
 {
     for (place, on) in bits.iter().enumerate() {
-        ram.set_bit(reference_of(RefKind::Coil, address, place), *on);
+        ram.set_bit(reference_behind(RefKind::Coil, address, place), *on);
     }
 }
 
@@ -126,6 +133,6 @@ pub(crate) fn write_words<R: RefStore>(ram: &mut R, address: u16, words: &[u16])
     ensures { R.contents ram.new ≡ with_words (R.contents ram.old) (reference_at RefKind.Register address) words.now }
 {
     for (place, word) in words.iter().enumerate() {
-        ram.set_word(reference_of(RefKind::Register, address, place), *word);
+        ram.set_word(reference_behind(RefKind::Register, address, place), *word);
     }
 }

@@ -1,53 +1,49 @@
-//! Requests that write.
+//! Replies to requests that write, found before anything is written.
 ghost use Rattle.std.specs.Prelude.{◌≡◌, ◌+◌, ◌≤◌, length, IfOk};
 ghost use Rattle.plant_types.specs.Reference.{ref_from};
 ghost use Rattle.plant_types.specs.Store.{word_at, words_from, with_words};
-ghost use Rattle.modbus_exec.specs.Executing.{Executes};
+ghost use Rattle.modbus_exec.specs.Executing.{Replies};
 ghost use Rattle.modbus_exec.specs.Runs.{reference_at, HasRun};
 
 use crate::end::ExecEnd;
-use crate::runs::{are_in_map, reference_in, reference_of, write_bits, write_words};
+use crate::runs::{are_in_map, is_in_map, reference_behind};
 use modbus_pdu::{Reply, Request};
 use plant_types::{List, RefKind, RefStore, Words};
 use std::alloc::{AllocError, Global};
 
-pub(crate) fn write_coil<R: RefStore>(ram: &mut R, address: u16, on: bool) -> Result<Reply, ExecEnd>
-    ensures { Executes (Request.WriteCoil address on) (R.contents ram.old) result (R.contents ram.new) }
+pub(crate) fn write_coil<R: RefStore>(ram: &R, address: u16, on: bool) -> Result<Reply, ExecEnd>
+    ensures { Replies (Request.WriteCoil address on) (R.contents ram.now) result }
 {
-    let Some(at) = reference_in(ram, RefKind::Coil, address) else {
+    if !is_in_map(ram, RefKind::Coil, address) {
         return Err(ExecEnd::Exception(2));
-    };
-    ram.set_bit(at, on);
+    }
     Ok(Reply::Same(Request::WriteCoil { address, on }))
 }
 
 pub(crate) fn write_register<R: RefStore>(
-    ram: &mut R,
+    ram: &R,
     address: u16,
     value: u16,
 ) -> Result<Reply, ExecEnd>
-    ensures { Executes (Request.WriteRegister address value) (R.contents ram.old) result (R.contents ram.new) }
+    ensures { Replies (Request.WriteRegister address value) (R.contents ram.now) result }
 {
-    let Some(at) = reference_in(ram, RefKind::Register, address) else {
+    if !is_in_map(ram, RefKind::Register, address) {
         return Err(ExecEnd::Exception(2));
-    };
-    ram.set_word(at, value);
+    }
     Ok(Reply::Same(Request::WriteRegister { address, value }))
 }
 
 pub(crate) fn write_mask<R: RefStore>(
-    ram: &mut R,
+    ram: &R,
     address: u16,
     and_mask: u16,
     or_mask: u16,
 ) -> Result<Reply, ExecEnd>
-    ensures { Executes (Request.Mask address and_mask or_mask) (R.contents ram.old) result (R.contents ram.new) }
+    ensures { Replies (Request.Mask address and_mask or_mask) (R.contents ram.now) result }
 {
-    let Some(at) = reference_in(ram, RefKind::Register, address) else {
+    if !is_in_map(ram, RefKind::Register, address) {
         return Err(ExecEnd::Exception(2));
-    };
-    let value = ram.word(at);
-    ram.set_word(at, (value & and_mask) | (or_mask & !and_mask));
+    }
     Ok(Reply::Same(Request::Mask {
         address,
         and_mask,
@@ -56,42 +52,40 @@ pub(crate) fn write_mask<R: RefStore>(
 }
 
 pub(crate) fn write_coils<R: RefStore>(
-    ram: &mut R,
+    ram: &R,
     address: u16,
     bits: &List<bool>,
 ) -> Result<Reply, ExecEnd>
     requires { length bits.now ≤ 1968 }
-    ensures { Executes (Request.WriteCoils address bits.now) (R.contents ram.old) result (R.contents ram.new) }
+    ensures { Replies (Request.WriteCoils address bits.now) (R.contents ram.now) result }
 {
-    let bits = bits.as_slice();
-    if !are_in_map(ram, RefKind::Coil, address, bits.len()) {
+    let count = bits.as_slice().len();
+    if !are_in_map(ram, RefKind::Coil, address, count) {
         return Err(ExecEnd::Exception(2));
     }
-    write_bits(ram, address, bits);
     Ok(Reply::Written {
         function: 15,
         address,
-        quantity: bits.len() as u16,
+        quantity: count as u16,
     })
 }
 
 pub(crate) fn write_registers<R: RefStore>(
-    ram: &mut R,
+    ram: &R,
     address: u16,
     words: &Words,
 ) -> Result<Reply, ExecEnd>
     requires { length words.now ≤ 123 }
-    ensures { Executes (Request.WriteRegisters address words.now) (R.contents ram.old) result (R.contents ram.new) }
+    ensures { Replies (Request.WriteRegisters address words.now) (R.contents ram.now) result }
 {
-    let words = words.words();
-    if !are_in_map(ram, RefKind::Register, address, words.len()) {
+    let count = words.words().len();
+    if !are_in_map(ram, RefKind::Register, address, count) {
         return Err(ExecEnd::Exception(2));
     }
-    write_words(ram, address, words);
     Ok(Reply::Written {
         function: 16,
         address,
-        quantity: words.len() as u16,
+        quantity: count as u16,
     })
 }
 
@@ -100,7 +94,7 @@ fn word_after<R: RefStore>(ram: &R, read: u16, place: usize, write: u16, words: 
     requires { HasRun (R.contents ram.now) (reference_at RefKind.Register read) (place + 1) }
     ensures { result ≡ word_at (with_words (R.contents ram.now) (reference_at RefKind.Register write) words.now) (ref_from (reference_at RefKind.Register read) place) }
 {
-    let at = reference_of(RefKind::Register, read, place);
+    let at = reference_behind(RefKind::Register, read, place);
     let from = read as usize + place;
     let to = write as usize;
     if from < to {
@@ -122,7 +116,7 @@ fn words_after<R: RefStore>(ram: &R, read: u16, found: &mut [u16], write: u16, w
     }
 }
 
-/// The same in memory of its own, which is taken before anything is stored.
+/// The same in memory of its own.
 fn read_after<R: RefStore>(
     alloc: Global,
     ram: &R,
@@ -143,7 +137,7 @@ fn read_after<R: RefStore>(
 
 pub(crate) fn read_write<R: RefStore>(
     alloc: Global,
-    ram: &mut R,
+    ram: &R,
     read: u16,
     quantity: u16,
     write: u16,
@@ -151,7 +145,7 @@ pub(crate) fn read_write<R: RefStore>(
 ) -> Result<Reply, ExecEnd>
     requires read { quantity ≤ 125 }
     requires written { length words.now ≤ 121 }
-    ensures { Executes (Request.ReadWrite read quantity write words.now) (R.contents ram.old) result (R.contents ram.new) }
+    ensures { Replies (Request.ReadWrite read quantity write words.now) (R.contents ram.now) result }
 {
     let count = quantity as usize;
     let words = words.words();
@@ -162,7 +156,6 @@ pub(crate) fn read_write<R: RefStore>(
         return Err(ExecEnd::Exception(2));
     }
     let found = read_after(alloc, ram, read, count, write, words)?;
-    write_words(ram, write, words);
     Ok(Reply::Words {
         function: 23,
         words: found,

@@ -12,7 +12,7 @@ loop-place-preserved g c =
     let m = g.R.RefStore.contents c.args.ram.now in
     let at = reference_at c.args.kind c.args.address in
     let more = bits_from-more m at c.args.count c.loop-place.place (omega arith) in
-    let here : c.bit.result ≡ is_on m (ref_from at c.loop-place.place) = c.bit.ensures ∙ ap (is_on m) c.reference_of.ensures in
+    let here : c.bit.result ≡ is_on m (ref_from at c.loop-place.place) = c.bit.ensures ∙ ap (is_on m) c.reference_behind.ensures in
     let pushed : c.push.new.self.items ≡ c.loop-place.bits.items ++ c.bit.result ∷ [] = grind (arith, common_steps) in
     rw (more, ← here, ← c.loop-place.invariant) pushed
 

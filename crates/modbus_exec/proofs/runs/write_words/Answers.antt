@@ -17,7 +17,7 @@ set_word-requires-clause-held g c =
     let m = g.R.RefStore.contents c.args.ram.now in
     let at = reference_at kinds.Register c.args.address in
     let words = c.args.words.now in
-    rw (c.reference_of.ensures, c.loop-place.invariant) (Keeps-with_words m at (take c.loop-place.place words) (ref_from at c.loop-place.place) (c.requires.held c.loop-place.place (omega arith)))
+    rw (c.reference_behind.ensures, c.loop-place.invariant) (Keeps-with_words m at (take c.loop-place.place words) (ref_from at c.loop-place.place) (c.requires.held c.loop-place.place (omega arith)))
 
 pub loop-place-preserved : goal.loop-place-preserved
 loop-place-preserved g c =
@@ -27,6 +27,6 @@ loop-place-preserved g c =
     let words = c.args.words.now in
     let within : place < length words = omega arith in
     c.set_word.ensures
-    ∙ ap (λ r. insert (g.R.RefStore.contents c.loop-place.ram) r (get_or c.args.words.now place 0)) c.reference_of.ensures
+    ∙ ap (λ r. insert (g.R.RefStore.contents c.loop-place.ram) r (get_or c.args.words.now place 0)) c.reference_behind.ensures
     ∙ ap (λ n. insert n (ref_from at place) (get_or c.args.words.now place 0)) c.loop-place.invariant
     ∙ sym (with_words-more m at words place within)
