@@ -12,3 +12,6 @@ mod writing;
 pub use answering::answer;
 pub use end::ExecEnd;
 pub use executing::exec;
+
+#[cfg(test)]
+mod tests;

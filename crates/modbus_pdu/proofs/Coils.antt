@@ -10,7 +10,7 @@ use Rattle.modbus_pdu.proofs.Bytes.{IsBytes, Counts, counts_one, counted_fits}
 use Rattle.modbus_pdu.proofs.Packing.{length-packed, length-unpacked, packed-unpacked, unpacked-packed}
 
 -- Bits that fill so many bytes, as these are counted.
-counted_packed : (fields : List ℕ) (address : ℕ) (bits spare : List Bool) → fields ≡ word_bytes address ++ word_bytes (length bits) ++ counted_bits bits spare → Counts fields address (length bits) (packed (bytes_for (length bits)) (bits ++ spare))
+pub counted_packed : (fields : List ℕ) (address : ℕ) (bits spare : List Bool) → fields ≡ word_bytes address ++ word_bytes (length bits) ++ counted_bits bits spare → Counts fields address (length bits) (packed (bytes_for (length bits)) (bits ++ spare))
 counted_packed fields address bits spare e = rw (length-packed (bytes_for (length bits)) (bits ++ spare)) e
 
 -- No coils are written where nothing is counted.
@@ -47,7 +47,7 @@ coils_there fields a q x fits e range count =
     }
 
 -- They write no others.
-coils_only : (fields : List ℕ) (a q : ℕ) (x : List ℕ) → Counts fields a q x → (other : Request) → SpellsData 15 fields other → other ≡ WriteCoils a (take q (unpacked x))
+pub coils_only : (fields : List ℕ) (a q : ℕ) (x : List ℕ) → Counts fields a q x → (other : Request) → SpellsData 15 fields other → other ≡ WriteCoils a (take q (unpacked x))
 coils_only fields a q x e (WriteCoils address bits) s =
     let fit = coils_fit fields a q x e address bits s in
     let spare = s.form.0 in

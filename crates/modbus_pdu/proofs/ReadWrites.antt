@@ -14,7 +14,7 @@ abbrev pub CountsBoth : List ℕ → ℕ → ℕ → ℕ → ℕ → List ℕ �
 CountsBoth fields read quantity write count rest = fields ≡ word_bytes read ++ word_bytes quantity ++ word_bytes write ++ word_bytes count ++ (length rest ∷ rest)
 
 -- Such fields have one reading.
-both_one : (fields : List ℕ) (a q w n b p v m : ℕ) (x y : List ℕ) → CountsBoth fields a q w n x → CountsBoth fields b p v m y → (a ≡ b) × (q ≡ p) × (w ≡ v) × (n ≡ m) × (x ≡ y)
+pub both_one : (fields : List ℕ) (a q w n b p v m : ℕ) (x y : List ℕ) → CountsBoth fields a q w n x → CountsBoth fields b p v m y → (a ≡ b) × (q ≡ p) × (w ≡ v) × (n ≡ m) × (x ≡ y)
 both_one fields a q w n b p v m x y e f =
     let first = word_is a b (word_bytes q ++ word_bytes w ++ word_bytes n ++ (length x ∷ x)) (word_bytes p ++ word_bytes v ++ word_bytes m ++ (length y ∷ y)) (sym e ∙ f) in
     let second = word_is q p (word_bytes w ++ word_bytes n ++ (length x ∷ x)) (word_bytes v ++ word_bytes m ++ (length y ∷ y)) first.1 in
@@ -27,7 +27,7 @@ both_fit : (fields : List ℕ) (a q w n : ℕ) (x : List ℕ) → IsBytes fields
 both_fit fields a q w n x fits e i = subst (λ (bytes : List ℕ). get_or bytes (suc (suc (suc (suc (suc (suc (suc (suc (suc i))))))))) 0 < 2 ^ 8) e (fits (suc (suc (suc (suc (suc (suc (suc (suc (suc i))))))))))
 
 -- Words as they are counted there.
-counted_both : (fields : List ℕ) (a q w : ℕ) (words : List ℕ) → fields ≡ word_bytes a ++ word_bytes q ++ word_bytes w ++ word_bytes (length words) ++ counted_words words → CountsBoth fields a q w (length words) (words_bytes words)
+pub counted_both : (fields : List ℕ) (a q w : ℕ) (words : List ℕ) → fields ≡ word_bytes a ++ word_bytes q ++ word_bytes w ++ word_bytes (length words) ++ counted_words words → CountsBoth fields a q w (length words) (words_bytes words)
 counted_both fields a q w words e = e ∙ ap (λ (rest : List ℕ). word_bytes a ++ word_bytes q ++ word_bytes w ++ word_bytes (length words) ++ rest) (counted_is words)
 
 -- No registers are written and read where nothing is counted.

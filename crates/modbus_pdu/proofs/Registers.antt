@@ -13,7 +13,7 @@ pub counted_is : (words : List ℕ) → counted_words words ≡ length (words_by
 counted_is words = rw (length-words_bytes words) refl
 
 -- Registers that are written are counted.
-counted_registers : (fields : List ℕ) (address : ℕ) (words : List ℕ) → fields ≡ word_bytes address ++ word_bytes (length words) ++ counted_words words → Counts fields address (length words) (words_bytes words)
+pub counted_registers : (fields : List ℕ) (address : ℕ) (words : List ℕ) → fields ≡ word_bytes address ++ word_bytes (length words) ++ counted_words words → Counts fields address (length words) (words_bytes words)
 counted_registers fields address words e = e ∙ ap (λ (rest : List ℕ). word_bytes address ++ word_bytes (length words) ++ rest) (counted_is words)
 
 -- No registers are written where nothing is counted.
