@@ -14,6 +14,7 @@ use std::alloc::{AllocError, Global};
 pub fn answer<R: RefStore>(alloc: Global, bytes: &[u8], ram: &mut R) -> Result<Pdu, AllocError>
     requires { 1 ≤ length bytes.now }
     ensures answered { IfOk result (λ reply. IsAnswer bytes.now (R.contents ram.old) reply (R.contents ram.new)) }
+    ensures keeps { Keeps (R.contents ram.old) (R.contents ram.new) }
     ensures unchanged { OnErr result (R.contents ram.new ≡ R.contents ram.old) }
 {
     let function = bytes[0];

@@ -4,6 +4,7 @@
 mod answering;
 mod end;
 mod executing;
+mod laws;
 mod reading;
 mod runs;
 mod storing;
@@ -12,6 +13,7 @@ mod writing;
 pub use answering::answer;
 pub use end::ExecEnd;
 pub use executing::exec;
+pub use laws::one_answer;
 
 #[cfg(test)]
 mod tests;
