@@ -43,7 +43,8 @@ fn combine_registers<R: RefStore>(rule: Rule, top: Ref, mid: Ref, length: u16, r
     requires source { HasRegisters (R.contents ram.old) top length }
     requires matrix { HasRegisters (R.contents ram.old) mid length }
     ensures stored { R.contents ram.new ≡ with_words (R.contents ram.old) mid
-        (word_by_word (rule_of rule) (words_from (R.contents ram.old) mid length) (words_from (R.contents ram.old) top length)) }
+        (word_by_word (rule_of rule) (words_from (R.contents ram.old) mid length)
+        (words_from (R.contents ram.old) top length)) }
     ensures keeps { Keeps (R.contents ram.old) (R.contents ram.new) }
 {
     let mut words = [0; MATRIX_LIMIT];
@@ -72,8 +73,10 @@ fn combine<R: RefStore>(rule: Rule, top: Ref, mid: Ref, length: u16, inputs: u8,
     requires length { length ≤ MATRIX_LIMIT }
     requires source { HasRegisters (R.contents ram.old) top length }
     requires matrix { HasRegisters (R.contents ram.old) mid length }
-    ensures outputs { result ≡ bits_of (combine_effect (rule_of rule) top mid length (nodes_of inputs) (R.contents ram.old)).outputs }
-    ensures stored { R.contents ram.new ≡ (combine_effect (rule_of rule) top mid length (nodes_of inputs) (R.contents ram.old)).stored }
+    ensures outputs { result ≡ bits_of
+        (combine_effect (rule_of rule) top mid length (nodes_of inputs) (R.contents ram.old)).outputs }
+    ensures stored { R.contents ram.new ≡
+        (combine_effect (rule_of rule) top mid length (nodes_of inputs) (R.contents ram.old)).stored }
     ensures keeps { Keeps (R.contents ram.old) (R.contents ram.new) }
 {
     let power = NodePower::of_bits(inputs).top;
@@ -85,13 +88,16 @@ fn combine<R: RefStore>(rule: Rule, top: Ref, mid: Ref, length: u16, inputs: u8,
 
 /// AND: a bit of the matrix `mid` stays on where that of `top` is on too.
 ///
-/// Input: the top node works. Output: the top node passes power on. Matrices have `length` registers.
+/// Input: the top node works. Output: the top node passes power on. Matrices have `length`
+/// registers.
 pub fn and<R: RefStore>(top: Ref, mid: Ref, length: u16, inputs: u8, ram: &mut R) -> u8
     requires length { length ≤ MATRIX_LIMIT }
     requires source { HasRegisters (R.contents ram.old) top length }
     requires matrix { HasRegisters (R.contents ram.old) mid length }
-    ensures outputs { result ≡ bits_of (combine_effect bit_and top mid length (nodes_of inputs) (R.contents ram.old)).outputs }
-    ensures stored { R.contents ram.new ≡ (combine_effect bit_and top mid length (nodes_of inputs) (R.contents ram.old)).stored }
+    ensures outputs { result ≡ bits_of
+        (combine_effect bit_and top mid length (nodes_of inputs) (R.contents ram.old)).outputs }
+    ensures stored { R.contents ram.new ≡
+        (combine_effect bit_and top mid length (nodes_of inputs) (R.contents ram.old)).stored }
     ensures keeps { Keeps (R.contents ram.old) (R.contents ram.new) }
 {
     combine(Rule::Both, top, mid, length, inputs, ram)
@@ -104,8 +110,10 @@ pub fn or<R: RefStore>(top: Ref, mid: Ref, length: u16, inputs: u8, ram: &mut R)
     requires length { length ≤ MATRIX_LIMIT }
     requires source { HasRegisters (R.contents ram.old) top length }
     requires matrix { HasRegisters (R.contents ram.old) mid length }
-    ensures outputs { result ≡ bits_of (combine_effect bit_or top mid length (nodes_of inputs) (R.contents ram.old)).outputs }
-    ensures stored { R.contents ram.new ≡ (combine_effect bit_or top mid length (nodes_of inputs) (R.contents ram.old)).stored }
+    ensures outputs { result ≡ bits_of
+        (combine_effect bit_or top mid length (nodes_of inputs) (R.contents ram.old)).outputs }
+    ensures stored { R.contents ram.new ≡
+        (combine_effect bit_or top mid length (nodes_of inputs) (R.contents ram.old)).stored }
     ensures keeps { Keeps (R.contents ram.old) (R.contents ram.new) }
 {
     combine(Rule::Either, top, mid, length, inputs, ram)
@@ -118,8 +126,10 @@ pub fn xor<R: RefStore>(top: Ref, mid: Ref, length: u16, inputs: u8, ram: &mut R
     requires length { length ≤ MATRIX_LIMIT }
     requires source { HasRegisters (R.contents ram.old) top length }
     requires matrix { HasRegisters (R.contents ram.old) mid length }
-    ensures outputs { result ≡ bits_of (combine_effect bit_xor top mid length (nodes_of inputs) (R.contents ram.old)).outputs }
-    ensures stored { R.contents ram.new ≡ (combine_effect bit_xor top mid length (nodes_of inputs) (R.contents ram.old)).stored }
+    ensures outputs { result ≡ bits_of
+        (combine_effect bit_xor top mid length (nodes_of inputs) (R.contents ram.old)).outputs }
+    ensures stored { R.contents ram.new ≡
+        (combine_effect bit_xor top mid length (nodes_of inputs) (R.contents ram.old)).stored }
     ensures keeps { Keeps (R.contents ram.old) (R.contents ram.new) }
 {
     combine(Rule::OneAlone, top, mid, length, inputs, ram)
@@ -140,8 +150,10 @@ pub fn comp<R: RefStore>(top: Ref, mid: Ref, length: u16, inputs: u8, ram: &mut 
     requires length { length ≤ MATRIX_LIMIT }
     requires source { HasRegisters (R.contents ram.old) top length }
     requires matrix { HasRegisters (R.contents ram.old) mid length }
-    ensures outputs { result ≡ bits_of (comp_effect top mid length (nodes_of inputs) (R.contents ram.old)).outputs }
-    ensures stored { R.contents ram.new ≡ (comp_effect top mid length (nodes_of inputs) (R.contents ram.old)).stored }
+    ensures outputs { result ≡ bits_of
+        (comp_effect top mid length (nodes_of inputs) (R.contents ram.old)).outputs }
+    ensures stored { R.contents ram.new ≡
+        (comp_effect top mid length (nodes_of inputs) (R.contents ram.old)).stored }
     ensures keeps { Keeps (R.contents ram.old) (R.contents ram.new) }
 {
     let power = NodePower::of_bits(inputs).top;

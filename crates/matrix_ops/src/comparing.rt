@@ -37,7 +37,9 @@ fn register_difference<R: RefStore>(
     requires size { length ≤ MATRIX_LIMIT }
     requires first { HasRegisters (R.contents ram.now) top length }
     requires second { HasRegisters (R.contents ram.now) second length }
-    ensures found { result ≡ first_difference behind (matrix_bits (words_from (R.contents ram.now) top length)) (matrix_bits (words_from (R.contents ram.now) second length)) }
+    ensures found { result ≡ first_difference behind
+        (matrix_bits (words_from (R.contents ram.now) top length))
+        (matrix_bits (words_from (R.contents ram.now) second length)) }
     ensures counts_from_one { IfSome result (λ k. 1 ≤ k) }
     ensures within { IfSome result (λ k. k ≤ 16 * length) }
 {
@@ -50,17 +52,21 @@ fn register_difference<R: RefStore>(
     difference_behind(behind, words, others)
 }
 
-/// CMPR: compares the matrix `top` with the matrix behind the pointer `mid`, of `length` registers each.
+/// CMPR: compares the matrix `top` with the matrix behind the pointer `mid`, of `length` registers
+/// each.
 ///
 /// The pointer is left at the number of the first bit behind it that differs, or at 0.
 /// Inputs: the top node compares, the middle one begins at the first bit.
-/// Outputs: the top node passes power on, the middle one says that a bit differs, the bottom one is that bit of `top`.
+/// Outputs: the top node passes power on, the middle one says that a bit differs, the bottom one is
+/// that bit of `top`.
 pub fn cmpr<R: RefStore>(top: Ref, mid: Ref, length: u16, inputs: u8, ram: &mut R) -> u8
     requires length { length ≤ MATRIX_LIMIT }
     requires source { HasRegisters (R.contents ram.old) top length }
     requires pointer { HasRegisters (R.contents ram.old) mid (length + 1) }
-    ensures outputs { result ≡ bits_of (cmpr_effect top mid length (nodes_of inputs) (R.contents ram.old)).outputs }
-    ensures stored { R.contents ram.new ≡ (cmpr_effect top mid length (nodes_of inputs) (R.contents ram.old)).stored }
+    ensures outputs { result ≡ bits_of
+        (cmpr_effect top mid length (nodes_of inputs) (R.contents ram.old)).outputs }
+    ensures stored { R.contents ram.new ≡
+        (cmpr_effect top mid length (nodes_of inputs) (R.contents ram.old)).stored }
     ensures keeps { Keeps (R.contents ram.old) (R.contents ram.new) }
 {
     let nodes = NodePower::of_bits(inputs);

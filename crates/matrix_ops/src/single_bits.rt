@@ -79,16 +79,21 @@ pub fn sets_one_bit()
     ensures { SetsOneBit }
 {}
 
-/// MBIT: sets the bit of the matrix `mid` whose number is `top`; bit 1 is the highest of the first register.
+/// MBIT: sets the bit of the matrix `mid` whose number is `top`; bit 1 is the highest of the first
+/// register.
 ///
-/// Inputs: the top node sets, the middle one says on or off, the bottom one steps `top` where it is a holding register.
-/// Outputs: the top node passes power on, the middle one is the bit, the bottom one says that the matrix has no such bit.
+/// Inputs: the top node sets, the middle one says on or off, the bottom one steps `top` where it is
+/// a holding register.
+/// Outputs: the top node passes power on, the middle one is the bit, the bottom one says that the
+/// matrix has no such bit.
 pub fn mbit<R: RefStore>(top: Operand, mid: Ref, length: u16, inputs: u8, ram: &mut R) -> u8
     requires length { length ≤ MATRIX_LIMIT }
     requires number { HasNumber (R.contents ram.old) top }
     requires matrix { HasRegisters (R.contents ram.old) mid length }
-    ensures outputs { result ≡ bits_of (mbit_effect top mid length (nodes_of inputs) (R.contents ram.old)).outputs }
-    ensures stored { R.contents ram.new ≡ (mbit_effect top mid length (nodes_of inputs) (R.contents ram.old)).stored }
+    ensures outputs { result ≡ bits_of
+        (mbit_effect top mid length (nodes_of inputs) (R.contents ram.old)).outputs }
+    ensures stored { R.contents ram.new ≡
+        (mbit_effect top mid length (nodes_of inputs) (R.contents ram.old)).stored }
     ensures keeps { Keeps (R.contents ram.old) (R.contents ram.new) }
 {
     let nodes = NodePower::of_bits(inputs);
@@ -111,7 +116,8 @@ pub fn mbit<R: RefStore>(top: Operand, mid: Ref, length: u16, inputs: u8, ram: &
     outputs.bits()
 }
 
-/// SENS: tells the bit of the matrix `mid` whose number is `top`; bit 1 is the highest of the first register.
+/// SENS: tells the bit of the matrix `mid` whose number is `top`; bit 1 is the highest of the first
+/// register.
 ///
 /// Inputs: the top node asks, the middle one steps `top` where it is a holding register,
 /// the bottom one sets such a register to 1 first. Outputs are those of `mbit`.
@@ -119,8 +125,10 @@ pub fn sens<R: RefStore>(top: Operand, mid: Ref, length: u16, inputs: u8, ram: &
     requires length { length ≤ MATRIX_LIMIT }
     requires number { HasNumber (R.contents ram.old) top }
     requires matrix { HasRegisters (R.contents ram.old) mid length }
-    ensures outputs { result ≡ bits_of (sens_effect top mid length (nodes_of inputs) (R.contents ram.old)).outputs }
-    ensures stored { R.contents ram.new ≡ (sens_effect top mid length (nodes_of inputs) (R.contents ram.old)).stored }
+    ensures outputs { result ≡ bits_of
+        (sens_effect top mid length (nodes_of inputs) (R.contents ram.old)).outputs }
+    ensures stored { R.contents ram.new ≡
+        (sens_effect top mid length (nodes_of inputs) (R.contents ram.old)).stored }
     ensures keeps { Keeps (R.contents ram.old) (R.contents ram.new) }
 {
     let nodes = NodePower::of_bits(inputs);

@@ -12,7 +12,8 @@ use plant_types::{NodePower, Ref, RefStore, load_words, store_words};
 /// The word at a place of the matrix turned to the left.
 fn left_word(words: &[u16], place: usize, bit_in: bool) -> u16
     requires { place < length words.now }
-    ensures { result ≡ number_of_bits (take 16 (drop (16 * place) (left_turned (matrix_bits words.now) bit_in))) }
+    ensures { result ≡ number_of_bits (take 16 (drop (16 * place)
+        (left_turned (matrix_bits words.now) bit_in))) }
 {
     let last = if place + 1 < words.len() {
         words[place + 1] >> 15
@@ -34,7 +35,8 @@ fn turn_left(words: &[u16], bit_in: bool, turned: &mut [u16])
 /// The word at a place of the matrix turned to the right.
 fn right_word(words: &[u16], place: usize, bit_in: bool) -> u16
     requires { place < length words.now }
-    ensures { result ≡ number_of_bits (take 16 (drop (16 * place) (right_turned (16 * length words.now) (matrix_bits words.now) bit_in))) }
+    ensures { result ≡ number_of_bits (take 16 (drop (16 * place)
+        (right_turned (16 * length words.now) (matrix_bits words.now) bit_in))) }
 {
     let first = if place > 0 {
         words[place - 1] & 1
@@ -46,7 +48,8 @@ fn right_word(words: &[u16], place: usize, bit_in: bool) -> u16
 
 fn turn_right(words: &[u16], bit_in: bool, turned: &mut [u16])
     requires same { length turned.old ≡ length words.now }
-    ensures { turned.new ≡ matrix_words (right_turned (16 * length words.now) (matrix_bits words.now) bit_in) }
+    ensures { turned.new ≡ matrix_words
+        (right_turned (16 * length words.now) (matrix_bits words.now) bit_in) }
 {
     for (place, word) in turned.iter_mut().enumerate() {
         *word = right_word(words, place, bit_in);
@@ -63,8 +66,10 @@ pub fn brot<R: RefStore>(top: Ref, mid: Ref, length: u16, inputs: u8, ram: &mut 
     requires length { length ≤ MATRIX_LIMIT }
     requires source { HasRegisters (R.contents ram.old) top length }
     requires matrix { HasRegisters (R.contents ram.old) mid length }
-    ensures outputs { result ≡ bits_of (brot_effect top mid length (nodes_of inputs) (R.contents ram.old)).outputs }
-    ensures stored { R.contents ram.new ≡ (brot_effect top mid length (nodes_of inputs) (R.contents ram.old)).stored }
+    ensures outputs { result ≡ bits_of
+        (brot_effect top mid length (nodes_of inputs) (R.contents ram.old)).outputs }
+    ensures stored { R.contents ram.new ≡
+        (brot_effect top mid length (nodes_of inputs) (R.contents ram.old)).stored }
     ensures keeps { Keeps (R.contents ram.old) (R.contents ram.new) }
 {
     let nodes = NodePower::of_bits(inputs);

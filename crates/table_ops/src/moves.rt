@@ -55,9 +55,11 @@ fn place_at_start<R: RefStore>(nodes: NodePower, pointer: Ref, ram: &R) -> u16
 /// Stores the pointer of a move that began at a place, and answers the outputs.
 fn end_move<R: RefStore>(nodes: NodePower, pointer: Ref, length: u16, place: u16, ram: &mut R) -> u8
     requires { HasRegisters (R.contents ram.old) pointer 1 }
-    ensures outputs { result ≡ bits_of (record { top = nodes.top; middle = nat_le length (next_place nodes length place); bottom = false }) }
+    ensures outputs { result ≡ bits_of
+        (record { top = nodes.top; middle = nat_le length (next_place nodes length place); bottom = false }) }
     ensures stored { R.contents ram.new ≡ (if goes_on nodes length place || nodes.bottom
-        then insert (R.contents ram.old) pointer (next_place nodes length place) else R.contents ram.old) }
+        then insert (R.contents ram.old) pointer (next_place nodes length place)
+        else R.contents ram.old) }
     ensures keeps { Keeps (R.contents ram.old) (R.contents ram.new) }
 {
     let goes_on = nodes.top && place < length;
@@ -80,12 +82,15 @@ fn end_move<R: RefStore>(nodes: NodePower, pointer: Ref, length: u16, place: u16
 /// R>T: stores the register `top` in the table of `length` registers behind the pointer `mid`.
 ///
 /// Inputs: the top node moves, the middle one holds the pointer, the bottom one sets it to 0 first.
-/// Outputs: the top node passes power on, the middle one says that the pointer is at the table's end.
+/// Outputs: the top node passes power on, the middle one says that the pointer is at the table's
+/// end.
 pub fn reg_to_table<R: RefStore>(top: Ref, mid: Ref, length: u16, inputs: u8, ram: &mut R) -> u8
     requires source { HasRegisters (R.contents ram.old) top 1 }
     requires table { HasRegisters (R.contents ram.old) mid (length + 1) }
-    ensures outputs { result ≡ bits_of (reg_to_table_effect top mid length (nodes_of inputs) (R.contents ram.old)).outputs }
-    ensures stored { R.contents ram.new ≡ (reg_to_table_effect top mid length (nodes_of inputs) (R.contents ram.old)).stored }
+    ensures outputs { result ≡ bits_of
+        (reg_to_table_effect top mid length (nodes_of inputs) (R.contents ram.old)).outputs }
+    ensures stored { R.contents ram.new ≡
+        (reg_to_table_effect top mid length (nodes_of inputs) (R.contents ram.old)).stored }
     ensures keeps { Keeps (R.contents ram.old) (R.contents ram.new) }
 {
     let nodes = NodePower::of_bits(inputs);
@@ -102,8 +107,10 @@ pub fn reg_to_table<R: RefStore>(top: Ref, mid: Ref, length: u16, inputs: u8, ra
 pub fn table_to_reg<R: RefStore>(top: Ref, mid: Ref, length: u16, inputs: u8, ram: &mut R) -> u8
     requires source { HasRegisters (R.contents ram.old) top length }
     requires pointer { HasRegisters (R.contents ram.old) mid 2 }
-    ensures outputs { result ≡ bits_of (table_to_reg_effect top mid length (nodes_of inputs) (R.contents ram.old)).outputs }
-    ensures stored { R.contents ram.new ≡ (table_to_reg_effect top mid length (nodes_of inputs) (R.contents ram.old)).stored }
+    ensures outputs { result ≡ bits_of
+        (table_to_reg_effect top mid length (nodes_of inputs) (R.contents ram.old)).outputs }
+    ensures stored { R.contents ram.new ≡
+        (table_to_reg_effect top mid length (nodes_of inputs) (R.contents ram.old)).stored }
     ensures keeps { Keeps (R.contents ram.old) (R.contents ram.new) }
 {
     let nodes = NodePower::of_bits(inputs);
@@ -120,8 +127,10 @@ pub fn table_to_reg<R: RefStore>(top: Ref, mid: Ref, length: u16, inputs: u8, ra
 pub fn table_to_table<R: RefStore>(top: Ref, mid: Ref, length: u16, inputs: u8, ram: &mut R) -> u8
     requires source { HasRegisters (R.contents ram.old) top length }
     requires table { HasRegisters (R.contents ram.old) mid (length + 1) }
-    ensures outputs { result ≡ bits_of (table_to_table_effect top mid length (nodes_of inputs) (R.contents ram.old)).outputs }
-    ensures stored { R.contents ram.new ≡ (table_to_table_effect top mid length (nodes_of inputs) (R.contents ram.old)).stored }
+    ensures outputs { result ≡ bits_of
+        (table_to_table_effect top mid length (nodes_of inputs) (R.contents ram.old)).outputs }
+    ensures stored { R.contents ram.new ≡
+        (table_to_table_effect top mid length (nodes_of inputs) (R.contents ram.old)).stored }
     ensures keeps { Keeps (R.contents ram.old) (R.contents ram.new) }
 {
     let nodes = NodePower::of_bits(inputs);
@@ -139,8 +148,10 @@ pub fn block_move<R: RefStore>(top: Ref, mid: Ref, length: u16, inputs: u8, ram:
     requires length { length ≤ TABLE_LIMIT }
     requires source { HasRegisters (R.contents ram.old) top length }
     requires target { HasRegisters (R.contents ram.old) mid length }
-    ensures outputs { result ≡ bits_of (block_move_effect top mid length (nodes_of inputs) (R.contents ram.old)).outputs }
-    ensures stored { R.contents ram.new ≡ (block_move_effect top mid length (nodes_of inputs) (R.contents ram.old)).stored }
+    ensures outputs { result ≡ bits_of
+        (block_move_effect top mid length (nodes_of inputs) (R.contents ram.old)).outputs }
+    ensures stored { R.contents ram.new ≡
+        (block_move_effect top mid length (nodes_of inputs) (R.contents ram.old)).stored }
     ensures keeps { Keeps (R.contents ram.old) (R.contents ram.new) }
 {
     let power = NodePower::of_bits(inputs).top;

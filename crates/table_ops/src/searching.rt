@@ -20,7 +20,8 @@ fn place_of<R: RefStore>(value: u16, table: Ref, start: u16, length: u16, ram: &
     None
 }
 
-/// SRCH: looks in the table of `length` registers from `top` on for the number behind the pointer `mid`.
+/// SRCH: looks in the table of `length` registers from `top` on for the number behind the pointer
+/// `mid`.
 ///
 /// The pointer is left one behind the first place that holds it, or at 0.
 /// Inputs: the top node searches, the middle one begins at the pointer and not at 0.
@@ -28,8 +29,10 @@ fn place_of<R: RefStore>(value: u16, table: Ref, start: u16, length: u16, ram: &
 pub fn search<R: RefStore>(top: Ref, mid: Ref, length: u16, inputs: u8, ram: &mut R) -> u8
     requires table { HasRegisters (R.contents ram.old) top length }
     requires pointer { HasRegisters (R.contents ram.old) mid 2 }
-    ensures outputs { result ≡ bits_of (search_effect top mid length (nodes_of inputs) (R.contents ram.old)).outputs }
-    ensures stored { R.contents ram.new ≡ (search_effect top mid length (nodes_of inputs) (R.contents ram.old)).stored }
+    ensures outputs { result ≡ bits_of
+        (search_effect top mid length (nodes_of inputs) (R.contents ram.old)).outputs }
+    ensures stored { R.contents ram.new ≡
+        (search_effect top mid length (nodes_of inputs) (R.contents ram.old)).stored }
     ensures keeps { Keeps (R.contents ram.old) (R.contents ram.new) }
 {
     let nodes = NodePower::of_bits(inputs);
