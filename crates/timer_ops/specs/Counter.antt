@@ -1,0 +1,34 @@
+-- Counters. Of their two nodes the upper one is a block's top node and the lower one its second.
+use Rattle.std.specs.Prelude.{ℕ, ◌+◌, ◌-◌, ◌==◌, nat_lt, min, Bool, false, ◌&&◌, not, if◌then◌else◌}
+use Rattle.std.specs.FinMap.{insert}
+use Rattle.plant_types.specs.declared.power.NodePower.{NodePower}
+use Rattle.plant_types.specs.declared.reference.Ref.{Ref}
+use Rattle.plant_types.specs.Store.{Contents, word_at}
+use Rattle.timer_ops.specs.Timer.{reached}
+
+-- The upper input goes on: it is on, and the edge bit says that it was off. Modicon Ladder Logic Block Library User Guide.
+abbrev pub is_edge : NodePower → Bool → Bool
+is_edge inputs edge = inputs.top && not edge
+
+-- The accumulator of an up counter after a solve: 0 while the lower input is off, else the count so far, at most the preset, and one more at an edge below the preset. Modicon Ladder Logic Block Library User Guide; an edge at the preset is this project's own.
+abbrev pub count_up : ℕ → NodePower → Bool → ℕ → ℕ
+count_up preset inputs edge count =
+    let held = min count preset in
+    if inputs.middle then (if is_edge inputs edge && nat_lt held preset then held + 1 else held) else 0
+
+-- The accumulator of a down counter after a solve: the preset while the lower input is off, else the count so far, at most the preset, and one less at an edge above 0. Modicon Ladder Logic Block Library User Guide; an edge at 0 is this project's own.
+abbrev pub count_down : ℕ → NodePower → Bool → ℕ → ℕ
+count_down preset inputs edge count =
+    let held = min count preset in
+    if inputs.middle then (if is_edge inputs edge && nat_lt 0 held then held - 1 else held) else preset
+
+-- The outputs of an up counter, and the contents of the store afterwards; its edge bit becomes its upper input. Modicon Ladder Logic Block Library User Guide.
+abbrev pub up_count_row : ℕ → Ref → NodePower → Bool → Contents → NodePower × Contents
+up_count_row preset acc inputs edge m =
+    let count = count_up preset inputs edge (word_at m acc) in (reached preset count, insert m acc count)
+
+-- The outputs of a down counter, the upper one at 0 and the lower one above, and the contents of the store afterwards; its edge bit becomes its upper input. Modicon Ladder Logic Block Library User Guide.
+abbrev pub down_count_row : ℕ → Ref → NodePower → Bool → Contents → NodePower × Contents
+down_count_row preset acc inputs edge m =
+    let count = count_down preset inputs edge (word_at m acc) in
+    (record { top = count == 0; middle = nat_lt 0 count; bottom = false }, insert m acc count)
