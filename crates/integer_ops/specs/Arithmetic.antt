@@ -14,17 +14,17 @@ abbrev pub is_too_large : ℕ → Bool
 is_too_large n = nat_lt 9999 n
 
 -- ADD: the last four digits of the sum; the top output tells that it has more. Modicon Ladder Logic Block Library User Guide.
-abbrev pub add_row : ℕ → ℕ → Ref → NodePower → Contents → NodePower × Contents
+unfoldable pub add_row : ℕ → ℕ → Ref → NodePower → Contents → NodePower × Contents
 add_row a b low inputs m =
     if inputs.top then (record no_output { top = is_too_large (a + b) }, insert m low ((a + b) % 10000)) else (no_output, m)
 
 -- SUB: the absolute difference; the outputs tell from the top whether the first operand is above, equal to or below the second. Modicon Ladder Logic Block Library User Guide.
-abbrev pub sub_row : ℕ → ℕ → Ref → NodePower → Contents → NodePower × Contents
+unfoldable pub sub_row : ℕ → ℕ → Ref → NodePower → Contents → NodePower × Contents
 sub_row a b low inputs m =
     if inputs.top then (record { top = nat_lt b a; middle = a == b; bottom = nat_lt a b }, insert m low (max a b - min a b)) else (no_output, m)
 
 -- MUL: the product as upper and lower four digits, and the top output; nothing where an operand is too large. Modicon Ladder Logic Block Library User Guide; operands too large are this project's own.
-abbrev pub mul_row : ℕ → ℕ → Ref → NodePower → Contents → NodePower × Contents
+unfoldable pub mul_row : ℕ → ℕ → Ref → NodePower → Contents → NodePower × Contents
 mul_row a b low inputs m =
     if inputs.top && not (is_too_large a) && not (is_too_large b)
     then (record no_output { top = true }, with_words m low (a * b / 10000 ∷ a * b % 10000 ∷ []))
@@ -46,7 +46,7 @@ quotient_row n by low as_fraction m =
     else (record no_output { top = true }, with_words m low (n / by ∷ left_over as_fraction n by ∷ [])))
 
 -- DIV: nothing where an operand is too large; the middle input asks for the fraction. Modicon Ladder Logic Block Library User Guide; operands too large are this project's own.
-abbrev pub div_row : ℕ → ℕ → ℕ → Ref → NodePower → Contents → NodePower × Contents
+unfoldable pub div_row : ℕ → ℕ → ℕ → Ref → NodePower → Contents → NodePower × Contents
 div_row high units by low inputs m =
     if inputs.top && not (is_too_large high) && not (is_too_large units) && not (is_too_large by)
     then quotient_row (dividend high units) by low inputs.middle m

@@ -39,7 +39,7 @@ const BOTTOM: NodePower = NodePower {
 /// Adds two numbers: the last four digits of the sum go to `low`.
 ///
 /// The top output is on where the sum is above 9999.
-#[tactic(auto, using(crate::proofs::Kept::still_held))]
+#[tactic(auto, using(crate::proofs::Kept::still_held), unfolding(crate::specs::Arithmetic::add_row))]
 pub fn add<R: RefStore>(a: u16, b: u16, low: Ref, inputs: u8, ram: &mut R) -> u8
     requires { HasRegisters (R.contents ram.old) low 1 }
     ensures outputs { result ≡ bits_of (add_row a b low (nodes_of inputs) (R.contents ram.old)).0 }
@@ -62,7 +62,7 @@ pub fn add<R: RefStore>(a: u16, b: u16, low: Ref, inputs: u8, ram: &mut R) -> u8
 ///
 /// The top output is on where `a` is above `b`, the middle one where they are equal, the bottom one
 /// where `a` is below `b`.
-#[tactic(auto, using(crate::proofs::Kept::still_held))]
+#[tactic(auto, using(crate::proofs::Kept::still_held), unfolding(crate::specs::Arithmetic::sub_row))]
 pub fn sub<R: RefStore>(a: u16, b: u16, low: Ref, inputs: u8, ram: &mut R) -> u8
     requires { HasRegisters (R.contents ram.old) low 1 }
     ensures outputs { result ≡ bits_of (sub_row a b low (nodes_of inputs) (R.contents ram.old)).0 }
@@ -100,6 +100,7 @@ fn store_pair<R: RefStore>(low: Ref, first: u16, second: u16, ram: &mut R)
 /// lower four to the next register.
 ///
 /// The top output is on. Where an operand is above 9999 nothing changes and no output is on.
+#[tactic(auto, unfolding(crate::specs::Arithmetic::mul_row))]
 pub fn mul<R: RefStore>(a: u16, b: u16, low: Ref, inputs: u8, ram: &mut R) -> u8
     requires { HasRegisters (R.contents ram.old) low 2 }
     ensures outputs { result ≡ bits_of (mul_row a b low (nodes_of inputs) (R.contents ram.old)).0 }
@@ -121,6 +122,7 @@ pub fn mul<R: RefStore>(a: u16, b: u16, low: Ref, inputs: u8, ram: &mut R) -> u8
 /// dividend is a constant. The top output is on after a division, the middle one where the quotient is
 /// above 9999, the bottom one where the divisor is 0; without a division nothing changes. Where
 /// `high`, `units` or `by` is above 9999 nothing changes and no output is on.
+#[tactic(auto, unfolding(crate::specs::Arithmetic::div_row))]
 pub fn div<R: RefStore>(high: u16, units: u16, by: u16, low: Ref, inputs: u8, ram: &mut R) -> u8
     requires { HasRegisters (R.contents ram.old) low 2 }
     ensures outputs { result ≡ bits_of (div_row high units by low (nodes_of inputs) (R.contents ram.old)).0 }

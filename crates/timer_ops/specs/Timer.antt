@@ -28,6 +28,6 @@ abbrev pub reached : ℕ → ℕ → NodePower
 reached preset value = record { top = value == preset; middle = nat_lt value preset; bottom = false }
 
 -- The outputs of a timer, and the contents of the store afterwards. Modicon Ladder Logic Block Library User Guide.
-abbrev pub timer_row : TimeBase → ℕ → Ref → NodePower → Clock → Contents → NodePower × Contents
+unfoldable pub timer_row : TimeBase → ℕ → Ref → NodePower → Clock → Contents → NodePower × Contents
 timer_row unit preset acc inputs clock m =
     let time = time_after unit preset inputs clock (word_at m acc) in (reached preset time, insert m acc time)
