@@ -4,12 +4,12 @@
 //! changes and no output is on. The operands and results of four digits go up to 9999.
 #![tactic(auto)]
 
-ghost use Rattle.std.specs.Prelude.{◌≡◌, [], ◌∷◌};
+ghost use Rattle.std.specs.Prelude.{◌≡◌};
 ghost use Rattle.plant_types.specs.Power.{nodes_of, bits_of};
-ghost use Rattle.plant_types.specs.Store.{HasRegisters, Keeps, with_words};
-ghost use Rattle.integer_ops.specs.Arithmetic.{add_row, sub_row, mul_row, div_row};
+ghost use Rattle.plant_types.specs.Store.{HasRegisters, Keeps};
+ghost use Rattle.integer_ops.specs.Arithmetic.{add_effect, sub_effect, mul_effect, div_effect};
 
-use plant_types::{NodePower, Ref, RefStore};
+use plant_types::{NodePower, Ref, RefStore, store_words};
 
 #[cfg(test)]
 mod tests;
@@ -39,11 +39,11 @@ const BOTTOM: NodePower = NodePower {
 /// Adds two numbers: the last four digits of the sum go to `low`.
 ///
 /// The top output is on where the sum is above 9999.
-#[tactic(auto, using(crate::proofs::Kept::still_held), unfolding(crate::specs::Arithmetic::add_row))]
+#[tactic(auto, using(crate::proofs::Kept::kept), unfolding(crate::specs::Arithmetic::add_effect))]
 pub fn add<R: RefStore>(a: u16, b: u16, low: Ref, inputs: u8, ram: &mut R) -> u8
     requires { HasRegisters (R.contents ram.old) low 1 }
-    ensures outputs { result ≡ bits_of (add_row a b low (nodes_of inputs) (R.contents ram.old)).0 }
-    ensures stored { R.contents ram.new ≡ (add_row a b low (nodes_of inputs) (R.contents ram.old)).1 }
+    ensures outputs { result ≡ bits_of (add_effect a b low (nodes_of inputs) (R.contents ram.old)).outputs }
+    ensures stored { R.contents ram.new ≡ (add_effect a b low (nodes_of inputs) (R.contents ram.old)).stored }
     ensures keeps { Keeps (R.contents ram.old) (R.contents ram.new) }
 {
     if !NodePower::of_bits(inputs).top {
@@ -62,11 +62,11 @@ pub fn add<R: RefStore>(a: u16, b: u16, low: Ref, inputs: u8, ram: &mut R) -> u8
 ///
 /// The top output is on where `a` is above `b`, the middle one where they are equal, the bottom one
 /// where `a` is below `b`.
-#[tactic(auto, using(crate::proofs::Kept::still_held), unfolding(crate::specs::Arithmetic::sub_row))]
+#[tactic(auto, using(crate::proofs::Kept::kept), unfolding(crate::specs::Arithmetic::sub_effect))]
 pub fn sub<R: RefStore>(a: u16, b: u16, low: Ref, inputs: u8, ram: &mut R) -> u8
     requires { HasRegisters (R.contents ram.old) low 1 }
-    ensures outputs { result ≡ bits_of (sub_row a b low (nodes_of inputs) (R.contents ram.old)).0 }
-    ensures stored { R.contents ram.new ≡ (sub_row a b low (nodes_of inputs) (R.contents ram.old)).1 }
+    ensures outputs { result ≡ bits_of (sub_effect a b low (nodes_of inputs) (R.contents ram.old)).outputs }
+    ensures stored { R.contents ram.new ≡ (sub_effect a b low (nodes_of inputs) (R.contents ram.old)).stored }
     ensures keeps { Keeps (R.contents ram.old) (R.contents ram.new) }
 {
     if !NodePower::of_bits(inputs).top {
@@ -81,37 +81,26 @@ pub fn sub<R: RefStore>(a: u16, b: u16, low: Ref, inputs: u8, ram: &mut R) -> u8
     .bits()
 }
 
-/// Stores two numbers in a register and the next.
-#[tactic(auto, using(crate::proofs::Kept::still_held), unfolding(plant_types::specs::Store::with_words))]
-fn store_pair<R: RefStore>(low: Ref, first: u16, second: u16, ram: &mut R)
-    requires { HasRegisters (R.contents ram.old) low 2 }
-    ensures stored { R.contents ram.new ≡ with_words (R.contents ram.old) low (first ∷ second ∷ []) }
-    ensures keeps { Keeps (R.contents ram.old) (R.contents ram.new) }
-{
-    let next = Ref {
-        kind: low.kind,
-        number: low.number + 1,
-    };
-    ram.set_word(low, first);
-    ram.set_word(next, second);
-}
-
 /// Multiplies two numbers of four digits: the upper four digits of the product go to `low`, the
 /// lower four to the next register.
 ///
 /// The top output is on. Where an operand is above 9999 nothing changes and no output is on.
-#[tactic(auto, unfolding(crate::specs::Arithmetic::mul_row))]
+#[tactic(auto, unfolding(crate::specs::Arithmetic::mul_effect))]
 pub fn mul<R: RefStore>(a: u16, b: u16, low: Ref, inputs: u8, ram: &mut R) -> u8
     requires { HasRegisters (R.contents ram.old) low 2 }
-    ensures outputs { result ≡ bits_of (mul_row a b low (nodes_of inputs) (R.contents ram.old)).0 }
-    ensures stored { R.contents ram.new ≡ (mul_row a b low (nodes_of inputs) (R.contents ram.old)).1 }
+    ensures outputs { result ≡ bits_of (mul_effect a b low (nodes_of inputs) (R.contents ram.old)).outputs }
+    ensures stored { R.contents ram.new ≡ (mul_effect a b low (nodes_of inputs) (R.contents ram.old)).stored }
     ensures keeps { Keeps (R.contents ram.old) (R.contents ram.new) }
 {
     if !NodePower::of_bits(inputs).top || a > LARGEST || b > LARGEST {
         return NodePower::OFF.bits();
     }
     let product = u32::from(a) * u32::from(b);
-    store_pair(low, (product / BASE) as u16, (product % BASE) as u16, ram);
+    store_words(
+        ram,
+        low,
+        &[(product / BASE) as u16, (product % BASE) as u16],
+    );
     TOP.bits()
 }
 
@@ -122,11 +111,11 @@ pub fn mul<R: RefStore>(a: u16, b: u16, low: Ref, inputs: u8, ram: &mut R) -> u8
 /// dividend is a constant. The top output is on after a division, the middle one where the quotient is
 /// above 9999, the bottom one where the divisor is 0; without a division nothing changes. Where
 /// `high`, `units` or `by` is above 9999 nothing changes and no output is on.
-#[tactic(auto, unfolding(crate::specs::Arithmetic::div_row))]
+#[tactic(auto, unfolding(crate::specs::Arithmetic::div_effect))]
 pub fn div<R: RefStore>(high: u16, units: u16, by: u16, low: Ref, inputs: u8, ram: &mut R) -> u8
     requires { HasRegisters (R.contents ram.old) low 2 }
-    ensures outputs { result ≡ bits_of (div_row high units by low (nodes_of inputs) (R.contents ram.old)).0 }
-    ensures stored { R.contents ram.new ≡ (div_row high units by low (nodes_of inputs) (R.contents ram.old)).1 }
+    ensures outputs { result ≡ bits_of (div_effect high units by low (nodes_of inputs) (R.contents ram.old)).outputs }
+    ensures stored { R.contents ram.new ≡ (div_effect high units by low (nodes_of inputs) (R.contents ram.old)).stored }
     ensures keeps { Keeps (R.contents ram.old) (R.contents ram.new) }
 {
     let inputs = NodePower::of_bits(inputs);
@@ -148,6 +137,6 @@ pub fn div<R: RefStore>(high: u16, units: u16, by: u16, low: Ref, inputs: u8, ra
     } else {
         remainder
     };
-    store_pair(low, quotient as u16, rest as u16, ram);
+    store_words(ram, low, &[quotient as u16, rest as u16]);
     TOP.bits()
 }

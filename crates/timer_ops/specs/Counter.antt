@@ -3,6 +3,7 @@ use Rattle.std.specs.Prelude.{ℕ, ◌+◌, ◌-◌, ◌==◌, nat_lt, min, Bool
 use Rattle.std.specs.FinMap.{insert}
 use Rattle.plant_types.specs.declared.power.NodePower.{NodePower}
 use Rattle.plant_types.specs.declared.reference.Ref.{Ref}
+use Rattle.plant_types.specs.Effect.{Effect}
 use Rattle.plant_types.specs.Store.{Contents, word_at}
 use Rattle.timer_ops.specs.Timer.{reached}
 
@@ -23,12 +24,12 @@ count_down preset inputs edge count =
     if inputs.middle then (if is_edge inputs edge && nat_lt 0 held then held - 1 else held) else preset
 
 -- The outputs of an up counter, and the contents of the store afterwards; its edge bit becomes its upper input. Modicon Ladder Logic Block Library User Guide.
-unfoldable pub up_count_row : ℕ → Ref → NodePower → Bool → Contents → NodePower × Contents
-up_count_row preset acc inputs edge m =
-    let count = count_up preset inputs edge (word_at m acc) in (reached preset count, insert m acc count)
+unfoldable pub up_count_effect : ℕ → Ref → NodePower → Bool → Contents → Effect
+up_count_effect preset acc inputs edge m =
+    let count = count_up preset inputs edge (word_at m acc) in record { outputs = reached preset count; stored = insert m acc count }
 
 -- The outputs of a down counter, the upper one at 0 and the lower one above, and the contents of the store afterwards; its edge bit becomes its upper input. Modicon Ladder Logic Block Library User Guide.
-unfoldable pub down_count_row : ℕ → Ref → NodePower → Bool → Contents → NodePower × Contents
-down_count_row preset acc inputs edge m =
+unfoldable pub down_count_effect : ℕ → Ref → NodePower → Bool → Contents → Effect
+down_count_effect preset acc inputs edge m =
     let count = count_down preset inputs edge (word_at m acc) in
-    (record { top = count == 0; middle = nat_lt 0 count; bottom = false }, insert m acc count)
+    record { outputs = record { top = count == 0; middle = nat_lt 0 count; bottom = false }; stored = insert m acc count }

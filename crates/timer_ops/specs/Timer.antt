@@ -5,6 +5,7 @@ use Rattle.plant_types.specs.declared.element.Unit.{Unit as TimeBase}
 use Rattle.plant_types.specs.declared.element.Unit.TheVariants.{Second, Tenth, Hundredth}
 use Rattle.plant_types.specs.declared.power.NodePower.{NodePower}
 use Rattle.plant_types.specs.declared.reference.Ref.{Ref}
+use Rattle.plant_types.specs.Effect.{Effect}
 use Rattle.plant_types.specs.Store.{Contents, word_at}
 use Rattle.timer_ops.specs.declared.Clock.{Clock}
 
@@ -28,6 +29,6 @@ abbrev pub reached : ℕ → ℕ → NodePower
 reached preset value = record { top = value == preset; middle = nat_lt value preset; bottom = false }
 
 -- The outputs of a timer, and the contents of the store afterwards. Modicon Ladder Logic Block Library User Guide.
-unfoldable pub timer_row : TimeBase → ℕ → Ref → NodePower → Clock → Contents → NodePower × Contents
-timer_row unit preset acc inputs clock m =
-    let time = time_after unit preset inputs clock (word_at m acc) in (reached preset time, insert m acc time)
+unfoldable pub timer_effect : TimeBase → ℕ → Ref → NodePower → Clock → Contents → Effect
+timer_effect unit preset acc inputs clock m =
+    let time = time_after unit preset inputs clock (word_at m acc) in record { outputs = reached preset time; stored = insert m acc time }

@@ -7,8 +7,8 @@
 ghost use Rattle.std.specs.Prelude.{◌≡◌, ◌+◌, ◌<◌, min};
 ghost use Rattle.plant_types.specs.Power.{nodes_of, bits_of};
 ghost use Rattle.plant_types.specs.Store.{HasRegisters, Keeps};
-ghost use Rattle.timer_ops.specs.Timer.{ticks_in, units_passed, timer_row};
-ghost use Rattle.timer_ops.specs.Counter.{is_edge, up_count_row, down_count_row};
+ghost use Rattle.timer_ops.specs.Timer.{ticks_in, units_passed, timer_effect};
+ghost use Rattle.timer_ops.specs.Counter.{is_edge, up_count_effect, down_count_effect};
 
 use plant_types::{NodePower, Ref, RefStore, Unit};
 
@@ -56,7 +56,7 @@ fn lengthened(time: u16, gained: u64, preset: u16) -> u16
 ///
 /// The upper input lets time pass, the lower one enables the timer: while it is off the accumulator is 0. The
 /// upper output is on where the preset is reached, the lower one before.
-#[tactic(auto, using(crate::proofs::Kept::still_held), unfolding(crate::specs::Timer::timer_row))]
+#[tactic(auto, using(crate::proofs::Kept::kept), unfolding(crate::specs::Timer::timer_effect))]
 pub fn timer<R: RefStore>(
     unit: Unit,
     preset: u16,
@@ -66,8 +66,8 @@ pub fn timer<R: RefStore>(
     ram: &mut R,
 ) -> u8
     requires { HasRegisters (R.contents ram.old) acc 1 }
-    ensures outputs { result ≡ bits_of (timer_row unit preset acc (nodes_of inputs) clock (R.contents ram.old)).0 }
-    ensures stored { R.contents ram.new ≡ (timer_row unit preset acc (nodes_of inputs) clock (R.contents ram.old)).1 }
+    ensures outputs { result ≡ bits_of (timer_effect unit preset acc (nodes_of inputs) clock (R.contents ram.old)).outputs }
+    ensures stored { R.contents ram.new ≡ (timer_effect unit preset acc (nodes_of inputs) clock (R.contents ram.old)).stored }
     ensures keeps { Keeps (R.contents ram.old) (R.contents ram.new) }
 {
     let inputs = NodePower::of_bits(inputs);
@@ -100,11 +100,11 @@ fn rises(inputs: NodePower, edge: &mut bool) -> bool
 ///
 /// The lower input enables the counter: while it is off the accumulator is 0. The upper output is on where the
 /// preset is reached, the lower one before. `edge` is the upper input of the solve before.
-#[tactic(auto, using(crate::proofs::Kept::still_held), unfolding(crate::specs::Counter::up_count_row))]
+#[tactic(auto, using(crate::proofs::Kept::kept), unfolding(crate::specs::Counter::up_count_effect))]
 pub fn up_count<R: RefStore>(preset: u16, acc: Ref, inputs: u8, edge: &mut bool, ram: &mut R) -> u8
     requires { HasRegisters (R.contents ram.old) acc 1 }
-    ensures outputs { result ≡ bits_of (up_count_row preset acc (nodes_of inputs) edge.old (R.contents ram.old)).0 }
-    ensures stored { R.contents ram.new ≡ (up_count_row preset acc (nodes_of inputs) edge.old (R.contents ram.old)).1 }
+    ensures outputs { result ≡ bits_of (up_count_effect preset acc (nodes_of inputs) edge.old (R.contents ram.old)).outputs }
+    ensures stored { R.contents ram.new ≡ (up_count_effect preset acc (nodes_of inputs) edge.old (R.contents ram.old)).stored }
     ensures edge { edge.new ≡ (nodes_of inputs).top }
     ensures keeps { Keeps (R.contents ram.old) (R.contents ram.new) }
 {
@@ -131,7 +131,7 @@ pub fn up_count<R: RefStore>(preset: u16, acc: Ref, inputs: u8, edge: &mut bool,
 ///
 /// The lower input enables the counter: while it is off the accumulator is the preset. The upper output is on
 /// at 0, the lower one above. `edge` is the upper input of the solve before.
-#[tactic(auto, using(crate::proofs::Kept::still_held), unfolding(crate::specs::Counter::down_count_row))]
+#[tactic(auto, using(crate::proofs::Kept::kept), unfolding(crate::specs::Counter::down_count_effect))]
 pub fn down_count<R: RefStore>(
     preset: u16,
     acc: Ref,
@@ -140,8 +140,8 @@ pub fn down_count<R: RefStore>(
     ram: &mut R,
 ) -> u8
     requires { HasRegisters (R.contents ram.old) acc 1 }
-    ensures outputs { result ≡ bits_of (down_count_row preset acc (nodes_of inputs) edge.old (R.contents ram.old)).0 }
-    ensures stored { R.contents ram.new ≡ (down_count_row preset acc (nodes_of inputs) edge.old (R.contents ram.old)).1 }
+    ensures outputs { result ≡ bits_of (down_count_effect preset acc (nodes_of inputs) edge.old (R.contents ram.old)).outputs }
+    ensures stored { R.contents ram.new ≡ (down_count_effect preset acc (nodes_of inputs) edge.old (R.contents ram.old)).stored }
     ensures edge { edge.new ≡ (nodes_of inputs).top }
     ensures keeps { Keeps (R.contents ram.old) (R.contents ram.new) }
 {
