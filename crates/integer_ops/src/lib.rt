@@ -1,4 +1,5 @@
-//! Integer arithmetic of ladder logic.
+//! Integer arithmetic of ladder logic (*Modicon Ladder Logic Block Library User Guide*); its exact
+//! inputs, outputs and limits are this project's own.
 //!
 //! Each is a block of three nodes that works while its top input is on; while it is off nothing
 //! changes and no output is on. The operands and results of four digits go up to 9999.
@@ -108,8 +109,8 @@ pub fn mul<R: RefStore>(a: u16, b: u16, low: Ref, inputs: u8, ram: &mut R) -> u8
 /// register the remainder, or its four decimal places while the middle input is on.
 ///
 /// `high` and `units` are the upper and the lower four digits of the dividend; `high` is 0 where the
-/// dividend is a constant. The top output is on after a division, the middle one where the quotient is
-/// above 9999, the bottom one where the divisor is 0; without a division nothing changes. Where
+/// dividend is a constant. The top output is on after a division, the middle one where the quotient
+/// is above 9999, the bottom one where the divisor is 0; without a division nothing changes. Where
 /// `high`, `units` or `by` is above 9999 nothing changes and no output is on.
 #[tactic(auto, unfolding(crate::specs::Arithmetic::div_effect))]
 pub fn div<R: RefStore>(high: u16, units: u16, by: u16, low: Ref, inputs: u8, ram: &mut R) -> u8

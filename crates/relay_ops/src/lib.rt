@@ -1,4 +1,4 @@
-//! Contacts and coils, the relays of ladder logic.
+//! Contacts and coils, the relays of ladder logic (*Modicon Ladder Logic Block Library User Guide*).
 #![tactic(auto)]
 
 ghost use Rattle.std.specs.Prelude.{◌≡◌};

@@ -19,16 +19,16 @@ ticks_in Hundredth = 1
 abbrev pub units_passed : TimeBase → Clock → ℕ
 units_passed unit clock = clock.now / ticks_in unit - clock.before / ticks_in unit
 
--- The accumulator of a timer after a solve: 0 while the lower input is off, else the time so far, and while the upper input is on the time that passed too, up to the preset. Modicon Ladder Logic Block Library User Guide.
+-- The accumulator of a timer after a solve: 0 while the lower input is off, else the time so far, and while the upper input is on the time that passed too, up to the preset. Modicon Ladder Logic Block Library User Guide; the exact inputs and outputs are this project's own.
 abbrev pub time_after : TimeBase → ℕ → NodePower → Clock → ℕ → ℕ
 time_after unit preset inputs clock time =
     if inputs.middle then min preset (time + (if inputs.top then units_passed unit clock else 0)) else 0
 
--- The upper output is on at the preset, the lower one below it. Modicon Ladder Logic Block Library User Guide.
+-- The upper output is on at the preset, the lower one below it. Modicon Ladder Logic Block Library User Guide; the exact inputs and outputs are this project's own.
 abbrev pub reached : ℕ → ℕ → NodePower
 reached preset value = record { top = value == preset; middle = nat_lt value preset; bottom = false }
 
--- The outputs of a timer, and the contents of the store afterwards. Modicon Ladder Logic Block Library User Guide.
+-- What a timer does when it is solved. Modicon Ladder Logic Block Library User Guide; the exact inputs and outputs are this project's own.
 unfoldable pub timer_effect : TimeBase → ℕ → Ref → NodePower → Clock → Contents → Effect
 timer_effect unit preset acc inputs clock m =
     let time = time_after unit preset inputs clock (word_at m acc) in record { outputs = reached preset time; stored = insert m acc time }

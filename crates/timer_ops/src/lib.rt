@@ -1,4 +1,5 @@
-//! Timers and counters of ladder logic.
+//! Timers and counters of ladder logic (*Modicon Ladder Logic Block Library User Guide*); their exact
+//! inputs, outputs and limits are this project's own.
 //!
 //! Each is a block of two nodes, the upper one and the lower one. In the bits of a block's power the
 //! upper node is bit 0 and the lower one bit 1.
@@ -54,8 +55,8 @@ fn lengthened(time: u16, gained: u64, preset: u16) -> u16
 
 /// Adds the time since the scan before to its accumulator, up to the preset.
 ///
-/// The upper input lets time pass, the lower one enables the timer: while it is off the accumulator is 0. The
-/// upper output is on where the preset is reached, the lower one before.
+/// The upper input lets time pass, the lower one enables the timer: while it is off the accumulator
+/// is 0. The upper output is on where the preset is reached, the lower one before.
 #[tactic(auto, using(crate::proofs::Kept::kept), unfolding(crate::specs::Timer::timer_effect))]
 pub fn timer<R: RefStore>(
     unit: Unit,
@@ -98,8 +99,8 @@ fn rises(inputs: NodePower, edge: &mut bool) -> bool
 
 /// Counts up to the preset, by one each time that its upper input goes on.
 ///
-/// The lower input enables the counter: while it is off the accumulator is 0. The upper output is on where the
-/// preset is reached, the lower one before. `edge` is the upper input of the solve before.
+/// The lower input enables the counter: while it is off the accumulator is 0. The upper output is on
+/// where the preset is reached, the lower one before. `edge` is the upper input of the solve before.
 #[tactic(auto, using(crate::proofs::Kept::kept), unfolding(crate::specs::Counter::up_count_effect))]
 pub fn up_count<R: RefStore>(preset: u16, acc: Ref, inputs: u8, edge: &mut bool, ram: &mut R) -> u8
     requires { HasRegisters (R.contents ram.old) acc 1 }
@@ -129,8 +130,8 @@ pub fn up_count<R: RefStore>(preset: u16, acc: Ref, inputs: u8, edge: &mut bool,
 
 /// Counts from the preset down to 0, by one each time that its upper input goes on.
 ///
-/// The lower input enables the counter: while it is off the accumulator is the preset. The upper output is on
-/// at 0, the lower one above. `edge` is the upper input of the solve before.
+/// The lower input enables the counter: while it is off the accumulator is the preset. The upper
+/// output is on at 0, the lower one above. `edge` is the upper input of the solve before.
 #[tactic(auto, using(crate::proofs::Kept::kept), unfolding(crate::specs::Counter::down_count_effect))]
 pub fn down_count<R: RefStore>(
     preset: u16,
