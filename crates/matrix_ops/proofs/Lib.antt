@@ -1,0 +1,4 @@
+pub mod BitLemmas
+pub mod TurnLemmas
+pub mod MatrixLemmas
+pub mod SingleLemmas

@@ -1,0 +1,148 @@
+-- What each block that works on the bits of a matrix does when it is solved.
+use Rattle.std.specs.Prelude.{◌≡◌, ◌≤◌, ℕ, ◌+◌, ◌-◌, ◌*◌, ◌/◌, ◌%◌, Bool, true, false, not, ◌&&◌, nat_le, if◌then◌else◌, List, [], ◌∷◌, ◌++◌, take, drop, map, zip, slice_set, Option, is_some, option_map, unwrap_or}
+use Rattle.std.specs.Int.{bit_not, w16}
+use Rattle.std.specs.List.{position_from}
+use Rattle.std.specs.FinMap.{insert}
+use Rattle.plant_types.specs.declared.element.Operand.{Operand}
+use Rattle.plant_types.specs.declared.element.Operand.TheVariants.{Const, At}
+use Rattle.plant_types.specs.declared.power.NodePower.{NodePower}
+use Rattle.plant_types.specs.declared.reference.Ref.{Ref}
+use Rattle.plant_types.specs.declared.reference.RefKind.{RefKind}
+use Rattle.plant_types.specs.declared.reference.RefKind.TheVariants.{Register}
+use Rattle.plant_types.specs.Effect.{Effect}
+use Rattle.plant_types.specs.Reference.{ref_from}
+use Rattle.plant_types.specs.Store.{Contents, HasRegisters, word_at, words_from, with_words}
+use Rattle.matrix_ops.specs.Bits.{word_bits, matrix_bits, bit_number, number_of_bits, matrix_words}
+
+-- Two matrices put together word by word. This project's own.
+abbrev pub word_by_word : (ℕ → ℕ → ℕ) → List ℕ → List ℕ → List ℕ
+word_by_word rule words others = map (λ pair. rule pair.0 pair.1) (zip words others)
+
+-- AND, OR and XOR: a matrix becomes what a rule makes of it and of another, word by word. Modicon Ladder Logic Block Library User Guide; the exact outputs are this project's own.
+abbrev pub combine_effect : (ℕ → ℕ → ℕ) → Ref → Ref → ℕ → NodePower → Contents → Effect
+combine_effect rule top mid length inputs m = record {
+  outputs = record { top = inputs.top; middle = false; bottom = false };
+  stored = if inputs.top then with_words m mid (word_by_word rule (words_from m mid length) (words_from m top length)) else m;
+}
+
+-- COMP: a matrix becomes the inverse of another. Modicon Ladder Logic Block Library User Guide; the exact outputs are this project's own.
+abbrev pub comp_effect : Ref → Ref → ℕ → NodePower → Contents → Effect
+comp_effect top mid length inputs m = record {
+  outputs = record { top = inputs.top; middle = false; bottom = false };
+  stored = if inputs.top then with_words m mid (map (bit_not w16) (words_from m top length)) else m;
+}
+
+-- Whether two bits differ. This project's own.
+abbrev pub is_apart : Bool × Bool → Bool
+is_apart pair = if pair.0 then not pair.1 else pair.1
+
+-- The number, from 1, of the first bit behind so many bits in which two matrices differ. Modicon Ladder Logic Block Library User Guide.
+abbrev pub first_difference : ℕ → List Bool → List Bool → Option ℕ
+first_difference behind bits others = position_from is_apart (behind + 1) (drop behind (zip bits others))
+
+-- CMPR: the pointer is left at the first bit behind it that differs from the matrix behind the pointer, or at 0. Modicon Ladder Logic Block Library User Guide; the exact inputs and outputs are this project's own.
+abbrev pub cmpr_effect : Ref → Ref → ℕ → NodePower → Contents → Effect
+cmpr_effect top mid length inputs m =
+    let bits = matrix_bits (words_from m top length) in
+    let others = matrix_bits (words_from m (ref_from mid 1) length) in
+    let found = first_difference (if inputs.middle then 0 else word_at m mid) bits others in
+    record {
+      outputs = record {
+        top = inputs.top;
+        middle = inputs.top && is_some found;
+        bottom = inputs.top && unwrap_or (option_map (bit_number bits) found) false;
+      };
+      stored = if inputs.top then insert m mid (unwrap_or found 0) else m;
+    }
+
+-- BROT to the left: each bit takes the place before it. Modicon Ladder Logic Block Library User Guide.
+abbrev pub left_turned : List Bool → Bool → List Bool
+left_turned bits bit_in = drop 1 bits ++ bit_in ∷ []
+
+-- BROT to the right: each bit takes the place behind it, and the last one of so many goes out. Modicon Ladder Logic Block Library User Guide.
+abbrev pub right_turned : ℕ → List Bool → Bool → List Bool
+right_turned count bits bit_in = bit_in ∷ take (count - 1) bits
+
+-- BROT: a matrix turned by one bit, which comes in again or not. Modicon Ladder Logic Block Library User Guide; the exact inputs and outputs are this project's own.
+abbrev pub brot_effect : Ref → Ref → ℕ → NodePower → Contents → Effect
+brot_effect top mid length inputs m =
+    let bits = matrix_bits (words_from m top length) in
+    let bit_out = bit_number bits (if inputs.middle then 1 else 16 * length) in
+    let bit_in = inputs.bottom && bit_out in
+    let turned = if inputs.middle then left_turned bits bit_in else right_turned (16 * length) bits bit_in in
+    record {
+      outputs = record { top = inputs.top; middle = inputs.top && bit_out; bottom = false };
+      stored = if inputs.top then with_words m mid (matrix_words turned) else m;
+    }
+
+-- The number of an operand. Modicon Ladder Logic Block Library User Guide.
+abbrev pub number_of : Contents → Operand → ℕ
+number_of m (Const n) = n
+number_of m (At at) = word_at m at
+
+-- A constant, or a register that stands. This project's own.
+abbrev pub HasNumber : Contents → Operand → Type 0
+HasNumber m (Const n) = Unit {0}
+HasNumber m (At at) = HasRegisters m at 1
+
+-- Holding registers alone can be stored in. Modicon Ladder Logic Block Library User Guide.
+abbrev pub is_holding : RefKind → Bool
+is_holding Register = true
+is_holding _ = false
+
+-- Whether an operand is a pointer, which a block moves on. This project's own.
+abbrev pub is_pointer : Operand → Bool
+is_pointer (Const n) = false
+is_pointer (At at) = is_holding at.kind
+
+-- The contents after a number is stored in an operand that is a pointer. This project's own.
+abbrev pub with_pointer : Contents → Operand → ℕ → Contents
+with_pointer m (Const n) value = m
+with_pointer m (At at) value = if is_holding at.kind then insert m at value else m
+
+-- A number that a bit of a matrix of so many registers has. Modicon Ladder Logic Block Library User Guide.
+abbrev pub is_bit_of : ℕ → ℕ → Bool
+is_bit_of length k = nat_le 1 k && nat_le k (16 * length)
+
+-- The contents after one bit of a matrix is set on or off, in the register that holds it. Modicon Ladder Logic Block Library User Guide.
+abbrev pub with_matrix_bit : Contents → Ref → ℕ → Bool → Contents
+with_matrix_bit m matrix k on =
+    let at = ref_from matrix ((k - 1) / 16) in
+    insert m at (number_of_bits (slice_set (word_bits (word_at m at)) ((k - 1) % 16) on))
+
+-- To set one bit of a matrix changes it in the list of all bits, and no other. Modicon Ladder Logic Block Library User Guide.
+abbrev pub SetsOneBit : Type 0
+SetsOneBit =
+    (m : Contents) (matrix : Ref) (length k : ℕ) (on : Bool) → 1 ≤ k → k ≤ 16 * length
+    → matrix_bits (words_from (with_matrix_bit m matrix k on) matrix length) ≡ slice_set (matrix_bits (words_from m matrix length)) (k - 1) on
+
+-- MBIT: a bit of a matrix becomes the power of the middle node, and a pointer to it can move on. Modicon Ladder Logic Block Library User Guide; the exact inputs and outputs are this project's own.
+abbrev pub mbit_effect : Operand → Ref → ℕ → NodePower → Contents → Effect
+mbit_effect top mid length inputs m =
+    let k = number_of m top in
+    let changed = with_matrix_bit m mid k inputs.middle in
+    record {
+      outputs = record {
+        top = inputs.top;
+        middle = inputs.top && is_bit_of length k && inputs.middle;
+        bottom = inputs.top && not (is_bit_of length k);
+      };
+      stored =
+          if inputs.top && is_bit_of length k then (if inputs.bottom then with_pointer changed top (k + 1) else changed)
+          else m;
+    }
+
+-- SENS: a bit of a matrix is told, and a pointer to it can begin at 1 and move on. Modicon Ladder Logic Block Library User Guide; the exact inputs and outputs are this project's own.
+abbrev pub sens_effect : Operand → Ref → ℕ → NodePower → Contents → Effect
+sens_effect top mid length inputs m =
+    let k = if inputs.bottom && is_pointer top then 1 else number_of m top in
+    record {
+      outputs = record {
+        top = inputs.top;
+        middle = inputs.top && is_bit_of length k && bit_number (matrix_bits (words_from m mid length)) k;
+        bottom = inputs.top && not (is_bit_of length k);
+      };
+      stored =
+          if inputs.top && is_bit_of length k && inputs.middle then with_pointer m top (k + 1)
+          else (if inputs.top && inputs.bottom then with_pointer m top 1 else m);
+    }

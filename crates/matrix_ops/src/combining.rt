@@ -1,0 +1,171 @@
+//! AND, OR, XOR and COMP.
+ghost use Rattle.std.specs.Prelude.{◌≡◌, ◌≤◌, false, length, map, bit_and, bit_or, bit_xor};
+ghost use Rattle.std.specs.Int.{bit_not, w16};
+ghost use Rattle.plant_types.specs.Power.{nodes_of, bits_of};
+ghost use Rattle.plant_types.specs.Store.{HasRegisters, Keeps, words_from, with_words};
+ghost use Rattle.matrix_ops.specs.Matrices.{word_by_word, combine_effect, comp_effect};
+ghost use Rattle.matrix_ops.specs.Rule.{rule_of};
+
+use crate::MATRIX_LIMIT;
+use plant_types::{NodePower, Ref, RefStore, load_words, store_words};
+
+/// How two words become one, bit by bit.
+#[derive(Clone, Copy)]
+enum Rule {
+    Both,
+    Either,
+    OneAlone,
+}
+
+impl Rule {
+    fn of(self, word: u16, other: u16) -> u16
+        ensures { result ≡ rule_of self word other }
+    {
+        match self {
+            Rule::Both => word & other,
+            Rule::Either => word | other,
+            Rule::OneAlone => word ^ other,
+        }
+    }
+}
+
+fn combine_words(rule: Rule, words: &mut [u16], others: &[u16])
+    requires { length words.old ≡ length others.now }
+    ensures { words.new ≡ word_by_word (rule_of rule) words.old others.now }
+{
+    for (i, word) in words.iter_mut().enumerate() {
+        *word = rule.of(*word, others[i]);
+    }
+}
+
+fn combine_registers<R: RefStore>(rule: Rule, top: Ref, mid: Ref, length: u16, ram: &mut R)
+    requires length { length ≤ MATRIX_LIMIT }
+    requires source { HasRegisters (R.contents ram.old) top length }
+    requires matrix { HasRegisters (R.contents ram.old) mid length }
+    ensures stored { R.contents ram.new ≡ with_words (R.contents ram.old) mid
+        (word_by_word (rule_of rule) (words_from (R.contents ram.old) mid length)
+        (words_from (R.contents ram.old) top length)) }
+    ensures keeps { Keeps (R.contents ram.old) (R.contents ram.new) }
+{
+    let mut words = [0; MATRIX_LIMIT];
+    let words = &mut words[..usize::from(length)];
+    load_words(ram, mid, words);
+    let mut others = [0; MATRIX_LIMIT];
+    let others = &mut others[..usize::from(length)];
+    load_words(ram, top, others);
+    combine_words(rule, words, others);
+    store_words(ram, mid, words);
+}
+
+/// The output bits of a block that passes power on, and does nothing else.
+fn passed_on(power: bool) -> u8
+    ensures { result ≡ bits_of (record { top = power; middle = false; bottom = false }) }
+{
+    let outputs = NodePower {
+        top: power,
+        middle: false,
+        bottom: false,
+    };
+    outputs.bits()
+}
+
+fn combine<R: RefStore>(rule: Rule, top: Ref, mid: Ref, length: u16, inputs: u8, ram: &mut R) -> u8
+    requires length { length ≤ MATRIX_LIMIT }
+    requires source { HasRegisters (R.contents ram.old) top length }
+    requires matrix { HasRegisters (R.contents ram.old) mid length }
+    ensures outputs { result ≡ bits_of
+        (combine_effect (rule_of rule) top mid length (nodes_of inputs) (R.contents ram.old)).outputs }
+    ensures stored { R.contents ram.new ≡
+        (combine_effect (rule_of rule) top mid length (nodes_of inputs) (R.contents ram.old)).stored }
+    ensures keeps { Keeps (R.contents ram.old) (R.contents ram.new) }
+{
+    let power = NodePower::of_bits(inputs).top;
+    if power {
+        combine_registers(rule, top, mid, length, ram);
+    }
+    passed_on(power)
+}
+
+/// AND: a bit of the matrix `mid` stays on where that of `top` is on too.
+///
+/// Input: the top node works. Output: the top node passes power on. Matrices have `length`
+/// registers.
+pub fn and<R: RefStore>(top: Ref, mid: Ref, length: u16, inputs: u8, ram: &mut R) -> u8
+    requires length { length ≤ MATRIX_LIMIT }
+    requires source { HasRegisters (R.contents ram.old) top length }
+    requires matrix { HasRegisters (R.contents ram.old) mid length }
+    ensures outputs { result ≡ bits_of
+        (combine_effect bit_and top mid length (nodes_of inputs) (R.contents ram.old)).outputs }
+    ensures stored { R.contents ram.new ≡
+        (combine_effect bit_and top mid length (nodes_of inputs) (R.contents ram.old)).stored }
+    ensures keeps { Keeps (R.contents ram.old) (R.contents ram.new) }
+{
+    combine(Rule::Both, top, mid, length, inputs, ram)
+}
+
+/// OR: a bit of the matrix `mid` comes on where that of `top` is on.
+///
+/// Input, output and length are those of `and`.
+pub fn or<R: RefStore>(top: Ref, mid: Ref, length: u16, inputs: u8, ram: &mut R) -> u8
+    requires length { length ≤ MATRIX_LIMIT }
+    requires source { HasRegisters (R.contents ram.old) top length }
+    requires matrix { HasRegisters (R.contents ram.old) mid length }
+    ensures outputs { result ≡ bits_of
+        (combine_effect bit_or top mid length (nodes_of inputs) (R.contents ram.old)).outputs }
+    ensures stored { R.contents ram.new ≡
+        (combine_effect bit_or top mid length (nodes_of inputs) (R.contents ram.old)).stored }
+    ensures keeps { Keeps (R.contents ram.old) (R.contents ram.new) }
+{
+    combine(Rule::Either, top, mid, length, inputs, ram)
+}
+
+/// XOR: a bit of the matrix `mid` changes where that of `top` is on.
+///
+/// Input, output and length are those of `and`.
+pub fn xor<R: RefStore>(top: Ref, mid: Ref, length: u16, inputs: u8, ram: &mut R) -> u8
+    requires length { length ≤ MATRIX_LIMIT }
+    requires source { HasRegisters (R.contents ram.old) top length }
+    requires matrix { HasRegisters (R.contents ram.old) mid length }
+    ensures outputs { result ≡ bits_of
+        (combine_effect bit_xor top mid length (nodes_of inputs) (R.contents ram.old)).outputs }
+    ensures stored { R.contents ram.new ≡
+        (combine_effect bit_xor top mid length (nodes_of inputs) (R.contents ram.old)).stored }
+    ensures keeps { Keeps (R.contents ram.old) (R.contents ram.new) }
+{
+    combine(Rule::OneAlone, top, mid, length, inputs, ram)
+}
+
+fn invert_words(words: &mut [u16])
+    ensures { words.new ≡ map (bit_not w16) words.old }
+{
+    for word in words.iter_mut() {
+        *word = !*word;
+    }
+}
+
+/// COMP: the matrix `mid` becomes the inverse of the matrix `top`.
+///
+/// Input, output and length are those of `and`.
+pub fn comp<R: RefStore>(top: Ref, mid: Ref, length: u16, inputs: u8, ram: &mut R) -> u8
+    requires length { length ≤ MATRIX_LIMIT }
+    requires source { HasRegisters (R.contents ram.old) top length }
+    requires matrix { HasRegisters (R.contents ram.old) mid length }
+    ensures outputs { result ≡ bits_of
+        (comp_effect top mid length (nodes_of inputs) (R.contents ram.old)).outputs }
+    ensures stored { R.contents ram.new ≡
+        (comp_effect top mid length (nodes_of inputs) (R.contents ram.old)).stored }
+    ensures keeps { Keeps (R.contents ram.old) (R.contents ram.new) }
+{
+    let power = NodePower::of_bits(inputs).top;
+    if power {
+        let mut words = [0; MATRIX_LIMIT];
+        let words = &mut words[..usize::from(length)];
+        load_words(ram, top, words);
+        invert_words(words);
+        store_words(ram, mid, words);
+    }
+    passed_on(power)
+}
+
+#[cfg(test)]
+mod tests;

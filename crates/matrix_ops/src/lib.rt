@@ -1,0 +1,22 @@
+//! The blocks that work on the bits of a matrix of registers
+//! (*Modicon Ladder Logic Block Library User Guide*).
+#![tactic(auto)]
+
+mod bits;
+pub mod combining;
+pub mod comparing;
+pub mod single_bits;
+pub mod turning;
+
+pub use combining::{and, comp, or, xor};
+pub use comparing::cmpr;
+pub use single_bits::{mbit, sens, sets_one_bit};
+pub use turning::brot;
+
+/// The most registers of a matrix.
+pub const MATRIX_LIMIT: usize = 100;
+
+#[cfg(test)]
+mod testing;
+#[cfg(test)]
+mod tests;

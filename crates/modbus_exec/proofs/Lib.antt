@@ -1,0 +1,4 @@
+pub mod RunLemmas
+pub mod Outcomes
+pub mod AnswerLemmas
+pub mod OneAnswer

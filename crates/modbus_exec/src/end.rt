@@ -1,0 +1,22 @@
+//! Why a request was not executed.
+ghost use Rattle.std.specs.Prelude.{◌≡◌};
+ghost use Rattle.modbus_exec.specs.declared.end.ExecEnd.TheVariants.{NoMemory};
+
+use std::alloc::AllocError;
+
+/// Why a request was not executed.
+#[derive(Clone, Copy, Debug, PartialEq, Eq)]
+pub enum ExecEnd {
+    /// The code of the exception that is due: 2 where an address is outside the map, 1 for a
+    /// statistics request, which is not asked of a map.
+    Exception(u8),
+    NoMemory,
+}
+
+impl From<AllocError> for ExecEnd {
+    ghost from_gives = { λ _ end. end ≡ NoMemory };
+
+    fn from(_: AllocError) -> ExecEnd {
+        ExecEnd::NoMemory
+    }
+}

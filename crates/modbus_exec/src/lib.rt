@@ -1,0 +1,19 @@
+//! What Modbus requests do to the references of a controller.
+#![tactic(auto)]
+
+mod answering;
+mod end;
+mod executing;
+mod laws;
+mod reading;
+mod runs;
+mod storing;
+mod writing;
+
+pub use answering::answer;
+pub use end::ExecEnd;
+pub use executing::exec;
+pub use laws::one_answer;
+
+#[cfg(test)]
+mod tests;

@@ -1,0 +1,5 @@
+use Rattle.modbus_pdu.proofs.OneSpelling.{one_spelled}
+use Rattle.modbus_pdu.proofs.laws.one_request.Goals as goal
+
+pub returns : goal.returns
+returns c = one_spelled

@@ -1,0 +1,47 @@
+-- Numbers and bits as bytes.
+use Rattle.std.specs.Prelude.{ℕ, zero, suc, ◌+◌, ◌*◌, ◌-◌, ◌/◌, ◌%◌, Bool, false, ◌==◌, if◌then◌else◌, List, [], ◌∷◌, ◌++◌, length, take, drop, replicate}
+use Rattle.std.specs.List.{flat_map}
+
+-- A word as two bytes, the high byte first. Modicon Modbus Protocol Reference Guide.
+abbrev pub word_bytes : ℕ → List ℕ
+word_bytes word = (word / 256) ∷ (word % 256) ∷ []
+
+-- Words one after the other. Modicon Modbus Protocol Reference Guide.
+abbrev pub words_bytes : List ℕ → List ℕ
+words_bytes words = flat_map word_bytes words
+
+-- The number whose binary digits the bits are, the lowest first. Modicon Modbus Protocol Reference Guide.
+unfoldable pub bits_number : List Bool → ℕ
+bits_number [] = 0
+bits_number (bit ∷ bits) = (if bit then 1 else 0) + 2 * bits_number bits
+
+-- So many bytes, of eight bits each. Modicon Modbus Protocol Reference Guide.
+unfoldable pub packed : ℕ → List Bool → List ℕ
+packed zero bits = []
+packed (suc count) bits = bits_number (take 8 bits) ∷ packed count (drop 8 bits)
+
+-- How many bytes so many bits take. Modicon Modbus Protocol Reference Guide.
+abbrev pub bytes_for : ℕ → ℕ
+bytes_for quantity = (quantity + 7) / 8
+
+-- The bits that fill the last byte, each 0. Modicon Modbus Protocol Reference Guide.
+abbrev pub clear_spare : ℕ → List Bool
+clear_spare quantity = replicate (8 * bytes_for quantity - quantity) false
+
+-- A byte count, then bits with the spare bits that fill the last byte. Modicon Modbus Protocol Reference Guide.
+abbrev pub counted_bits : List Bool → List Bool → List ℕ
+counted_bits bits spare = bytes_for (length bits) ∷ packed (bytes_for (length bits)) (bits ++ spare)
+
+-- A byte count, then words. Modicon Modbus Protocol Reference Guide.
+abbrev pub counted_words : List ℕ → List ℕ
+counted_words words = (2 * length words) ∷ words_bytes words
+
+-- The binary digits of a number, so many of them, the lowest first. Modicon Modbus Protocol Reference Guide.
+unfoldable pub bit_digits : ℕ → ℕ → List Bool
+bit_digits zero number = []
+bit_digits (suc count) number = (number % 2 == 1) ∷ bit_digits count (number / 2)
+
+-- The bits in bytes, eight from each. Modicon Modbus Protocol Reference Guide.
+unfoldable pub unpacked : List ℕ → List Bool
+unpacked [] = []
+unpacked (byte ∷ bytes) = bit_digits 8 byte ++ unpacked bytes

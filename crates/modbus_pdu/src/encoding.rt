@@ -1,0 +1,202 @@
+//! Requests and replies as bytes.
+ghost use Rattle.std.specs.Prelude.{◌≡◌, ◌≤◌, ◌==◌, if◌then◌else◌, [], ◌∷◌, ◌++◌, length, IfOk};
+ghost use Rattle.modbus_pdu.specs.Bytes.{word_bytes, words_bytes, counted_words, counted_bits, clear_spare};
+ghost use Rattle.modbus_pdu.specs.Spelling.{IsInRange, Spells, HasClearSpare, IsReplyInRange, SpellsReply, exception_code};
+
+use crate::bits::bytes_for;
+use crate::draft::Draft;
+use crate::reply::Reply;
+use crate::request::Request;
+use plant_types::Pdu;
+use std::alloc::{AllocError, Global};
+
+fn two_words(alloc: Global, function: u8, first: u16, second: u16) -> Result<Pdu, AllocError>
+    ensures { IfOk result (λ pdu. pdu ≡ function ∷ word_bytes first ++ word_bytes second) }
+{
+    let mut draft = Draft::new();
+    draft.byte(function);
+    draft.word(first);
+    draft.word(second);
+    draft.finish(alloc)
+}
+
+fn three_words(
+    alloc: Global,
+    function: u8,
+    first: u16,
+    second: u16,
+    third: u16,
+) -> Result<Pdu, AllocError>
+    ensures { IfOk result (λ pdu. pdu ≡ function ∷ word_bytes first ++ word_bytes second ++ word_bytes third) }
+{
+    let mut draft = Draft::new();
+    draft.byte(function);
+    draft.word(first);
+    draft.word(second);
+    draft.word(third);
+    draft.finish(alloc)
+}
+
+fn write_coils(alloc: Global, address: u16, bits: &[bool]) -> Result<Pdu, AllocError>
+    requires { length bits.now ≤ 1968 }
+    ensures { IfOk result (λ pdu. pdu ≡ 15 ∷ word_bytes address ++ word_bytes (length bits.now) ++ counted_bits bits.now (clear_spare (length bits.now))) }
+{
+    let mut draft = Draft::new();
+    draft.byte(15);
+    draft.word(address);
+    draft.word(bits.len() as u16);
+    draft.byte(bytes_for(bits.len()) as u8);
+    draft.bits(bits);
+    draft.finish(alloc)
+}
+
+fn write_registers(alloc: Global, address: u16, words: &[u16]) -> Result<Pdu, AllocError>
+    requires { length words.now ≤ 123 }
+    ensures { IfOk result (λ pdu. pdu ≡ 16 ∷ word_bytes address ++ word_bytes (length words.now) ++ counted_words words.now) }
+{
+    let mut draft = Draft::new();
+    draft.byte(16);
+    draft.word(address);
+    draft.word(words.len() as u16);
+    draft.byte(2 * words.len() as u8);
+    draft.words(words);
+    draft.finish(alloc)
+}
+
+fn read_write(
+    alloc: Global,
+    read: u16,
+    quantity: u16,
+    write: u16,
+    words: &[u16],
+) -> Result<Pdu, AllocError>
+    requires { length words.now ≤ 121 }
+    ensures { IfOk result (λ pdu. pdu ≡ 23 ∷ word_bytes read ++ word_bytes quantity ++ word_bytes write ++ word_bytes (length words.now) ++ counted_words words.now) }
+{
+    let mut draft = Draft::new();
+    draft.byte(23);
+    draft.word(read);
+    draft.word(quantity);
+    draft.word(write);
+    draft.word(words.len() as u16);
+    draft.byte(2 * words.len() as u8);
+    draft.words(words);
+    draft.finish(alloc)
+}
+
+/// The bytes of a request.
+pub fn encode_request(alloc: Global, request: &Request) -> Result<Pdu, AllocError>
+    requires { IsInRange request.now }
+    ensures spelled { IfOk result (λ pdu. Spells pdu request.now) }
+    ensures spare { IfOk result (λ pdu. HasClearSpare pdu request.now) }
+{
+    match request {
+        Request::ReadCoils { address, quantity } => two_words(alloc, 1, *address, *quantity),
+        Request::ReadInputs { address, quantity } => two_words(alloc, 2, *address, *quantity),
+        Request::ReadRegisters { address, quantity } => two_words(alloc, 3, *address, *quantity),
+        Request::ReadInputRegisters { address, quantity } => {
+            two_words(alloc, 4, *address, *quantity)
+        }
+        Request::WriteCoil { address, on: true } => two_words(alloc, 5, *address, 0xff00),
+        Request::WriteCoil { address, on: false } => two_words(alloc, 5, *address, 0),
+        Request::WriteRegister { address, value } => two_words(alloc, 6, *address, *value),
+        Request::Echo { word } => two_words(alloc, 8, 0, *word),
+        Request::Stats { clear: false } => two_words(alloc, 8, 21, 3),
+        Request::Stats { clear: true } => two_words(alloc, 8, 21, 4),
+        Request::WriteCoils { address, bits } => write_coils(alloc, *address, bits.as_slice()),
+        Request::WriteRegisters { address, words } => {
+            write_registers(alloc, *address, words.words())
+        }
+        Request::Mask {
+            address,
+            and_mask,
+            or_mask,
+        } => three_words(alloc, 22, *address, *and_mask, *or_mask),
+        Request::ReadWrite {
+            read,
+            quantity,
+            write,
+            words,
+        } => read_write(alloc, *read, *quantity, *write, words.words()),
+    }
+}
+
+fn bits_reply(alloc: Global, function: u8, bits: &[bool]) -> Result<Pdu, AllocError>
+    requires { length bits.now ≤ 2000 }
+    ensures { IfOk result (λ pdu. pdu ≡ function ∷ counted_bits bits.now (clear_spare (length bits.now))) }
+{
+    let mut draft = Draft::new();
+    draft.byte(function);
+    draft.byte(bytes_for(bits.len()) as u8);
+    draft.bits(bits);
+    draft.finish(alloc)
+}
+
+fn words_reply(alloc: Global, function: u8, words: &[u16]) -> Result<Pdu, AllocError>
+    requires { length words.now ≤ 125 }
+    ensures { IfOk result (λ pdu. pdu ≡ function ∷ counted_words words.now) }
+{
+    let mut draft = Draft::new();
+    draft.byte(function);
+    draft.byte(2 * words.len() as u8);
+    draft.words(words);
+    draft.finish(alloc)
+}
+
+/// The operation that gives so many words of statistics: 4 clears and gives none, 3 gives them.
+pub(crate) fn stats_operation(quantity: usize) -> u16
+    ensures { result ≡ (if quantity == 0 then 4 else 3) }
+{
+    if quantity == 0 { 4 } else { 3 }
+}
+
+fn stats_reply(alloc: Global, words: &[u16]) -> Result<Pdu, AllocError>
+    requires { length words.now ≤ 20 }
+    ensures { IfOk result (λ pdu. pdu ≡ 8 ∷ word_bytes 21 ++ word_bytes (if length words.now == 0 then 4 else 3) ++ words_bytes words.now) }
+{
+    let mut draft = Draft::new();
+    draft.byte(8);
+    draft.word(21);
+    draft.word(stats_operation(words.len()));
+    draft.words(words);
+    draft.finish(alloc)
+}
+
+/// The function with bit 7 set.
+pub(crate) fn exception_code(function: u8) -> u8
+    ensures { result ≡ exception_code function }
+{
+    if function < 128 {
+        function + 128
+    } else {
+        function
+    }
+}
+
+fn exception_reply(alloc: Global, function: u8, code: u8) -> Result<Pdu, AllocError>
+    ensures { IfOk result (λ pdu. pdu ≡ exception_code function ∷ code ∷ []) }
+{
+    let mut draft = Draft::new();
+    draft.byte(exception_code(function));
+    draft.byte(code);
+    draft.finish(alloc)
+}
+
+/// The bytes of a reply.
+pub fn encode_reply(alloc: Global, reply: &Reply) -> Result<Pdu, AllocError>
+    requires { IsReplyInRange reply.now }
+    ensures { IfOk result (λ pdu. SpellsReply pdu reply.now) }
+{
+    match reply {
+        Reply::Bits { function, bits } => bits_reply(alloc, *function, bits.as_slice()),
+        Reply::Words { function, words } => words_reply(alloc, *function, words.words()),
+        Reply::Same(request) => encode_request(alloc, request),
+        Reply::Written {
+            function,
+            address,
+            quantity,
+        } => two_words(alloc, *function, *address, *quantity),
+        Reply::Stats { words } => stats_reply(alloc, words.words()),
+        Reply::Exception { function, code } => exception_reply(alloc, *function, *code),
+    }
+}

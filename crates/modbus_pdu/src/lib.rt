@@ -1,0 +1,24 @@
+//! Modbus requests and replies, and their spelling as bytes.
+#![tactic(auto)]
+
+mod bits;
+mod decoding;
+mod draft;
+mod encoding;
+mod end;
+mod laws;
+mod numbers;
+mod reply;
+mod reply_decoding;
+mod request;
+
+pub use decoding::decode;
+pub use encoding::{encode_reply, encode_request};
+pub use end::{BadReply, DecodeEnd};
+pub use laws::{one_reply_spelling, one_request};
+pub use reply::Reply;
+pub use reply_decoding::decode_reply;
+pub use request::Request;
+
+#[cfg(test)]
+mod tests;

@@ -1,0 +1,246 @@
+//! Replies from bytes.
+ghost use Rattle.std.specs.Prelude.{◌≡◌, ◌≢◌, if◌then◌else◌, ℕ, ◌≤◌, ◌<◌, ◌⊎◌, List, [], ◌∷◌, ◌++◌, length, IsTrue, IfOk, IsErrOf, ◌↔◌, MatchOption};
+ghost use Rattle.modbus_pdu.specs.Bytes.{word_bytes};
+ghost use Rattle.modbus_pdu.specs.Decoding.{Finds, IsBits, IsWords, IsWritten, IsStats, IsSame, IsNormal, IsSpelledReply};
+ghost use Rattle.modbus_pdu.specs.Spelling.{function_of, exception_code, IsReplyTo, SpellsReply};
+
+use crate::bits::{bytes_for, spare_is_clear, unpack};
+use crate::encoding::{exception_code, stats_operation};
+use crate::end::BadReply;
+use crate::numbers::{counted, three_words, two_words, word_at, words_in};
+use crate::reply::Reply;
+use crate::request::Request;
+use std::alloc::Global;
+
+/// What a byte behind the function counts.
+fn counted_behind(function: u8, bytes: &[u8]) -> Option<&[u8]>
+    ensures { MatchOption result ((rest : List ℕ) → bytes.now ≢ function ∷ length rest ∷ rest) (λ rest. bytes.now ≡ function ∷ length rest.now ∷ rest.now) }
+{
+    match bytes {
+        [code, rest @ ..] if *code == function => counted(rest),
+        _ => None,
+    }
+}
+
+/// Two numbers behind the function.
+fn two_behind(function: u8, bytes: &[u8]) -> Option<(u16, u16)>
+    ensures { MatchOption result ((first second : ℕ) → bytes.now ≢ function ∷ word_bytes first ++ word_bytes second) (λ found. bytes.now ≡ function ∷ word_bytes found.0 ++ word_bytes found.1) }
+{
+    match bytes {
+        [code, rest @ ..] if *code == function => two_words(rest),
+        _ => None,
+    }
+}
+
+fn bits_from(alloc: Global, function: u8, quantity: u16, bytes: &[u8]) -> Result<Reply, BadReply>
+    requires { (function ≡ 1) ⊎ (function ≡ 2) }
+    ensures { Finds (IsBits function quantity bytes.now) result }
+{
+    let Some(packed) = counted_behind(function, bytes) else {
+        return Err(BadReply::Form);
+    };
+    let quantity = quantity as usize;
+    if quantity < 1 || quantity > 2000 || packed.len() != bytes_for(quantity) {
+        return Err(BadReply::Form);
+    }
+    if !spare_is_clear(packed, quantity) {
+        return Err(BadReply::Form);
+    }
+    let bits = unpack(alloc, packed, quantity)?;
+    Ok(Reply::Bits { function, bits })
+}
+
+fn words_from(alloc: Global, function: u8, quantity: u16, bytes: &[u8]) -> Result<Reply, BadReply>
+    requires { (function ≡ 3) ⊎ (function ≡ 4) ⊎ (function ≡ 23) }
+    ensures { Finds (IsWords function quantity bytes.now) result }
+{
+    let Some(rest) = counted_behind(function, bytes) else {
+        return Err(BadReply::Form);
+    };
+    let quantity = quantity as usize;
+    if quantity < 1 || quantity > 125 || rest.len() != 2 * quantity {
+        return Err(BadReply::Form);
+    }
+    let words = words_in(alloc, rest, quantity)?;
+    Ok(Reply::Words { function, words })
+}
+
+fn written_from(
+    function: u8,
+    address: u16,
+    quantity: usize,
+    most: u16,
+    bytes: &[u8],
+) -> Result<Reply, BadReply>
+    requires { ((function ≡ 15) × (most ≡ 1968)) ⊎ ((function ≡ 16) × (most ≡ 123)) }
+    ensures { Finds (IsWritten function address quantity bytes.now) result }
+{
+    match two_behind(function, bytes) {
+        Some((first, count))
+            if first == address && count as usize == quantity && count >= 1 && count <= most => {
+            Ok(Reply::Written {
+                function,
+                address,
+                quantity: count,
+            })
+        }
+        _ => Err(BadReply::Form),
+    }
+}
+
+/// The operation behind function 8 and sub-function 21, and what follows it.
+fn operation_behind(bytes: &[u8]) -> Option<(u16, &[u8])>
+    ensures { MatchOption result ((operation : ℕ) (rest : List ℕ) → bytes.now ≢ 8 ∷ word_bytes 21 ++ word_bytes operation ++ rest) (λ found. bytes.now ≡ 8 ∷ word_bytes 21 ++ word_bytes found.0 ++ found.1.now) }
+{
+    match bytes {
+        [8, 0, 21, rest @ ..] => word_at(rest),
+        _ => None,
+    }
+}
+
+fn stats_from(alloc: Global, quantity: usize, bytes: &[u8]) -> Result<Reply, BadReply>
+    requires { (quantity ≡ 0) ⊎ (quantity ≡ 20) }
+    ensures { Finds (IsStats quantity bytes.now) result }
+{
+    let Some((operation, rest)) = operation_behind(bytes) else {
+        return Err(BadReply::Form);
+    };
+    if operation != stats_operation(quantity) || rest.len() != 2 * quantity {
+        return Err(BadReply::Form);
+    }
+    let words = words_in(alloc, rest, quantity)?;
+    Ok(Reply::Stats { words })
+}
+
+fn is_two(function: u8, first: u16, second: u16, bytes: &[u8]) -> bool
+    ensures { IsTrue result ↔ (bytes.now ≡ function ∷ word_bytes first ++ word_bytes second) }
+{
+    matches!(two_behind(function, bytes), Some((one, two)) if one == first && two == second)
+}
+
+fn write_coil_from(address: u16, on: bool, bytes: &[u8]) -> Result<Reply, BadReply>
+    ensures { Finds (IsSame (Request.WriteCoil address on) bytes.now) result }
+{
+    let value = if on { 0xff00 } else { 0 };
+    if !is_two(5, address, value, bytes) {
+        return Err(BadReply::Form);
+    }
+    Ok(Reply::Same(Request::WriteCoil { address, on }))
+}
+
+fn write_register_from(address: u16, value: u16, bytes: &[u8]) -> Result<Reply, BadReply>
+    ensures { Finds (IsSame (Request.WriteRegister address value) bytes.now) result }
+{
+    if !is_two(6, address, value, bytes) {
+        return Err(BadReply::Form);
+    }
+    Ok(Reply::Same(Request::WriteRegister { address, value }))
+}
+
+fn echo_from(word: u16, bytes: &[u8]) -> Result<Reply, BadReply>
+    ensures { Finds (IsSame (Request.Echo word) bytes.now) result }
+{
+    if !is_two(8, 0, word, bytes) {
+        return Err(BadReply::Form);
+    }
+    Ok(Reply::Same(Request::Echo { word }))
+}
+
+fn mask_from(address: u16, and_mask: u16, or_mask: u16, bytes: &[u8]) -> Result<Reply, BadReply>
+    ensures { Finds (IsSame (Request.Mask address and_mask or_mask) bytes.now) result }
+{
+    match bytes {
+        [22, rest @ ..] if three_words(rest) == Some((address, and_mask, or_mask)) => {
+            Ok(Reply::Same(Request::Mask {
+                address,
+                and_mask,
+                or_mask,
+            }))
+        }
+        _ => Err(BadReply::Form),
+    }
+}
+
+/// How many words of statistics are due.
+fn stats_quantity(clear: bool) -> usize
+    ensures due { result ≡ (if clear then 0 else 20) }
+    ensures either { (result ≡ 0) ⊎ (result ≡ 20) }
+{
+    if clear { 0 } else { 20 }
+}
+
+fn normal_reply(alloc: Global, request: &Request, bytes: &[u8]) -> Result<Reply, BadReply>
+    ensures { Finds (IsNormal request.now bytes.now) result }
+{
+    match request {
+        Request::ReadCoils { quantity, .. } => bits_from(alloc, 1, *quantity, bytes),
+        Request::ReadInputs { quantity, .. } => bits_from(alloc, 2, *quantity, bytes),
+        Request::ReadRegisters { quantity, .. } => words_from(alloc, 3, *quantity, bytes),
+        Request::ReadInputRegisters { quantity, .. } => words_from(alloc, 4, *quantity, bytes),
+        Request::WriteCoil { address, on } => write_coil_from(*address, *on, bytes),
+        Request::WriteRegister { address, value } => write_register_from(*address, *value, bytes),
+        Request::Echo { word } => echo_from(*word, bytes),
+        Request::Stats { clear } => stats_from(alloc, stats_quantity(*clear), bytes),
+        Request::WriteCoils { address, bits } => {
+            written_from(15, *address, bits.as_slice().len(), 1968, bytes)
+        }
+        Request::WriteRegisters { address, words } => {
+            written_from(16, *address, words.words().len(), 123, bytes)
+        }
+        Request::Mask {
+            address,
+            and_mask,
+            or_mask,
+        } => mask_from(*address, *and_mask, *or_mask, bytes),
+        Request::ReadWrite { quantity, .. } => words_from(alloc, 23, *quantity, bytes),
+    }
+}
+
+fn function_of(request: &Request) -> u8
+    ensures { result ≡ function_of request.now }
+{
+    match request {
+        Request::ReadCoils { .. } => 1,
+        Request::ReadInputs { .. } => 2,
+        Request::ReadRegisters { .. } => 3,
+        Request::ReadInputRegisters { .. } => 4,
+        Request::WriteCoil { .. } => 5,
+        Request::WriteRegister { .. } => 6,
+        Request::Echo { .. } | Request::Stats { .. } => 8,
+        Request::WriteCoils { .. } => 15,
+        Request::WriteRegisters { .. } => 16,
+        Request::Mask { .. } => 22,
+        Request::ReadWrite { .. } => 23,
+    }
+}
+
+/// The code of an exception reply of a function.
+fn exception_in(function: u8, bytes: &[u8]) -> Option<u8>
+    ensures { MatchOption result ((code : ℕ) → bytes.now ≢ exception_code function ∷ code ∷ []) (λ code. bytes.now ≡ exception_code function ∷ code ∷ []) }
+{
+    match bytes {
+        [first, code] if *first == exception_code(function) => Some(*code),
+        _ => None,
+    }
+}
+
+fn reply_in(alloc: Global, request: &Request, bytes: &[u8]) -> Result<Reply, BadReply>
+    ensures { Finds (IsSpelledReply request.now bytes.now) result }
+{
+    let function = function_of(request);
+    match exception_in(function, bytes) {
+        Some(code) => Ok(Reply::Exception { function, code }),
+        None => normal_reply(alloc, request, bytes),
+    }
+}
+
+/// The reply to the request that the bytes spell.
+pub fn decode_reply(alloc: Global, request: &Request, bytes: &[u8]) -> Result<Reply, BadReply>
+    ensures reply { IfOk result (IsReplyTo request.now) }
+    ensures spelled { IfOk result (SpellsReply bytes.now) }
+    ensures only { IfOk result (λ reply. (other : Reply) → IsReplyTo request.now other → SpellsReply bytes.now other → other ≡ reply) }
+    ensures form { IsErrOf result BadReply.Form ↔ ((reply : Reply) → IsReplyTo request.now reply → ¬ SpellsReply bytes.now reply) }
+    ensures memory { IsErrOf result BadReply.NoMemory → (reply : Reply) × IsReplyTo request.now reply × SpellsReply bytes.now reply }
+{
+    reply_in(alloc, request, bytes)
+}
