@@ -1,5 +1,5 @@
 -- The plant of bytes has one controller, whose plan passes its tests.
-use Rattle.std.proofs.Common.{◌≡◌, ℕ, true, ◌&&◌, List, [], ◌∷◌, ◌++◌, length, Option, Some, None, Result, Ok, Err, refl, ap, ◌∙◌}
+use Rattle.std.proofs.Common.{◌≡◌, ℕ, Bool, true, false, ◌&&◌, List, [], ◌∷◌, ◌++◌, length, Option, Some, None, Result, Ok, Err, refl, sym, ap, ◌∙◌}
 use Rattle.std.specs.Prelude.{codes, ℤ, pos, negsuc, nat_le, ◌%◌, ◌==◌}
 use Rattle.std.specs.List.{list_all, flat_map}
 use Rattle.std.proofs.lemmas.Bool.{and_parts}
@@ -14,14 +14,14 @@ use Rattle.plant_types.specs.Checks.{network_passes, coils_of_network, are_drive
 use Rattle.cell_text.specs.Steps.{◌>>=◌, or_fault, unless}
 use Rattle.cell_text.specs.Words.{words_of, only_word}
 use Rattle.cell_text.specs.Numbers.{reference_of}
-use Rattle.cell_text.proofs.StepLemmas.{step-ok, or_fault-ok, unless-ok, some-step, some-guard}
+use Rattle.cell_text.proofs.StepLemmas.{step-ok, or_fault-ok, unless-ok, some-step, some-guard, or_fault-some}
 use Rattle.std.specs.Result.{IfOk}
 use Rattle.plant_loader.specs.declared.refusal.LoadEnd.{LoadEnd}
-use Rattle.plant_loader.specs.Refusals.{Gives, Refusal, bad_toml, not_built, as_not_built}
+use Rattle.plant_loader.specs.Refusals.{Gives, Refusal, bad_toml, not_built}
 use Rattle.plant_loader.specs.Keys.{has_only, only_table, number_from, number_of, number_at, size_in, size_at, in_sixteens, discrete_size_at, items_up_to}
 use Rattle.plant_loader.specs.Controller.{sizes_at, has_first_order, network_texts, in_map, panel_item, panel_items, panel_in, panel_at}
 use Rattle.plant_loader.specs.Pieces.{networks_of}
-use Rattle.plant_loader.specs.Plant.{document_of, controller_keys, controller_of, plant_in, plant_of, IsRunnable}
+use Rattle.plant_loader.specs.Plant.{document_of, controller_keys, controller_of, plant_in, plant_of}
 use Rattle.plant_loader.proofs.Checked.{networks_of-passes, ok_value, and_both}
 
 some_value : {A : Type 0} (x y : A) → Some x ≡ Some y → x ≡ y
@@ -121,15 +121,11 @@ sized-passes sizes node panel networks s p =
     let parts : Parts (record { coils = s.coils; inputs = s.inputs; input_registers = 0; registers = s.registers }) node panel networks = rw s.whole p in
     rw (← s.whole) (plan_of-passes node s.coils s.inputs s.registers panel networks parts s.coils_pass s.inputs_pass s.registers_pass)
 
-as_not_built-ok : {A : Type 0} (r : Result A Refusal) (y : A) → as_not_built r ≡ Ok y → r ≡ Ok y
-as_not_built-ok (Ok x) y h = cc
-as_not_built-ok (Err e) y h = cc
-
-controller_of-passes : (ms : Members) (plan : ControllerPlan) → controller_of ms ≡ Ok plan → (passes_check plan ≡ true) × (length plan.segments ≡ 1)
+controller_of-passes : (ms : Members) (plan : ControllerPlan) → controller_of ms ≡ Ok plan → passes_check plan ≡ true
 unfolding controller_of
 controller_of-passes ms plan h =
     let made = λ (node : ℕ) (sizes : Sizes) (panel : List Ref) (networks : List Network). plan_of node sizes.coils sizes.inputs sizes.registers panel networks in
-    let last = λ (node : ℕ) (sizes : Sizes) (panel : List Ref) (texts : List (List ℕ)). as_not_built (networks_of sizes texts) >>= λ networks. Ok (made node sizes panel networks) in
+    let last = λ (node : ℕ) (sizes : Sizes) (panel : List Ref) (texts : List (List ℕ)). networks_of sizes texts >>= λ networks. Ok (made node sizes panel networks) in
     let third = λ (node : ℕ) (sizes : Sizes). panel_at sizes ms >>= λ panel. network_texts ms >>= last node sizes panel in
     let second = λ (node : ℕ). sizes_at ms >>= λ sizes. unless (has_first_order ms) not_built >>= λ orders. third node sizes in
     let keys = unless-ok (has_only controller_keys ms) not_built (λ keys. or_fault not_built (number_at (codes "node") 1 64 ms) >>= second) plan h in
@@ -138,17 +134,17 @@ controller_of-passes ms plan h =
     let orders = unless-ok (has_first_order ms) not_built (λ orders. third node.0 sizes.0) plan sizes.1.1 in
     let panel = step-ok (panel_at sizes.0 ms) (λ panel. network_texts ms >>= last node.0 sizes.0 panel) plan orders.1 in
     let texts = step-ok (network_texts ms) (last node.0 sizes.0 panel.0) plan panel.1.1 in
-    let networks = step-ok (as_not_built (networks_of sizes.0 texts.0)) (λ networks. Ok (made node.0 sizes.0 panel.0 networks)) plan texts.1.1 in
+    let networks = step-ok (networks_of sizes.0 texts.0) (λ networks. Ok (made node.0 sizes.0 panel.0 networks)) plan texts.1.1 in
     let same : plan_of node.0 sizes.0.coils sizes.0.inputs sizes.0.registers panel.0 networks.0 ≡ plan = ok_value (made node.0 sizes.0 panel.0 networks.0) plan networks.1.1 in
     let value = some-step (number_of 1 64) (get_member (codes "node") ms) node.0 node.1.0 in
-    let read = networks_of-passes sizes.0 texts.0 networks.0 (as_not_built-ok (networks_of sizes.0 texts.0) networks.0 networks.1.0) in
+    let read = networks_of-passes sizes.0 texts.0 networks.0 networks.1.0 in
     let parts : Parts sizes.0 node.0 panel.0 networks.0 = record {
       node_passes = number_of-within 1 64 value.0 node.0 value.1.1;
       panel_passes = panel_in-held sizes.0 (get_member (codes "panel") ms) panel.0 panel.1.0;
       networks_pass = read.0;
       coils = read.1;
     } in
-    rw (← same) (sized-passes sizes.0 node.0 panel.0 networks.0 (sizes_at-sized ms sizes.0 sizes.1.0) parts, refl)
+    rw (← same) (sized-passes sizes.0 node.0 panel.0 networks.0 (sizes_at-sized ms sizes.0 sizes.1.0) parts)
 
 -- a plant in a document is that of the table of its controller
 plant_in-table : (top : Members) (plant : Plant) → plant_in top ≡ Ok plant → (table : Members) × ((controller_of table >>= λ controller. Ok (record { controllers = controller ∷ [] })) ≡ Ok plant)
@@ -164,15 +160,14 @@ plant_in-table top plant h =
     (table.0, table.1.1)
 
 -- the plant of bytes has one controller, and its plan passes
-pub plant_of-runnable : (bytes : List ℕ) (plant : Plant) → plant_of bytes ≡ Ok plant → IsRunnable plant
+pub plant_of-checked : (bytes : List ℕ) (plant : Plant) → plant_of bytes ≡ Ok plant → (length plant.controllers ≡ 1) × (list_all passes_check plant.controllers ≡ true)
 unfolding plant_of
-plant_of-runnable bytes plant h =
+plant_of-checked bytes plant h =
     let top = or_fault-ok bad_toml (document_of bytes) plant_in plant h in
     let controllers = plant_in-table top.0 plant top.1.1 in
     let controller = step-ok (controller_of controllers.0) (λ controller. Ok (record { controllers = controller ∷ [] })) plant controllers.1 in
     let same : record { controllers = controller.0 ∷ [] } ≡ plant = ok_value (record { controllers = controller.0 ∷ [] }) plant controller.1.1 in
-    let passes = controller_of-passes controllers.0 controller.0 controller.1.0 in
-    rw (← same) (record { controller = controller.0; only = refl; passes = passes.0; segments = passes.1 })
+    rw (← same) (refl, and_both _ _ (controller_of-passes controllers.0 controller.0 controller.1.0) refl)
 
 -- what is read of a document is what is read of its bytes
 pub plant_of-document : (bytes : List ℕ) (top : Members) (r : Result Plant LoadEnd) → or_fault bad_toml (document_of bytes) ≡ Ok top → Gives (λ plant. plant) r (plant_in top) → Gives (λ plant. plant) r (plant_of bytes)
@@ -180,15 +175,10 @@ unfolding plant_of
 plant_of-document bytes top r e g = rw e g
 
 -- so it is with what a call answered
-pub gives-runnable : (bytes : List ℕ) (r : Result Plant LoadEnd) → Gives (λ plant. plant) r (plant_of bytes) → IfOk r (λ plant. IsRunnable plant)
-gives-runnable bytes (Ok plant) g = plant_of-runnable bytes plant g
-gives-runnable bytes (Err end) g = tt
+pub gives-one : (bytes : List ℕ) (r : Result Plant LoadEnd) → Gives (λ plant. plant) r (plant_of bytes) → IfOk r (λ plant. length plant.controllers ≡ 1)
+gives-one bytes (Ok plant) g = let c = plant_of-checked bytes plant g in c.0
+gives-one bytes (Err end) g = tt
 
--- a plant that can be run has one controller, and its plan passes
-pub runnable-one : (r : Result Plant LoadEnd) → IfOk r (λ plant. IsRunnable plant) → IfOk r (λ plant. length plant.controllers ≡ 1)
-runnable-one (Ok plant) runnable = rw runnable.only refl
-runnable-one (Err end) runnable = tt
-
-pub runnable-checked : (r : Result Plant LoadEnd) → IfOk r (λ plant. IsRunnable plant) → IfOk r (λ plant. list_all passes_check plant.controllers ≡ true)
-runnable-checked (Ok plant) runnable = rw runnable.only (and_both _ _ runnable.passes refl)
-runnable-checked (Err end) runnable = tt
+pub gives-checked : (bytes : List ℕ) (r : Result Plant LoadEnd) → Gives (λ plant. plant) r (plant_of bytes) → IfOk r (λ plant. list_all passes_check plant.controllers ≡ true)
+gives-checked bytes (Ok plant) g = let c = plant_of-checked bytes plant g in c.1
+gives-checked bytes (Err end) g = tt
