@@ -1,5 +1,5 @@
 -- The plant of bytes has one controller, whose plan passes its tests.
-use Rattle.std.proofs.Common.{◌≡◌, ℕ, Bool, true, false, ◌&&◌, List, [], ◌∷◌, ◌++◌, length, Option, Some, None, Result, Ok, Err, refl, sym, ap, ◌∙◌}
+use Rattle.std.proofs.Common.{◌≡◌, ℕ, true, ◌&&◌, List, [], ◌∷◌, ◌++◌, length, Option, Some, None, Result, Ok, Err, refl, ap, ◌∙◌}
 use Rattle.std.specs.Prelude.{codes, ℤ, pos, negsuc, nat_le, ◌%◌, ◌==◌}
 use Rattle.std.specs.List.{list_all, flat_map}
 use Rattle.std.proofs.lemmas.Bool.{and_parts}
@@ -14,14 +14,14 @@ use Rattle.plant_types.specs.Checks.{network_passes, coils_of_network, are_drive
 use Rattle.cell_text.specs.Steps.{◌>>=◌, or_fault, unless}
 use Rattle.cell_text.specs.Words.{words_of, only_word}
 use Rattle.cell_text.specs.Numbers.{reference_of}
-use Rattle.cell_text.proofs.StepLemmas.{step-ok, or_fault-ok, unless-ok, some-step, some-guard, or_fault-some}
+use Rattle.cell_text.proofs.StepLemmas.{step-ok, or_fault-ok, unless-ok, some-step, some-guard}
 use Rattle.std.specs.Result.{IfOk}
 use Rattle.plant_loader.specs.declared.refusal.LoadEnd.{LoadEnd}
 use Rattle.plant_loader.specs.Refusals.{Gives, Refusal, bad_toml, not_built}
 use Rattle.plant_loader.specs.Keys.{has_only, only_table, number_from, number_of, number_at, size_in, size_at, in_sixteens, discrete_size_at, items_up_to}
 use Rattle.plant_loader.specs.Controller.{sizes_at, has_first_order, network_texts, in_map, panel_item, panel_items, panel_in, panel_at}
 use Rattle.plant_loader.specs.Pieces.{networks_of}
-use Rattle.plant_loader.specs.Plant.{document_of, controller_keys, controller_of, plant_in, plant_of}
+use Rattle.plant_loader.specs.Plant.{document_of, controller_keys, controller_of, plant_in, plant_of, IsRunnable}
 use Rattle.plant_loader.proofs.Checked.{networks_of-passes, ok_value, and_both}
 
 some_value : {A : Type 0} (x y : A) → Some x ≡ Some y → x ≡ y
@@ -121,7 +121,7 @@ sized-passes sizes node panel networks s p =
     let parts : Parts (record { coils = s.coils; inputs = s.inputs; input_registers = 0; registers = s.registers }) node panel networks = rw s.whole p in
     rw (← s.whole) (plan_of-passes node s.coils s.inputs s.registers panel networks parts s.coils_pass s.inputs_pass s.registers_pass)
 
-controller_of-passes : (ms : Members) (plan : ControllerPlan) → controller_of ms ≡ Ok plan → passes_check plan ≡ true
+controller_of-passes : (ms : Members) (plan : ControllerPlan) → controller_of ms ≡ Ok plan → (passes_check plan ≡ true) × (length plan.segments ≡ 1)
 unfolding controller_of
 controller_of-passes ms plan h =
     let made = λ (node : ℕ) (sizes : Sizes) (panel : List Ref) (networks : List Network). plan_of node sizes.coils sizes.inputs sizes.registers panel networks in
@@ -144,7 +144,7 @@ controller_of-passes ms plan h =
       networks_pass = read.0;
       coils = read.1;
     } in
-    rw (← same) (sized-passes sizes.0 node.0 panel.0 networks.0 (sizes_at-sized ms sizes.0 sizes.1.0) parts)
+    rw (← same) (sized-passes sizes.0 node.0 panel.0 networks.0 (sizes_at-sized ms sizes.0 sizes.1.0) parts, refl)
 
 -- a plant in a document is that of the table of its controller
 plant_in-table : (top : Members) (plant : Plant) → plant_in top ≡ Ok plant → (table : Members) × ((controller_of table >>= λ controller. Ok (record { controllers = controller ∷ [] })) ≡ Ok plant)
@@ -160,14 +160,15 @@ plant_in-table top plant h =
     (table.0, table.1.1)
 
 -- the plant of bytes has one controller, and its plan passes
-pub plant_of-checked : (bytes : List ℕ) (plant : Plant) → plant_of bytes ≡ Ok plant → (length plant.controllers ≡ 1) × (list_all passes_check plant.controllers ≡ true)
+pub plant_of-runnable : (bytes : List ℕ) (plant : Plant) → plant_of bytes ≡ Ok plant → IsRunnable plant
 unfolding plant_of
-plant_of-checked bytes plant h =
+plant_of-runnable bytes plant h =
     let top = or_fault-ok bad_toml (document_of bytes) plant_in plant h in
     let controllers = plant_in-table top.0 plant top.1.1 in
     let controller = step-ok (controller_of controllers.0) (λ controller. Ok (record { controllers = controller ∷ [] })) plant controllers.1 in
     let same : record { controllers = controller.0 ∷ [] } ≡ plant = ok_value (record { controllers = controller.0 ∷ [] }) plant controller.1.1 in
-    rw (← same) (refl, and_both _ _ (controller_of-passes controllers.0 controller.0 controller.1.0) refl)
+    let passes = controller_of-passes controllers.0 controller.0 controller.1.0 in
+    rw (← same) (record { controller = controller.0; only = refl; passes = passes.0; segments = passes.1 })
 
 -- what is read of a document is what is read of its bytes
 pub plant_of-document : (bytes : List ℕ) (top : Members) (r : Result Plant LoadEnd) → or_fault bad_toml (document_of bytes) ≡ Ok top → Gives (λ plant. plant) r (plant_in top) → Gives (λ plant. plant) r (plant_of bytes)
@@ -175,10 +176,15 @@ unfolding plant_of
 plant_of-document bytes top r e g = rw e g
 
 -- so it is with what a call answered
-pub gives-one : (bytes : List ℕ) (r : Result Plant LoadEnd) → Gives (λ plant. plant) r (plant_of bytes) → IfOk r (λ plant. length plant.controllers ≡ 1)
-gives-one bytes (Ok plant) g = let c = plant_of-checked bytes plant g in c.0
-gives-one bytes (Err end) g = tt
+pub gives-runnable : (bytes : List ℕ) (r : Result Plant LoadEnd) → Gives (λ plant. plant) r (plant_of bytes) → IfOk r (λ plant. IsRunnable plant)
+gives-runnable bytes (Ok plant) g = plant_of-runnable bytes plant g
+gives-runnable bytes (Err end) g = tt
 
-pub gives-checked : (bytes : List ℕ) (r : Result Plant LoadEnd) → Gives (λ plant. plant) r (plant_of bytes) → IfOk r (λ plant. list_all passes_check plant.controllers ≡ true)
-gives-checked bytes (Ok plant) g = let c = plant_of-checked bytes plant g in c.1
-gives-checked bytes (Err end) g = tt
+-- a plant that can be run has one controller, and its plan passes
+pub runnable-one : (r : Result Plant LoadEnd) → IfOk r (λ plant. IsRunnable plant) → IfOk r (λ plant. length plant.controllers ≡ 1)
+runnable-one (Ok plant) runnable = rw runnable.only refl
+runnable-one (Err end) runnable = tt
+
+pub runnable-checked : (r : Result Plant LoadEnd) → IfOk r (λ plant. IsRunnable plant) → IfOk r (λ plant. list_all passes_check plant.controllers ≡ true)
+runnable-checked (Ok plant) runnable = rw runnable.only (and_both _ _ runnable.passes refl)
+runnable-checked (Err end) runnable = tt

@@ -5,7 +5,7 @@ ghost use Rattle.toml.specs.View.{table_view};
 ghost use Rattle.plant_types.specs.Checks.{passes_check};
 ghost use Rattle.cell_text.specs.Steps.{or_fault};
 ghost use Rattle.plant_loader.specs.Refusals.{Gives, bad_toml};
-ghost use Rattle.plant_loader.specs.Plant.{document_of, controller_of, plant_in, plant_of};
+ghost use Rattle.plant_loader.specs.Plant.{document_of, controller_of, plant_in, plant_of, IsRunnable};
 
 use crate::controller::{counts_at, has_first_order, network_texts, panel_at};
 use crate::keys::{has_only, number_at, only_table, value_at};
@@ -118,6 +118,7 @@ pub fn load(alloc: Global, bytes: &[u8]) -> Result<Plant, LoadEnd>
     ensures plant { Gives (λ plant. plant) result (plant_of bytes.now) }
 
     // What is loaded can be solved and shown: there is one controller, and its plan passes.
+    ensures runnable { IfOk result (λ plant. IsRunnable plant) }
     ensures one { IfOk result (λ plant. length plant.controllers ≡ 1) }
     ensures checked { IfOk result (λ plant. list_all passes_check plant.controllers ≡ true) }
 {
