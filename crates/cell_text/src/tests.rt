@@ -45,11 +45,12 @@ fn written() -> [(&'static str, Piece); 14] {
 #[test]
 fn pieces_are_read_and_written(rt: HostRuntime) -> Result<(), Fail> {
     let alloc = rt.alloc();
-    for (text, piece) in &written() {
+    for (text, piece) in written() {
         match read_cell(text) {
             Ok(read) => {
-                assert_eq!(rt; read, *piece, "{text}");
-                assert_eq!(rt; cell_text(alloc, &read)?.as_str(), *text);
+                assert_eq!(rt; read, piece, "{text}");
+                let again = cell_text(alloc, &read)?;
+                assert_eq!(rt; again.as_str(), text);
             }
             Err(fault) => assert!(rt; false, "{text}: {fault:?}"),
         }
