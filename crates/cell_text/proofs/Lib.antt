@@ -1,3 +1,4 @@
 pub mod WordLemmas
 pub mod StepLemmas
 pub mod PieceLemmas
+pub mod TextLemmas

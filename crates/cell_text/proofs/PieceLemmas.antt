@@ -1,6 +1,7 @@
 -- A piece that reads has a text.
-use Rattle.std.proofs.Common.{◌≡◌, ℕ, Bool, true, ◌&&◌, List, [], ◌∷◌, drop, Some, None, Result, Ok, refl}
+use Rattle.std.proofs.Common.{◌≡◌, sym, ℕ, Bool, true, ◌&&◌, List, [], ◌∷◌, drop, Some, None, Result, Ok, Err, refl}
 use Rattle.std.specs.Prelude.{nat_le, slice_index, option_and_then, ◌==◌, length, if◌then◌else◌}
+use Rattle.std.specs.Result.{IfOk}
 use Rattle.std.specs.List.{before_first, after_first}
 use Rattle.std.proofs.lemmas.Bool.{and_parts}
 use Rattle.plant_types.specs.declared.reference.RefKind.{RefKind}
@@ -114,3 +115,8 @@ piece_of-has (position ∷ name ∷ operands) piece h =
     let element = or_fault-ok BadCell (name_of name) (λ element. piece_at place.0.0 place.0.1 element operands) piece place.1.1 in
     let within = position_of-has position place.0 place.1.0 in
     piece_at-has place.0.0 place.0.1 element.0 operands piece within.0 within.1 element.1.1
+
+-- so it is with what reading answered
+pub gives-has_text : (words : List (List ℕ)) (r : Result Piece CellFault) → r ≡ piece_of words → IfOk r (λ piece. has_text piece ≡ true)
+gives-has_text words (Ok piece) e = piece_of-has words piece (sym e)
+gives-has_text words (Err fault) e = tt

@@ -16,10 +16,10 @@ is_some_byte word = not (length word == 0)
 abbrev is_word_byte : ℕ → Bool
 is_word_byte byte = not (is_blank byte)
 
-take-front : (n b : ℕ) (bs : List ℕ) → take (1 + n) (b ∷ bs) ≡ b ∷ take n bs
+pub take-front : (n b : ℕ) (bs : List ℕ) → take (1 + n) (b ∷ bs) ≡ b ∷ take n bs
 take-front n b bs = rw (add_comm 1 n, add-one) refl
 
-drop-front : (n b : ℕ) (bs : List ℕ) → drop (1 + n) (b ∷ bs) ≡ drop n bs
+pub drop-front : (n b : ℕ) (bs : List ℕ) → drop (1 + n) (b ∷ bs) ≡ drop n bs
 drop-front n b bs = rw (add_comm 1 n, add-one) refl
 
 -- blanks in front are no words
@@ -36,7 +36,7 @@ words_of-skip : (t : List ℕ) → words_of t ≡ words_of (drop (position_or_le
 words_of-skip [] = refl
 words_of-skip (b ∷ bs) = skipped (is_blank b) b bs refl (words_of-skip bs)
 
-words_as_filter : (t : List ℕ) → filter is_some_byte (slice_split is_blank t) ≡ words_of t
+pub words_as_filter : (t : List ℕ) → filter is_some_byte (slice_split is_blank t) ≡ words_of t
 unfolding words_of
 words_as_filter t = refl
 

@@ -1,6 +1,7 @@
 //! Reads one piece of a network's text.
-ghost use Rattle.std.specs.Prelude.{◌≡◌};
+ghost use Rattle.std.specs.Prelude.{◌≡◌, true, IfOk};
 ghost use Rattle.cell_text.specs.Words.{words_of};
+ghost use Rattle.cell_text.specs.Texts.{has_text};
 ghost use Rattle.cell_text.specs.Pieces.{short_at, piece_at, piece_of, has_later_name};
 
 use crate::names::{Name, is_later_name, name_of};
@@ -50,9 +51,8 @@ fn piece_at(row: u8, column: u8, name: Name, operands: &[u8]) -> Result<Piece, C
     }
 }
 
-/// Reads a piece from its bytes, as `read_cell` does. What is no text does not read.
 #[tactic(auto, unfolding(crate::specs::Pieces::piece_of))]
-pub fn read_piece(text: &[u8]) -> Result<Piece, CellFault>
+fn read_piece(text: &[u8]) -> Result<Piece, CellFault>
     ensures { result ≡ piece_of (words_of text.now) }
 {
     let Some((position, rest)) = next_word(text) else {
@@ -73,7 +73,8 @@ pub fn read_piece(text: &[u8]) -> Result<Piece, CellFault>
 /// Reads a piece: `<row>,<column> <name> <operands>`. The fault is that of the first test that
 /// fails.
 pub fn read_cell(text: &str) -> Result<Piece, CellFault>
-    ensures { result ≡ piece_of (words_of text.now) }
+    ensures read { result ≡ piece_of (words_of text.now) }
+    ensures has_text { IfOk result (λ piece. has_text piece ≡ true) }
 {
     read_piece(text.as_bytes())
 }

@@ -13,17 +13,21 @@ mod words;
 
 use plant_io::{StdSink, StdSource};
 use status::Status;
+use std::io::ErrorKind;
 use std::process::ExitCode;
 use std::{env, io};
 use top::plant_top;
 
+/// The words after the program's name.
 fn command_line(rt: &HostRuntime) -> Result<Vec<String>, Status> {
-    let Ok(args) = env::args(rt) else {
-        return Err(Status::Usage);
-    };
-    args.skip(1)
-        .collect(rt.alloc())
-        .map_err(|_| Status::NoMemory)
+    match env::args(rt) {
+        Ok(words) => words
+            .skip(1)
+            .collect(rt.alloc())
+            .map_err(|_| Status::NoMemory),
+        Err(error) if error.kind() == ErrorKind::OutOfMemory => Err(Status::NoMemory),
+        Err(_) => Err(Status::Usage),
+    }
 }
 
 fn main(rt: HostRuntime) -> ExitCode {

@@ -17,7 +17,7 @@ use Rattle.cell_text.specs.Numbers.{reference_of}
 use Rattle.cell_text.proofs.StepLemmas.{step-ok, or_fault-ok, unless-ok, some-step, some-guard}
 use Rattle.std.specs.Result.{IfOk}
 use Rattle.plant_loader.specs.declared.refusal.LoadEnd.{LoadEnd}
-use Rattle.plant_loader.specs.Refusals.{Gives, Refusal, bad_toml, not_built, as_not_built}
+use Rattle.plant_loader.specs.Refusals.{Gives, Refusal, bad_toml, not_built}
 use Rattle.plant_loader.specs.Keys.{has_only, only_table, number_from, number_of, number_at, size_in, size_at, in_sixteens, discrete_size_at, items_up_to}
 use Rattle.plant_loader.specs.Controller.{sizes_at, has_first_order, network_texts, in_map, panel_item, panel_items, panel_in, panel_at}
 use Rattle.plant_loader.specs.Pieces.{networks_of}
@@ -121,15 +121,11 @@ sized-passes sizes node panel networks s p =
     let parts : Parts (record { coils = s.coils; inputs = s.inputs; input_registers = 0; registers = s.registers }) node panel networks = rw s.whole p in
     rw (← s.whole) (plan_of-passes node s.coils s.inputs s.registers panel networks parts s.coils_pass s.inputs_pass s.registers_pass)
 
-as_not_built-ok : {A : Type 0} (r : Result A Refusal) (y : A) → as_not_built r ≡ Ok y → r ≡ Ok y
-as_not_built-ok (Ok x) y h = cc
-as_not_built-ok (Err e) y h = cc
-
 controller_of-passes : (ms : Members) (plan : ControllerPlan) → controller_of ms ≡ Ok plan → (passes_check plan ≡ true) × (length plan.segments ≡ 1)
 unfolding controller_of
 controller_of-passes ms plan h =
     let made = λ (node : ℕ) (sizes : Sizes) (panel : List Ref) (networks : List Network). plan_of node sizes.coils sizes.inputs sizes.registers panel networks in
-    let last = λ (node : ℕ) (sizes : Sizes) (panel : List Ref) (texts : List (List ℕ)). as_not_built (networks_of sizes texts) >>= λ networks. Ok (made node sizes panel networks) in
+    let last = λ (node : ℕ) (sizes : Sizes) (panel : List Ref) (texts : List (List ℕ)). networks_of sizes texts >>= λ networks. Ok (made node sizes panel networks) in
     let third = λ (node : ℕ) (sizes : Sizes). panel_at sizes ms >>= λ panel. network_texts ms >>= last node sizes panel in
     let second = λ (node : ℕ). sizes_at ms >>= λ sizes. unless (has_first_order ms) not_built >>= λ orders. third node sizes in
     let keys = unless-ok (has_only controller_keys ms) not_built (λ keys. or_fault not_built (number_at (codes "node") 1 64 ms) >>= second) plan h in
@@ -138,10 +134,10 @@ controller_of-passes ms plan h =
     let orders = unless-ok (has_first_order ms) not_built (λ orders. third node.0 sizes.0) plan sizes.1.1 in
     let panel = step-ok (panel_at sizes.0 ms) (λ panel. network_texts ms >>= last node.0 sizes.0 panel) plan orders.1 in
     let texts = step-ok (network_texts ms) (last node.0 sizes.0 panel.0) plan panel.1.1 in
-    let networks = step-ok (as_not_built (networks_of sizes.0 texts.0)) (λ networks. Ok (made node.0 sizes.0 panel.0 networks)) plan texts.1.1 in
+    let networks = step-ok (networks_of sizes.0 texts.0) (λ networks. Ok (made node.0 sizes.0 panel.0 networks)) plan texts.1.1 in
     let same : plan_of node.0 sizes.0.coils sizes.0.inputs sizes.0.registers panel.0 networks.0 ≡ plan = ok_value (made node.0 sizes.0 panel.0 networks.0) plan networks.1.1 in
     let value = some-step (number_of 1 64) (get_member (codes "node") ms) node.0 node.1.0 in
-    let read = networks_of-passes sizes.0 texts.0 networks.0 (as_not_built-ok (networks_of sizes.0 texts.0) networks.0 networks.1.0) in
+    let read = networks_of-passes sizes.0 texts.0 networks.0 networks.1.0 in
     let parts : Parts sizes.0 node.0 panel.0 networks.0 = record {
       node_passes = number_of-within 1 64 value.0 node.0 value.1.1;
       panel_passes = panel_in-held sizes.0 (get_member (codes "panel") ms) panel.0 panel.1.0;

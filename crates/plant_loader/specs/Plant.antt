@@ -7,7 +7,7 @@ use Rattle.plant_types.specs.declared.plan.ControllerPlan.{ControllerPlan}
 use Rattle.plant_types.specs.declared.plan.Plant.{Plant}
 use Rattle.plant_types.specs.Checks.{passes_check}
 use Rattle.cell_text.specs.Steps.{◌>>=◌, or_fault, unless}
-use Rattle.plant_loader.specs.Refusals.{Refusal, bad_toml, not_built, as_not_built}
+use Rattle.plant_loader.specs.Refusals.{Refusal, bad_toml, not_built}
 use Rattle.plant_loader.specs.Keys.{has_only, number_at, only_table}
 use Rattle.plant_loader.specs.Controller.{sizes_at, has_first_order, panel_at, network_texts}
 use Rattle.plant_loader.specs.Pieces.{networks_of}
@@ -30,7 +30,7 @@ controller_of ms = do
   orders ← unless (has_first_order ms) not_built
   panel ← panel_at sizes ms
   texts ← network_texts ms
-  networks ← as_not_built (networks_of sizes texts)
+  networks ← networks_of sizes texts
   Ok (record { node = node; coils = sizes.coils; inputs = sizes.inputs; registers = sizes.registers; panel = panel; segments = record { networks = networks } ∷ [] })
 
 -- The plant of a document: version 1 and one controller. This project's own.

@@ -32,11 +32,6 @@ abbrev pub at_place : {A : Type 0} → Place → Result A PlantFault → Result 
 at_place place (Ok x) = Ok x
 at_place place (Err fault) = Err (fault, place)
 
--- A fault inside the networks makes the document one that is not of the form. This project's own.
-abbrev pub as_not_built : {A : Type 0} → Result A Refusal → Result A Refusal
-as_not_built (Ok x) = Ok x
-as_not_built (Err refusal) = Err not_built
-
 -- What a call answered is the first fault of what it reads, unless memory was refused. This project's own.
 abbrev pub Stops : {B : Type 0} → LoadEnd → Result B Refusal → Type 0
 Stops ends.NoMemory read = Unit {0}

@@ -1,16 +1,13 @@
 //! The whole file.
-ghost use Rattle.std.specs.Prelude.{◌≡◌, true, [], ◌∷◌, length, map, IfOk, MatchResult};
+ghost use Rattle.std.specs.Prelude.{◌≡◌, true, [], ◌∷◌, length, IfOk, MatchResult};
 ghost use Rattle.std.specs.List.{list_all};
 ghost use Rattle.toml.specs.View.{table_view};
 ghost use Rattle.plant_types.specs.Checks.{passes_check};
 ghost use Rattle.cell_text.specs.Steps.{or_fault};
-ghost use Rattle.plant_loader.specs.Counts.{sizes_of};
-ghost use Rattle.plant_loader.specs.Refusals.{Gives, bad_toml, as_not_built};
-ghost use Rattle.plant_loader.specs.Pieces.{networks_of};
+ghost use Rattle.plant_loader.specs.Refusals.{Gives, bad_toml};
 ghost use Rattle.plant_loader.specs.Plant.{document_of, controller_of, plant_in, plant_of, IsRunnable};
 
 use crate::controller::{counts_at, has_first_order, network_texts, panel_at};
-use crate::counts::Counts;
 use crate::keys::{has_only, number_at, only_table, value_at};
 use crate::pieces::networks_of;
 use crate::refusal::{LoadEnd, bad_toml, not_built};
@@ -34,17 +31,6 @@ fn document(alloc: Global, bytes: &[u8]) -> Result<Table, LoadEnd>
                 Err(bad_toml())
             }
         }
-    }
-}
-
-/// The networks, where each piece passes.
-fn built_networks(alloc: Global, counts: Counts, texts: &[&str]) -> Result<List<Network>, LoadEnd>
-    ensures { Gives (λ networks. networks) result (as_not_built (networks_of (sizes_of counts) (map (λ t. t.now) texts.now))) }
-{
-    match networks_of(alloc, counts, texts) {
-        Ok(networks) => Ok(networks),
-        Err(LoadEnd::Refused(_, _)) => Err(not_built()),
-        Err(LoadEnd::NoMemory) => Err(LoadEnd::NoMemory),
     }
 }
 
@@ -85,7 +71,7 @@ fn controller_of(alloc: Global, table: &Table) -> Result<ControllerPlan, LoadEnd
     }
     let panel = panel_at(alloc, counts, table)?;
     let texts = network_texts(alloc, table)?;
-    let networks = built_networks(alloc, counts, &texts)?;
+    let networks = networks_of(alloc, counts, &texts)?;
     let segments = only_segment(alloc, networks)?;
     Ok(ControllerPlan {
         node: node as u8,

@@ -161,48 +161,64 @@ const TAKEN: [&str; 10] = [
     "\"6,11 V; 6,10 V\"",
 ];
 
-// Texts of networks that are refused.
-const REFUSED: [&str; 40] = [
-    "\"1,1\"",
-    "\"1,1 \"",
-    "\"0,1 H\"",
-    "\"8,1 H\"",
-    "\"1,0 H\"",
-    "\"1,12 H\"",
-    "\"01,1 H\"",
-    "\"1,01 H\"",
-    "\"1;1 H\"",
-    "\"1, 1 H\"",
-    "\"1,1,1 H\"",
-    "\"+1,1 H\"",
-    "\"1,1 h\"",
-    "\"1,1 HH\"",
-    "\"1,1 H H\"",
-    "\"1,1 NO\"",
-    "\"1,1 NO 00001 00002\"",
-    "\"1,1 NO 0001\"",
-    "\"1,1 NO 1\"",
-    "\"1,1 NO 00000\"",
-    "\"1,1 NO 00017\"",
-    "\"1,1 NO 09985\"",
-    "\"1,1 NO 20001\"",
-    "\"1,1 NO 30001\"",
-    "\"1,1 NO 40001\"",
-    "\"1,1 NO 000001\"",
-    "\"1,1 CO 10001\"",
-    "\"1,1 CO 00017\"",
-    "\"7,1 V\"",
-    "\"1,1 V; 1,1 V\"",
-    "\"1,1 H; 1,1 NO 00001\"",
-    "\"1,1 CO 00001; 1,2 H\"",
-    "\"1,2 H; 1,1 CO 00001\"",
-    "\"1,1 CO 00001; 2,1 CO 00001\"",
-    "\"1,1 CO 00001\", \"1,1 CO 00001\"",
-    "\"1,1 H;\\r\"",
-    "\"1,1 H\\r;1,2 H\"",
-    "\"1,1\\u00a0H\"",
-    "\"1,1 PT 10001\"",
-    "1",
+// Texts of networks that are refused: the fault, and the network and the cell that has it.
+const REFUSED: [(&str, PlantFault, u32, u32); 46] = [
+    ("\"1,1\"", PlantFault::BadCell, 1, 1),
+    ("\"1,1 \"", PlantFault::BadCell, 1, 1),
+    ("\"0,1 H\"", PlantFault::BadCell, 1, 1),
+    ("\"8,1 H\"", PlantFault::BadCell, 1, 1),
+    ("\"1,0 H\"", PlantFault::BadCell, 1, 1),
+    ("\"1,12 H\"", PlantFault::BadCell, 1, 1),
+    ("\"01,1 H\"", PlantFault::BadCell, 1, 1),
+    ("\"1,01 H\"", PlantFault::BadCell, 1, 1),
+    ("\"1;1 H\"", PlantFault::BadCell, 1, 1),
+    ("\"1, 1 H\"", PlantFault::BadCell, 1, 1),
+    ("\"1,1,1 H\"", PlantFault::BadCell, 1, 1),
+    ("\"+1,1 H\"", PlantFault::BadCell, 1, 1),
+    ("\"1,1 h\"", PlantFault::BadCell, 1, 1),
+    ("\"1,1 HH\"", PlantFault::BadCell, 1, 1),
+    ("\"1,1 H H\"", PlantFault::BadCell, 1, 1),
+    ("\"1,1 NO\"", PlantFault::BadCell, 1, 1),
+    ("\"1,1 NO 00001 00002\"", PlantFault::BadCell, 1, 1),
+    ("\"1,1 NO 0001\"", PlantFault::BadCell, 1, 1),
+    ("\"1,1 NO 1\"", PlantFault::BadCell, 1, 1),
+    ("\"1,1 NO 000001\"", PlantFault::BadCell, 1, 1),
+    ("\"7,1 V\"", PlantFault::BadCell, 1, 1),
+    ("\"1,1 V 1\"", PlantFault::BadCell, 1, 1),
+    ("\"1,1 H;\\r\"", PlantFault::BadCell, 1, 2),
+    ("\"1,1 H\\r;1,2 H\"", PlantFault::BadCell, 1, 1),
+    ("\"1,1\\u00a0H\"", PlantFault::BadCell, 1, 1),
+    ("\";; 1,1 H;\\t;\\n; 8,1 H\"", PlantFault::BadCell, 1, 2),
+    ("\"1,1 NO 00000\"", PlantFault::BadRef, 1, 1),
+    ("\"1,1 NO 00017\"", PlantFault::BadRef, 1, 1),
+    ("\"1,1 NO 09985\"", PlantFault::BadRef, 1, 1),
+    ("\"1,1 NO 20001\"", PlantFault::BadRef, 1, 1),
+    ("\"1,1 NO 30001\"", PlantFault::BadRef, 1, 1),
+    ("\"1,1 NC 40001\"", PlantFault::BadRef, 1, 1),
+    ("\"1,1 NC 10017\"", PlantFault::BadRef, 1, 1),
+    ("\"1,1 CO 10001\"", PlantFault::BadRef, 1, 1),
+    ("\"1,1 CO 00017\"", PlantFault::BadRef, 1, 1),
+    ("\"1,1 H; 1,1 NO 00017\"", PlantFault::BadRef, 1, 2),
+    ("\"1,1 V; 1,1 V\"", PlantFault::BadShape, 1, 2),
+    ("\"1,1 H; 1,1 NO 00001\"", PlantFault::BadShape, 1, 2),
+    ("\"1,1 CO 00001; 1,2 H\"", PlantFault::BadShape, 1, 2),
+    ("\"1,2 H; 1,1 CO 00001\"", PlantFault::BadShape, 1, 2),
+    ("\"1,1 CO 00001; 1,1 CO 00001\"", PlantFault::BadShape, 1, 2),
+    (
+        "\"1,1 H; 1,2 CO 00001; 2,1 H; 2,2 CO 00001\"",
+        PlantFault::CoilTwice,
+        1,
+        4,
+    ),
+    (
+        "\"1,1 CO 00002\", \"1,1 V; 1,1 CO 00002\"",
+        PlantFault::CoilTwice,
+        2,
+        2,
+    ),
+    ("\"1,1 PT 10001\"", PlantFault::NotBuilt, 1, 1),
+    ("\"9,9 MSTR\"", PlantFault::NotBuilt, 1, 1),
+    ("\"1,1 H; 1,2 x; 1,3 ADD\"", PlantFault::BadCell, 1, 2),
 ];
 
 #[test]
@@ -212,10 +228,20 @@ fn networks_are_taken_or_refused(rt: HostRuntime) -> Result<(), Fail> {
         let text = plant_text(alloc, "", networks)?;
         assert_eq!(rt; refusal(alloc, text.as_bytes()), None, "{networks}");
     }
-    for networks in &REFUSED {
+    for (networks, fault, network, cell) in &REFUSED {
         let text = plant_text(alloc, "", networks)?;
-        assert_eq!(rt; refusal(alloc, text.as_bytes()), NOT_BUILT, "{networks}");
+        let place = Place {
+            part: Part::Cell,
+            at: [1, 1, *network, *cell],
+        };
+        let want = Some(LoadEnd::Refused(*fault, place));
+        assert_eq!(rt; refusal(alloc, text.as_bytes()), want, "{networks}");
     }
+    // A document that is not of the form is refused before its pieces are read.
+    let text = plant_text(alloc, "panel = [\"00017\"]", "\"1,1 x\"")?;
+    assert_eq!(rt; refusal(alloc, text.as_bytes()), NOT_BUILT);
+    let text = plant_text(alloc, "", "\"1,1 x\", 1")?;
+    assert_eq!(rt; refusal(alloc, text.as_bytes()), NOT_BUILT);
     Ok(())
 }
 
