@@ -3,52 +3,33 @@ use Rattle.std.specs.Prelude.{◌≡◌, ℕ, ◌%◌, Bool, true, ◌&&◌, ◌
 use Rattle.std.specs.List.{list_any, list_all, filter_map, flat_map, AllByRecursion}
 use Rattle.std.specs.FinMap.{contains_key}
 use Rattle.plant_types.specs.declared.reference.Ref.{Ref}
-use Rattle.plant_types.specs.declared.reference.RefKind.{RefKind}
 use Rattle.plant_types.specs.declared.element.Element.{Element}
-use Rattle.plant_types.specs.declared.element.Element.TheVariants.{Open, Closed, Coil, Wire}
 use Rattle.plant_types.specs.declared.network.Cell.{Cell}
 use Rattle.plant_types.specs.declared.network.Short.{Short}
 use Rattle.plant_types.specs.declared.network.Network.{Network}
 use Rattle.plant_types.specs.declared.network.Segment.{Segment}
 use Rattle.plant_types.specs.declared.plan.ControllerPlan.{ControllerPlan}
-use Rattle.plant_types.specs.Reference.{is_discrete, rank_of}
-use Rattle.plant_types.specs.Sizes.{Sizes, has_reference, cleared}
-use Rattle.plant_types.specs.Store.{Contents, HasDiscrete}
+use Rattle.plant_types.specs.Reference.{rank_of}
+use Rattle.plant_types.specs.Sizes.{Sizes, has_reference, has_run, discretes_of, cleared}
+use Rattle.plant_types.specs.Store.{Contents}
+use Rattle.plant_types.specs.Operands.{names_of, has_form, has_values, has_kinds, HasOperands, HasPast}
 use Rattle.plant_types.specs.Network.{driven_by, has_cell_place, has_short_place, is_within, clashes, same_short}
 
--- A coil. Modicon Ladder Logic Block Library User Guide.
-abbrev pub is_coil : RefKind → Bool
-is_coil kind = rank_of kind == 0
-
--- An element's references are of the kinds that it takes. This project's own table of operands.
-abbrev pub has_kinds : Element → Bool
-has_kinds (Open at) = is_discrete at.kind
-has_kinds (Closed at) = is_discrete at.kind
-has_kinds (Coil at) = is_coil at.kind
-has_kinds Wire = true
-
--- An element's references stand in a map of these sizes. This project's own table of operands.
+-- An element's references stand in a map of these sizes, with all that it uses from them on. This project's own table of operands.
 abbrev pub has_room : Sizes → Element → Bool
-has_room sizes (Open at) = has_reference sizes at
-has_room sizes (Closed at) = has_reference sizes at
-has_room sizes (Coil at) = has_reference sizes at
-has_room sizes Wire = true
-
--- What an element asks of a store: its references, of the kinds that it takes. This project's own table of operands.
-abbrev pub HasOperands : Contents → Element → Type 0
-HasOperands m (Open at) = HasDiscrete m at
-HasOperands m (Closed at) = HasDiscrete m at
-HasOperands m (Coil at) = HasDiscrete m at
-HasOperands m Wire = Unit {0}
+has_room sizes element = list_all (λ named. has_run sizes named.at named.count) (names_of element)
 
 -- A cell stands at a place of the grid, within it, clear of the earlier cells of its network. Modicon Ladder Logic Block Library User Guide.
 abbrev pub has_shape : List Cell → Cell → Bool
 has_shape earlier cell = is_within cell && not (list_any (clashes cell) earlier)
 
--- A cell passes: its place, its references and its shape. This project's own tests.
+-- An element passes: its constants, the kinds of its references, and their room in the map. This project's own tests.
+abbrev pub element_passes : Sizes → Element → Bool
+element_passes sizes element = has_form element && has_values element && has_kinds element && has_room sizes element
+
+-- A cell passes: its place, its element and its shape. This project's own tests.
 abbrev pub cell_passes : Sizes → List Cell → Cell → Bool
-cell_passes sizes earlier cell =
-    has_cell_place cell && (has_kinds cell.element && (has_room sizes cell.element && has_shape earlier cell))
+cell_passes sizes earlier cell = has_cell_place cell && element_passes sizes cell.element && has_shape earlier cell
 
 -- Each cell passes behind those before it. This project's own tests.
 unfoldable pub cells_pass : Sizes → List Cell → List Cell → Bool
@@ -93,7 +74,7 @@ are_driven_once earlier (coil ∷ coils) = not (list_any (is_same coil) earlier)
 
 -- How many references of each kind a controller has. This project's own.
 abbrev pub sizes_of : ControllerPlan → Sizes
-sizes_of plan = record { coils = plan.coils; inputs = plan.inputs; input_registers = 0; registers = plan.registers }
+sizes_of plan = record { coils = plan.coils; inputs = plan.inputs; input_registers = plan.input_registers; registers = plan.registers }
 
 -- A number of references, and one of discretes, which come in sixteens. This project's own.
 abbrev pub is_size : ℕ → Bool
@@ -105,30 +86,39 @@ is_discrete_size count = is_size count && (count % 16 == 0)
 -- A controller's address and sizes pass. Modbus Plus Network Planning and Installation Guide for the addresses; the sizes are this project's own.
 abbrev pub numbers_pass : ControllerPlan → Bool
 numbers_pass plan =
-    (nat_le 1 plan.node && nat_le plan.node 64) && (is_discrete_size plan.coils && (is_discrete_size plan.inputs && is_size plan.registers))
+    (nat_le 1 plan.node && nat_le plan.node 64) && (is_discrete_size plan.coils && (is_discrete_size plan.inputs && (is_size plan.input_registers && is_size plan.registers)))
 
 -- A controller passes: its numbers, its segments, its coils, and each reference of its panel stands in its map. This project's own tests.
 abbrev pub passes_check : ControllerPlan → Bool
 passes_check plan =
     numbers_pass plan && (list_all (segment_passes (sizes_of plan)) plan.segments && (are_driven_once [] (coils_of plan) && list_all (has_reference (sizes_of plan)) plan.panel))
 
--- A store has what each cell of these segments asks. This project's own.
-abbrev pub HasCellOperands : Contents → List Cell → Type 0
-HasCellOperands m cells = AllByRecursion (λ cell. HasOperands m cell.element) cells
+-- Each element of these cells, networks or segments is such. This project's own.
+abbrev pub EachOfCells : (Element → Type 0) → List Cell → Type 0
+EachOfCells Such cells = AllByRecursion (λ cell. Such cell.element) cells
 
-abbrev pub HasNetworkOperands : Contents → List Network → Type 0
-HasNetworkOperands m networks = AllByRecursion (λ network. HasCellOperands m network.cells) networks
+abbrev pub EachOfNetworks : (Element → Type 0) → List Network → Type 0
+EachOfNetworks Such networks = AllByRecursion (λ network. EachOfCells Such network.cells) networks
 
+abbrev pub EachOfSegments : (Element → Type 0) → List Segment → Type 0
+EachOfSegments Such segments = AllByRecursion (λ segment. EachOfNetworks Such segment.networks) segments
+
+-- A store has what each element of these segments asks. This project's own.
 abbrev pub HasSegmentOperands : Contents → List Segment → Type 0
-HasSegmentOperands m segments = AllByRecursion (λ segment. HasNetworkOperands m segment.networks) segments
+HasSegmentOperands m segments = EachOfSegments (HasOperands m) segments
+
+-- The discretes as the scan before ended have what each element of these segments asks of them. This project's own.
+abbrev pub HasSegmentPast : Contents → List Segment → Type 0
+HasSegmentPast m segments = EachOfSegments (HasPast m) segments
 
 -- A store has each reference of a panel. This project's own.
 abbrev pub HasPanel : Contents → List Ref → Type 0
 HasPanel m panel = AllByRecursion (λ at. contains_key m at ≡ true) panel
 
--- A plan that passes finds all that it asks in the store that its sizes make. This project's own.
+-- A plan that passes finds all that it asks in the store that its sizes make, and in one of its discretes alone. This project's own.
 pub record FindsAll (plan : ControllerPlan) : Type 0 where
   pub operands : HasSegmentOperands (cleared (sizes_of plan)) plan.segments
+  pub past : HasSegmentPast (cleared (discretes_of (sizes_of plan))) plan.segments
   pub panel : HasPanel (cleared (sizes_of plan)) plan.panel
 
 abbrev pub CheckedPlansFindAll : Type 0

@@ -6,6 +6,7 @@ pub mod MapRam
 pub mod Power
 pub mod Fault
 pub mod Wire
+pub mod Operands
 pub mod Network
 pub mod Checks
 pub mod Effect

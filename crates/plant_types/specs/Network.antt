@@ -2,7 +2,7 @@
 use Rattle.std.specs.Prelude.{ℕ, ◌+◌, Bool, ◌&&◌, ◌||◌, ◌==◌, nat_le, nat_lt, Option, Some, None, is_some}
 use Rattle.plant_types.specs.declared.reference.Ref.{Ref}
 use Rattle.plant_types.specs.declared.element.Element.{Element}
-use Rattle.plant_types.specs.declared.element.Element.TheVariants.{Open, Closed, Coil, Wire}
+use Rattle.plant_types.specs.declared.element.Element.TheVariants.{Open, Closed, Rise, Fall, Coil, Latch, Wire, Timer, Counter, Math, Move, Matrix}
 use Rattle.plant_types.specs.declared.network.Cell.{Cell}
 use Rattle.plant_types.specs.declared.network.Short.{Short}
 
@@ -10,12 +10,21 @@ use Rattle.plant_types.specs.declared.network.Short.{Short}
 abbrev pub node_count : Element → ℕ
 node_count (Open at) = 1
 node_count (Closed at) = 1
+node_count (Rise at) = 1
+node_count (Fall at) = 1
 node_count (Coil at) = 1
+node_count (Latch at) = 1
 node_count Wire = 1
+node_count (Timer unit preset acc) = 2
+node_count (Counter up preset acc) = 2
+node_count (Math op top mid low) = 3
+node_count (Move op top mid length) = 3
+node_count (Matrix op top mid length) = 3
 
 -- The coil that an element drives. Modicon Ladder Logic Block Library User Guide.
 abbrev pub driven_by : Element → Option Ref
 driven_by (Coil at) = Some at
+driven_by (Latch at) = Some at
 driven_by _ = None
 
 -- Whether an element ends its row, as a coil does. Modicon Ladder Logic Block Library User Guide.

@@ -20,6 +20,22 @@ is_discrete Coil = true
 is_discrete Input = true
 is_discrete _ = false
 
+-- A coil. Modicon Ladder Logic Block Library User Guide.
+abbrev pub is_coil : RefKind → Bool
+is_coil Coil = true
+is_coil _ = false
+
+-- Input registers and holding registers have numbers. Modicon Ladder Logic Block Library User Guide.
+abbrev pub is_register : RefKind → Bool
+is_register InputRegister = true
+is_register Register = true
+is_register _ = false
+
+-- Holding registers alone can be stored in. Modicon Ladder Logic Block Library User Guide.
+abbrev pub is_holding : RefKind → Bool
+is_holding Register = true
+is_holding _ = false
+
 -- By kind, and then by number. This project's own.
 abbrev pub ref_cmp : Ref → Ref → Ordering
 ref_cmp a b = ordering_then (nat_cmp (rank_of a.kind) (rank_of b.kind)) (nat_cmp a.number b.number)

@@ -1,5 +1,5 @@
 -- How many references of each kind a controller has, and its store when it starts.
-use Rattle.std.specs.Prelude.{◌≡◌, ℕ, zero, suc, Bool, ◌&&◌, nat_le, List, [], ◌∷◌, ◌++◌, Some, None, if◌then◌else◌}
+use Rattle.std.specs.Prelude.{◌≡◌, ℕ, zero, suc, ◌+◌, Bool, ◌&&◌, nat_le, List, [], ◌∷◌, ◌++◌, Some, None, if◌then◌else◌}
 use Rattle.std.specs.FinMap.{get, from_entries}
 use Rattle.plant_types.specs.declared.reference.RefKind.{RefKind}
 use Rattle.plant_types.specs.declared.reference.RefKind.TheVariants.{Coil, Input, InputRegister, Register}
@@ -23,6 +23,14 @@ count_of sizes Register = sizes.registers
 -- A reference of a map of these sizes: its number counts from 1. This project's own.
 abbrev pub has_reference : Sizes → Ref → Bool
 has_reference sizes at = nat_le 1 at.number && nat_le at.number (count_of sizes at.kind)
+
+-- So many references from one on are in a map of these sizes. This project's own.
+abbrev pub has_run : Sizes → Ref → ℕ → Bool
+has_run sizes at count = nat_le 1 at.number && nat_le (at.number + count) (count_of sizes at.kind + 1)
+
+-- The same with no registers. This project's own.
+abbrev pub discretes_of : Sizes → Sizes
+discretes_of sizes = record sizes { input_registers = 0; registers = 0 }
 
 -- The references of a kind from 1 to a number, each 0. This project's own.
 abbrev pub zeros : RefKind → ℕ → List (Ref × ℕ)

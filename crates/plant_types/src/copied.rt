@@ -101,6 +101,7 @@ impl Copied for ControllerPlan {
             node: self.node,
             coils: self.coils,
             inputs: self.inputs,
+            input_registers: self.input_registers,
             registers: self.registers,
             panel: self.panel.copied(alloc)?,
             segments: self.segments.copied(alloc)?,
@@ -111,6 +112,7 @@ impl Copied for ControllerPlan {
 impl Copied for Plant {
     fn copied(&self, alloc: Global) -> Result<Self, AllocError> {
         Ok(Plant {
+            scan_time: self.scan_time,
             controllers: self.controllers.copied(alloc)?,
         })
     }

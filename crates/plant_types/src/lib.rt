@@ -17,7 +17,7 @@ pub mod words;
 
 pub use checks::checked_plans_find_all;
 pub use copied::Copied;
-pub use element::{Element, Operand, Unit};
+pub use element::{Element, MathOp, MatrixOp, MoveOp, Operand, Unit};
 pub use fault::{Part, Place, PlantFault};
 pub use list::List;
 pub use map_ram::MapRam;

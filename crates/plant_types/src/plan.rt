@@ -13,6 +13,8 @@ pub struct ControllerPlan {
     /// A multiple of 16, 0 to 9984.
     pub inputs: u16,
     /// 0 to 9984.
+    pub input_registers: u16,
+    /// 0 to 9984.
     pub registers: u16,
     /// The references that a panel line shows, in its order.
     pub panel: List<Ref>,
@@ -22,5 +24,7 @@ pub struct ControllerPlan {
 /// A plant: its controllers by rising node.
 #[derive(Drop)]
 pub struct Plant {
+    /// How far the clock goes on at each scan, 1 to 1000 ticks of 10 ms.
+    pub scan_time: u32,
     pub controllers: List<ControllerPlan>,
 }
