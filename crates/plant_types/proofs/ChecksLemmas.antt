@@ -1,8 +1,7 @@
 -- A plan that passes its tests finds all that it asks in the store that its sizes make.
-use Rattle.std.proofs.Common.{◌≡◌, ℕ, ◌+◌, ◌<◌, ◌≤◌, ◌%◌, Bool, true, false, cond, ◌&&◌, ◌||◌, ◌==◌, List, [], ◌∷◌, ◌++◌, Option, Some, None, is_some, refl, sym, ap, subst, ◌∙◌, arith}
+use Rattle.std.proofs.Common.{◌≡◌, ℕ, ◌+◌, ◌<◌, ◌≤◌, ◌%◌, true, false, ◌&&◌, ◌==◌, List, [], ◌∷◌, ◌++◌, refl, sym, ap, ◌∙◌, arith}
 use Rattle.std.specs.Prelude.{nat_le}
 use Rattle.std.specs.List.{list_all, AllByRecursion}
-use Rattle.std.specs.FinMap.{contains_key}
 use Rattle.std.proofs.lemmas.Bool.{and_parts, and_from, leb-true, le-leb}
 use Rattle.plant_types.specs.declared.reference.Ref.{Ref}
 use Rattle.plant_types.specs.declared.reference.RefKind.{RefKind}
@@ -22,7 +21,7 @@ use Rattle.plant_types.specs.declared.network.Network.{Network}
 use Rattle.plant_types.specs.declared.network.Segment.{Segment}
 use Rattle.plant_types.specs.declared.plan.ControllerPlan.{ControllerPlan}
 use Rattle.plant_types.specs.Reference.{ref_from, is_coil, is_discrete, is_register, is_holding}
-use Rattle.plant_types.specs.Store.{Contents, HasDiscrete, HasRegisters}
+use Rattle.plant_types.specs.Store.{HasDiscrete, HasRegisters}
 use Rattle.plant_types.specs.Sizes.{Sizes, count_of, has_reference, has_run, discretes_of, cleared}
 use Rattle.plant_types.specs.Operands.{Kind, OnlyCoil, AnyDiscrete, AnyRegister, OnlyHolding, takes, Named, named_in, math_names, move_names, matrix_names, names_of, has_form, has_values, has_kinds, HasKind, HasNamed, HasOperands, HasDiscreteKind, HasPast}
 use Rattle.plant_types.specs.Network.{has_cell_place}

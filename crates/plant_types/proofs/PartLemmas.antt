@@ -7,7 +7,7 @@ use Rattle.std.specs.declared.cmp.Ordering.{Ordering}
 use Rattle.std.specs.declared.cmp.Ordering.TheVariants.{Less, Equal, Greater}
 use Rattle.std.specs.BTreeMap.{is_at}
 use Rattle.std.specs.Map.Calls.{RetainsPairs}
-use Rattle.std.specs.FinMap.{FinMap, get, contains_key, from_entries, retain_keys, get-retain_keys, same_map}
+use Rattle.std.specs.FinMap.{get, contains_key, from_entries, get-retain_keys, same_map}
 use Rattle.plant_types.specs.declared.reference.Ref.{Ref}
 use Rattle.plant_types.specs.declared.reference.RefKind.{RefKind}
 use Rattle.plant_types.specs.declared.reference.RefKind.TheVariants.{Coil, Input, InputRegister, Register}
