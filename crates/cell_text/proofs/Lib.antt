@@ -1,4 +1,2 @@
 pub mod WordLemmas
 pub mod StepLemmas
-pub mod PieceLemmas
-pub mod TextLemmas
