@@ -1,2 +1,4 @@
 pub mod WordLemmas
 pub mod StepLemmas
+pub mod SlotLemmas
+pub mod JoinLemmas

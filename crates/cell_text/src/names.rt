@@ -1,6 +1,6 @@
 //! The names of elements.
 ghost use Rattle.std.specs.Prelude.{◌≡◌};
-ghost use Rattle.std.specs.List.{list_any};
+ghost use Rattle.std.specs.List.{list_any, find};
 ghost use Rattle.std.specs.Str.{bytes_eq};
 ghost use Rattle.cell_text.specs.Names.{name_text, name_of, is_later_name};
 
@@ -110,14 +110,14 @@ impl Name {
 }
 
 /// What a word names.
-#[tactic(auto, unfolding(crate::specs::Names::name_of))]
+#[tactic(auto, unfolding(crate::specs::Names::name_of, crate::specs::Names::all_names))]
 pub fn name_of(word: &[u8]) -> Option<Name>
     ensures { result ≡ name_of word.now }
 {
     NAMES
         .iter()
-        .find(|name| is_text(word, name.text()))
         .copied()
+        .find(|name| is_text(word, name.text()))
 }
 
 fn is_among(word: &[u8], names: &[&str]) -> bool
