@@ -53,6 +53,11 @@ abbrev pub one_reference : List Operand → Option Ref
 one_reference (at ∷ []) = reference_in at
 one_reference _ = None
 
+-- A horizontal short has no operand. Modicon Ladder Logic Block Library User Guide.
+abbrev pub wire_of : List Operand → Option Element
+wire_of [] = Some Wire
+wire_of _ = None
+
 -- The preset and the accumulator of a timer or a counter. Modicon Ladder Logic Block Library User Guide.
 abbrev pub preset_and_acc : List Operand → Option (Operand × Ref)
 preset_and_acc (preset ∷ acc ∷ []) = option_map (λ acc. (preset, acc)) (reference_in acc)
@@ -77,7 +82,7 @@ element_of names.Rise operands = option_map Rise (one_reference operands)
 element_of names.Fall operands = option_map Fall (one_reference operands)
 element_of names.Coil operands = option_map Coil (one_reference operands)
 element_of names.Latch operands = option_map Latch (one_reference operands)
-element_of names.Wire operands = Some Wire
+element_of names.Wire operands = wire_of operands
 element_of names.Short operands = None
 element_of (names.Timer unit) operands = option_map (λ o. Timer unit o.0 o.1) (preset_and_acc operands)
 element_of (names.Counter up) operands = option_map (λ o. Counter up o.0 o.1) (preset_and_acc operands)

@@ -1,6 +1,6 @@
 //! An element as its name and its operands.
 ghost use Rattle.std.specs.Prelude.{◌≡◌};
-ghost use Rattle.cell_text.specs.Elements.{element_name, operands_of, reference_in, constant_in, one_reference, preset_and_acc, numbers_and_low, table_operands, element_of};
+ghost use Rattle.cell_text.specs.Elements.{element_name, operands_of, reference_in, constant_in, one_reference, wire_of, preset_and_acc, numbers_and_low, table_operands, element_of};
 
 use crate::names::Name;
 use crate::operands::Operands;
@@ -84,6 +84,16 @@ fn one_reference(operands: &[Operand]) -> Option<Ref>
     reference_in(*at)
 }
 
+fn wire_of(operands: &[Operand]) -> Option<Element>
+    ensures { result ≡ wire_of operands.now }
+{
+    if operands.is_empty() {
+        Some(Element::Wire)
+    } else {
+        None
+    }
+}
+
 fn preset_and_acc(operands: &[Operand]) -> Option<(Operand, Ref)>
     ensures { result ≡ preset_and_acc operands.now }
 {
@@ -123,7 +133,7 @@ pub fn element_of(name: Name, operands: &[Operand]) -> Option<Element>
         Name::Fall => Some(Element::Fall(one_reference(operands)?)),
         Name::Coil => Some(Element::Coil(one_reference(operands)?)),
         Name::Latch => Some(Element::Latch(one_reference(operands)?)),
-        Name::Wire => Some(Element::Wire),
+        Name::Wire => wire_of(operands),
         Name::Short => None,
         Name::Timer(unit) => {
             let (preset, acc) = preset_and_acc(operands)?;
