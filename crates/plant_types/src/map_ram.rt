@@ -4,6 +4,7 @@ ghost use Rattle.std.specs.BTreeMap as tree;
 ghost use Rattle.std.specs.FinMap as map;
 ghost use Rattle.plant_types.specs.MapRam.{AddsZeros};
 ghost use Rattle.plant_types.specs.Sizes.{cleared, StartsCleared};
+ghost use Rattle.plant_types.specs.Store.{Keeps};
 
 use crate::reference::{Ref, RefKind};
 use crate::store::RefStore;
@@ -67,7 +68,8 @@ impl MapRam {
 
     fn set(&mut self, at: Ref, value: u16)
         requires { map.contains_key self.old at ≡ true }
-        ensures { self.new ≡ map.insert self.old at value }
+        ensures stored { self.new ≡ map.insert self.old at value }
+        ensures keeps { Keeps self.old self.new }
     {
         if let Some(place) = self.values.get_mut(&at) {
             *place = value;
