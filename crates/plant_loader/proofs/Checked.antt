@@ -25,7 +25,7 @@ use Rattle.cell_text.specs.declared.piece.Piece.{Piece}
 use Rattle.cell_text.specs.declared.piece.Piece.TheVariants as pieces
 use Rattle.cell_text.specs.declared.piece.CellFault.{CellFault}
 use Rattle.cell_text.specs.Words.{words_of}
-use Rattle.cell_text.specs.Texts.{has_text}
+use Rattle.cell_text.specs.Texts.{has_numbers, has_text}
 use Rattle.cell_text.specs.Pieces.{piece_of, has_later_name}
 use Rattle.cell_text.proofs.PieceLemmas.{piece_of-has}
 use Rattle.plant_loader.specs.Refusals.{cell_place, at_place}
@@ -132,21 +132,12 @@ at_place-ok : {A : Type 0} (place : Place) (r : Result A PlantFault) (y : A) →
 at_place-ok place (Ok x) y h = cc
 at_place-ok place (Err e) y h = cc
 
-four_of : (place form values kinds numbers : Bool) → (((place && form) && values) && kinds) && numbers ≡ true → (place ≡ true) × ((form && values) && kinds ≡ true)
-four_of true true true true numbers h = (refl, refl)
-four_of true true true false numbers h = cc
-four_of true true false kinds numbers h = cc
-four_of true false values kinds numbers h = cc
-four_of false form values kinds numbers h = cc
-
--- a cell that has a text stands at a place, and its element's constants and kinds pass
-has_cell_parts : (cell : Cell) → has_text (pieces.Cell cell) ≡ true → (has_cell_place cell ≡ true) × (has_form cell.element && has_values cell.element && has_kinds cell.element ≡ true)
-has_cell_parts cell h = four_of (has_cell_place cell) (has_form cell.element) (has_values cell.element) (has_kinds cell.element) _ h
-
 with_read-passes : (sizes : Sizes) (read next : ReadNetworks) (r : Result Piece CellFault) → ((piece : Piece) → r ≡ Ok piece → has_text piece ≡ true) → with_read sizes read r ≡ Ok next → Passes sizes read → Passes sizes next
 with_read-passes sizes read next (Ok (pieces.Cell cell)) t h p =
-    let read_well = has_cell_parts cell (t (pieces.Cell cell) refl) in
-    with_cell-passes sizes read next cell read_well.0 read_well.1 h p
+    let operands = has_form cell.element && has_values cell.element && has_kinds cell.element in
+    let (place, known) = and_parts (has_cell_place cell) (operands && has_numbers cell.element) (t (pieces.Cell cell) refl) in
+    let (good, numbered) = and_parts operands (has_numbers cell.element) known in
+    with_cell-passes sizes read next cell place good h p
 with_read-passes sizes read next (Ok (pieces.Short short)) t h p = with_short-passes sizes read next short (t (pieces.Short short) refl) h p
 with_read-passes sizes read next (Err e) t h p = cc
 

@@ -16,6 +16,19 @@ use std::alloc::Global;
 use std::str;
 use toml::Table;
 
+const PLANT_KEYS: [&str; 3] = ["version", "scan_time", "controller"];
+
+const CONTROLLER_KEYS: [&str; 8] = [
+    "node",
+    "coils",
+    "inputs",
+    "input_registers",
+    "registers",
+    "panel",
+    "orders",
+    "segment",
+];
+
 fn document(alloc: Global, bytes: &[u8]) -> Result<Table, LoadEnd>
     ensures { Gives table_view result (or_fault bad_toml (document_of bytes.now)) }
 {
@@ -48,19 +61,7 @@ fn only_segment(alloc: Global, networks: List<Network>) -> Result<List<Segment>,
 fn controller_of(alloc: Global, table: &Table) -> Result<ControllerPlan, LoadEnd>
     ensures { Gives (λ plan. plan) result (controller_of (table_view table.now)) }
 {
-    if !has_only(
-        table,
-        &[
-            "node",
-            "coils",
-            "inputs",
-            "input_registers",
-            "registers",
-            "panel",
-            "orders",
-            "segment",
-        ],
-    ) {
+    if !has_only(table, &CONTROLLER_KEYS) {
         return Err(not_built());
     }
     let Some(node) = number_at(table, "node", 1, 64) else {
@@ -106,7 +107,7 @@ fn only_controller(
 fn plant_in(alloc: Global, top: &Table) -> Result<Plant, LoadEnd>
     ensures { Gives (λ plant. plant) result (plant_in (table_view top.now)) }
 {
-    if !has_only(top, &["version", "scan_time", "controller"]) {
+    if !has_only(top, &PLANT_KEYS) {
         return Err(not_built());
     }
     let Some(_) = number_at(top, "version", 1, 1) else {
