@@ -1,5 +1,5 @@
 //! How loading ends without a plant.
-ghost use Rattle.std.specs.Prelude.{◌≡◌, ◌+◌, IfSome};
+ghost use Rattle.std.specs.Prelude.{◌≡◌};
 ghost use Rattle.plant_loader.specs.Refusals.{plant_place, cell_place, not_built};
 
 use plant_types::{Part, Place, PlantFault};
@@ -39,14 +39,4 @@ pub fn cell_place(network: u32, cell: u32) -> Place
         part: Part::Cell,
         at: [1, 1, network, cell],
     }
-}
-
-/// One more than a count.
-pub fn number_behind(count: usize) -> Option<u32>
-    ensures { IfSome result (λ number. number ≡ count + 1) }
-{
-    let Ok(count) = u32::try_from(count) else {
-        return None;
-    };
-    count.checked_add(1)
 }
