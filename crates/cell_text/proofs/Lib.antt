@@ -1,4 +1,7 @@
 pub mod WordLemmas
 pub mod StepLemmas
+pub mod SlotLemmas
+pub mod FitLemmas
+pub mod ElementLemmas
 pub mod PieceLemmas
-pub mod TextLemmas
+pub mod JoinLemmas
