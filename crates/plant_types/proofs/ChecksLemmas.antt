@@ -27,15 +27,7 @@ use Rattle.plant_types.specs.Sizes.{Sizes, count_of, has_reference, has_run, dis
 use Rattle.plant_types.specs.Operands.{Kind, OnlyCoil, AnyDiscrete, AnyRegister, OnlyHolding, takes, Named, named_in, math_names, move_names, matrix_names, names_of, has_form, has_values, has_kinds, HasKind, HasNamed, HasOperands, HasDiscreteKind, HasPast}
 use Rattle.plant_types.specs.Network.{has_cell_place}
 use Rattle.plant_types.specs.Checks.{has_room, element_passes, has_shape, cell_passes, cells_pass, shorts_pass, network_passes, segment_passes, sizes_of, is_size, is_discrete_size, numbers_pass, EachOfCells, EachOfNetworks, EachOfSegments, HasPanel, are_driven_once, coils_of, CheckedPlansFindAll}
-use Rattle.plant_types.proofs.SizesLemmas.{get-cleared}
-
-some_in : (b : Bool) → is_some {T = ℕ} (cond b (Some 0) None) ≡ b
-some_in true = refl
-some_in false = refl
-
--- the store that sizes make has the references of the sizes
-pub contains_key-cleared : (sizes : Sizes) (at : Ref) → contains_key (cleared sizes) at ≡ has_reference sizes at
-contains_key-cleared sizes at = ap is_some (get-cleared sizes at) ∙ some_in (has_reference sizes at)
+use Rattle.plant_types.proofs.SizesLemmas.{contains_key-cleared}
 
 -- no kind has more than 9984 references
 abbrev FitsKinds : Sizes → Type 0

@@ -8,8 +8,3 @@ pub register_difference-found-requires-clause-second : goal.register_difference-
 register_difference-found-requires-clause-second g c =
     let m = g.R.RefStore.contents c.args.ram.now in
     subst (λ (at : Ref). HasRegisters m at c.args.length) (sym c.ref_after.ensures) (HasRegisters-part m c.args.mid (c.args.length + 1) 1 c.args.length c.requires.pointer (omega arith))
-
-pub returns-clause-keeps : goal.returns-clause-keeps
-returns-clause-keeps g c =
-    let m = g.R.RefStore.contents c.args.ram.now in
-    subst (Keeps m) (sym c.set_word.ensures) (Keeps-insert m _ _)

@@ -7,9 +7,3 @@ use Rattle.table_ops.proofs.queues.first_out.Goals as goal
 pub move_word-requires-clause-source : goal.move_word-requires-clause-source
 move_word-requires-clause-source g c =
     HasRegisters-at (g.R.RefStore.contents c.args.ram.now) c.args.top (c.args.length + 1) c.word-count.result 1 c.ref_after.result c.requires.queue (omega arith) c.ref_after.ensures
-
-pub returns-clause-keeps : goal.returns-clause-keeps
-returns-clause-keeps g c =
-    let moved = g.R.RefStore.contents c.move_word.new.ram in
-    let last = subst (Keeps moved) (sym c.set_word.ensures) (Keeps-insert moved c.args.top _) in
-    λ at h. last at (c.move_word.ensures.keeps at h)
