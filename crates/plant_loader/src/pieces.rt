@@ -55,7 +55,8 @@ fn with_next_piece(
     network: u32,
     piece: &str,
 ) -> Result<Program, LoadEnd>
-    ensures { Gives (λ p. p) result (at_place (cell_place network (piece_count program + 1)) (with_piece (sizes_of counts) program piece.now)) }
+    ensures { let place = cell_place network (piece_count program + 1) in
+        Gives (λ p. p) result (at_place place (with_piece (sizes_of counts) program piece.now)) }
 {
     let place = cell_place(network, program.piece_number());
     with_piece(program, counts, place, piece)

@@ -1,11 +1,11 @@
 //! The networks of a controller while they are read.
-ghost use Rattle.std.specs.Prelude.{◌≡◌, ◌<◌, ◌+◌, ◌∷◌, [], ◌++◌, true, length, MatchResult};
+ghost use Rattle.std.specs.Prelude.{◌≡◌, ◌<◌, ◌+◌, ◌∷◌, [], ◌++◌, true, length};
 ghost use Rattle.std.specs.List.{cons_option};
 ghost use Rattle.plant_loader.specs.Driven.{HoldsJust};
 ghost use Rattle.plant_types.specs.Network.{driven_by, has_cell_place, has_short_place};
 ghost use Rattle.plant_types.specs.Checks.{has_shape};
 ghost use Rattle.plant_loader.specs.Counts.{sizes_of};
-ghost use Rattle.plant_loader.specs.Refusals.{Gives, at_place};
+ghost use Rattle.plant_loader.specs.Refusals.{Gives, Makes, at_place};
 ghost use Rattle.plant_loader.specs.Program.{ReadNetworks, driven_coils, is_driven, with_cell, with_short, piece_count, with_network};
 
 use crate::cells::{driven_by, has_shape, has_short};
@@ -39,7 +39,7 @@ impl Model for Program {
 
 /// The references of a set, and one more, if there is one.
 fn with_coil(mut driven: BTreeSet<Ref>, coil: Option<Ref>) -> Result<BTreeSet<Ref>, LoadEnd>
-    ensures { MatchResult result (λ new. HoldsJust new.keys (driven.keys ++ cons_option coil [])) (λ end. end ≡ LoadEnd.NoMemory) }
+    ensures { Makes result (λ new. HoldsJust new.keys (driven.keys ++ cons_option coil [])) }
 {
     let Some(coil) = coil else {
         return Ok(driven);
@@ -75,7 +75,7 @@ impl Program {
     fn put_cell(self, cell: Cell) -> Result<Program, LoadEnd>
         requires place { has_cell_place cell ≡ true }
         requires shape { has_shape self.cells cell ≡ true }
-        ensures { MatchResult result (λ program. program ≡ record self { cells = self.cells ++ cell ∷ [] }) (λ end. end ≡ LoadEnd.NoMemory) }
+        ensures { Makes result (λ program. program ≡ record self { cells = self.cells ++ cell ∷ [] }) }
     {
         let Program {
             networks,
@@ -157,7 +157,7 @@ impl Program {
 
     /// The network that was being read is whole.
     pub fn with_network(self, alloc: Global) -> Result<Program, LoadEnd>
-        ensures { MatchResult result (λ program. program ≡ with_network self) (λ end. end ≡ LoadEnd.NoMemory) }
+        ensures { Makes result (λ program. program ≡ with_network self) }
     {
         let Program {
             mut networks,
@@ -176,6 +176,7 @@ impl Program {
         })
     }
 
+    /// The networks that are whole, in their order.
     pub fn into_networks(self) -> List<Network>
         ensures { result ≡ self.networks }
     {

@@ -9,26 +9,22 @@ use plant_types::{Part, Place, PlantFault};
 pub enum LoadEnd {
     /// The first fault of the file, and where it is.
     Refused(PlantFault, Place),
+    /// Memory was refused.
     NoMemory,
 }
 
-/// The whole file.
-pub const PLANT: Place = Place {
-    part: Part::Plant,
-    at: [0; 4],
-};
-
+/// The bytes are no document.
 pub fn bad_toml() -> LoadEnd
     ensures { result ≡ LoadEnd.Refused PlantFault.BadToml plant_place }
 {
-    LoadEnd::Refused(PlantFault::BadToml, PLANT)
+    LoadEnd::Refused(PlantFault::BadToml, Place::PLANT)
 }
 
 /// The document is not of a form that is taken.
 pub fn not_built() -> LoadEnd
     ensures { result ≡ LoadEnd.Refused PlantFault.NotBuilt plant_place }
 {
-    LoadEnd::Refused(PlantFault::NotBuilt, PLANT)
+    LoadEnd::Refused(PlantFault::NotBuilt, Place::PLANT)
 }
 
 /// The place of a piece of a network of the first segment of the first controller.
