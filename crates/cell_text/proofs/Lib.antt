@@ -4,4 +4,6 @@ pub mod SlotLemmas
 pub mod FitLemmas
 pub mod ElementLemmas
 pub mod PieceLemmas
+pub mod TextLemmas
 pub mod JoinLemmas
+pub mod NumberLemmas

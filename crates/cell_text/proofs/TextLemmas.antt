@@ -1,0 +1,277 @@
+-- The text of a piece reads back.
+use Rattle.std.proofs.Common.{◌≡◌, ℕ, ◌≤◌, Bool, true, false, ◌&&◌, ◌||◌, List, [], ◌∷◌, map, Option, Some, None, Result, Ok, Err, refl, sym, ap, ◌∙◌, arith, String, Global, string_bytes}
+use Rattle.std.specs.Prelude.{nat_le, option_map, option_and_then, if◌then◌else◌}
+use Rattle.std.specs.Option.{option_map_or}
+use Rattle.std.specs.Result.{IfOk}
+use Rattle.std.specs.Fmt.{decimal}
+use Rattle.std.specs.declared.alloc.AllocError.{AllocError}
+use Rattle.std.specs.List.{list_all}
+use Rattle.std.proofs.lemmas.Bool.{and_parts}
+use Rattle.std.proofs.lemmas.Bool.Decides.{nat_tests}
+use lib.Pointwise.{pointwise}
+use Rattle.plant_types.specs.declared.reference.Ref.{Ref}
+use Rattle.plant_types.specs.declared.element.Operand.{Operand}
+use Rattle.plant_types.specs.declared.element.Operand.TheVariants.{Const, At}
+use Rattle.plant_types.specs.declared.element.Unit.TheVariants.{Second, Tenth, Hundredth}
+use Rattle.plant_types.specs.declared.element.MathOp.TheVariants.{Add, Sub, Mul, Div}
+use Rattle.plant_types.specs.declared.element.MoveOp.TheVariants.{RegToTable, TableToReg, TableToTable, Copy, FirstIn, FirstOut, Search}
+use Rattle.plant_types.specs.declared.element.MatrixOp.TheVariants.{And, Or, Xor, Comp, Cmpr, Mbit, Sens, Brot}
+use Rattle.plant_types.specs.declared.element.Element.{Element}
+use Rattle.plant_types.specs.declared.element.Element.TheVariants as elements
+use Rattle.plant_types.specs.declared.network.Cell.{Cell}
+use Rattle.plant_types.specs.declared.network.Short.{Short}
+use Rattle.plant_types.specs.Network.{is_row, is_column, has_cell_place, has_short_place}
+use Rattle.plant_types.specs.Operands.{has_form, has_values, has_kinds, is_length}
+use Rattle.plant_types.specs.Reference.{reference_text}
+use Rattle.cell_text.specs.declared.names.Name.{Name}
+use Rattle.cell_text.specs.declared.names.Name.TheVariants as names
+use Rattle.cell_text.specs.declared.slots.Slot.{Slot}
+use Rattle.cell_text.specs.declared.slots.Slot.TheVariants.{Discrete, Driven, Number, Source, Target, Length}
+use Rattle.cell_text.specs.declared.piece.Piece.{Piece}
+use Rattle.cell_text.specs.declared.piece.Piece.TheVariants as pieces
+use Rattle.cell_text.specs.declared.piece.CellFault.{CellFault}
+use Rattle.cell_text.specs.declared.piece.CellFault.TheVariants.{BadCell, BadValue, BadRef}
+use Rattle.cell_text.specs.Steps.{◌>>=◌, or_fault, unless}
+use Rattle.cell_text.specs.Words.{words_of}
+use Rattle.cell_text.specs.Numbers.{number_of, position_of, is_number, is_reference_word, reference_of}
+use Rattle.cell_text.specs.Names.{name_text, all_names, name_of}
+use Rattle.cell_text.specs.Slots.{slots_of, takes_form, takes_value, takes_kind, taken_reference, operand_in, operands_in, read_operands}
+use Rattle.cell_text.specs.Elements.{element_name, operands_of, element_of}
+use Rattle.cell_text.specs.Pieces.{short_at, piece_at, piece_of}
+use Rattle.cell_text.specs.Texts.{has_number, has_numbers, has_text, position_text, operand_text, piece_place, piece_name, piece_operands, piece_words, piece_text}
+use Rattle.cell_text.proofs.JoinLemmas.{is_word, words_of-join}
+use Rattle.cell_text.proofs.NumberLemmas.{is_number-decimal, number_of-decimal, position_of-text, position_word, decimal_word, decimal_no_reference, reference_word, reference_of-text, reference_text_word}
+use Rattle.cell_text.proofs.FitLemmas.{fits_form, fits_value, fits_reference, fits, pointwise-fits}
+
+-- the letters of each name are a word that names it
+record Named (name : Name) : Type 0 where
+  word : is_word (name_text name) ≡ true
+  found : name_of (name_text name) ≡ Some name
+
+named : (name : Name) → Named name
+unfolding name_text all_names name_of
+named names.Open = record { word = refl; found = refl }
+named names.Closed = record { word = refl; found = refl }
+named names.Rise = record { word = refl; found = refl }
+named names.Fall = record { word = refl; found = refl }
+named names.Coil = record { word = refl; found = refl }
+named names.Latch = record { word = refl; found = refl }
+named names.Wire = record { word = refl; found = refl }
+named names.Short = record { word = refl; found = refl }
+named (names.Timer Second) = record { word = refl; found = refl }
+named (names.Timer Tenth) = record { word = refl; found = refl }
+named (names.Timer Hundredth) = record { word = refl; found = refl }
+named (names.Counter true) = record { word = refl; found = refl }
+named (names.Counter false) = record { word = refl; found = refl }
+named (names.Math Add) = record { word = refl; found = refl }
+named (names.Math Sub) = record { word = refl; found = refl }
+named (names.Math Mul) = record { word = refl; found = refl }
+named (names.Math Div) = record { word = refl; found = refl }
+named (names.Move RegToTable) = record { word = refl; found = refl }
+named (names.Move TableToReg) = record { word = refl; found = refl }
+named (names.Move TableToTable) = record { word = refl; found = refl }
+named (names.Move Copy) = record { word = refl; found = refl }
+named (names.Move FirstIn) = record { word = refl; found = refl }
+named (names.Move FirstOut) = record { word = refl; found = refl }
+named (names.Move Search) = record { word = refl; found = refl }
+named (names.Matrix And) = record { word = refl; found = refl }
+named (names.Matrix Or) = record { word = refl; found = refl }
+named (names.Matrix Xor) = record { word = refl; found = refl }
+named (names.Matrix Comp) = record { word = refl; found = refl }
+named (names.Matrix Brot) = record { word = refl; found = refl }
+named (names.Matrix Cmpr) = record { word = refl; found = refl }
+named (names.Matrix Mbit) = record { word = refl; found = refl }
+named (names.Matrix Sens) = record { word = refl; found = refl }
+
+-- the text of an operand is a word that passes the tests of a slot, and stands for the operand
+record Reads (slot : Slot) (operand : Operand) : Type 0 where
+  form : takes_form slot (operand_text operand) ≡ true
+  value : takes_value slot (operand_text operand) ≡ true
+  back : operand_in slot (operand_text operand) ≡ Some operand
+  word : is_word (operand_text operand) ≡ true
+
+or_true : (b : Bool) → b || true ≡ true
+or_true true = refl
+or_true false = refl
+
+reference_form : (slot : Slot) (at : Ref) → fits_form slot (At at) ≡ true → is_reference_word (reference_text at) ≡ true → (takes_form slot (reference_text at) ≡ true) × (takes_value slot (reference_text at) ≡ true)
+reference_form Discrete at fit five = (five, refl)
+reference_form Driven at fit five = (five, refl)
+reference_form Number at fit five = (ap (λ b. is_number (reference_text at) || b) five ∙ or_true (is_number (reference_text at)), refl)
+reference_form Source at fit five = (five, refl)
+reference_form Target at fit five = (five, refl)
+reference_form (Length most) at fit five = cc
+
+reference_reads : (slot : Slot) (at : Ref) → fits slot (At at) ≡ true → Reads slot (At at)
+reference_reads slot at h =
+    let (forms, references) = and_parts (fits_form slot (At at) && fits_value slot (At at)) (takes_kind slot at.kind && has_number at) h in
+    let (form, value) = and_parts (fits_form slot (At at)) (fits_value slot (At at)) forms in
+    let (kind, number) = and_parts (takes_kind slot at.kind) (has_number at) references in
+    let five = reference_word at number in
+    let tests = reference_form slot at form five in
+    record {
+      form = tests.0;
+      value = tests.1;
+      back = ap (λ (b : Bool). if b then taken_reference slot (reference_of (reference_text at)) else option_map Const (number_of (reference_text at))) five ∙ ap (taken_reference slot) (reference_of-text at number) ∙ ap (λ (b : Bool). if b then Some (At at) else None) kind;
+      word = reference_text_word at number;
+    }
+
+-- the largest length of a slot is a constant
+abbrev is_small : Slot → Bool
+is_small (Length most) = nat_le most 9999
+is_small slot = true
+
+constant_le : (n : ℕ) → nat_le n 9999 ≡ true → n ≤ 9999
+constant_le n h = grind (arith, nat_tests)
+
+length_le : (most n : ℕ) → nat_le most 9999 ≡ true → nat_le 1 n && nat_le n most ≡ true → n ≤ 9999
+length_le most n small h = let (low, high) = and_parts (nat_le 1 n) (nat_le n most) h in grind (arith, nat_tests)
+
+fits-le : (slot : Slot) (n : ℕ) → is_small slot ≡ true → fits_value slot (Const n) ≡ true → n ≤ 9999
+fits-le Discrete n small h = constant_le n h
+fits-le Driven n small h = constant_le n h
+fits-le Number n small h = constant_le n h
+fits-le Source n small h = constant_le n h
+fits-le Target n small h = constant_le n h
+fits-le (Length most) n small h = length_le most n small h
+
+constant_form : (slot : Slot) (n : ℕ) → fits_form slot (Const n) ≡ true → fits_value slot (Const n) ≡ true → n ≤ 9999 → (takes_form slot (decimal n) ≡ true) × (takes_value slot (decimal n) ≡ true)
+constant_form Discrete n form value few = cc
+constant_form Driven n form value few = cc
+constant_form Number n form value few = (ap (λ b. b || is_reference_word (decimal n)) (is_number-decimal n few), refl)
+constant_form Source n form value few = cc
+constant_form Target n form value few = cc
+constant_form (Length most) n form value few = (is_number-decimal n few, ap (λ (o : Option ℕ). option_map_or (is_length most) o false) (number_of-decimal n few) ∙ value)
+
+constant_reads : (slot : Slot) (n : ℕ) → is_small slot ≡ true → fits slot (Const n) ≡ true → Reads slot (Const n)
+constant_reads slot n small h =
+    let (forms, references) = and_parts (fits_form slot (Const n) && fits_value slot (Const n)) true h in
+    let (form, value) = and_parts (fits_form slot (Const n)) (fits_value slot (Const n)) forms in
+    let few = fits-le slot n small value in
+    let tests = constant_form slot n form value few in
+    record {
+      form = tests.0;
+      value = tests.1;
+      back = rw (decimal_no_reference n few, number_of-decimal n few) refl;
+      word = decimal_word n few;
+    }
+
+operand_reads : (slot : Slot) (operand : Operand) → is_small slot ≡ true → fits slot operand ≡ true → Reads slot operand
+operand_reads slot (Const n) small h = constant_reads slot n small h
+operand_reads slot (At at) small h = reference_reads slot at h
+
+-- the same of the operands of all slots
+record AllRead (slots : List Slot) (operands : List Operand) : Type 0 where
+  forms : pointwise takes_form slots (map operand_text operands) ≡ true
+  values : pointwise takes_value slots (map operand_text operands) ≡ true
+  back : operands_in slots (map operand_text operands) ≡ Some operands
+  words : list_all is_word (map operand_text operands) ≡ true
+
+all_read : (slots : List Slot) (operands : List Operand) → list_all is_small slots ≡ true → pointwise fits slots operands ≡ true → AllRead slots operands
+unfolding operands_in
+all_read [] [] small h = record { forms = refl; values = refl; back = refl; words = refl }
+all_read [] (operand ∷ operands) small h = cc
+all_read (slot ∷ slots) [] small h = cc
+all_read (slot ∷ slots) (operand ∷ operands) small h =
+    let (small1, smalls) = and_parts (is_small slot) (list_all is_small slots) small in
+    let (fit, fits_all) = and_parts (fits slot operand) (pointwise fits slots operands) h in
+    let first = operand_reads slot operand small1 fit in
+    let rest = all_read slots operands smalls fits_all in
+    record {
+      forms = rw (first.form, rest.forms) refl;
+      values = rw (first.value, rest.values) refl;
+      back = rw (first.back, rest.back) refl;
+      words = rw (first.word, rest.words) refl;
+    }
+
+small_slots : (name : Name) → list_all is_small (slots_of name) ≡ true
+unfolding slots_of
+small_slots (names.Move FirstOut) = refl
+small_slots (names.Move op) = refl
+small_slots (names.Matrix Mbit) = refl
+small_slots (names.Matrix Sens) = refl
+small_slots (names.Matrix op) = refl
+small_slots name = refl
+
+read_operands-back : (slots : List Slot) (operands : List Operand) → AllRead slots operands → read_operands slots (map operand_text operands) ≡ Ok operands
+unfolding read_operands
+read_operands-back slots operands all = rw (all.forms, all.values, all.back) refl
+
+cell_back : (row column : ℕ) (element : Element) → piece_at row column (element_name element) (operands_of element) ≡ Some (pieces.Cell (record { row = row; column = column; element = element }))
+unfolding element_of
+cell_back row column (elements.Open at) = refl
+cell_back row column (elements.Closed at) = refl
+cell_back row column (elements.Rise at) = refl
+cell_back row column (elements.Fall at) = refl
+cell_back row column (elements.Coil at) = refl
+cell_back row column (elements.Latch at) = refl
+cell_back row column elements.Wire = refl
+cell_back row column (elements.Timer unit preset acc) = refl
+cell_back row column (elements.Counter up preset acc) = refl
+cell_back row column (elements.Math op top mid low) = refl
+cell_back row column (elements.Move op top mid length) = refl
+cell_back row column (elements.Matrix op top mid length) = refl
+
+-- the place, the name and the operands of a piece make the piece
+piece_at-back : (piece : Piece) → has_text piece ≡ true → piece_at (piece_place piece).0 (piece_place piece).1 (piece_name piece) (piece_operands piece) ≡ Some piece
+piece_at-back (pieces.Cell cell) h = cell_back cell.row cell.column cell.element
+piece_at-back (pieces.Short short) h =
+    let (rows, column) = and_parts (nat_le 1 short.row && nat_le short.row 6) (is_column short.column) h in
+    let (low, high) = and_parts (nat_le 1 short.row) (nat_le short.row 6) rows in
+    ap (λ (b : Bool). if b then Some (pieces.Short short) else None) high
+
+-- a piece that has a text stands in the grid, and its operands fit
+record Fitting (piece : Piece) : Type 0 where
+  row : is_row (piece_place piece).0 ≡ true
+  column : is_column (piece_place piece).1 ≡ true
+  operands : pointwise fits (slots_of (piece_name piece)) (piece_operands piece) ≡ true
+
+six_rows : (row : ℕ) → nat_le 1 row && nat_le row 6 ≡ true → is_row row ≡ true
+six_rows row h =
+    let (low, high) = and_parts (nat_le 1 row) (nat_le row 6) h in
+    let seven : nat_le row 7 ≡ true = grind (arith, nat_tests) in
+    rw (low, seven) refl
+
+no_slots : pointwise fits (slots_of names.Short) [] ≡ true
+unfolding slots_of
+no_slots = refl
+
+fitting : (piece : Piece) → has_text piece ≡ true → Fitting piece
+fitting (pieces.Cell cell) h =
+    let (place, operands) = and_parts (has_cell_place cell) (has_form cell.element && has_values cell.element && has_kinds cell.element && has_numbers cell.element) h in
+    let (row, column) = and_parts (is_row cell.row) (is_column cell.column) place in
+    record { row = row; column = column; operands = pointwise-fits cell.element ∙ operands }
+fitting (pieces.Short short) h =
+    let (rows, column) = and_parts (nat_le 1 short.row && nat_le short.row 6) (is_column short.column) h in
+    record { row = six_rows short.row rows; column = column; operands = no_slots }
+
+piece_all_read : (piece : Piece) → Fitting piece → AllRead (slots_of (piece_name piece)) (piece_operands piece)
+piece_all_read piece f = all_read (slots_of (piece_name piece)) (piece_operands piece) (small_slots (piece_name piece)) f.operands
+
+-- the words of a piece are words, and read as the piece
+piece_words-are : (piece : Piece) → has_text piece ≡ true → list_all is_word (piece_words piece) ≡ true
+piece_words-are piece h =
+    let f = fitting piece h in
+    rw (position_word (piece_place piece) f.row f.column, (named (piece_name piece)).word, (piece_all_read piece f).words) refl
+
+piece_of-words : (piece : Piece) → has_text piece ≡ true → piece_of (piece_words piece) ≡ Ok piece
+unfolding piece_of
+piece_of-words piece h =
+    let f = fitting piece h in
+    let words = map operand_text (piece_operands piece) in
+    let place = position_of-text (piece_place piece) f.row f.column in
+    let name = (named (piece_name piece)).found in
+    let operands = read_operands-back (slots_of (piece_name piece)) (piece_operands piece) (piece_all_read piece f) in
+    ap (λ (o : Option (ℕ × ℕ)). or_fault {E = CellFault} BadCell o >>= λ at. or_fault BadCell (name_of (name_text (piece_name piece))) >>= λ name. read_operands (slots_of name) words >>= λ operands. or_fault BadCell (piece_at at.0 at.1 name operands)) place
+    ∙ ap (λ (o : Option Name). or_fault {E = CellFault} BadCell o >>= λ name. read_operands (slots_of name) words >>= λ operands. or_fault BadCell (piece_at (piece_place piece).0 (piece_place piece).1 name operands)) name
+    ∙ ap (λ (r : Result (List Operand) CellFault). r >>= λ operands. or_fault BadCell (piece_at (piece_place piece).0 (piece_place piece).1 (piece_name piece) operands)) operands
+    ∙ ap (λ (o : Option Piece). or_fault {E = CellFault} BadCell o) (piece_at-back piece h)
+
+-- the text of a piece reads as the piece
+pub piece_of-text : (piece : Piece) → has_text piece ≡ true → piece_of (words_of (piece_text piece)) ≡ Ok piece
+piece_of-text piece h = ap piece_of (words_of-join (piece_words piece) (piece_words-are piece h)) ∙ piece_of-words piece h
+
+-- so it is with a text that was written
+pub gives-reads_back : (piece : Piece) (r : Result (String Global) AllocError) → has_text piece ≡ true → IfOk r (λ text. string_bytes text ≡ piece_text piece) → IfOk r (λ text. piece_of (words_of (string_bytes text)) ≡ Ok piece)
+gives-reads_back piece (Ok text) h e = ap (λ bytes. piece_of (words_of bytes)) e ∙ piece_of-text piece h
+gives-reads_back piece (Err end) h e = tt
