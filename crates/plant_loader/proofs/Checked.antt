@@ -15,7 +15,8 @@ use Rattle.plant_types.specs.declared.fault.PlantFault.TheVariants as faults
 use Rattle.plant_types.specs.declared.fault.PlantFault.TheVariants.{BadRef, BadShape, CoilTwice}
 use Rattle.plant_types.specs.Sizes.{Sizes}
 use Rattle.plant_types.specs.Network.{driven_by, has_cell_place, has_short_place, same_short}
-use Rattle.plant_types.specs.Checks.{has_kinds, has_room, has_shape, cell_passes, cells_pass, short_passes, shorts_pass, network_passes, coils_of_network, is_same, are_driven_once}
+use Rattle.plant_types.specs.Operands.{has_form, has_values, has_kinds}
+use Rattle.plant_types.specs.Checks.{has_room, has_shape, cell_passes, cells_pass, short_passes, shorts_pass, network_passes, coils_of_network, is_same, are_driven_once}
 use Rattle.cell_text.specs.Steps.{◌>>=◌, unless}
 use Rattle.cell_text.proofs.StepLemmas.{step-ok, unless-ok}
 use Rattle.std.specs.Prelude.{if◌then◌else◌}
@@ -76,9 +77,9 @@ pub coils-push : (cells : List Cell) (shorts : List Short) (cell : Cell) → coi
 coils-push cells shorts cell = filter_map-append (λ c. driven_by c.element) cells (cell ∷ [])
 
 -- one more cell that is taken keeps all passing
-pub with_cell-passes : (sizes : Sizes) (read next : ReadNetworks) (cell : Cell) → has_cell_place cell ≡ true → has_kinds cell.element ≡ true → with_cell sizes read cell ≡ Ok next → Passes sizes read → Passes sizes next
+pub with_cell-passes : (sizes : Sizes) (read next : ReadNetworks) (cell : Cell) → has_cell_place cell ≡ true → has_form cell.element && has_values cell.element && has_kinds cell.element ≡ true → with_cell sizes read cell ≡ Ok next → Passes sizes read → Passes sizes next
 unfolding with_cell
-with_cell-passes sizes read next cell place kinds h p =
+with_cell-passes sizes read next cell place operands h p =
     let added = record read { cells = read.cells ++ cell ∷ [] } in
     let again = not (is_driven (driven_coils read) (driven_by cell.element)) in
     let room = unless-ok (has_room sizes cell.element) BadRef (λ room. unless (has_shape read.cells cell) BadShape >>= λ shape. unless again CoilTwice >>= λ coil. Ok added) next h in
@@ -87,7 +88,7 @@ with_cell-passes sizes read next cell place kinds h p =
     let same : record read { cells = read.cells ++ cell ∷ [] } ≡ next = ok_value added next coil.1 in
     let passes : Passes sizes (record read { cells = read.cells ++ cell ∷ [] }) = record {
       networks = p.networks;
-      cells = cells_pass-push sizes read.cells cell p.cells (and_both _ _ place (and_both _ _ kinds (and_both _ _ room.0 shape.0)));
+      cells = cells_pass-push sizes read.cells cell p.cells (and_both _ _ (and_both _ _ place (and_both _ _ operands room.0)) shape.0);
       shorts = p.shorts;
       coils = driven_once-option (driven_coils read) (driven_by cell.element) _ p.coils coil.0 (ap (λ xs. flat_map coils_of_network read.networks ++ xs) (coils-push read.cells read.shorts cell) ∙ sym (append_assoc (flat_map coils_of_network read.networks) _ _));
     } in
@@ -133,10 +134,10 @@ at_place-ok place (Err e) y h = cc
 
 with_read-passes : (sizes : Sizes) (read next : ReadNetworks) (r : Result Piece CellFault) → ((piece : Piece) → r ≡ Ok piece → has_text piece ≡ true) → with_read sizes read r ≡ Ok next → Passes sizes read → Passes sizes next
 with_read-passes sizes read next (Ok (pieces.Cell cell)) t h p =
-    let text = t (pieces.Cell cell) refl in
-    let (place, kinds) = and_parts (has_cell_place cell) (has_kinds cell.element && has_numbers cell.element) text in
-    let (kind, number) = and_parts (has_kinds cell.element) (has_numbers cell.element) kinds in
-    with_cell-passes sizes read next cell place kind h p
+    let operands = has_form cell.element && has_values cell.element && has_kinds cell.element in
+    let (place, known) = and_parts (has_cell_place cell) (operands && has_numbers cell.element) (t (pieces.Cell cell) refl) in
+    let (good, numbered) = and_parts operands (has_numbers cell.element) known in
+    with_cell-passes sizes read next cell place good h p
 with_read-passes sizes read next (Ok (pieces.Short short)) t h p = with_short-passes sizes read next short (t (pieces.Short short) refl) h p
 with_read-passes sizes read next (Err e) t h p = cc
 

@@ -1,8 +1,9 @@
--- The plant of bytes has one controller, whose plan passes its tests.
-use Rattle.std.proofs.Common.{◌≡◌, ℕ, true, ◌&&◌, List, [], ◌∷◌, ◌++◌, length, Option, Some, None, Result, Ok, Err, refl, ap, ◌∙◌}
+-- The plant of bytes has a scan time of 1 to 1000 ticks and one controller, whose plan passes its tests.
+use Rattle.std.proofs.Common.{◌≡◌, ℕ, ◌≤◌, true, ◌&&◌, List, [], ◌∷◌, ◌++◌, length, Option, Some, None, Result, Ok, Err, refl, ap, ◌∙◌, arith}
 use Rattle.std.specs.Prelude.{codes, ℤ, pos, negsuc, nat_le, ◌%◌, ◌==◌}
 use Rattle.std.specs.List.{list_all, flat_map}
 use Rattle.std.proofs.lemmas.Bool.{and_parts}
+use Rattle.std.proofs.lemmas.Bool.Decides.{nat_tests}
 use Rattle.std.proofs.lemmas.List.{append-nil}
 use Rattle.toml.specs.Data.{Data, integer, Items, no_items, item, Members, get_member, as_str}
 use Rattle.plant_types.specs.declared.reference.Ref.{Ref}
@@ -18,10 +19,10 @@ use Rattle.cell_text.proofs.StepLemmas.{step-ok, or_fault-ok, unless-ok, some-st
 use Rattle.std.specs.Result.{IfOk}
 use Rattle.plant_loader.specs.declared.refusal.LoadEnd.{LoadEnd}
 use Rattle.plant_loader.specs.Refusals.{Gives, Refusal, bad_toml, not_built}
-use Rattle.plant_loader.specs.Keys.{has_only, only_table, number_from, number_of, number_at, size_in, size_at, in_sixteens, discrete_size_at, items_up_to}
+use Rattle.plant_loader.specs.Keys.{has_only, only_table, number_from, number_of, number_at, number_or, number_at_or, size_at, in_sixteens, discrete_size_at, items_up_to}
 use Rattle.plant_loader.specs.Controller.{sizes_at, has_first_order, network_texts, in_map, panel_item, panel_items, panel_in, panel_at}
 use Rattle.plant_loader.specs.Pieces.{networks_of}
-use Rattle.plant_loader.specs.Plant.{document_of, controller_keys, controller_of, plant_in, plant_of, IsRunnable}
+use Rattle.plant_loader.specs.Plant.{document_of, controller_keys, plan_of, controller_of, plant_keys, plant_in, plant_of, IsRunnable}
 use Rattle.plant_loader.proofs.Checked.{networks_of-passes, ok_value, and_both}
 
 some_value : {A : Type 0} (x y : A) → Some x ≡ Some y → x ≡ y
@@ -38,16 +39,20 @@ number_of-within : (low high : ℕ) (d : Data) (n : ℕ) → number_of low high 
 number_of-within low high (integer z) n h = number_from-within low high z n h
 number_of-within low high _ n h = cc
 
-size_in-is_size : (d : Option Data) (n : ℕ) → size_in d ≡ Some n → is_size n ≡ true
-size_in-is_size None n h = let same : 0 ≡ n = some_value 0 n h in rw (← same) refl
-size_in-is_size (Some d) n h = let within = and_parts (nat_le 0 n) (nat_le n 9984) (number_of-within 0 9984 d n h) in within.1
+-- a default that is within, or a number at a key
+number_or-within : (default low high : ℕ) (d : Option Data) (n : ℕ) → nat_le low default && nat_le default high ≡ true → number_or default low high d ≡ Some n → nat_le low n && nat_le n high ≡ true
+number_or-within default low high None n usual h = let same : default ≡ n = some_value default n h in rw (← same) usual
+number_or-within default low high (Some d) n usual h = number_of-within low high d n h
+
+size_at-is_size : (key : List ℕ) (ms : Members) (n : ℕ) → size_at key ms ≡ Some n → is_size n ≡ true
+size_at-is_size key ms n h = let within = and_parts (nat_le 0 n) (nat_le n 9984) (number_or-within 0 0 9984 (get_member key ms) n refl h) in within.1
 
 discrete_size_at-is_discrete_size : (key : List ℕ) (ms : Members) (n : ℕ) → discrete_size_at key ms ≡ Some n → is_discrete_size n ≡ true
 discrete_size_at-is_discrete_size key ms n h =
     let size = some-step in_sixteens (size_at key ms) n h in
     let whole = some-guard (size.0 % 16 == 0) (Some size.0) n size.1.1 in
     let same : size.0 ≡ n = some_value size.0 n whole.1 in
-    rw (← same) (and_both _ _ (size_in-is_size (get_member key ms) size.0 size.1.0) whole.0)
+    rw (← same) (and_both _ _ (size_at-is_size key ms size.0 size.1.0) whole.0)
 
 panel_item-held : (sizes : Sizes) (d : Data) (at : Ref) → panel_item sizes d ≡ Ok at → has_reference sizes at ≡ true
 unfolding panel_item
@@ -78,54 +83,44 @@ record Parts (sizes : Sizes) (node : ℕ) (panel : List Ref) (networks : List Ne
   networks_pass : list_all (network_passes sizes) networks ≡ true
   coils : are_driven_once [] (flat_map coils_of_network networks) ≡ true
 
-abbrev plan_of : ℕ → ℕ → ℕ → ℕ → List Ref → List Network → ControllerPlan
-plan_of node coils inputs registers panel networks = record { node = node; coils = coils; inputs = inputs; registers = registers; panel = panel; segments = record { networks = networks } ∷ [] }
+-- sizes that a controller can have
+record SizesPass (sizes : Sizes) : Type 0 where
+  coils : is_discrete_size sizes.coils ≡ true
+  inputs : is_discrete_size sizes.inputs ≡ true
+  input_registers : is_size sizes.input_registers ≡ true
+  registers : is_size sizes.registers ≡ true
 
-plan_of-passes : (node coils inputs registers : ℕ) (panel : List Ref) (networks : List Network) → Parts (record { coils = coils; inputs = inputs; input_registers = 0; registers = registers }) node panel networks
-    → is_discrete_size coils ≡ true → is_discrete_size inputs ≡ true → is_size registers ≡ true → passes_check (plan_of node coils inputs registers panel networks) ≡ true
-plan_of-passes node coils inputs registers panel networks p c i r =
+plan_of-passes : (node : ℕ) (sizes : Sizes) (panel : List Ref) (networks : List Network) → SizesPass sizes → Parts sizes node panel networks → passes_check (plan_of node sizes panel networks) ≡ true
+plan_of-passes node sizes panel networks s p =
     let driven : are_driven_once [] (flat_map coils_of_network networks ++ []) ≡ true = ap (are_driven_once []) (append-nil (flat_map coils_of_network networks)) ∙ p.coils in
-    and_both _ _ (and_both _ _ p.node_passes (and_both _ _ c (and_both _ _ i r))) (and_both _ _ (and_both _ _ p.networks_pass refl) (and_both _ _ driven p.panel_passes))
+    and_both _ _ (and_both _ _ p.node_passes (and_both _ _ s.coils (and_both _ _ s.inputs (and_both _ _ s.input_registers s.registers)))) (and_both _ _ (and_both _ _ p.networks_pass refl) (and_both _ _ driven p.panel_passes))
 
-abbrev sizes_from : ℕ → ℕ → ℕ → Sizes
-sizes_from coils inputs registers = record { coils = coils; inputs = inputs; input_registers = 0; registers = registers }
+abbrev sizes_from : ℕ → ℕ → ℕ → ℕ → Sizes
+sizes_from coils inputs input_registers registers = record { coils = coils; inputs = inputs; input_registers = input_registers; registers = registers }
 
--- the sizes that a table gives
-record Sized (sizes : Sizes) : Type 0 where
-  coils : ℕ
-  inputs : ℕ
-  registers : ℕ
-  whole : record { coils = coils; inputs = inputs; input_registers = 0; registers = registers } ≡ sizes
-  coils_pass : is_discrete_size coils ≡ true
-  inputs_pass : is_discrete_size inputs ≡ true
-  registers_pass : is_size registers ≡ true
-
-sizes_at-sized : (ms : Members) (sizes : Sizes) → sizes_at ms ≡ Ok sizes → Sized sizes
+sizes_at-pass : (ms : Members) (sizes : Sizes) → sizes_at ms ≡ Ok sizes → SizesPass sizes
 unfolding sizes_at
-sizes_at-sized ms sizes h =
-    let coils = or_fault-ok not_built (discrete_size_at (codes "coils") ms) (λ coils. or_fault not_built (discrete_size_at (codes "inputs") ms) >>= λ inputs. or_fault not_built (size_at (codes "registers") ms) >>= λ registers. Ok (sizes_from coils inputs registers)) sizes h in
-    let inputs = or_fault-ok not_built (discrete_size_at (codes "inputs") ms) (λ inputs. or_fault not_built (size_at (codes "registers") ms) >>= λ registers. Ok (sizes_from coils.0 inputs registers)) sizes coils.1.1 in
-    let registers = or_fault-ok not_built (size_at (codes "registers") ms) (λ registers. Ok (sizes_from coils.0 inputs.0 registers)) sizes inputs.1.1 in
-    record {
-      coils = coils.0;
-      inputs = inputs.0;
-      registers = registers.0;
-      whole = ok_value (sizes_from coils.0 inputs.0 registers.0) sizes registers.1.1;
-      coils_pass = discrete_size_at-is_discrete_size (codes "coils") ms coils.0 coils.1.0;
-      inputs_pass = discrete_size_at-is_discrete_size (codes "inputs") ms inputs.0 inputs.1.0;
-      registers_pass = size_in-is_size (get_member (codes "registers") ms) registers.0 registers.1.0;
-    }
-
-sized-passes : (sizes : Sizes) (node : ℕ) (panel : List Ref) (networks : List Network) → Sized sizes → Parts sizes node panel networks → passes_check (plan_of node sizes.coils sizes.inputs sizes.registers panel networks) ≡ true
-sized-passes sizes node panel networks s p =
-    let parts : Parts (record { coils = s.coils; inputs = s.inputs; input_registers = 0; registers = s.registers }) node panel networks = rw s.whole p in
-    rw (← s.whole) (plan_of-passes node s.coils s.inputs s.registers panel networks parts s.coils_pass s.inputs_pass s.registers_pass)
+sizes_at-pass ms sizes h =
+    let third = λ (coils : ℕ) (inputs : ℕ) (input_registers : ℕ). or_fault not_built (size_at (codes "registers") ms) >>= λ registers. Ok (sizes_from coils inputs input_registers registers) in
+    let second = λ (coils : ℕ) (inputs : ℕ). or_fault not_built (size_at (codes "input_registers") ms) >>= third coils inputs in
+    let first = λ (coils : ℕ). or_fault not_built (discrete_size_at (codes "inputs") ms) >>= second coils in
+    let coils = or_fault-ok not_built (discrete_size_at (codes "coils") ms) first sizes h in
+    let inputs = or_fault-ok not_built (discrete_size_at (codes "inputs") ms) (second coils.0) sizes coils.1.1 in
+    let input_registers = or_fault-ok not_built (size_at (codes "input_registers") ms) (third coils.0 inputs.0) sizes inputs.1.1 in
+    let registers = or_fault-ok not_built (size_at (codes "registers") ms) (λ registers. Ok (sizes_from coils.0 inputs.0 input_registers.0 registers)) sizes input_registers.1.1 in
+    let same : sizes_from coils.0 inputs.0 input_registers.0 registers.0 ≡ sizes = ok_value (sizes_from coils.0 inputs.0 input_registers.0 registers.0) sizes registers.1.1 in
+    let passes : SizesPass (sizes_from coils.0 inputs.0 input_registers.0 registers.0) = record {
+      coils = discrete_size_at-is_discrete_size (codes "coils") ms coils.0 coils.1.0;
+      inputs = discrete_size_at-is_discrete_size (codes "inputs") ms inputs.0 inputs.1.0;
+      input_registers = size_at-is_size (codes "input_registers") ms input_registers.0 input_registers.1.0;
+      registers = size_at-is_size (codes "registers") ms registers.0 registers.1.0;
+    } in
+    rw (← same) passes
 
 controller_of-passes : (ms : Members) (plan : ControllerPlan) → controller_of ms ≡ Ok plan → (passes_check plan ≡ true) × (length plan.segments ≡ 1)
 unfolding controller_of
 controller_of-passes ms plan h =
-    let made = λ (node : ℕ) (sizes : Sizes) (panel : List Ref) (networks : List Network). plan_of node sizes.coils sizes.inputs sizes.registers panel networks in
-    let last = λ (node : ℕ) (sizes : Sizes) (panel : List Ref) (texts : List (List ℕ)). networks_of sizes texts >>= λ networks. Ok (made node sizes panel networks) in
+    let last = λ (node : ℕ) (sizes : Sizes) (panel : List Ref) (texts : List (List ℕ)). networks_of sizes texts >>= λ networks. Ok (plan_of node sizes panel networks) in
     let third = λ (node : ℕ) (sizes : Sizes). panel_at sizes ms >>= λ panel. network_texts ms >>= last node sizes panel in
     let second = λ (node : ℕ). sizes_at ms >>= λ sizes. unless (has_first_order ms) not_built >>= λ orders. third node sizes in
     let keys = unless-ok (has_only controller_keys ms) not_built (λ keys. or_fault not_built (number_at (codes "node") 1 64 ms) >>= second) plan h in
@@ -134,8 +129,8 @@ controller_of-passes ms plan h =
     let orders = unless-ok (has_first_order ms) not_built (λ orders. third node.0 sizes.0) plan sizes.1.1 in
     let panel = step-ok (panel_at sizes.0 ms) (λ panel. network_texts ms >>= last node.0 sizes.0 panel) plan orders.1 in
     let texts = step-ok (network_texts ms) (last node.0 sizes.0 panel.0) plan panel.1.1 in
-    let networks = step-ok (networks_of sizes.0 texts.0) (λ networks. Ok (made node.0 sizes.0 panel.0 networks)) plan texts.1.1 in
-    let same : plan_of node.0 sizes.0.coils sizes.0.inputs sizes.0.registers panel.0 networks.0 ≡ plan = ok_value (made node.0 sizes.0 panel.0 networks.0) plan networks.1.1 in
+    let networks = step-ok (networks_of sizes.0 texts.0) (λ networks. Ok (plan_of node.0 sizes.0 panel.0 networks)) plan texts.1.1 in
+    let same : plan_of node.0 sizes.0 panel.0 networks.0 ≡ plan = ok_value (plan_of node.0 sizes.0 panel.0 networks.0) plan networks.1.1 in
     let value = some-step (number_of 1 64) (get_member (codes "node") ms) node.0 node.1.0 in
     let read = networks_of-passes sizes.0 texts.0 networks.0 networks.1.0 in
     let parts : Parts sizes.0 node.0 panel.0 networks.0 = record {
@@ -144,31 +139,47 @@ controller_of-passes ms plan h =
       networks_pass = read.0;
       coils = read.1;
     } in
-    rw (← same) (sized-passes sizes.0 node.0 panel.0 networks.0 (sizes_at-sized ms sizes.0 sizes.1.0) parts, refl)
+    rw (← same) (plan_of-passes node.0 sizes.0 panel.0 networks.0 (sizes_at-pass ms sizes.0 sizes.1.0) parts, refl {a = 1})
 
--- a plant in a document is that of the table of its controller
-plant_in-table : (top : Members) (plant : Plant) → plant_in top ≡ Ok plant → (table : Members) × ((controller_of table >>= λ controller. Ok (record { controllers = controller ∷ [] })) ≡ Ok plant)
+-- what a plant in a document is read from: a scan time, and the table of its controller
+record IsReadFrom (plant : Plant) : Type 0 where
+  scan_time : ℕ
+  table : Members
+  within : nat_le 1 scan_time && nat_le scan_time 1000 ≡ true
+  whole : (controller_of table >>= λ controller. Ok (record { scan_time = scan_time; controllers = controller ∷ [] })) ≡ Ok plant
+
+plant_in-read : (top : Members) (plant : Plant) → plant_in top ≡ Ok plant → IsReadFrom plant
 unfolding plant_in
-plant_in-table top plant h =
-    let last = λ (table : Members). controller_of table >>= λ controller. Ok (record { controllers = controller ∷ [] }) in
-    let third = λ (controllers : Data). or_fault not_built (only_table controllers) >>= last in
-    let second = λ (version : ℕ). or_fault not_built (get_member (codes "controller") top) >>= third in
-    let keys = unless-ok (has_only (codes "version" ∷ codes "controller" ∷ []) top) not_built (λ keys. or_fault not_built (number_at (codes "version") 1 1 top) >>= second) plant h in
+plant_in-read top plant h =
+    let last = λ (scan_time : ℕ) (table : Members). controller_of table >>= λ controller. Ok (record { scan_time = scan_time; controllers = controller ∷ [] }) in
+    let fourth = λ (scan_time : ℕ) (controllers : Data). or_fault not_built (only_table controllers) >>= last scan_time in
+    let third = λ (scan_time : ℕ). or_fault not_built (get_member (codes "controller") top) >>= fourth scan_time in
+    let second = λ (version : ℕ). or_fault not_built (number_at_or (codes "scan_time") 10 1 1000 top) >>= third in
+    let keys = unless-ok (has_only plant_keys top) not_built (λ keys. or_fault not_built (number_at (codes "version") 1 1 top) >>= second) plant h in
     let version = or_fault-ok not_built (number_at (codes "version") 1 1 top) second plant keys.1 in
-    let controllers = or_fault-ok not_built (get_member (codes "controller") top) third plant version.1.1 in
-    let table = or_fault-ok not_built (only_table controllers.0) last plant controllers.1.1 in
-    (table.0, table.1.1)
+    let scan_time = or_fault-ok not_built (number_at_or (codes "scan_time") 10 1 1000 top) third plant version.1.1 in
+    let controllers = or_fault-ok not_built (get_member (codes "controller") top) (fourth scan_time.0) plant scan_time.1.1 in
+    let table = or_fault-ok not_built (only_table controllers.0) (last scan_time.0) plant controllers.1.1 in
+    record {
+      scan_time = scan_time.0;
+      table = table.0;
+      within = number_or-within 10 1 1000 (get_member (codes "scan_time") top) scan_time.0 refl scan_time.1.0;
+      whole = table.1.1;
+    }
 
--- the plant of bytes has one controller, and its plan passes
+from_tests : (n : ℕ) → nat_le 1 n && nat_le n 1000 ≡ true → (1 ≤ n) × (n ≤ 1000)
+from_tests n h = let tests = and_parts (nat_le 1 n) (nat_le n 1000) h in (grind (arith, nat_tests, tests.0), grind (arith, nat_tests, tests.1))
+
+-- the plant of bytes has a scan time of 1 to 1000 ticks and one controller, and its plan passes
 pub plant_of-runnable : (bytes : List ℕ) (plant : Plant) → plant_of bytes ≡ Ok plant → IsRunnable plant
 unfolding plant_of
 plant_of-runnable bytes plant h =
     let top = or_fault-ok bad_toml (document_of bytes) plant_in plant h in
-    let controllers = plant_in-table top.0 plant top.1.1 in
-    let controller = step-ok (controller_of controllers.0) (λ controller. Ok (record { controllers = controller ∷ [] })) plant controllers.1 in
-    let same : record { controllers = controller.0 ∷ [] } ≡ plant = ok_value (record { controllers = controller.0 ∷ [] }) plant controller.1.1 in
-    let passes = controller_of-passes controllers.0 controller.0 controller.1.0 in
-    rw (← same) (record { controller = controller.0; only = refl; passes = passes.0; segments = passes.1 })
+    let read = plant_in-read top.0 plant top.1.1 in
+    let controller = step-ok (controller_of read.table) (λ controller. Ok (record { scan_time = read.scan_time; controllers = controller ∷ [] })) plant read.whole in
+    let same : record { scan_time = read.scan_time; controllers = controller.0 ∷ [] } ≡ plant = ok_value (record { scan_time = read.scan_time; controllers = controller.0 ∷ [] }) plant controller.1.1 in
+    let passes = controller_of-passes read.table controller.0 controller.1.0 in
+    rw (← same) (record { scan_time = from_tests read.scan_time read.within; controller = controller.0; only = refl; passes = passes.0; segments = passes.1 })
 
 -- what is read of a document is what is read of its bytes
 pub plant_of-document : (bytes : List ℕ) (top : Members) (r : Result Plant LoadEnd) → or_fault bad_toml (document_of bytes) ≡ Ok top → Gives (λ plant. plant) r (plant_in top) → Gives (λ plant. plant) r (plant_of bytes)

@@ -14,8 +14,9 @@ unfoldable pub sizes_at : Members → Result Sizes Refusal
 sizes_at ms = do
   coils ← or_fault not_built (discrete_size_at (codes "coils") ms)
   inputs ← or_fault not_built (discrete_size_at (codes "inputs") ms)
+  input_registers ← or_fault not_built (size_at (codes "input_registers") ms)
   registers ← or_fault not_built (size_at (codes "registers") ms)
-  Ok (record { coils = coils; inputs = inputs; input_registers = 0; registers = registers })
+  Ok (record { coils = coils; inputs = inputs; input_registers = input_registers; registers = registers })
 
 -- The order that solves the first segment in each scan, with no control and no drops. This project's own.
 abbrev pub first_order : List (List ℕ)

@@ -1,7 +1,15 @@
 -- How many references of each kind a controller has.
-use Rattle.plant_types.specs.Sizes.{Sizes}
+use Rattle.std.specs.Prelude.{Bool, List}
+use Rattle.std.specs.List.{list_all}
+use Rattle.plant_types.specs.Sizes.{Sizes, has_run}
+use Rattle.plant_types.specs.Operands.{Named}
 use Rattle.plant_loader.specs.declared.counts.Counts.{Counts}
 
 -- The sizes that a controller's counts make. This project's own.
 abbrev pub sizes_of : Counts → Sizes
-sizes_of counts = record { coils = counts.coils; inputs = counts.inputs; input_registers = 0; registers = counts.registers }
+sizes_of counts =
+    record { coils = counts.coils; inputs = counts.inputs; input_registers = counts.input_registers; registers = counts.registers }
+
+-- Each of these references stands in a map of these sizes, with all that is used from it on. This project's own.
+abbrev pub have_room : Sizes → List Named → Bool
+have_room sizes names = list_all (λ named. has_run sizes named.at named.count) names

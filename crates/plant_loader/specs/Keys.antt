@@ -22,13 +22,17 @@ number_of low high _ = None
 abbrev pub number_at : List ℕ → ℕ → ℕ → Members → Option ℕ
 number_at key low high ms = option_and_then (number_of low high) (get_member key ms)
 
--- A number of references, 0 where its key is not there. This project's own.
-abbrev pub size_in : Option Data → Option ℕ
-size_in None = Some 0
-size_in (Some d) = number_of 0 9984 d
+-- The number at a key, or a default where the key is not there. This project's own.
+abbrev pub number_or : ℕ → ℕ → ℕ → Option Data → Option ℕ
+number_or default low high None = Some default
+number_or default low high (Some d) = number_of low high d
 
+abbrev pub number_at_or : List ℕ → ℕ → ℕ → ℕ → Members → Option ℕ
+number_at_or key default low high ms = number_or default low high (get_member key ms)
+
+-- A number of references, 0 where its key is not there. This project's own.
 abbrev pub size_at : List ℕ → Members → Option ℕ
-size_at key ms = size_in (get_member key ms)
+size_at key ms = number_at_or key 0 0 9984 ms
 
 -- A number of discretes, which come in sixteens. This project's own.
 abbrev pub in_sixteens : ℕ → Option ℕ

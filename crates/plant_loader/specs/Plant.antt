@@ -1,14 +1,17 @@
 -- The plant that the bytes of a plant file stand for, or why they are refused.
-use Rattle.std.specs.Prelude.{◌≡◌, codes, ℕ, true, if◌then◌else◌, List, [], ◌∷◌, length, Option, None, Result, Ok}
+use Rattle.std.specs.Prelude.{◌≡◌, ◌≤◌, codes, ℕ, true, if◌then◌else◌, List, [], ◌∷◌, length, Option, None, Result, Ok}
 use Rattle.std.specs.Str.{is_utf8}
 use Rattle.toml.specs.Data.{Members, get_member}
 use Rattle.toml.specs.Parse.{parse_document}
+use Rattle.plant_types.specs.declared.reference.Ref.{Ref}
+use Rattle.plant_types.specs.declared.network.Network.{Network}
 use Rattle.plant_types.specs.declared.plan.ControllerPlan.{ControllerPlan}
 use Rattle.plant_types.specs.declared.plan.Plant.{Plant}
+use Rattle.plant_types.specs.Sizes.{Sizes}
 use Rattle.plant_types.specs.Checks.{passes_check}
 use Rattle.cell_text.specs.Steps.{◌>>=◌, or_fault, unless}
 use Rattle.plant_loader.specs.Refusals.{Refusal, bad_toml, not_built}
-use Rattle.plant_loader.specs.Keys.{has_only, number_at, only_table}
+use Rattle.plant_loader.specs.Keys.{has_only, number_at, number_at_or, only_table}
 use Rattle.plant_loader.specs.Controller.{sizes_at, has_first_order, panel_at, network_texts}
 use Rattle.plant_loader.specs.Pieces.{networks_of}
 
@@ -19,7 +22,19 @@ document_of bytes = if is_utf8 bytes then parse_document bytes else None
 -- The keys of a controller. This project's own.
 abbrev pub controller_keys : List (List ℕ)
 controller_keys =
-    codes "node" ∷ codes "coils" ∷ codes "inputs" ∷ codes "registers" ∷ codes "panel" ∷ codes "orders" ∷ codes "segment" ∷ []
+    codes "node" ∷ codes "coils" ∷ codes "inputs" ∷ codes "input_registers" ∷ codes "registers" ∷ codes "panel" ∷ codes "orders" ∷ codes "segment" ∷ []
+
+-- The plan of a controller of one segment. This project's own.
+abbrev pub plan_of : ℕ → Sizes → List Ref → List Network → ControllerPlan
+plan_of node sizes panel networks = record {
+  node = node;
+  coils = sizes.coils;
+  inputs = sizes.inputs;
+  input_registers = sizes.input_registers;
+  registers = sizes.registers;
+  panel = panel;
+  segments = record { networks = networks } ∷ [];
+}
 
 -- The plan of a controller: its table apart from the pieces, then the pieces in their order. This project's own.
 unfoldable pub controller_of : Members → Result ControllerPlan Refusal
@@ -31,24 +46,30 @@ controller_of ms = do
   panel ← panel_at sizes ms
   texts ← network_texts ms
   networks ← networks_of sizes texts
-  Ok (record { node = node; coils = sizes.coils; inputs = sizes.inputs; registers = sizes.registers; panel = panel; segments = record { networks = networks } ∷ [] })
+  Ok (plan_of node sizes panel networks)
 
--- The plant of a document: version 1 and one controller. This project's own.
+-- The keys of a plant. This project's own.
+abbrev pub plant_keys : List (List ℕ)
+plant_keys = codes "version" ∷ codes "scan_time" ∷ codes "controller" ∷ []
+
+-- The plant of a document: version 1, a scan time of 1 to 1000 ticks or the default of 10, and one controller. This project's own.
 unfoldable pub plant_in : Members → Result Plant Refusal
 plant_in top = do
-  keys ← unless (has_only (codes "version" ∷ codes "controller" ∷ []) top) not_built
+  keys ← unless (has_only plant_keys top) not_built
   version ← or_fault not_built (number_at (codes "version") 1 1 top)
+  scan_time ← or_fault not_built (number_at_or (codes "scan_time") 10 1 1000 top)
   controllers ← or_fault not_built (get_member (codes "controller") top)
   table ← or_fault not_built (only_table controllers)
   controller ← controller_of table
-  Ok (record { controllers = controller ∷ [] })
+  Ok (record { scan_time = scan_time; controllers = controller ∷ [] })
 
 -- The plant of the bytes of a plant file, or the first fault with its place. This project's own.
 unfoldable pub plant_of : List ℕ → Result Plant Refusal
 plant_of bytes = or_fault bad_toml (document_of bytes) >>= plant_in
 
--- A plant can be run: it has one controller, whose plan passes its tests and has one segment. This project's own.
+-- A plant can be run: a scan takes 1 to 1000 ticks, and it has one controller, whose plan passes its tests and has one segment. This project's own.
 pub record IsRunnable (plant : Plant) : Type 0 where
+  pub scan_time : (1 ≤ plant.scan_time) × (plant.scan_time ≤ 1000)
   pub controller : ControllerPlan
   pub only : plant.controllers ≡ controller ∷ []
   pub passes : passes_check controller ≡ true

@@ -11,10 +11,10 @@ fn node_count(element: Element) -> u16
     ensures { result ≡ node_count element }
 {
     match element {
-        Element::Open(_) => 1,
-        Element::Closed(_) => 1,
-        Element::Coil(_) => 1,
-        Element::Wire => 1,
+        Element::Open(_) | Element::Closed(_) | Element::Rise(_) | Element::Fall(_) => 1,
+        Element::Coil(_) | Element::Latch(_) | Element::Wire => 1,
+        Element::Timer { .. } | Element::Counter { .. } => 2,
+        Element::Math { .. } | Element::Move { .. } | Element::Matrix { .. } => 3,
     }
 }
 
@@ -23,7 +23,7 @@ pub fn driven_by(element: Element) -> Option<Ref>
     ensures { result ≡ driven_by element }
 {
     match element {
-        Element::Coil(at) => Some(at),
+        Element::Coil(at) | Element::Latch(at) => Some(at),
         _ => None,
     }
 }

@@ -26,12 +26,16 @@ pub fn counts_at(table: &Table) -> Result<Counts, LoadEnd>
     let Some(inputs) = discrete_size_at(table, "inputs") else {
         return Err(not_built());
     };
+    let Some(input_registers) = size_at(table, "input_registers") else {
+        return Err(not_built());
+    };
     let Some(registers) = size_at(table, "registers") else {
         return Err(not_built());
     };
     Ok(Counts {
         coils,
         inputs,
+        input_registers,
         registers,
     })
 }

@@ -5,10 +5,11 @@ ghost use Rattle.std.specs.Str.{bytes_eq};
 ghost use Rattle.std.specs.List.{list_any, list_all};
 ghost use Rattle.toml.specs.Data.{get_member, as_array};
 ghost use Rattle.toml.specs.View.{view, items_view, table_view, array_view};
-ghost use Rattle.plant_loader.specs.Keys.{has_only, number_of, number_at, size_in, size_at, in_sixteens, discrete_size_at, items_up_to, only_item, only_table};
+ghost use Rattle.plant_loader.specs.Keys.{has_only, number_of, number_at, number_at_or, size_at, in_sixteens, discrete_size_at, items_up_to, only_item, only_table};
 
 use toml::{Table, Value};
 
+/// What stands at a key.
 pub fn value_at<'a>(table: &'a Table, key: &str) -> Option<&'a Value>
     ensures { option_map (λ v. view v.now) result ≡ get_member key.now (table_view table.now) }
 {
@@ -32,6 +33,7 @@ fn number_of(value: &Value, low: u16, high: u16) -> Option<u16>
     }
 }
 
+/// The number at a key that has to be there.
 pub fn number_at(table: &Table, key: &str, low: u16, high: u16) -> Option<u16>
     ensures { result ≡ number_at key.now low high (table_view table.now) }
 {
@@ -41,14 +43,21 @@ pub fn number_at(table: &Table, key: &str, low: u16, high: u16) -> Option<u16>
     }
 }
 
+/// The number at a key, or a default where the key is not there.
+pub fn number_at_or(table: &Table, key: &str, default: u16, low: u16, high: u16) -> Option<u16>
+    ensures { result ≡ number_at_or key.now default low high (table_view table.now) }
+{
+    match value_at(table, key) {
+        Some(value) => number_of(value, low, high),
+        None => Some(default),
+    }
+}
+
 /// A number of references, 0 where its key is not there.
 pub fn size_at(table: &Table, key: &str) -> Option<u16>
     ensures { result ≡ size_at key.now (table_view table.now) }
 {
-    match value_at(table, key) {
-        Some(value) => number_of(value, 0, 9984),
-        None => Some(0),
-    }
+    number_at_or(table, key, 0, 0, 9984)
 }
 
 /// A number of discretes, which come in sixteens.

@@ -8,13 +8,26 @@ ghost use Rattle.plant_loader.specs.Refusals.{Gives, bad_toml};
 ghost use Rattle.plant_loader.specs.Plant.{document_of, controller_of, plant_in, plant_of, IsRunnable};
 
 use crate::controller::{counts_at, has_first_order, network_texts, panel_at};
-use crate::keys::{has_only, number_at, only_table, value_at};
+use crate::keys::{has_only, number_at, number_at_or, only_table, value_at};
 use crate::pieces::networks_of;
 use crate::refusal::{LoadEnd, bad_toml, not_built};
 use plant_types::{ControllerPlan, List, Network, Plant, Segment};
 use std::alloc::Global;
 use std::str;
 use toml::Table;
+
+const PLANT_KEYS: [&str; 3] = ["version", "scan_time", "controller"];
+
+const CONTROLLER_KEYS: [&str; 8] = [
+    "node",
+    "coils",
+    "inputs",
+    "input_registers",
+    "registers",
+    "panel",
+    "orders",
+    "segment",
+];
 
 fn document(alloc: Global, bytes: &[u8]) -> Result<Table, LoadEnd>
     ensures { Gives table_view result (or_fault bad_toml (document_of bytes.now)) }
@@ -48,18 +61,7 @@ fn only_segment(alloc: Global, networks: List<Network>) -> Result<List<Segment>,
 fn controller_of(alloc: Global, table: &Table) -> Result<ControllerPlan, LoadEnd>
     ensures { Gives (λ plan. plan) result (controller_of (table_view table.now)) }
 {
-    if !has_only(
-        table,
-        &[
-            "node",
-            "coils",
-            "inputs",
-            "registers",
-            "panel",
-            "orders",
-            "segment",
-        ],
-    ) {
+    if !has_only(table, &CONTROLLER_KEYS) {
         return Err(not_built());
     }
     let Some(node) = number_at(table, "node", 1, 64) else {
@@ -77,37 +79,48 @@ fn controller_of(alloc: Global, table: &Table) -> Result<ControllerPlan, LoadEnd
         node: node as u8,
         coils: counts.coils,
         inputs: counts.inputs,
+        input_registers: counts.input_registers,
         registers: counts.registers,
         panel,
         segments,
     })
 }
 
-fn only_controller(alloc: Global, controller: ControllerPlan) -> Result<Plant, LoadEnd>
-    ensures { MatchResult result (λ plant. plant ≡ record { controllers = controller ∷ [] }) (λ end. end ≡ LoadEnd.NoMemory) }
+fn only_controller(
+    alloc: Global,
+    scan_time: u16,
+    controller: ControllerPlan,
+) -> Result<Plant, LoadEnd>
+    ensures { MatchResult result (λ plant. plant ≡ record { scan_time = scan_time; controllers = controller ∷ [] }) (λ end. end ≡ LoadEnd.NoMemory) }
 {
     let mut controllers = List::new(alloc);
     if controllers.push(controller).is_err() {
         return Err(LoadEnd::NoMemory);
     }
-    Ok(Plant { controllers })
+    Ok(Plant {
+        scan_time: u32::from(scan_time),
+        controllers,
+    })
 }
 
 #[tactic(auto, unfolding(crate::specs::Plant::plant_in))]
 fn plant_in(alloc: Global, top: &Table) -> Result<Plant, LoadEnd>
     ensures { Gives (λ plant. plant) result (plant_in (table_view top.now)) }
 {
-    if !has_only(top, &["version", "controller"]) {
+    if !has_only(top, &PLANT_KEYS) {
         return Err(not_built());
     }
     let Some(_) = number_at(top, "version", 1, 1) else {
+        return Err(not_built());
+    };
+    let Some(scan_time) = number_at_or(top, "scan_time", 10, 1, 1000) else {
         return Err(not_built());
     };
     let Some(controllers) = value_at(top, "controller") else {
         return Err(not_built());
     };
     match only_table(controllers) {
-        Some(table) => only_controller(alloc, controller_of(alloc, table)?),
+        Some(table) => only_controller(alloc, scan_time, controller_of(alloc, table)?),
         None => Err(not_built()),
     }
 }

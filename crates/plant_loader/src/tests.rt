@@ -1,36 +1,41 @@
 use super::*;
-use plant_types::{
-    Cell, ControllerPlan, Element, Part, Place, Plant, PlantFault, Ref, RefKind, Short,
-};
+use plant_types::{Cell, ControllerPlan, Element, MoveOp, Network, Plant, Ref, RefKind, Short};
 use std::alloc::{AllocError, Global};
 use std::test::Fail;
 
-const PLANT: Place = Place {
-    part: Part::Plant,
-    at: [0; 4],
-};
-
-const NOT_BUILT: Option<LoadEnd> = Some(LoadEnd::Refused(PlantFault::NotBuilt, PLANT));
-
-// A controller of 16 coils, 16 inputs and 100 registers, with these lines of its table and these
-// network texts.
+// A plant of a scan time and one controller of 16 coils, 16 inputs, 10 input registers and 100
+// registers, with these lines of its table and these network texts.
 fn plant_text(alloc: Global, lines: &str, networks: &str) -> Result<String, AllocError> {
     format!(in alloc;
-        "version = 1\n[[controller]]\nnode = 1\ncoils = 16\ninputs = 16\nregisters = 100\norders = [\"1 - - -\"]\n{lines}\n[[controller.segment]]\nnetworks = [{networks}]\n"
+        "version = 1\nscan_time = 25\n[[controller]]\nnode = 1\ncoils = 16\ninputs = 16\ninput_registers = 10\nregisters = 100\norders = [\"1 - - -\"]\n{lines}\n[[controller.segment]]\nnetworks = [{networks}]\n"
     )
 }
 
-// Why these bytes are refused.
-fn refusal(alloc: Global, bytes: &[u8]) -> Option<LoadEnd> {
+// Such a plant with one network, or more where the text parts them by `", "`.
+fn network_text(alloc: Global, network: &str) -> Result<String, AllocError> {
+    let networks = format!(in alloc; "\"{network}\"")?;
+    plant_text(alloc, "", networks.as_str())
+}
+
+// The fault and the place that a plant file is refused with, or that it is taken.
+fn answer_to(alloc: Global, bytes: &[u8]) -> Result<String, AllocError> {
     match load(alloc, bytes) {
-        Ok(_) => None,
-        Err(end) => Some(end),
+        Ok(_) => String::from_str(alloc, "taken"),
+        Err(LoadEnd::Refused(fault, place)) => format!(in alloc; "{fault} {place}"),
+        Err(LoadEnd::NoMemory) => String::from_str(alloc, "no memory"),
     }
 }
 
 fn coil(number: u16) -> Ref {
     Ref {
         kind: RefKind::Coil,
+        number,
+    }
+}
+
+fn register(number: u16) -> Ref {
+    Ref {
+        kind: RefKind::Register,
         number,
     }
 }
@@ -50,16 +55,21 @@ fn only_controller(plant: &Plant) -> Option<&ControllerPlan> {
     }
 }
 
+fn networks_of(plan: &ControllerPlan) -> Option<&[Network]> {
+    match plan.segments.as_slice() {
+        [only] => Some(only.networks.as_slice()),
+        _ => None,
+    }
+}
+
 fn has_network(plan: &ControllerPlan, panel: &[Ref], cells: &[Cell], shorts: &[Short]) -> bool {
-    let [segment] = plan.segments.as_slice() else {
-        return false;
-    };
-    let [network] = segment.networks.as_slice() else {
+    let Some([network]) = networks_of(plan) else {
         return false;
     };
     plan.node == 1
         && plan.coils == 16
         && plan.inputs == 16
+        && plan.input_registers == 10
         && plan.registers == 100
         && plan.panel.as_slice() == panel
         && network.cells.as_slice() == cells
@@ -67,36 +77,11 @@ fn has_network(plan: &ControllerPlan, panel: &[Ref], cells: &[Cell], shorts: &[S
 }
 
 #[test]
-fn plans_are_read(rt: HostRuntime) -> Result<(), Fail> {
+fn contacts_and_coils_are_read(rt: HostRuntime) -> Result<(), Fail> {
     let alloc = rt.alloc();
     let one = coil(1);
     let two = coil(2);
     let three = coil(3);
-    let input = Ref {
-        kind: RefKind::Input,
-        number: 1,
-    };
-    let text = plant_text(
-        alloc,
-        "panel = [\"00001\"]",
-        "\"1,1 NC 10001; 1,2 CO 00001\"",
-    )?;
-    let plant = load(alloc, text.as_bytes())
-        .ok()
-        .ok_or("a contact and a coil")?;
-    let plan = only_controller(&plant).ok_or("one controller")?;
-    assert!(rt;
-        has_network(
-            plan,
-            &[one],
-            &[
-                cell(1, 1, Element::Closed(input)),
-                cell(1, 2, Element::Coil(one))
-            ],
-            &[]
-        )
-    );
-
     let text = plant_text(
         alloc,
         "panel = [\"00001\", \"\\t00002 \", \"00003\"]",
@@ -120,7 +105,13 @@ fn plans_are_read(rt: HostRuntime) -> Result<(), Fail> {
         cell(7, 3, Element::Coil(one)),
     ];
     assert!(rt; has_network(plan, &[one, two, three], &cells, &[]));
+    Ok(())
+}
 
+#[test]
+fn shorts_are_read(rt: HostRuntime) -> Result<(), Fail> {
+    let alloc = rt.alloc();
+    let one = coil(1);
     let text = plant_text(
         alloc,
         "panel = [\"00001\", \"00007\"]",
@@ -147,134 +138,283 @@ fn plans_are_read(rt: HostRuntime) -> Result<(), Fail> {
     Ok(())
 }
 
-// Texts of networks that are read: blanks, line ends and empty pieces wherever they may stand.
-const TAKEN: [&str; 10] = [
-    "",
-    "\"\"",
-    "\"\", \"1,1 H\"",
-    "\" ;; \\t ; 1,1\\t \\tNO  00016 ;\"",
-    "\"1,1 H\\n1,2 CO 00001\"",
-    "\"1,1 H\\r\\n1,2 CO 00001\\r\\n\"",
-    "\"7,11 CO 00001\"",
-    "\"1,1 CO 00001; 2,2 CO 00002\"",
-    "\"1,1 NO 10016; 1,1 V\"",
-    "\"6,11 V; 6,10 V\"",
-];
-
-// Texts of networks that are refused: the fault, and the network and the cell that has it.
-const REFUSED: [(&str, PlantFault, u32, u32); 46] = [
-    ("\"1,1\"", PlantFault::BadCell, 1, 1),
-    ("\"1,1 \"", PlantFault::BadCell, 1, 1),
-    ("\"0,1 H\"", PlantFault::BadCell, 1, 1),
-    ("\"8,1 H\"", PlantFault::BadCell, 1, 1),
-    ("\"1,0 H\"", PlantFault::BadCell, 1, 1),
-    ("\"1,12 H\"", PlantFault::BadCell, 1, 1),
-    ("\"01,1 H\"", PlantFault::BadCell, 1, 1),
-    ("\"1,01 H\"", PlantFault::BadCell, 1, 1),
-    ("\"1;1 H\"", PlantFault::BadCell, 1, 1),
-    ("\"1, 1 H\"", PlantFault::BadCell, 1, 1),
-    ("\"1,1,1 H\"", PlantFault::BadCell, 1, 1),
-    ("\"+1,1 H\"", PlantFault::BadCell, 1, 1),
-    ("\"1,1 h\"", PlantFault::BadCell, 1, 1),
-    ("\"1,1 HH\"", PlantFault::BadCell, 1, 1),
-    ("\"1,1 H H\"", PlantFault::BadCell, 1, 1),
-    ("\"1,1 NO\"", PlantFault::BadCell, 1, 1),
-    ("\"1,1 NO 00001 00002\"", PlantFault::BadCell, 1, 1),
-    ("\"1,1 NO 0001\"", PlantFault::BadCell, 1, 1),
-    ("\"1,1 NO 1\"", PlantFault::BadCell, 1, 1),
-    ("\"1,1 NO 000001\"", PlantFault::BadCell, 1, 1),
-    ("\"7,1 V\"", PlantFault::BadCell, 1, 1),
-    ("\"1,1 V 1\"", PlantFault::BadCell, 1, 1),
-    ("\"1,1 H;\\r\"", PlantFault::BadCell, 1, 2),
-    ("\"1,1 H\\r;1,2 H\"", PlantFault::BadCell, 1, 1),
-    ("\"1,1\\u00a0H\"", PlantFault::BadCell, 1, 1),
-    ("\";; 1,1 H;\\t;\\n; 8,1 H\"", PlantFault::BadCell, 1, 2),
-    ("\"1,1 NO 00000\"", PlantFault::BadRef, 1, 1),
-    ("\"1,1 NO 00017\"", PlantFault::BadRef, 1, 1),
-    ("\"1,1 NO 09985\"", PlantFault::BadRef, 1, 1),
-    ("\"1,1 NO 20001\"", PlantFault::BadRef, 1, 1),
-    ("\"1,1 NO 30001\"", PlantFault::BadRef, 1, 1),
-    ("\"1,1 NC 40001\"", PlantFault::BadRef, 1, 1),
-    ("\"1,1 NC 10017\"", PlantFault::BadRef, 1, 1),
-    ("\"1,1 CO 10001\"", PlantFault::BadRef, 1, 1),
-    ("\"1,1 CO 00017\"", PlantFault::BadRef, 1, 1),
-    ("\"1,1 H; 1,1 NO 00017\"", PlantFault::BadRef, 1, 2),
-    ("\"1,1 V; 1,1 V\"", PlantFault::BadShape, 1, 2),
-    ("\"1,1 H; 1,1 NO 00001\"", PlantFault::BadShape, 1, 2),
-    ("\"1,1 CO 00001; 1,2 H\"", PlantFault::BadShape, 1, 2),
-    ("\"1,2 H; 1,1 CO 00001\"", PlantFault::BadShape, 1, 2),
-    ("\"1,1 CO 00001; 1,1 CO 00001\"", PlantFault::BadShape, 1, 2),
-    (
-        "\"1,1 H; 1,2 CO 00001; 2,1 H; 2,2 CO 00001\"",
-        PlantFault::CoilTwice,
-        1,
-        4,
-    ),
-    (
-        "\"1,1 CO 00002\", \"1,1 V; 1,1 CO 00002\"",
-        PlantFault::CoilTwice,
-        2,
-        2,
-    ),
-    ("\"1,1 PT 10001\"", PlantFault::NotBuilt, 1, 1),
-    ("\"9,9 MSTR\"", PlantFault::NotBuilt, 1, 1),
-    ("\"1,1 H; 1,2 x; 1,3 ADD\"", PlantFault::BadCell, 1, 2),
-];
+// Every name once: relays, timers and counters, arithmetic, moves, matrix blocks.
+const EVERY_NAME: &str = r#"
+"""
+1,1 NO 00001; 1,2 NC 10001; 1,3 PT 00002; 1,4 NT 10002; 1,5 H; 1,5 V
+1,6 CO 00003; 2,6 CL 00004
+""", """
+1,1 T1.0 10 40001; 3,1 T0.1 30001 40002; 5,1 T.01 40003 40004
+1,2 UCTR 5 40005; 3,2 DCTR 5 40006
+""", """
+1,1 ADD 1 40001 40010; 4,1 SUB 9999 1 40011; 1,2 MUL 2 3 40012; 4,2 DIV 40020 3 40014
+""", """
+1,1 R>T 40001 40030 5; 4,1 T>R 40030 40040 5; 1,2 T>T 40030 40050 5; 4,2 BLKM 40030 40060 5
+1,3 FIN 40001 40070 5; 4,3 FOUT 40070 40080 5; 1,4 SRCH 40030 40085 5
+""", """
+1,1 AND 40001 40002 1; 4,1 OR 40001 40002 1; 1,2 XOR 40001 40002 1; 4,2 COMP 40001 40002 1
+1,3 BROT 40001 40002 1; 4,3 CMPR 40001 40002 1; 1,4 MBIT 1 40001 1; 4,4 SENS 40001 40002 1
+"""
+"#;
 
 #[test]
-fn networks_are_taken_or_refused(rt: HostRuntime) -> Result<(), Fail> {
+fn every_name_is_read(rt: HostRuntime) -> Result<(), Fail> {
     let alloc = rt.alloc();
-    for networks in &TAKEN {
-        let text = plant_text(alloc, "", networks)?;
-        assert_eq!(rt; refusal(alloc, text.as_bytes()), None, "{networks}");
-    }
-    for (networks, fault, network, cell) in &REFUSED {
-        let text = plant_text(alloc, "", networks)?;
-        let place = Place {
-            part: Part::Cell,
-            at: [1, 1, *network, *cell],
-        };
-        let want = Some(LoadEnd::Refused(*fault, place));
-        assert_eq!(rt; refusal(alloc, text.as_bytes()), want, "{networks}");
-    }
-    // A document that is not of the form is refused before its pieces are read.
-    let text = plant_text(alloc, "panel = [\"00017\"]", "\"1,1 x\"")?;
-    assert_eq!(rt; refusal(alloc, text.as_bytes()), NOT_BUILT);
-    let text = plant_text(alloc, "", "\"1,1 x\", 1")?;
-    assert_eq!(rt; refusal(alloc, text.as_bytes()), NOT_BUILT);
+    let text = plant_text(alloc, "", EVERY_NAME)?;
+    let plant = load(alloc, text.as_bytes()).ok().ok_or("every name")?;
+    assert_eq!(rt; plant.scan_time, 25);
+    let plan = only_controller(&plant).ok_or("one controller")?;
+    assert_eq!(rt; plan.input_registers, 10);
+    let networks = networks_of(plan).ok_or("one segment")?;
+    let [relays, counts, sums, moves, matrices] = networks else {
+        return Err(Fail::from("five networks"));
+    };
+    assert_eq!(rt; relays.cells.as_slice().len(), 7);
+    assert_eq!(rt; relays.shorts.as_slice().len(), 1);
+    assert_eq!(rt; counts.cells.as_slice().len(), 5);
+    assert_eq!(rt; sums.cells.as_slice().len(), 4);
+    assert_eq!(rt; moves.cells.as_slice().len(), 7);
+    assert_eq!(rt; matrices.cells.as_slice().len(), 8);
+    let table_to_register = Element::Move {
+        op: MoveOp::TableToReg,
+        top: register(30),
+        mid: register(40),
+        length: 5,
+    };
+    assert_eq!(rt;
+        moves.cells.as_slice().get(1).copied(),
+        Some(cell(4, 1, table_to_register))
+    );
     Ok(())
 }
 
-// The end of a plant: its orders and its one segment.
-const END: &str = "orders = [\"1 - - -\"]\n[[controller.segment]]\nnetworks = []\n";
-
-// What stands before that end in plants that are refused.
-const NOT_OF_THE_FORM: [&str; 22] = [
-    "[[controller]]\nnode = 1\n",
-    "version = 2\n[[controller]]\nnode = 1\n",
-    "version = \"1\"\n[[controller]]\nnode = 1\n",
-    "version = 1\nscan_time = 10\n[[controller]]\nnode = 1\n",
-    "version = 1\n[[controller]]\n",
-    "version = 1\n[[controller]]\nnode = 0\n",
-    "version = 1\n[[controller]]\nnode = 65\n",
-    "version = 1\n[[controller]]\nnode = -1\n",
-    "version = 1\n[[controller]]\nnode = 1.0\n",
-    "version = 1\n[[controller]]\nnode = 1\n[[controller]]\nnode = 2\n",
-    "version = 1\n[controller]\nnode = 1\n",
-    "version = 1\n[[controller]]\nnode = 1\ncoils = 9985\n",
-    "version = 1\n[[controller]]\nnode = 1\ncoils = 9992\n",
-    "version = 1\n[[controller]]\nnode = 1\ncoils = 17\n",
-    "version = 1\n[[controller]]\nnode = 1\ninputs = 8\n",
-    "version = 1\n[[controller]]\nnode = 1\nregisters = 9985\n",
-    "version = 1\n[[controller]]\nnode = 1\ninput_registers = 1\n",
-    "version = 1\n[[controller]]\nnode = 1\npanel = \"00001\"\n",
-    "version = 1\n[[controller]]\nnode = 1\npanel = [\"00001\"]\n",
-    "version = 1\n[[controller]]\nnode = 1\ncoils = 16\npanel = [\"00001 00002\"]\n",
-    "version = 1\n[[controller]]\nnode = 1\ncoils = 16\npanel = [\"00017\"]\n",
-    "version = 1\n[[controller]]\nnode = 1\ncoils = 16\npanel = [1]\n",
+// Texts of networks that are taken: blanks, line ends and empty pieces wherever they may stand, and
+// what just fits.
+const TAKEN: [&str; 23] = [
+    "",
+    "\", \"1,1 H",
+    " ;; \\t ; 1,1\\t \\tNO  00016 ;",
+    "1,1 H\\n1,2 CO 00001",
+    "1,1 H\\r\\n1,2 CO 00001\\r\\n",
+    "7,11 CO 00001",
+    "1,1 CO 00001; 2,2 CL 00002",
+    "1,1 NO 10016; 1,1 V",
+    "6,11 V; 6,10 V",
+    "5,1 ADD 1 30010 40100; 4,1 H; 6,2 T1.0 0 40100",
+    "1,1 ADD 1 1 40001; 4,1 CO 00001; 3,2 H",
+    "1,1 MUL 1 1 40099",
+    "1,1 DIV 40099 1 40001",
+    "1,1 DIV 9999 40100 40001",
+    "1,1 R>T 40100 40095 5",
+    "1,1 T>R 30010 40099 1",
+    "1,1 T>T 40095 40095 5",
+    "1,1 BLKM 40001 40094 7",
+    "1,1 FOUT 40095 40100 5",
+    "1,1 SRCH 40001 40099 100",
+    "1,1 CMPR 40001 40051 49",
+    "1,1 AND 40001 40001 100",
+    "1,1 MBIT 9999 40001 100; 1,2 SENS 30010 30001 10",
 ];
 
-// What stands behind the table of a controller in plants that are refused.
+// Texts of a network that are refused: the fault that comes first, and the cell that has it.
+const REFUSED: [(&str, &str, u32); 101] = [
+    // A name that a later version takes.
+    ("1,1 SKP 1", "14 NotBuilt", 1),
+    ("1,1 LAB 1", "14 NotBuilt", 1),
+    ("1,1 JSR 1", "14 NotBuilt", 1),
+    ("1,1 RET", "14 NotBuilt", 1),
+    ("8,1 MSTR x", "14 NotBuilt", 1),
+    ("1,1 H; 1,2 NO 00017; 1,3 RET", "5 BadRef", 2),
+    // A piece that does not read.
+    ("1,1", "6 BadCell", 1),
+    ("1,1 ", "6 BadCell", 1),
+    ("0,1 H", "6 BadCell", 1),
+    ("8,1 H", "6 BadCell", 1),
+    ("1,0 H", "6 BadCell", 1),
+    ("1,12 H", "6 BadCell", 1),
+    ("01,1 H", "6 BadCell", 1),
+    ("1,01 H", "6 BadCell", 1),
+    ("1;1 H", "6 BadCell", 1),
+    ("1, 1 H", "6 BadCell", 1),
+    ("1,1,1 H", "6 BadCell", 1),
+    ("+1,1 H", "6 BadCell", 1),
+    ("1,1 h", "6 BadCell", 1),
+    ("1,1 HH", "6 BadCell", 1),
+    ("1,1 TON 40001", "6 BadCell", 1),
+    ("1,1 H H", "6 BadCell", 1),
+    ("1,1 NO", "6 BadCell", 1),
+    ("1,1 NO 00001 00002", "6 BadCell", 1),
+    ("1,1 NO 0001", "6 BadCell", 1),
+    ("1,1 NO 1", "6 BadCell", 1),
+    ("1,1 NO 000001", "6 BadCell", 1),
+    ("7,1 V", "6 BadCell", 1),
+    ("1,1 V 1", "6 BadCell", 1),
+    ("1,1 ADD 1 40001", "6 BadCell", 1),
+    ("1,1 ADD 1 1 40001 1", "6 BadCell", 1),
+    ("1,1 ADD 007 1 40001", "6 BadCell", 1),
+    ("1,1 ADD 1 1 1", "6 BadCell", 1),
+    ("1,1 T1.0 10", "6 BadCell", 1),
+    ("1,1 T1.0 10 1", "6 BadCell", 1),
+    ("1,1 BLKM 40001 40002 40003", "6 BadCell", 1),
+    ("1,1 BLKM 1 40002 1", "6 BadCell", 1),
+    ("1,1 AND 1 40002 1", "6 BadCell", 1),
+    ("1,1 R>T 40001 40002 01", "6 BadCell", 1),
+    ("1,1 H;\\r", "6 BadCell", 2),
+    ("1,1 H\\r;1,2 H", "6 BadCell", 1),
+    ("1,1\\u00a0H", "6 BadCell", 1),
+    (";; 1,1 H;\\t;\\n; 8,1 H", "6 BadCell", 2),
+    ("8,1 R>T 40001 40010 0", "6 BadCell", 1),
+    // A constant outside its range.
+    ("1,1 R>T 40001 40010 0", "3 BadValue", 1),
+    ("1,1 R>T 40001 40010 256", "3 BadValue", 1),
+    ("1,1 SRCH 40001 40010 1000", "3 BadValue", 1),
+    ("1,1 AND 40001 40010 0", "3 BadValue", 1),
+    ("1,1 AND 40001 40010 101", "3 BadValue", 1),
+    ("1,1 MBIT 1 40001 101", "3 BadValue", 1),
+    ("1,1 R>T 00001 20001 256", "3 BadValue", 1),
+    ("1,1 H; 1,1 BLKM 40001 40010 0", "3 BadValue", 2),
+    // What is no reference, of a wrong kind, or not wholly in the map.
+    ("1,1 NO 00000", "5 BadRef", 1),
+    ("1,1 NO 00017", "5 BadRef", 1),
+    ("1,1 NO 09985", "5 BadRef", 1),
+    ("1,1 NO 20001", "5 BadRef", 1),
+    ("1,1 NO 30001", "5 BadRef", 1),
+    ("1,1 NC 40001", "5 BadRef", 1),
+    ("1,1 NC 10017", "5 BadRef", 1),
+    ("1,1 CO 10001", "5 BadRef", 1),
+    ("1,1 CO 00017", "5 BadRef", 1),
+    ("1,1 CL 10001", "5 BadRef", 1),
+    ("1,1 ADD 12345 1 40001", "5 BadRef", 1),
+    ("1,1 ADD 1 1 30001", "5 BadRef", 1),
+    ("1,1 ADD 30011 1 40001", "5 BadRef", 1),
+    ("1,1 SUB 1 1 40101", "5 BadRef", 1),
+    ("1,1 MUL 1 1 40100", "5 BadRef", 1),
+    ("1,1 DIV 40100 1 40001", "5 BadRef", 1),
+    ("1,1 DIV 1 1 40100", "5 BadRef", 1),
+    ("1,1 T0.1 00001 40001", "5 BadRef", 1),
+    ("1,1 UCTR 1 30001", "5 BadRef", 1),
+    ("1,1 R>T 40001 40095 6", "5 BadRef", 1),
+    ("1,1 T>R 40095 40001 7", "5 BadRef", 1),
+    ("1,1 T>R 40001 40100 1", "5 BadRef", 1),
+    ("1,1 T>T 40001 40095 6", "5 BadRef", 1),
+    ("1,1 BLKM 40001 40095 7", "5 BadRef", 1),
+    ("1,1 FIN 40001 40095 6", "5 BadRef", 1),
+    ("1,1 FOUT 40095 40001 6", "5 BadRef", 1),
+    ("1,1 FOUT 30001 40001 1", "5 BadRef", 1),
+    ("1,1 SRCH 40001 40100 1", "5 BadRef", 1),
+    ("1,1 XOR 40001 40095 7", "5 BadRef", 1),
+    ("1,1 CMPR 40001 40095 6", "5 BadRef", 1),
+    ("1,1 SENS 1 30005 7", "5 BadRef", 1),
+    ("1,1 MBIT 40001 30001 1", "5 BadRef", 1),
+    ("1,1 H; 1,1 NO 00017", "5 BadRef", 2),
+    ("1,1 H; 7,1 ADD 1 1 40101", "5 BadRef", 2),
+    // A place that is taken, is below row 7 or stands right of a coil.
+    ("1,1 V; 1,1 V", "7 BadShape", 2),
+    ("1,1 H; 1,1 NO 00001", "7 BadShape", 2),
+    ("6,1 ADD 1 1 40001", "7 BadShape", 1),
+    ("7,1 T.01 1 40001", "7 BadShape", 1),
+    ("1,1 ADD 1 1 40001; 2,1 H", "7 BadShape", 2),
+    ("3,1 H; 1,1 ADD 1 1 40001", "7 BadShape", 2),
+    ("1,1 T1.0 1 40001; 2,1 H", "7 BadShape", 2),
+    ("1,1 CO 00001; 1,2 H", "7 BadShape", 2),
+    ("1,2 H; 1,1 CO 00001", "7 BadShape", 2),
+    ("3,1 CL 00001; 1,2 ADD 1 1 40001", "7 BadShape", 2),
+    ("1,2 ADD 1 1 40001; 3,1 CL 00001", "7 BadShape", 2),
+    ("1,1 CO 00001; 1,1 CO 00001", "7 BadShape", 2),
+    // A coil that is driven already.
+    (
+        "1,1 NO 10001; 1,2 CO 00001; 2,1 NO 10002; 2,2 CO 00001",
+        "8 CoilTwice",
+        4,
+    ),
+    ("1,1 CO 00001; 2,1 CL 00001", "8 CoilTwice", 2),
+    ("1,1 CL 00001; 2,1 CL 00001", "8 CoilTwice", 2),
+];
+
+// The same, in a second network.
+const REFUSED_LATER: [(&str, &str); 2] = [
+    (
+        "1,1 H\", \"1,1 H; 1,2 H; 1,3 x",
+        "6 BadCell controller 1 segment 1 network 2 cell 3",
+    ),
+    (
+        "1,1 CL 00002\", \"1,1 V; 1,1 CO 00002",
+        "8 CoilTwice controller 1 segment 1 network 2 cell 2",
+    ),
+];
+
+#[test]
+fn networks_are_taken(rt: HostRuntime) -> Result<(), Fail> {
+    let alloc = rt.alloc();
+    for network in TAKEN {
+        let text = network_text(alloc, network)?;
+        let answer = answer_to(alloc, text.as_bytes())?;
+        assert_eq!(rt; answer.as_str(), "taken", "{network}");
+    }
+    Ok(())
+}
+
+#[test]
+fn first_faults_are_answered(rt: HostRuntime) -> Result<(), Fail> {
+    let alloc = rt.alloc();
+    for (network, fault, cell) in REFUSED {
+        let text = network_text(alloc, network)?;
+        let answer = answer_to(alloc, text.as_bytes())?;
+        let want = format!(in alloc; "{fault} controller 1 segment 1 network 1 cell {cell}")?;
+        assert_eq!(rt; answer.as_str(), want.as_str(), "{network}");
+    }
+    for (networks, want) in REFUSED_LATER {
+        let text = network_text(alloc, networks)?;
+        let answer = answer_to(alloc, text.as_bytes())?;
+        assert_eq!(rt; answer.as_str(), want, "{networks}");
+    }
+    Ok(())
+}
+
+// What stands between the version and the orders of a plant that is taken.
+const OF_THE_FORM: [&str; 5] = [
+    "[[controller]]\nnode = 64\n",
+    "scan_time = 1\n[[controller]]\nnode = 1\n",
+    "scan_time = 1000\n[[controller]]\nnode = 1\n",
+    "[[controller]]\nnode = 1\ninput_registers = 9984\npanel = [\"39984\"]\n",
+    "[[controller]]\nnode = 1\nregisters = 9984\ncoils = 9984\ninputs = 9984\npanel = []\n",
+];
+
+// What stands there in plants that are not built.
+const NOT_OF_THE_FORM: [&str; 30] = [
+    "scan_time = 0\n[[controller]]\nnode = 1\n",
+    "scan_time = 1001\n[[controller]]\nnode = 1\n",
+    "scan_time = -1\n[[controller]]\nnode = 1\n",
+    "scan_time = \"10\"\n[[controller]]\nnode = 1\n",
+    "scan_time = 10.0\n[[controller]]\nnode = 1\n",
+    "watchdog = 500\n[[controller]]\nnode = 1\n",
+    "[[controller]]\n",
+    "[[controller]]\nnode = 0\n",
+    "[[controller]]\nnode = 65\n",
+    "[[controller]]\nnode = -1\n",
+    "[[controller]]\nnode = 1.0\n",
+    "[[controller]]\nnode = 1\n[[controller]]\nnode = 2\n",
+    "[controller]\nnode = 1\n",
+    "[[controller]]\nnode = 1\ncoils = 9985\n",
+    "[[controller]]\nnode = 1\ncoils = 10000\n",
+    "[[controller]]\nnode = 1\ncoils = 17\n",
+    "[[controller]]\nnode = 1\ninputs = 8\n",
+    "[[controller]]\nnode = 1\ninput_registers = 9985\n",
+    "[[controller]]\nnode = 1\ninput_registers = -1\n",
+    "[[controller]]\nnode = 1\ninput_registers = \"1\"\n",
+    "[[controller]]\nnode = 1\nregisters = 9985\n",
+    "[[controller]]\nnode = 1\ndrop = []\n",
+    "[[controller]]\nnode = 1\npanel = \"00001\"\n",
+    "[[controller]]\nnode = 1\npanel = [\"00001\"]\n",
+    "[[controller]]\nnode = 1\ncoils = 16\npanel = [\"00001 00002\"]\n",
+    "[[controller]]\nnode = 1\ncoils = 16\npanel = [\"00017\"]\n",
+    "[[controller]]\nnode = 1\ncoils = 16\npanel = [\"1\"]\n",
+    "[[controller]]\nnode = 1\ncoils = 16\npanel = [1]\n",
+    "[[controller]]\nnode = 1\npanel = [\"30001\"]\n",
+    "[[controller]]\nnode = 1\ninput_registers = 10\npanel = [\"30011\"]\n",
+];
+
+// What stands behind the table of a controller in plants that are not built.
 const BAD_ENDS: [&str; 13] = [
     "",
     "orders = []\n[[controller.segment]]\nnetworks = []\n",
@@ -291,42 +431,83 @@ const BAD_ENDS: [&str; 13] = [
     "orders = [\"1 - - -\"]\n[[controller.segment]]\nnetworks = []\n[[controller.segment]]\nnetworks = []\n",
 ];
 
+// The end of a plant: its orders, with blanks wherever they may stand, and its one segment.
+const END: &str = "orders = [\" 1\t- - - \"]\n[[controller.segment]]\nnetworks = []\n";
+
 #[test]
-fn documents_are_refused(rt: HostRuntime) -> Result<(), Fail> {
+fn documents_are_taken_or_not_built(rt: HostRuntime) -> Result<(), Fail> {
     let alloc = rt.alloc();
-    assert_eq!(rt; refusal(alloc, b""), NOT_BUILT);
-    for begin in &NOT_OF_THE_FORM {
-        let text = format!(in alloc; "{begin}{END}")?;
-        assert_eq!(rt; refusal(alloc, text.as_bytes()), NOT_BUILT, "{begin}");
+    for middle in OF_THE_FORM {
+        let text = format!(in alloc; "version = 1\n{middle}{END}")?;
+        let answer = answer_to(alloc, text.as_bytes())?;
+        assert_eq!(rt; answer.as_str(), "taken", "{middle}");
     }
-    for end in &BAD_ENDS {
+    for middle in NOT_OF_THE_FORM {
+        let text = format!(in alloc; "version = 1\n{middle}{END}")?;
+        let answer = answer_to(alloc, text.as_bytes())?;
+        assert_eq!(rt; answer.as_str(), "14 NotBuilt plant", "{middle}");
+    }
+    for end in BAD_ENDS {
         let text = format!(in alloc; "version = 1\n[[controller]]\nnode = 1\n{end}")?;
-        assert_eq!(rt; refusal(alloc, text.as_bytes()), NOT_BUILT, "{end}");
+        let answer = answer_to(alloc, text.as_bytes())?;
+        assert_eq!(rt; answer.as_str(), "14 NotBuilt plant", "{end}");
     }
-    let text = format!(in alloc;
-        "version = 1\n[[controller]]\nnode = 64\norders = [\" 1\t- - - \"]\n[[controller.segment]]\nnetworks = []\n"
-    )?;
-    assert_eq!(rt; refusal(alloc, text.as_bytes()), None);
     Ok(())
 }
 
-const BAD_TOML: Option<LoadEnd> = Some(LoadEnd::Refused(PlantFault::BadToml, PLANT));
+// What stands before the controller of plants of another version, or of none.
+const BAD_VERSIONS: [&str; 5] = [
+    "",
+    "version = 0\n",
+    "version = 2\n",
+    "version = \"1\"\n",
+    "version = 1.0\n",
+];
+
+#[test]
+fn form_comes_before_pieces(rt: HostRuntime) -> Result<(), Fail> {
+    let alloc = rt.alloc();
+    assert_eq!(rt; answer_to(alloc, b"")?.as_str(), "14 NotBuilt plant");
+    for version in BAD_VERSIONS {
+        let text = format!(in alloc; "{version}[[controller]]\nnode = 1\n{END}")?;
+        let answer = answer_to(alloc, text.as_bytes())?;
+        assert_eq!(rt; answer.as_str(), "14 NotBuilt plant", "{version}");
+    }
+    let text = plant_text(alloc, "panel = [\"00017\"]", "\"1,1 x\"")?;
+    assert_eq!(rt;
+        answer_to(alloc, text.as_bytes())?.as_str(),
+        "14 NotBuilt plant"
+    );
+    let text = plant_text(alloc, "", "\"1,1 x\", 1")?;
+    assert_eq!(rt;
+        answer_to(alloc, text.as_bytes())?.as_str(),
+        "14 NotBuilt plant"
+    );
+    Ok(())
+}
+
+// What is no document.
+const NO_DOCUMENTS: [&[u8]; 5] = [
+    b"version = 1\n# \xff",
+    b"version = \"1",
+    b"version = 1\nversion = 1\n",
+    b"version = 99999999999999999999\n",
+    b"version 1\n",
+];
 
 #[test]
 fn other_bytes_are_no_document(rt: HostRuntime) -> Result<(), Fail> {
     let alloc = rt.alloc();
-    assert_eq!(rt; refusal(alloc, b"version = 1\n# \xff"), BAD_TOML);
-    assert_eq!(rt; refusal(alloc, b"version = \"1"), BAD_TOML);
-    assert_eq!(rt; refusal(alloc, b"version = 1\nversion = 1\n"), BAD_TOML);
-    assert_eq!(rt;
-        refusal(alloc, b"version = 99999999999999999999\n"),
-        BAD_TOML
-    );
-    assert_eq!(rt; refusal(alloc, b"version 1\n"), BAD_TOML);
+    for bytes in NO_DOCUMENTS {
+        assert_eq!(rt; answer_to(alloc, bytes)?.as_str(), "1 BadToml plant");
+    }
     let brackets = vec![in alloc; b'['; 10_000]?;
     let mut nested = b"x = ".to_vec(alloc)?;
     nested.extend_from_slice(&brackets)?;
-    assert_eq!(rt; refusal(alloc, nested.as_slice()), BAD_TOML);
+    assert_eq!(rt;
+        answer_to(alloc, nested.as_slice())?.as_str(),
+        "1 BadToml plant"
+    );
     Ok(())
 }
 
@@ -342,20 +523,18 @@ fn repeated(alloc: Global, item: &str, count: u16) -> Result<String, AllocError>
 #[test]
 fn limits_are_kept(rt: HostRuntime) -> Result<(), Fail> {
     let alloc = rt.alloc();
-    for (count, want) in [(499, None), (500, NOT_BUILT)] {
+    for (count, want) in [(499, "taken"), (500, "14 NotBuilt plant")] {
         let networks = repeated(alloc, "\"1,1 H\",", count)?;
         let text = plant_text(alloc, "", networks.as_str())?;
-        assert_eq!(rt; refusal(alloc, text.as_bytes()), want, "{count} networks");
+        let answer = answer_to(alloc, text.as_bytes())?;
+        assert_eq!(rt; answer.as_str(), want, "{count} networks");
     }
-    for (count, want) in [(64, None), (65, NOT_BUILT)] {
+    for (count, want) in [(64, "taken"), (65, "14 NotBuilt plant")] {
         let panel = repeated(alloc, "\"40100\",", count)?;
         let lines = format!(in alloc; "panel = [{panel}]")?;
         let text = plant_text(alloc, lines.as_str(), "")?;
-        assert_eq!(rt;
-            refusal(alloc, text.as_bytes()),
-            want,
-            "{count} panel references"
-        );
+        let answer = answer_to(alloc, text.as_bytes())?;
+        assert_eq!(rt; answer.as_str(), want, "{count} panel references");
     }
     Ok(())
 }
