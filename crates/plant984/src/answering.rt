@@ -29,7 +29,8 @@ fn answer_to_run(alloc: Global, scans: u32, input: &[u8]) -> Result<Answer, Allo
 {
     match load(alloc, input) {
         Ok(plant) => {
-            let text = panel_of(alloc, &plant.controllers.as_slice()[0], scans)?;
+            let controller = &plant.controllers.as_slice()[0];
+            let text = panel_of(alloc, controller, plant.scan_time, scans)?;
             Ok(Answer {
                 status: Status::Ok,
                 text,

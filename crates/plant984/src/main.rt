@@ -3,6 +3,8 @@
 
 mod answering;
 mod panel;
+#[cfg(test)]
+mod rows;
 mod run;
 mod serial;
 mod status;

@@ -7,28 +7,42 @@ ghost use Rattle.plant984.specs.Panel.{panel};
 
 use crate::panel::{push_line, readings_of};
 use ladder_solver::Ladder;
-use plant_types::{ControllerPlan, MapRam, checked_plans_find_all};
+use plant_types::{
+    ControllerPlan, MapRam, checked_plans_find_all, discretes_follow, kept_stores_find_all,
+};
 use std::alloc::{AllocError, Global};
+use timer_ops::Clock;
 
 /// Runs a controller by itself, and answers its panel lines. A scan takes no memory but for its line.
 pub fn panel_of(
     alloc: Global,
     controller: &ControllerPlan,
+    scan_time: u32,
     scans: u32,
 ) -> Result<String, AllocError>
     requires passes { passes_check controller.now ≡ true }
     requires segment { 1 ≤ length controller.now.segments }
     requires scans { scans ≤ 2000 }
-    ensures { IfOk result (λ text. string_bytes text ≡ panel (map (λ scan. end_of scan controller.now) (range_with_len 1 scans))) }
+    ensures { IfOk result (λ text. string_bytes text ≡ panel (map (λ scan. end_of scan_time scan controller.now) (range_with_len 1 scans))) }
 {
     checked_plans_find_all();
+    kept_stores_find_all();
+    discretes_follow();
+    let (coils, inputs) = (controller.coils, controller.inputs);
+    let (input_registers, registers) = (controller.input_registers, controller.registers);
     let mut ladder = Ladder::new(alloc, controller)?;
-    let (coils, inputs, registers) = (controller.coils, controller.inputs, controller.registers);
-    let mut ram = MapRam::new(alloc, coils, inputs, 0, registers)?;
+    let mut ram = MapRam::new(alloc, coils, inputs, input_registers, registers)?;
+    let mut past = MapRam::new(alloc, coils, inputs, 0, 0)?;
+    let mut clock = Clock { before: 0, now: 0 };
     let readings = readings_of(alloc, controller.panel.as_slice())?;
     let mut text = String::new(alloc);
     for done in 0..scans {
-        ladder.solve(1, &mut ram);
+        clock = Clock {
+            before: clock.now,
+            now: clock.now + u64::from(scan_time),
+        };
+        ladder.solve(1, clock, &mut ram, &past);
+        past.copy_from(&ram);
         push_line(
             &mut text,
             done + 1,

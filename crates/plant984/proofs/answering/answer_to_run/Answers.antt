@@ -12,5 +12,5 @@ returns-in_ok-text-in-Ok c =
     let plant = c.in-Ok.plant in
     let controller = c.index-as_slice-0.result in
     let only : plant.controllers ≡ controller ∷ [] = list-single plant.controllers c.as_slice.result.now controller c.in-Ok.ensures.runnable.controller c.index-as_slice-0.is c.as_slice.ensures c.in-Ok.ensures.runnable.only in
-    let lines = ap panel (serial-single plant.controllers controller (range_with_len 1 c.args.scans) only) ∙ sym c.in_ok-text-in-Ok.ensures in
+    let lines = ap panel (serial-single plant.controllers controller plant.scan_time (range_with_len 1 c.args.scans) only) ∙ sym c.in_ok-text-in-Ok.ensures in
     ap (due_of (Run c.args.scans)) c.in-Ok.ensures.plant ∙ ap (λ (text : List ℕ). record { status = ends.Ok; text = text }) lines

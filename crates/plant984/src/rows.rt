@@ -1,0 +1,160 @@
+// Runs of small plants, each with the text that it writes.
+use crate::serial::plant_serial;
+use crate::status::Status;
+use crate::tests::words_of;
+use plant_io::{MemSink, MemSource};
+use std::alloc::{AllocError, Global};
+use std::test::Fail;
+
+const CONTROLLER: &str = r#"version = 1
+[[controller]]
+node = 1
+coils = 16
+inputs = 16
+registers = 100
+orders = ["1 - - -"]
+"#;
+
+const SEGMENT: &str = "[[controller.segment]]\nnetworks = [";
+
+// A plant, by what its file has beside the lines above.
+struct Row {
+    top: &'static str,
+    controller: &'static str,
+    networks: &'static str,
+    words: &'static str,
+    status: Status,
+    text: &'static str,
+}
+
+const ROWS: [Row; 9] = [
+    // A scan takes 0.3 s, and the timer counts seconds that have ended.
+    Row {
+        top: "scan_time = 30\n",
+        controller: "panel = [\"40001\", \"00001\", \"00002\"]\n",
+        networks: r#""1,1 T1.0 2 40001; 1,2 CO 00001; 2,2 CO 00002""#,
+        words: "run 7",
+        status: Status::Ok,
+        text: "S 1 N 1 40001=0 00001=0 00002=1
+S 2 N 1 40001=0 00001=0 00002=1
+S 3 N 1 40001=0 00001=0 00002=1
+S 4 N 1 40001=1 00001=0 00002=1
+S 5 N 1 40001=1 00001=0 00002=1
+S 6 N 1 40001=1 00001=0 00002=1
+S 7 N 1 40001=2 00001=1 00002=0
+",
+    },
+    // A scan takes 0.1 s where the plant doesn't say.
+    Row {
+        top: "",
+        controller: "input_registers = 1\npanel = [\"40001\", \"30001\"]\n",
+        networks: r#""1,1 T.01 25 40001""#,
+        words: "run 3",
+        status: Status::Ok,
+        text: "S 1 N 1 40001=10 30001=0\nS 2 N 1 40001=20 30001=0\nS 3 N 1 40001=25 30001=0\n",
+    },
+    // Transitional contacts behind the coil that they name.
+    Row {
+        top: "",
+        controller: "panel = [\"00001\", \"00002\", \"00003\"]\n",
+        networks: r#""1,1 NC 00001; 1,2 CO 00001", "1,1 PT 00001; 1,2 CO 00002; 2,1 NT 00001; 2,2 CO 00003""#,
+        words: "run 3",
+        status: Status::Ok,
+        text: "S 1 N 1 00001=1 00002=1 00003=0
+S 2 N 1 00001=0 00002=0 00003=1
+S 3 N 1 00001=1 00002=1 00003=0
+",
+    },
+    // And before it, where it is as the scan before ended.
+    Row {
+        top: "",
+        controller: "panel = [\"00001\", \"00002\", \"00003\"]\n",
+        networks: r#""1,1 PT 00001; 1,2 CO 00002; 2,1 NT 00001; 2,2 CO 00003", "1,1 NC 00001; 1,2 CO 00001""#,
+        words: "run 3",
+        status: Status::Ok,
+        text: "S 1 N 1 00001=1 00002=0 00003=0
+S 2 N 1 00001=0 00002=0 00003=0
+S 3 N 1 00001=1 00002=0 00003=0
+",
+    },
+    // A counter counts each time that its upper input goes on.
+    Row {
+        top: "",
+        controller: "panel = [\"40001\"]\n",
+        networks: r#""1,1 NC 00001; 1,2 CO 00001", "1,1 NO 00001; 2,1 H; 1,2 UCTR 9 40001""#,
+        words: "run 3",
+        status: Status::Ok,
+        text: "S 1 N 1 40001=1\nS 2 N 1 40001=1\nS 3 N 1 40001=2\n",
+    },
+    // A sum of 10,000, a product of eight digits; quotients by 0, and with a decimal remainder.
+    Row {
+        top: "",
+        controller: r#"panel = ["00001", "00002", "00003", "40001", "40002", "40003", "40004", "40006", "40007"]
+"#,
+        networks: r#""1,1 ADD 9999 1 40001; 1,2 CO 00001; 4,1 MUL 8000 2 40002; 4,2 CO 00002", "1,1 DIV 7 0 40004; 3,2 CO 00003", "1,1 DIV 7 2 40006""#,
+        words: "run 1",
+        status: Status::Ok,
+        text: "S 1 N 1 00001=1 00002=1 00003=1 40001=0 40002=1 40003=6000 40004=0 40006=3 40007=5000\n",
+    },
+    // A table of two registers that fills up, a queue of one that is full at once, and a search for
+    // a register of that table that is 0.
+    Row {
+        top: "",
+        controller: r#"panel = ["40001", "00001", "40011", "00002", "40030", "00004"]
+"#,
+        networks: r#""1,1 ADD 5 0 40021", "1,1 H; 1,2 R>T 40021 40001 2; 2,3 CO 00001", "1,1 H; 1,2 FIN 40021 40011 1; 2,3 CO 00002", "1,1 H; 1,2 SRCH 40002 40030 2; 2,3 CO 00004""#,
+        words: "run 3",
+        status: Status::Ok,
+        text: "S 1 N 1 40001=1 00001=0 40011=1 00002=1 40030=2 00004=1
+S 2 N 1 40001=2 00001=1 40011=1 00002=1 40030=0 00004=0
+S 3 N 1 40001=2 00001=1 40011=1 00002=1 40030=0 00004=0
+",
+    },
+    // The last bit of the largest matrix, and one behind it.
+    Row {
+        top: "",
+        controller: r#"panel = ["40100", "00001", "00002", "00003", "00004"]
+"#,
+        networks: r#""1,1 MBIT 1600 40001 100; 2,2 CO 00001; 3,2 CO 00002", "1,1 MBIT 1601 40001 100; 2,2 CO 00003; 3,2 CO 00004""#,
+        words: "run 1",
+        status: Status::Ok,
+        text: "S 1 N 1 40100=1 00001=1 00002=0 00003=0 00004=1\n",
+    },
+    Row {
+        top: "",
+        controller: "",
+        networks: r#""1,1 NO 10001; 1,2 CO 00001; 2,1 NO 10002; 2,2 CO 00001""#,
+        words: "run 1",
+        status: Status::Refused,
+        text: "refused 8 CoilTwice controller 1 segment 1 network 1 cell 4\n",
+    },
+];
+
+fn plant_of(alloc: Global, row: &Row) -> Result<Vec<u8>, AllocError> {
+    let mut text = Vec::new(alloc);
+    for piece in [
+        row.top,
+        CONTROLLER,
+        row.controller,
+        SEGMENT,
+        row.networks,
+        "]\n",
+    ] {
+        text.extend_from_slice(piece.as_bytes())?;
+    }
+    Ok(text)
+}
+
+#[test]
+fn writes_each_panel(rt: HostRuntime) -> Result<(), Fail> {
+    let alloc = rt.alloc();
+    for row in &ROWS {
+        let words = words_of(alloc, row.words)?;
+        let mut source = MemSource::new(plant_of(alloc, row)?, 64, Vec::new(alloc));
+        let mut sink = MemSink::new(alloc, 64, Vec::new(alloc));
+        let status = plant_serial(alloc, &words, &mut source, &mut sink);
+        assert_eq!(rt; status, row.status, "{}", row.networks);
+        assert_eq!(rt; sink.bytes(), row.text.as_bytes(), "{}", row.networks);
+    }
+    Ok(())
+}
