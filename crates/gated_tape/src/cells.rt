@@ -15,12 +15,14 @@ pub struct TapeCell {
 }
 
 impl TapeCell {
+    /// A tape that a gate is to keep, with its marks and its limit.
     pub fn new(tape: Tape) -> TapeCell
         ensures { tape_in result ≡ tape }
     {
         TapeCell { tape }
     }
 
+    /// The tape that was kept.
     pub fn into_inner(self) -> Tape
         ensures { result ≡ tape_in self }
     {

@@ -72,7 +72,8 @@ fn execute<R: RefStore>(alloc: Global, request: &Request, ram: &mut R) -> Result
 /// Does what a request asks. Without a reply nothing is changed: the reply's memory is taken first.
 pub fn exec<R: RefStore>(alloc: Global, request: &Request, ram: &mut R) -> Result<Reply, ExecEnd>
     requires { IsInRange request.now }
-    ensures answered { IfOk result (λ reply. answer_of request.now (R.contents ram.old) ≡ Ok (record { reply = reply; stored = R.contents ram.new })) }
+    ensures answered { IfOk result (λ reply.
+        answer_of request.now (R.contents ram.old) ≡ Ok (record { reply = reply; stored = R.contents ram.new })) }
     ensures exception { (code : ℕ) → IsErrOf result (ExecEnd.Exception code) ↔ (answer_of request.now (R.contents ram.old) ≡ Err code) }
     ensures unchanged { OnErr result (R.contents ram.new ≡ R.contents ram.old) }
     ensures others { (at : Reference) → ¬ Writes request.now at → map.get (R.contents ram.new) at ≡ map.get (R.contents ram.old) at }

@@ -28,7 +28,8 @@ fn store_register<R: RefStore>(ram: &mut R, address: u16, value: u16)
 #[tactic(auto, using(crate::proofs::RunLemmas::in_map_is))]
 fn store_masked<R: RefStore>(ram: &mut R, address: u16, and_mask: u16, or_mask: u16)
     requires { is_in_map (R.contents ram.old) (reference_at RefKind.Register address) ≡ true }
-    ensures { let at = reference_at RefKind.Register address in R.contents ram.new ≡ map.insert (R.contents ram.old) at (masked (word_at (R.contents ram.old) at) and_mask or_mask) }
+    ensures { let at = reference_at RefKind.Register address in
+        R.contents ram.new ≡ map.insert (R.contents ram.old) at (masked (word_at (R.contents ram.old) at) and_mask or_mask) }
 {
     let value = ram.word(reference_of(RefKind::Register, address));
     store_register(ram, address, (value & and_mask) | (or_mask & !and_mask));

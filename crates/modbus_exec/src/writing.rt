@@ -92,7 +92,9 @@ pub(crate) fn write_registers<R: RefStore>(
 /// The word that a register has once words are stored from an address on.
 fn word_after<R: RefStore>(ram: &R, read: u16, place: usize, write: u16, words: &[u16]) -> u16
     requires { HasRun (R.contents ram.now) (reference_at RefKind.Register read) (place + 1) }
-    ensures { result ≡ word_at (with_words (R.contents ram.now) (reference_at RefKind.Register write) words.now) (ref_from (reference_at RefKind.Register read) place) }
+    ensures { result ≡ word_at
+        (with_words (R.contents ram.now) (reference_at RefKind.Register write) words.now)
+        (ref_from (reference_at RefKind.Register read) place) }
 {
     let at = reference_behind(RefKind::Register, read, place);
     let from = read as usize + place;
@@ -109,7 +111,9 @@ fn word_after<R: RefStore>(ram: &R, read: u16, place: usize, write: u16, words: 
 /// The words of so many registers once words are stored from an address on.
 fn words_after<R: RefStore>(ram: &R, read: u16, found: &mut [u16], write: u16, words: &[u16])
     requires { HasRun (R.contents ram.now) (reference_at RefKind.Register read) (length found.old) }
-    ensures { found.new ≡ words_from (with_words (R.contents ram.now) (reference_at RefKind.Register write) words.now) (reference_at RefKind.Register read) (length found.old) }
+    ensures { found.new ≡ words_from
+        (with_words (R.contents ram.now) (reference_at RefKind.Register write) words.now)
+        (reference_at RefKind.Register read) (length found.old) }
 {
     for (place, word) in found.iter_mut().enumerate() {
         *word = word_after(ram, read, place, write, words);
@@ -127,7 +131,9 @@ fn read_after<R: RefStore>(
 ) -> Result<Words, AllocError>
     requires run { HasRun (R.contents ram.now) (reference_at RefKind.Register read) count }
     requires most { count ≤ 125 }
-    ensures { IfOk result (λ found. found ≡ words_from (with_words (R.contents ram.now) (reference_at RefKind.Register write) words.now) (reference_at RefKind.Register read) count) }
+    ensures { IfOk result (λ found. found ≡ words_from
+        (with_words (R.contents ram.now) (reference_at RefKind.Register write) words.now)
+        (reference_at RefKind.Register read) count) }
 {
     let mut found = [0; 125];
     let found = &mut found[..count];

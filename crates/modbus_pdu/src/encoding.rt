@@ -39,7 +39,8 @@ fn three_words(
 
 fn write_coils(alloc: Global, address: u16, bits: &[bool]) -> Result<Pdu, AllocError>
     requires { length bits.now ≤ 1968 }
-    ensures { IfOk result (λ pdu. pdu ≡ 15 ∷ word_bytes address ++ word_bytes (length bits.now) ++ counted_bits bits.now (clear_spare (length bits.now))) }
+    ensures { IfOk result (λ pdu. pdu ≡
+        15 ∷ word_bytes address ++ word_bytes (length bits.now) ++ counted_bits bits.now (clear_spare (length bits.now))) }
 {
     let mut draft = Draft::new();
     draft.byte(15);
@@ -71,7 +72,9 @@ fn read_write(
     words: &[u16],
 ) -> Result<Pdu, AllocError>
     requires { length words.now ≤ 121 }
-    ensures { IfOk result (λ pdu. pdu ≡ 23 ∷ word_bytes read ++ word_bytes quantity ++ word_bytes write ++ word_bytes (length words.now) ++ counted_words words.now) }
+    ensures { IfOk result (λ pdu. pdu ≡
+        23 ∷ word_bytes read ++ word_bytes quantity ++ word_bytes write ++
+        word_bytes (length words.now) ++ counted_words words.now) }
 {
     let mut draft = Draft::new();
     draft.byte(23);

@@ -19,7 +19,9 @@ pub(crate) fn word_at(bytes: &[u8]) -> Option<(u16, &[u8])>
 
 /// Two numbers and nothing else.
 pub(crate) fn two_words(bytes: &[u8]) -> Option<(u16, u16)>
-    ensures { MatchOption result ((first second : ℕ) → bytes.now ≢ word_bytes first ++ word_bytes second) (λ found. bytes.now ≡ word_bytes found.0 ++ word_bytes found.1) }
+    ensures { MatchOption result
+        ((first second : ℕ) → bytes.now ≢ word_bytes first ++ word_bytes second)
+        (λ found. bytes.now ≡ word_bytes found.0 ++ word_bytes found.1) }
 {
     if bytes.len() != 4 {
         return None;
@@ -31,7 +33,9 @@ pub(crate) fn two_words(bytes: &[u8]) -> Option<(u16, u16)>
 
 /// An address and a quantity from one up to the most, and nothing else.
 pub(crate) fn range_in(bytes: &[u8], most: u16) -> Option<(u16, u16)>
-    ensures { MatchOption result ((address quantity : ℕ) → IsUpTo most quantity → bytes.now ≢ word_bytes address ++ word_bytes quantity) (λ found. IsUpTo most found.1 × (bytes.now ≡ word_bytes found.0 ++ word_bytes found.1)) }
+    ensures { MatchOption result
+        ((address quantity : ℕ) → IsUpTo most quantity → bytes.now ≢ word_bytes address ++ word_bytes quantity)
+        (λ found. IsUpTo most found.1 × (bytes.now ≡ word_bytes found.0 ++ word_bytes found.1)) }
 {
     let (address, quantity) = two_words(bytes)?;
     if quantity < 1 || quantity > most {
@@ -42,7 +46,9 @@ pub(crate) fn range_in(bytes: &[u8], most: u16) -> Option<(u16, u16)>
 
 /// Three numbers and nothing else.
 pub(crate) fn three_words(bytes: &[u8]) -> Option<(u16, u16, u16)>
-    ensures { MatchOption result ((first second third : ℕ) → bytes.now ≢ word_bytes first ++ word_bytes second ++ word_bytes third) (λ found. bytes.now ≡ word_bytes found.0 ++ word_bytes found.1 ++ word_bytes found.2) }
+    ensures { MatchOption result
+        ((first second third : ℕ) → bytes.now ≢ word_bytes first ++ word_bytes second ++ word_bytes third)
+        (λ found. bytes.now ≡ word_bytes found.0 ++ word_bytes found.1 ++ word_bytes found.2) }
 {
     if bytes.len() != 6 {
         return None;
@@ -83,7 +89,9 @@ pub(crate) fn counted(bytes: &[u8]) -> Option<&[u8]>
 
 /// An address, a quantity and what a byte counts.
 pub(crate) fn written(bytes: &[u8]) -> Option<(u16, u16, &[u8])>
-    ensures { MatchOption result ((address quantity : ℕ) (rest : List ℕ) → bytes.now ≢ word_bytes address ++ word_bytes quantity ++ (length rest ∷ rest)) (λ found. bytes.now ≡ word_bytes found.0 ++ word_bytes found.1 ++ (length found.2.now ∷ found.2.now)) }
+    ensures { MatchOption result
+        ((address quantity : ℕ) (rest : List ℕ) → bytes.now ≢ word_bytes address ++ word_bytes quantity ++ (length rest ∷ rest))
+        (λ found. bytes.now ≡ word_bytes found.0 ++ word_bytes found.1 ++ (length found.2.now ∷ found.2.now)) }
 {
     let (address, rest) = word_at(bytes)?;
     let (quantity, rest) = word_at(rest)?;
@@ -93,8 +101,12 @@ pub(crate) fn written(bytes: &[u8]) -> Option<(u16, u16, &[u8])>
 
 /// Two addresses with a quantity each, and what a byte counts.
 pub(crate) fn read_written(bytes: &[u8]) -> Option<(u16, u16, u16, u16, &[u8])>
-    ensures { MatchOption result ((read quantity write count : ℕ) (rest : List ℕ) → bytes.now ≢ word_bytes read ++ word_bytes quantity ++ word_bytes write ++ word_bytes count ++ (length rest ∷ rest))
-        (λ found. bytes.now ≡ word_bytes found.0 ++ word_bytes found.1 ++ word_bytes found.2 ++ word_bytes found.3 ++ (length found.4.now ∷ found.4.now)) }
+    ensures { MatchOption result
+        ((read quantity write count : ℕ) (rest : List ℕ) →
+        bytes.now ≢ word_bytes read ++ word_bytes quantity ++ word_bytes write ++
+        word_bytes count ++ (length rest ∷ rest))
+        (λ found. bytes.now ≡ word_bytes found.0 ++ word_bytes found.1 ++ word_bytes found.2 ++
+        word_bytes found.3 ++ (length found.4.now ∷ found.4.now)) }
 {
     let (read, rest) = word_at(bytes)?;
     let (quantity, rest) = word_at(rest)?;

@@ -14,7 +14,9 @@ use std::alloc::Global;
 
 /// What a byte behind the function counts.
 fn counted_behind(function: u8, bytes: &[u8]) -> Option<&[u8]>
-    ensures { MatchOption result ((rest : List ℕ) → bytes.now ≢ function ∷ length rest ∷ rest) (λ rest. bytes.now ≡ function ∷ length rest.now ∷ rest.now) }
+    ensures { MatchOption result
+        ((rest : List ℕ) → bytes.now ≢ function ∷ length rest ∷ rest)
+        (λ rest. bytes.now ≡ function ∷ length rest.now ∷ rest.now) }
 {
     match bytes {
         [code, rest @ ..] if *code == function => counted(rest),
@@ -24,7 +26,9 @@ fn counted_behind(function: u8, bytes: &[u8]) -> Option<&[u8]>
 
 /// Two numbers behind the function.
 fn two_behind(function: u8, bytes: &[u8]) -> Option<(u16, u16)>
-    ensures { MatchOption result ((first second : ℕ) → bytes.now ≢ function ∷ word_bytes first ++ word_bytes second) (λ found. bytes.now ≡ function ∷ word_bytes found.0 ++ word_bytes found.1) }
+    ensures { MatchOption result
+        ((first second : ℕ) → bytes.now ≢ function ∷ word_bytes first ++ word_bytes second)
+        (λ found. bytes.now ≡ function ∷ word_bytes found.0 ++ word_bytes found.1) }
 {
     match bytes {
         [code, rest @ ..] if *code == function => two_words(rest),
@@ -90,7 +94,9 @@ fn written_from(
 
 /// The operation behind function 8 and sub-function 21, and what follows it.
 fn operation_behind(bytes: &[u8]) -> Option<(u16, &[u8])>
-    ensures { MatchOption result ((operation : ℕ) (rest : List ℕ) → bytes.now ≢ 8 ∷ word_bytes 21 ++ word_bytes operation ++ rest) (λ found. bytes.now ≡ 8 ∷ word_bytes 21 ++ word_bytes found.0 ++ found.1.now) }
+    ensures { MatchOption result
+        ((operation : ℕ) (rest : List ℕ) → bytes.now ≢ 8 ∷ word_bytes 21 ++ word_bytes operation ++ rest)
+        (λ found. bytes.now ≡ 8 ∷ word_bytes 21 ++ word_bytes found.0 ++ found.1.now) }
 {
     match bytes {
         [8, 0, 21, rest @ ..] => word_at(rest),
@@ -216,7 +222,9 @@ fn function_of(request: &Request) -> u8
 
 /// The code of an exception reply of a function.
 fn exception_in(function: u8, bytes: &[u8]) -> Option<u8>
-    ensures { MatchOption result ((code : ℕ) → bytes.now ≢ exception_code function ∷ code ∷ []) (λ code. bytes.now ≡ exception_code function ∷ code ∷ []) }
+    ensures { MatchOption result
+        ((code : ℕ) → bytes.now ≢ exception_code function ∷ code ∷ [])
+        (λ code. bytes.now ≡ exception_code function ∷ code ∷ []) }
 {
     match bytes {
         [first, code] if *first == exception_code(function) => Some(*code),

@@ -143,10 +143,13 @@ impl Sink for MemSink {
 
         // The calls of the list fail, and no other one unless it finds no room for more.
         ensures fails { Contains self.old.fails (self.old.calls + 1) → IsErr result }
-        ensures full { IsErr result → Contains self.old.fails (self.old.calls + 1) ⊎ (self.old.room < length self.old.taken + min self.old.piece (length piece.now)) }
+        ensures full { IsErr result → Contains self.old.fails (self.old.calls + 1) ⊎
+            (self.old.room < length self.old.taken + min self.old.piece (length piece.now)) }
         ensures count { IfOk result (λ count. count ≡ min self.old.piece (length piece.now)) }
-        ensures ok { IfOk result (λ count. self.new ≡ record self.old { taken = self.old.taken ++ take count piece.now; calls = counted self.old.calls; room = self.new.room }) }
-        ensures err { OnErr result (self.new ≡ record self.old { calls = counted self.old.calls; faults = counted self.old.faults; room = self.new.room }) }
+        ensures ok { IfOk result (λ count. self.new ≡
+            record self.old { taken = self.old.taken ++ take count piece.now; calls = counted self.old.calls; room = self.new.room }) }
+        ensures err { OnErr result (self.new ≡
+            record self.old { calls = counted self.old.calls; faults = counted self.old.faults; room = self.new.room }) }
         ensures room { self.old.room ≤ self.new.room }
     {
         let fails = self.calls.fails_next();

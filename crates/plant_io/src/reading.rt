@@ -84,8 +84,11 @@ pub fn read_all<S: Source>(alloc: Global, source: &mut S, limit: usize) -> Resul
     ensures later { S.faults source.old ≤ S.faults source.new }
 
     // Where nothing fails, the length of the input alone decides.
-    ensures short { (input : List ℕ) → S.left source.old ≡ Some input → length input ≤ limit → ¬ (Rose (S.faults source.old) (S.faults source.new)) → IsOk result ⊎ (result ≡ Err ReadEnd.NoMemory) }
-    ensures long { (input : List ℕ) → S.left source.old ≡ Some input → limit < length input → ¬ (Rose (S.faults source.old) (S.faults source.new)) → (result ≡ Err ReadEnd.TooLong) ⊎ (result ≡ Err ReadEnd.NoMemory) }
+    ensures short { (input : List ℕ) → S.left source.old ≡ Some input → length input ≤ limit →
+        ¬ (Rose (S.faults source.old) (S.faults source.new)) → IsOk result ⊎ (result ≡ Err ReadEnd.NoMemory) }
+    ensures long { (input : List ℕ) → S.left source.old ≡ Some input → limit < length input →
+        ¬ (Rose (S.faults source.old) (S.faults source.new)) →
+        (result ≡ Err ReadEnd.TooLong) ⊎ (result ≡ Err ReadEnd.NoMemory) }
 {
     let mut bytes = Vec::new(alloc);
     let mut buffer = vec![in alloc; 0u8; PIECE.min(limit + 1)]?;

@@ -15,6 +15,7 @@ pub struct StdSource<R> {
 }
 
 impl<R: Read> StdSource<R> {
+    /// A source of what the reader gives, which has not failed yet.
     pub fn new(reader: R) -> StdSource<R>
         ensures reader { reader_of result ≡ reader }
         ensures fresh { failed_reads result ≡ 0 }
@@ -54,6 +55,7 @@ pub struct StdSink<W> {
 }
 
 impl<W: Write> StdSink<W> {
+    /// A sink into the writer, which has not failed yet.
     pub fn new(writer: W) -> StdSink<W>
         ensures writer { writer_of result ≡ writer }
         ensures fresh { failed_writes result ≡ 0 }
