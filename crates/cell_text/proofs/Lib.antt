@@ -1,4 +1,9 @@
 pub mod WordLemmas
 pub mod StepLemmas
+pub mod SlotLemmas
+pub mod FitLemmas
+pub mod ElementLemmas
 pub mod PieceLemmas
 pub mod TextLemmas
+pub mod JoinLemmas
+pub mod NumberLemmas

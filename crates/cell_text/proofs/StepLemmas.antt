@@ -1,6 +1,6 @@
 -- Steps that all went well.
 use Rattle.std.proofs.Common.{◌≡◌, Bool, true, false, Option, Some, None, Result, Ok, Err, refl}
-use Rattle.std.specs.Prelude.{option_and_then, if◌then◌else◌}
+use Rattle.std.specs.Prelude.{option_map, option_and_then, if◌then◌else◌}
 use Rattle.cell_text.specs.Steps.{◌>>=◌, or_fault, unless}
 
 -- where steps end well, so did the first one
@@ -22,6 +22,10 @@ unless-ok false e g y h = cc
 pub some-step : {A B : Type 0} (f : A → Option B) (o : Option A) (y : B) → option_and_then f o ≡ Some y → (x : A) × ((o ≡ Some x) × (f x ≡ Some y))
 some-step f (Some x) y h = (x, (refl, h))
 some-step f None y h = cc
+
+pub some-map : {A B : Type 0} (f : A → B) (o : Option A) (y : B) → option_map f o ≡ Some y → (x : A) × ((o ≡ Some x) × (f x ≡ y))
+some-map f (Some x) y h = (x, (refl, cc))
+some-map f None y h = cc
 
 pub some-guard : {A : Type 0} (b : Bool) (o : Option A) (y : A) → (if b then o else None) ≡ Some y → (b ≡ true) × (o ≡ Some y)
 some-guard true o y h = (refl, h)

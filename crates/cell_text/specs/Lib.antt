@@ -2,5 +2,7 @@ pub mod Steps
 pub mod Words
 pub mod Numbers
 pub mod Names
+pub mod Slots
+pub mod Elements
 pub mod Pieces
 pub mod Texts

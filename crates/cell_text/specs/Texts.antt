@@ -1,43 +1,64 @@
--- What a piece is that has a text.
-use Rattle.std.specs.Prelude.{codes, ℕ, Bool, true, ◌&&◌, nat_le, List, ◌++◌}
+-- What a piece is that has a text, and its text.
+use Rattle.std.specs.Prelude.{codes, ℕ, Bool, ◌&&◌, nat_le, List, [], ◌∷◌, ◌++◌, map}
 use Rattle.std.specs.Fmt.{decimal}
+use Rattle.std.specs.List.{list_all, join_with_byte}
 use Rattle.plant_types.specs.declared.reference.Ref.{Ref}
+use Rattle.plant_types.specs.declared.element.Operand.{Operand}
+use Rattle.plant_types.specs.declared.element.Operand.TheVariants.{Const, At}
 use Rattle.plant_types.specs.declared.element.Element.{Element}
-use Rattle.plant_types.specs.declared.element.Element.TheVariants.{Open, Closed, Coil, Wire}
 use Rattle.plant_types.specs.Reference.{reference_text}
 use Rattle.plant_types.specs.Network.{has_cell_place, has_short_place}
-use Rattle.plant_types.specs.Checks.{has_kinds}
+use Rattle.plant_types.specs.Operands.{names_of, has_form, has_values, has_kinds}
+use Rattle.cell_text.specs.declared.names.Name.{Name}
+use Rattle.cell_text.specs.declared.names.Name.TheVariants as names
 use Rattle.cell_text.specs.declared.piece.Piece.{Piece}
-use Rattle.cell_text.specs.declared.piece.Piece.TheVariants as pieces
+use Rattle.cell_text.specs.declared.piece.Piece.TheVariants.{Cell, Short}
+use Rattle.cell_text.specs.Names.{name_text}
+use Rattle.cell_text.specs.Elements.{element_name, operands_of}
 
 -- A reference has a number from 1 to 9984. This project's own.
 abbrev pub has_number : Ref → Bool
 has_number at = nat_le 1 at.number && nat_le at.number 9984
 
--- The references of an element have such numbers. This project's own table of operands.
+-- All references that an element names have such numbers. This project's own.
 abbrev pub has_numbers : Element → Bool
-has_numbers (Open at) = has_number at
-has_numbers (Closed at) = has_number at
-has_numbers (Coil at) = has_number at
-has_numbers Wire = true
+has_numbers element = list_all (λ named. has_number named.at) (names_of element)
 
--- A piece has a text: its position, and the kinds and numbers of its references, are such as its name takes. This project's own.
+-- A piece has a text: its position, and the constants, kinds and numbers of its operands, are such as its name takes. This project's own.
 abbrev pub has_text : Piece → Bool
-has_text (pieces.Cell cell) = has_cell_place cell && (has_kinds cell.element && has_numbers cell.element)
-has_text (pieces.Short short) = has_short_place short
+has_text (Cell cell) =
+    has_cell_place cell && (has_form cell.element && has_values cell.element && has_kinds cell.element && has_numbers cell.element)
+has_text (Short short) = has_short_place short
 
 -- The text of a position: row and column, parted by a comma. This project's own.
-abbrev pub position_text : ℕ → ℕ → List ℕ
-position_text row column = decimal row ++ codes "," ++ decimal column
+abbrev pub position_text : ℕ × ℕ → List ℕ
+position_text place = decimal place.0 ++ codes "," ++ decimal place.1
 
--- The text of an element behind that of its position. Modicon Ladder Logic Block Library User Guide; the letters are this project's own.
-abbrev pub element_text : List ℕ → Element → List ℕ
-element_text position (Open at) = position ++ codes " NO " ++ reference_text at
-element_text position (Closed at) = position ++ codes " NC " ++ reference_text at
-element_text position (Coil at) = position ++ codes " CO " ++ reference_text at
-element_text position Wire = position ++ codes " H"
+-- The text of an operand: a constant in decimal, or the five digits of a reference. Modicon Ladder Logic Block Library User Guide.
+abbrev pub operand_text : Operand → List ℕ
+operand_text (Const n) = decimal n
+operand_text (At at) = reference_text at
 
--- The text of a piece, with single blanks. This project's own.
+-- The row and the column of a piece. This project's own.
+abbrev pub piece_place : Piece → ℕ × ℕ
+piece_place (Cell cell) = (cell.row, cell.column)
+piece_place (Short short) = (short.row, short.column)
+
+-- The name of a piece. Modicon Ladder Logic Block Library User Guide.
+abbrev pub piece_name : Piece → Name
+piece_name (Cell cell) = element_name cell.element
+piece_name (Short short) = names.Short
+
+-- The operands of a piece. Modicon Ladder Logic Block Library User Guide.
+abbrev pub piece_operands : Piece → List Operand
+piece_operands (Cell cell) = operands_of cell.element
+piece_operands (Short short) = []
+
+-- The words of a piece: its position, its name and its operands. This project's own.
+abbrev pub piece_words : Piece → List (List ℕ)
+piece_words piece =
+    position_text (piece_place piece) ∷ name_text (piece_name piece) ∷ map operand_text (piece_operands piece)
+
+-- The text of a piece: its words, parted by single blanks. This project's own.
 abbrev pub piece_text : Piece → List ℕ
-piece_text (pieces.Cell cell) = element_text (position_text cell.row cell.column) cell.element
-piece_text (pieces.Short short) = position_text short.row short.column ++ codes " V"
+piece_text piece = join_with_byte 32 (piece_words piece)

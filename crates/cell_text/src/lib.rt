@@ -1,11 +1,13 @@
 //! The texts of cells: their words, and what these stand for.
 #![tactic(auto)]
 
+mod elements;
 mod names;
 mod numbers;
 mod operands;
 mod piece;
 mod reading;
+mod slots;
 #[cfg(test)]
 mod tests;
 mod words;

@@ -30,7 +30,8 @@ fn value_of(digits: &[u8]) -> u16
     value
 }
 
-fn is_number(word: &[u8]) -> bool
+/// Whether a word is one to four digits without a leading zero.
+pub fn is_number(word: &[u8]) -> bool
     ensures { result ≡ is_number word.now }
 {
     let len = word.len();

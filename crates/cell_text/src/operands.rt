@@ -1,81 +1,67 @@
-//! The operands of a piece.
-ghost use Rattle.std.specs.Prelude.{◌≡◌};
-ghost use Rattle.plant_types.specs.Reference.{is_discrete};
-ghost use Rattle.plant_types.specs.Checks.{is_coil};
-ghost use Rattle.cell_text.specs.Words.{words_of};
-ghost use Rattle.cell_text.specs.Pieces.{written_reference, one_reference, no_operand};
+//! The operands of an element, as a list.
+ghost use Rattle.std.specs.Prelude.{◌≡◌, ◌≤◌, ◌<◌, [], ◌∷◌, ◌++◌, length};
 
-use crate::numbers::{is_reference_word, reference_of};
-use crate::piece::CellFault;
-use crate::words::{next_word, only_word};
-use plant_types::{Ref, RefKind};
+use plant_types::Operand;
+use std::marker::Model;
 
-fn is_discrete(kind: RefKind) -> bool
-    ensures { result ≡ is_discrete kind }
-{
-    match kind {
-        RefKind::Coil | RefKind::Input => true,
-        RefKind::InputRegister | RefKind::Register => false,
-    }
+/// The most operands of an element.
+pub const OPERAND_LIMIT: usize = 3;
+
+/// At most three operands in a fixed array.
+#[derive(Drop)]
+pub struct Operands {
+    items: [Operand; 3],
+    count: usize,
 }
 
-fn is_coil(kind: RefKind) -> bool
-    ensures { result ≡ is_coil kind }
-{
-    match kind {
-        RefKind::Coil => true,
-        _ => false,
-    }
+impl Model for Operands {
+    ghost use Rattle.std.specs.Prelude.{List, ◌≤◌, take};
+    ghost use Rattle.plant_types.specs.declared.element.Operand.{Operand};
+
+    ghost Value = { List Operand };
+
+    ghost view = { λ o. take o.count o.items };
+
+    ghost invariant = { λ o. o.count ≤ 3 };
 }
 
-/// The reference of a piece with one operand, of whatever kind.
-#[tactic(auto, unfolding(crate::specs::Pieces::written_reference))]
-fn written_reference(operands: &[u8]) -> Result<Ref, CellFault>
-    ensures { result ≡ written_reference (words_of operands.now) }
-{
-    let Some(word) = only_word(operands) else {
-        return Err(CellFault::BadCell);
-    };
-    if !is_reference_word(word) {
-        return Err(CellFault::BadCell);
+impl Operands {
+    /// No operands.
+    pub fn new() -> Operands
+        ensures { result ≡ [] }
+    {
+        Operands {
+            items: [Operand::Const(0); 3],
+            count: 0,
+        }
     }
-    match reference_of(word) {
-        Some(at) => Ok(at),
-        None => Err(CellFault::BadRef),
-    }
-}
 
-/// A coil or an input.
-#[tactic(auto, unfolding(crate::specs::Pieces::one_reference))]
-pub fn discrete(operands: &[u8]) -> Result<Ref, CellFault>
-    ensures { result ≡ one_reference is_discrete (words_of operands.now) }
-{
-    let at = written_reference(operands)?;
-    if is_discrete(at.kind) {
-        Ok(at)
-    } else {
-        Err(CellFault::BadRef)
+    /// The list of these operands.
+    pub fn of(operands: &[Operand]) -> Operands
+        requires { length operands.now ≤ OPERAND_LIMIT }
+        ensures { result ≡ operands.now }
+    {
+        let mut items = [Operand::Const(0); 3];
+        items[..operands.len()].copy_from_slice(operands);
+        Operands {
+            items,
+            count: operands.len(),
+        }
     }
-}
 
-#[tactic(auto, unfolding(crate::specs::Pieces::one_reference))]
-pub fn coil(operands: &[u8]) -> Result<Ref, CellFault>
-    ensures { result ≡ one_reference is_coil (words_of operands.now) }
-{
-    let at = written_reference(operands)?;
-    if is_coil(at.kind) {
-        Ok(at)
-    } else {
-        Err(CellFault::BadRef)
+    /// One more operand behind the others.
+    pub fn push(&mut self, operand: Operand)
+        requires { length self.old < OPERAND_LIMIT }
+        ensures { self.new ≡ self.old ++ operand ∷ [] }
+    {
+        self.items[self.count] = operand;
+        self.count += 1;
     }
-}
 
-pub fn nothing(operands: &[u8]) -> Result<(), CellFault>
-    ensures { result ≡ no_operand (words_of operands.now) }
-{
-    if next_word(operands).is_none() {
-        Ok(())
-    } else {
-        Err(CellFault::BadCell)
+    /// The operands in their order.
+    pub fn as_slice(&self) -> &[Operand]
+        ensures { result.now ≡ self.now }
+    {
+        &self.items[..self.count]
     }
 }

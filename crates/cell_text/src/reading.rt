@@ -4,51 +4,37 @@ ghost use Rattle.cell_text.specs.Words.{words_of};
 ghost use Rattle.cell_text.specs.Texts.{has_text};
 ghost use Rattle.cell_text.specs.Pieces.{short_at, piece_at, piece_of, has_later_name};
 
+use crate::elements::element_of;
 use crate::names::{Name, is_later_name, name_of};
 use crate::numbers::position_of;
-use crate::operands::{coil, discrete, nothing};
 use crate::piece::{CellFault, Piece};
+use crate::slots::{read_operands, slots_of};
 use crate::words::next_word;
-use plant_types::{Cell, Element, Short};
-
-fn cell(row: u8, column: u8, element: Element) -> Piece
-    ensures { result ≡ Piece.Cell (record { row = row; column = column; element = element }) }
-{
-    Piece::Cell(Cell {
-        row,
-        column,
-        element,
-    })
-}
+use plant_types::{Cell, Operand, Short};
 
 /// A short joins one of the first six rows to the next.
-fn short(row: u8, column: u8) -> Result<Piece, CellFault>
+fn short_at(row: u8, column: u8) -> Option<Piece>
     ensures { result ≡ short_at row column }
 {
     if row <= 6 {
-        Ok(Piece::Short(Short { row, column }))
+        Some(Piece::Short(Short { row, column }))
     } else {
-        Err(CellFault::BadCell)
+        None
     }
 }
 
-#[tactic(auto, unfolding(crate::specs::Pieces::piece_at))]
-fn piece_at(row: u8, column: u8, name: Name, operands: &[u8]) -> Result<Piece, CellFault>
-    ensures { result ≡ piece_at row column name (words_of operands.now) }
+fn piece_at(row: u8, column: u8, name: Name, operands: &[Operand]) -> Option<Piece>
+    ensures { result ≡ piece_at row column name operands.now }
 {
-    match name {
-        Name::Open => Ok(cell(row, column, Element::Open(discrete(operands)?))),
-        Name::Closed => Ok(cell(row, column, Element::Closed(discrete(operands)?))),
-        Name::Coil => Ok(cell(row, column, Element::Coil(coil(operands)?))),
-        Name::Wire => {
-            nothing(operands)?;
-            Ok(cell(row, column, Element::Wire))
-        }
-        Name::Short => {
-            nothing(operands)?;
-            short(row, column)
-        }
+    if let Name::Short = name {
+        return short_at(row, column);
     }
+    let element = element_of(name, operands)?;
+    Some(Piece::Cell(Cell {
+        row,
+        column,
+        element,
+    }))
 }
 
 #[tactic(auto, unfolding(crate::specs::Pieces::piece_of))]
@@ -58,16 +44,13 @@ fn read_piece(text: &[u8]) -> Result<Piece, CellFault>
     let Some((position, rest)) = next_word(text) else {
         return Err(CellFault::BadCell);
     };
-    let Some((name, operands)) = next_word(rest) else {
+    let Some((name, words)) = next_word(rest) else {
         return Err(CellFault::BadCell);
     };
-    let Some((row, column)) = position_of(position) else {
-        return Err(CellFault::BadCell);
-    };
-    let Some(name) = name_of(name) else {
-        return Err(CellFault::BadCell);
-    };
-    piece_at(row, column, name, operands)
+    let (row, column) = position_of(position).ok_or(CellFault::BadCell)?;
+    let name = name_of(name).ok_or(CellFault::BadCell)?;
+    let operands = read_operands(slots_of(name), words)?;
+    piece_at(row, column, name, operands.as_slice()).ok_or(CellFault::BadCell)
 }
 
 /// Reads a piece: `<row>,<column> <name> <operands>`. The fault is that of the first test that

@@ -2,35 +2,75 @@
 ghost use Rattle.std.specs.Prelude.{◌≡◌, true, Some, Ok, IfOk, string_bytes};
 ghost use Rattle.cell_text.specs.Words.{words_of};
 ghost use Rattle.cell_text.specs.Pieces.{piece_of};
-ghost use Rattle.cell_text.specs.Texts.{has_text, piece_text};
+ghost use Rattle.cell_text.specs.Texts.{operand_text, piece_name, piece_operands, piece_place, has_text, piece_text};
 
+use crate::elements::{element_name, operands_of};
+use crate::names::Name;
+use crate::operands::Operands;
 use crate::piece::Piece;
-use plant_types::Element;
+use plant_types::Operand;
 use std::alloc::{AllocError, Global};
 use std::fmt;
+
+/// An operand as it is written.
+#[derive(Clone, Copy)]
+struct Written(Operand);
+
+/// A constant in decimal, or the five digits of a reference.
+impl fmt::Display for Written {
+    ghost output = { λ written. Some (operand_text written.0) };
+
+    fn fmt<W: fmt::Write>(&self, f: &mut fmt::Formatter<W>) -> fmt::Result {
+        match self.0 {
+            Operand::Const(number) => write!(f, "{number}"),
+            Operand::At(at) => write!(f, "{at}"),
+        }
+    }
+}
+
+impl Piece {
+    fn place(&self) -> (u8, u8)
+        ensures { result ≡ piece_place self.now }
+    {
+        match *self {
+            Piece::Cell(cell) => (cell.row, cell.column),
+            Piece::Short(short) => (short.row, short.column),
+        }
+    }
+
+    fn name(&self) -> Name
+        ensures { result ≡ piece_name self.now }
+    {
+        match self {
+            Piece::Cell(cell) => element_name(&cell.element),
+            Piece::Short(_) => Name::Short,
+        }
+    }
+
+    fn operands(&self) -> Operands
+        ensures { result ≡ piece_operands self.now }
+    {
+        match self {
+            Piece::Cell(cell) => operands_of(&cell.element),
+            Piece::Short(_) => Operands::new(),
+        }
+    }
+}
 
 /// A piece with single blanks, as in `1,2 CO 00001`.
 impl fmt::Display for Piece {
     ghost output = { λ piece. Some (piece_text piece) };
 
     fn fmt<W: fmt::Write>(&self, f: &mut fmt::Formatter<W>) -> fmt::Result {
-        match *self {
-            Piece::Cell(cell) => {
-                let row = cell.row;
-                let column = cell.column;
-                match cell.element {
-                    Element::Open(at) => write!(f, "{row},{column} NO {at}"),
-                    Element::Closed(at) => write!(f, "{row},{column} NC {at}"),
-                    Element::Coil(at) => write!(f, "{row},{column} CO {at}"),
-                    Element::Wire => write!(f, "{row},{column} H"),
-                }
-            }
-            Piece::Short(short) => {
-                let row = short.row;
-                let column = short.column;
-                write!(f, "{row},{column} V")
-            }
+        let (row, column) = self.place();
+        let name = self.name().text();
+        let operands = self.operands();
+        write!(f, "{row},{column} {name}")?;
+        for operand in operands.as_slice() {
+            let written = Written(*operand);
+            write!(f, " {written}")?;
         }
+        Ok(())
     }
 }
 

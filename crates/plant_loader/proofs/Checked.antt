@@ -1,5 +1,5 @@
 -- What was read passes the tests of a plan.
-use Rattle.std.proofs.Common.{◌≡◌, ℕ, ◌+◌, Bool, true, false, not, ◌&&◌, List, [], ◌∷◌, ◌++◌, length, Option, Some, None, Result, Ok, Err, refl, sym, ap, ◌∙◌, append_assoc}
+use Rattle.std.proofs.Common.{◌≡◌, ℕ, ◌+◌, Bool, true, false, not, ◌&&◌, List, [], ◌∷◌, ◌++◌, length, Option, Some, None, Result, Ok, Err, refl, sym, ap, ◌∙◌, append_assoc, length-append}
 use Rattle.std.specs.List.{list_any, list_all, flat_map, cons_option}
 use Rattle.std.proofs.lemmas.Bool.{and_parts}
 use Rattle.std.proofs.lemmas.List.{append-nil}
@@ -76,38 +76,59 @@ driven_once-option coils (Some coil) added h t e = rw e (driven_once-push coils 
 pub coils-push : (cells : List Cell) (shorts : List Short) (cell : Cell) → coils_of_network (record { cells = cells ++ cell ∷ []; shorts = shorts }) ≡ coils_of_network (record { cells = cells; shorts = shorts }) ++ cons_option (driven_by cell.element) []
 coils-push cells shorts cell = filter_map-append (λ c. driven_by c.element) cells (cell ∷ [])
 
--- one more cell that is taken keeps all passing
-pub with_cell-passes : (sizes : Sizes) (read next : ReadNetworks) (cell : Cell) → has_cell_place cell ≡ true → has_form cell.element && has_values cell.element && has_kinds cell.element ≡ true → with_cell sizes read cell ≡ Ok next → Passes sizes read → Passes sizes next
+-- what was tested of a cell that is taken, and what is read with it
+record TakesCell (sizes : Sizes) (read next : ReadNetworks) (cell : Cell) : Type 0 where
+  room : has_room sizes cell.element ≡ true
+  shape : has_shape read.cells cell ≡ true
+  coil : not (is_driven (driven_coils read) (driven_by cell.element)) ≡ true
+  whole : record read { cells = read.cells ++ cell ∷ [] } ≡ next
+
+with_cell-takes : (sizes : Sizes) (read next : ReadNetworks) (cell : Cell) → with_cell sizes read cell ≡ Ok next → TakesCell sizes read next cell
 unfolding with_cell
-with_cell-passes sizes read next cell place operands h p =
+with_cell-takes sizes read next cell h =
     let added = record read { cells = read.cells ++ cell ∷ [] } in
     let again = not (is_driven (driven_coils read) (driven_by cell.element)) in
     let room = unless-ok (has_room sizes cell.element) BadRef (λ room. unless (has_shape read.cells cell) BadShape >>= λ shape. unless again CoilTwice >>= λ coil. Ok added) next h in
     let shape = unless-ok (has_shape read.cells cell) BadShape (λ shape. unless again CoilTwice >>= λ coil. Ok added) next room.1 in
     let coil = unless-ok again CoilTwice (λ coil. Ok added) next shape.1 in
-    let same : record read { cells = read.cells ++ cell ∷ [] } ≡ next = ok_value added next coil.1 in
+    record { room = room.0; shape = shape.0; coil = coil.0; whole = ok_value added next coil.1 }
+
+-- one more cell that is taken keeps all passing
+with_cell-passes : (sizes : Sizes) (read next : ReadNetworks) (cell : Cell) → has_cell_place cell ≡ true → has_form cell.element && has_values cell.element && has_kinds cell.element ≡ true → with_cell sizes read cell ≡ Ok next → Passes sizes read → Passes sizes next
+with_cell-passes sizes read next cell place operands h p =
+    let taken = with_cell-takes sizes read next cell h in
     let passes : Passes sizes (record read { cells = read.cells ++ cell ∷ [] }) = record {
       networks = p.networks;
-      cells = cells_pass-push sizes read.cells cell p.cells (and_both _ _ (and_both _ _ place (and_both _ _ operands room.0)) shape.0);
+      cells = cells_pass-push sizes read.cells cell p.cells (and_both _ _ (and_both _ _ place (and_both _ _ operands taken.room)) taken.shape);
       shorts = p.shorts;
-      coils = driven_once-option (driven_coils read) (driven_by cell.element) _ p.coils coil.0 (ap (λ xs. flat_map coils_of_network read.networks ++ xs) (coils-push read.cells read.shorts cell) ∙ sym (append_assoc (flat_map coils_of_network read.networks) _ _));
+      coils = driven_once-option (driven_coils read) (driven_by cell.element) _ p.coils taken.coil (ap (λ xs. flat_map coils_of_network read.networks ++ xs) (coils-push read.cells read.shorts cell) ∙ sym (append_assoc (flat_map coils_of_network read.networks) _ _));
     } in
-    rw (← same) passes
+    rw (← taken.whole) passes
 
--- one more short that is taken keeps all passing
-pub with_short-passes : (sizes : Sizes) (read next : ReadNetworks) (short : Short) → has_short_place short ≡ true → with_short read short ≡ Ok next → Passes sizes read → Passes sizes next
+with_cell-networks : (sizes : Sizes) (read next : ReadNetworks) (cell : Cell) → with_cell sizes read cell ≡ Ok next → next.networks ≡ read.networks
+with_cell-networks sizes read next cell h = ap (λ (r : ReadNetworks). r.networks) (sym (with_cell-takes sizes read next cell h).whole)
+
+with_short-takes : (read next : ReadNetworks) (short : Short) → with_short read short ≡ Ok next → (not (list_any (same_short short) read.shorts) ≡ true) × (record read { shorts = read.shorts ++ short ∷ [] } ≡ next)
 unfolding with_short
-with_short-passes sizes read next short place h p =
+with_short-takes read next short h =
     let added = record read { shorts = read.shorts ++ short ∷ [] } in
     let shape = unless-ok (not (list_any (same_short short) read.shorts)) BadShape (λ shape. Ok added) next h in
-    let same : record read { shorts = read.shorts ++ short ∷ [] } ≡ next = ok_value added next shape.1 in
+    (shape.0, ok_value added next shape.1)
+
+-- one more short that is taken keeps all passing
+with_short-passes : (sizes : Sizes) (read next : ReadNetworks) (short : Short) → has_short_place short ≡ true → with_short read short ≡ Ok next → Passes sizes read → Passes sizes next
+with_short-passes sizes read next short place h p =
+    let taken = with_short-takes read next short h in
     let passes : Passes sizes (record read { shorts = read.shorts ++ short ∷ [] }) = record {
       networks = p.networks;
       cells = p.cells;
-      shorts = shorts_pass-push read.shorts short p.shorts (and_both _ _ place shape.0);
+      shorts = shorts_pass-push read.shorts short p.shorts (and_both _ _ place taken.0);
       coils = p.coils;
     } in
-    rw (← same) passes
+    rw (← taken.1) passes
+
+with_short-networks : (read next : ReadNetworks) (short : Short) → with_short read short ≡ Ok next → next.networks ≡ read.networks
+with_short-networks read next short h = ap (λ (r : ReadNetworks). r.networks) (sym (with_short-takes read next short h).1)
 
 -- a network that is whole drives the coils that it drove when it was being read
 pub driven_coils-with_network : (read : ReadNetworks) → driven_coils (with_network read) ≡ driven_coils read
@@ -146,13 +167,37 @@ unfolding with_piece
 with_piece-passes sizes read next piece h p =
     with_read-passes sizes read next (piece_of (words_of piece)) (λ q e. piece_of-has (words_of piece) q e) (else-ok (has_later_name (words_of piece)) (with_read sizes read (piece_of (words_of piece))) faults.NotBuilt next h) p
 
-with_pieces-passes : (sizes : Sizes) (network : ℕ) (pieces : List (List ℕ)) (read next : ReadNetworks) → with_pieces sizes network read pieces ≡ Ok next → Passes sizes read → Passes sizes next
+with_read-networks : (sizes : Sizes) (read next : ReadNetworks) (r : Result Piece CellFault) → with_read sizes read r ≡ Ok next → next.networks ≡ read.networks
+with_read-networks sizes read next (Ok (pieces.Cell cell)) h = with_cell-networks sizes read next cell h
+with_read-networks sizes read next (Ok (pieces.Short short)) h = with_short-networks read next short h
+with_read-networks sizes read next (Err e) h = cc
+
+with_piece-networks : (sizes : Sizes) (read next : ReadNetworks) (piece : List ℕ) → with_piece sizes read piece ≡ Ok next → next.networks ≡ read.networks
+unfolding with_piece
+with_piece-networks sizes read next piece h =
+    with_read-networks sizes read next (piece_of (words_of piece)) (else-ok (has_later_name (words_of piece)) (with_read sizes read (piece_of (words_of piece))) faults.NotBuilt next h)
+
+-- what each piece keeps, pieces keep
+pieces_keep : (Holds : ReadNetworks → Type 0) (sizes : Sizes) → ((read next : ReadNetworks) (piece : List ℕ) → with_piece sizes read piece ≡ Ok next → Holds read → Holds next)
+    → (network : ℕ) (pieces : List (List ℕ)) (read next : ReadNetworks) → with_pieces sizes network read pieces ≡ Ok next → Holds read → Holds next
 unfolding with_pieces
-with_pieces-passes sizes network [] read next h p = let same : read ≡ next = ok_value read next h in rw (← same) p
-with_pieces-passes sizes network (piece ∷ pieces) read next h p =
+pieces_keep Holds sizes keep network [] read next h p = let same : read ≡ next = ok_value read next h in rw (← same) p
+pieces_keep Holds sizes keep network (piece ∷ pieces) read next h p =
     let place = cell_place network (piece_count read + 1) in
     let here = step-ok (at_place place (with_piece sizes read piece)) (λ after. with_pieces sizes network after pieces) next h in
-    with_pieces-passes sizes network pieces here.0 next here.1.1 (with_piece-passes sizes read here.0 piece (at_place-ok place (with_piece sizes read piece) here.0 here.1.0) p)
+    pieces_keep Holds sizes keep network pieces here.0 next here.1.1 (keep read here.0 piece (at_place-ok place (with_piece sizes read piece) here.0 here.1.0) p)
+
+with_pieces-passes : (sizes : Sizes) (network : ℕ) (pieces : List (List ℕ)) (read next : ReadNetworks) → with_pieces sizes network read pieces ≡ Ok next → Passes sizes read → Passes sizes next
+with_pieces-passes sizes = pieces_keep (Passes sizes) sizes (with_piece-passes sizes)
+
+-- one text is one network more
+pub with_text-count : (sizes : Sizes) (text : List ℕ) (read next : ReadNetworks) → with_text sizes read text ≡ Ok next → length next.networks ≡ length read.networks + 1
+unfolding with_text
+with_text-count sizes text read next h =
+    let here = step-ok (with_pieces sizes (length read.networks + 1) read (pieces_of text)) (λ after. Ok (with_network after)) next h in
+    let same : with_network here.0 ≡ next = ok_value (with_network here.0) next here.1.1 in
+    let kept = pieces_keep (λ after. after.networks ≡ read.networks) sizes (λ before after piece taken held. with_piece-networks sizes before after piece taken ∙ held) (length read.networks + 1) (pieces_of text) read here.0 here.1.0 refl in
+    ap (λ (r : ReadNetworks). length r.networks) (sym same) ∙ length-append here.0.networks (open_network here.0 ∷ []) ∙ ap (λ (networks : List Network). length networks + 1) kept
 
 -- what was read passes, and no network is open
 record PassesWhole (sizes : Sizes) (read : ReadNetworks) : Type 0 where

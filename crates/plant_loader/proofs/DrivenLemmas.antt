@@ -5,7 +5,6 @@ use Rattle.std.specs.Ordering.{is_eq, ordering_then}
 use Rattle.std.specs.BTreeMap.{is_at}
 use Rattle.std.specs.Result.{is_err, OnOk}
 use Rattle.std.proofs.lemmas.Bool.Decides.{nat_tests}
-use Rattle.std.proofs.lemmas.List.{append-nil}
 use Rattle.std.proofs.lemmas.List.Folds.{list_any-append}
 use Rattle.plant_types.specs.declared.reference.Ref.{Ref}
 use Rattle.plant_types.specs.declared.network.Cell.{Cell}
@@ -56,9 +55,6 @@ pub HoldsJust-gain : (old new : List Ref) (drives : Option Ref) (coil : Ref) →
 HoldsJust-gain old new drives coil e put = λ at.
     sym (list_any-at at new) ∙ put at ∙ rw (is_at-same coil at, list_any-at at old, is_same-turned coil at) (or_last (is_same at coil) (list_any (is_same at) old))
     ∙ sym (list_any-append (is_same at) old (coil ∷ [])) ∙ ap (λ (o : Option Ref). list_any (is_same at) (old ++ cons_option o [])) e
-
-pub HoldsJust-none : (old : List Ref) (drives : Option Ref) → None ≡ drives → HoldsJust old (old ++ cons_option drives [])
-HoldsJust-none old drives e = λ at. ap (list_any (is_same at)) (sym (append-nil old)) ∙ ap (λ (o : Option Ref). list_any (is_same at) (old ++ cons_option o [])) e
 
 -- the keys hold the coils of one more cell
 pub HoldsJust-cell : (old new : List Ref) (networks : List Network) (cells more : List Cell) (shorts : List Short) (cell : Cell) (drives : Option Ref) → drives ≡ driven_by cell.element

@@ -3,3 +3,5 @@ pub mod Checked
 pub mod DrivenLemmas
 pub mod PlantLemmas
 pub mod PieceSteps
+pub mod GridLemmas
+pub mod KeptLemmas

@@ -18,7 +18,7 @@ use Rattle.cell_text.specs.Numbers.{reference_of}
 use Rattle.cell_text.proofs.StepLemmas.{step-ok, or_fault-ok, unless-ok, some-step, some-guard}
 use Rattle.std.specs.Result.{IfOk}
 use Rattle.plant_loader.specs.declared.refusal.LoadEnd.{LoadEnd}
-use Rattle.plant_loader.specs.Refusals.{Gives, Refusal, bad_toml, not_built}
+use Rattle.plant_loader.specs.Refusals.{Gives, bad_toml, not_built}
 use Rattle.plant_loader.specs.Keys.{has_only, only_table, number_from, number_of, number_at, number_or, number_at_or, size_at, in_sixteens, discrete_size_at, items_up_to}
 use Rattle.plant_loader.specs.Controller.{sizes_at, has_first_order, network_texts, in_map, panel_item, panel_items, panel_in, panel_at}
 use Rattle.plant_loader.specs.Pieces.{networks_of}

@@ -8,7 +8,12 @@ use Rattle.plant_loader.specs.declared.counts.Counts.{Counts}
 -- The sizes that a controller's counts make. This project's own.
 abbrev pub sizes_of : Counts → Sizes
 sizes_of counts =
-    record { coils = counts.coils; inputs = counts.inputs; input_registers = counts.input_registers; registers = counts.registers }
+    record {
+      coils = counts.coils;
+      inputs = counts.inputs;
+      input_registers = counts.input_registers;
+      registers = counts.registers;
+    }
 
 -- Each of these references stands in a map of these sizes, with all that is used from it on. This project's own.
 abbrev pub have_room : Sizes → List Named → Bool

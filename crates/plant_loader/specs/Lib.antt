@@ -3,6 +3,8 @@ pub mod Counts
 pub mod Keys
 pub mod Controller
 pub mod Driven
+pub mod Grid
 pub mod Program
+pub mod Kept
 pub mod Pieces
 pub mod Plant

@@ -42,7 +42,8 @@ with_read sizes read (Err fault) = Err (plant_fault fault)
 
 -- One more piece; one with the name of a later version is not built, whatever else is wrong with it. This project's own.
 unfoldable pub with_piece : Sizes → ReadNetworks → List ℕ → Result ReadNetworks PlantFault
-with_piece sizes read piece = if has_later_name (words_of piece) then Err faults.NotBuilt else with_read sizes read (piece_of (words_of piece))
+with_piece sizes read piece =
+    if has_later_name (words_of piece) then Err faults.NotBuilt else with_read sizes read (piece_of (words_of piece))
 
 -- Pieces of the network of a number, each behind those before it; pieces count from 1. This project's own.
 unfoldable pub with_pieces : Sizes → ℕ → ReadNetworks → List (List ℕ) → Result ReadNetworks Refusal

@@ -22,7 +22,8 @@ document_of bytes = if is_utf8 bytes then parse_document bytes else None
 -- The keys of a controller. This project's own.
 abbrev pub controller_keys : List (List ℕ)
 controller_keys =
-    codes "node" ∷ codes "coils" ∷ codes "inputs" ∷ codes "input_registers" ∷ codes "registers" ∷ codes "panel" ∷ codes "orders" ∷ codes "segment" ∷ []
+    codes "node" ∷ codes "coils" ∷ codes "inputs" ∷ codes "input_registers" ∷ codes "registers"
+    ∷ codes "panel" ∷ codes "orders" ∷ codes "segment" ∷ []
 
 -- The plan of a controller of one segment. This project's own.
 abbrev pub plan_of : ℕ → Sizes → List Ref → List Network → ControllerPlan

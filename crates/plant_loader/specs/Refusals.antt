@@ -41,3 +41,8 @@ Stops (ends.Refused fault place) read = read ≡ Err (fault, place)
 abbrev pub Gives : {A B : Type 0} → (A → B) → Result A LoadEnd → Result B Refusal → Type 0
 Gives view (Ok x) read = read ≡ Ok (view x)
 Gives view (Err e) read = Stops e read
+
+-- What a call answered is such, unless memory was refused. This project's own.
+abbrev pub Makes : {A : Type 0} → Result A LoadEnd → (A → Type 0) → Type 0
+Makes (Ok x) Such = Such x
+Makes (Err e) Such = e ≡ ends.NoMemory

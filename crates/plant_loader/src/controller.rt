@@ -1,5 +1,5 @@
 //! The table of a controller apart from the pieces of its networks.
-ghost use Rattle.std.specs.Prelude.{◌≡◌, map, option_map};
+ghost use Rattle.std.specs.Prelude.{◌≡◌, ◌≤◌, length, map, option_map, IfOk};
 ghost use Rattle.toml.specs.View.{view, items_view, table_view};
 ghost use Rattle.plant_loader.specs.Counts.{sizes_of};
 ghost use Rattle.plant_loader.specs.Refusals.{Gives};
@@ -115,7 +115,8 @@ pub fn panel_at(alloc: Global, counts: Counts, table: &Table) -> Result<List<Ref
 }
 
 fn texts_of<'a>(alloc: Global, items: &'a [Value]) -> Result<Vec<&'a str>, LoadEnd>
-    ensures { Gives (λ texts. map (λ t. t.now) texts.items) result (texts_of (items_view items.now)) }
+    ensures read { Gives (λ texts. map (λ t. t.now) texts.items) result (texts_of (items_view items.now)) }
+    ensures count { IfOk result (λ texts. length texts.items ≡ length items.now) }
 {
     let mut texts = Vec::new(alloc);
     for item in items {
@@ -132,7 +133,8 @@ fn texts_of<'a>(alloc: Global, items: &'a [Value]) -> Result<Vec<&'a str>, LoadE
 /// The texts of the networks of the one segment, at most 499.
 #[tactic(auto, unfolding(crate::specs::Controller::network_texts))]
 pub fn network_texts<'a>(alloc: Global, table: &'a Table) -> Result<Vec<&'a str>, LoadEnd>
-    ensures { Gives (λ texts. map (λ t. t.now) texts.items) result (network_texts (table_view table.now)) }
+    ensures read { Gives (λ texts. map (λ t. t.now) texts.items) result (network_texts (table_view table.now)) }
+    ensures few { IfOk result (λ texts. length texts.items ≤ 499) }
 {
     let Some(segments) = value_at(table, "segment") else {
         return Err(not_built());

@@ -10,9 +10,13 @@ use plant_types::{Element, MathOp, MatrixOp, MoveOp, Operand, Ref, RefKind};
 /// The sizes of a controller's map.
 #[derive(Clone, Copy, Debug, PartialEq, Eq)]
 pub struct Counts {
+    /// 0x
     pub coils: u16,
+    /// 1x
     pub inputs: u16,
+    /// 3x
     pub input_registers: u16,
+    /// 4x
     pub registers: u16,
 }
 

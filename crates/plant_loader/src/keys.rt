@@ -1,5 +1,5 @@
 //! The values at the keys of a table.
-ghost use Rattle.std.specs.Prelude.{◌≡◌, option_map, option_and_then, map, string_bytes};
+ghost use Rattle.std.specs.Prelude.{◌≡◌, ◌≤◌, length, IfSome, option_map, option_and_then, map, string_bytes};
 ghost use Rattle.std.specs.BTreeMap as tree;
 ghost use Rattle.std.specs.Str.{bytes_eq};
 ghost use Rattle.std.specs.List.{list_any, list_all};
@@ -89,7 +89,8 @@ pub fn has_only(table: &Table, known: &[&str]) -> bool
 
 /// The items of an array that has at most so many.
 pub fn items_up_to(value: &Value, most: usize) -> Option<&[Value]>
-    ensures { option_map (λ items. items_view items.now) result ≡ items_up_to most (view value.now) }
+    ensures items { option_map (λ items. items_view items.now) result ≡ items_up_to most (view value.now) }
+    ensures few { IfSome result (λ items. length items.now ≤ most) }
 {
     match value.as_array() {
         Some(items) => {

@@ -1,5 +1,5 @@
 //! The pieces of the texts of networks.
-ghost use Rattle.std.specs.Prelude.{◌≡◌, ◌+◌, map};
+ghost use Rattle.std.specs.Prelude.{◌≡◌, ◌+◌, ◌<◌, ◌≤◌, length, map};
 ghost use Rattle.cell_text.specs.Words.{words_of};
 ghost use Rattle.plant_loader.specs.Counts.{sizes_of};
 ghost use Rattle.plant_loader.specs.Refusals.{Gives, cell_place, at_place};
@@ -8,7 +8,7 @@ ghost use Rattle.plant_loader.specs.Pieces.{plant_fault, has_word, pieces_of_lin
 
 use crate::counts::Counts;
 use crate::program::Program;
-use crate::refusal::{LoadEnd, cell_place, number_behind};
+use crate::refusal::{LoadEnd, cell_place};
 use cell_text::{CellFault, Piece, has_later_name, next_word, read_cell};
 use plant_types::{List, Network, Place, PlantFault};
 use std::alloc::Global;
@@ -55,15 +55,11 @@ fn with_next_piece(
     network: u32,
     piece: &str,
 ) -> Result<Program, LoadEnd>
-    ensures { Gives (λ p. p) result (at_place (cell_place network (piece_count program + 1)) (with_piece (sizes_of counts) program piece.now)) }
+    ensures { let place = cell_place network (piece_count program + 1) in
+        Gives (λ p. p) result (at_place place (with_piece (sizes_of counts) program piece.now)) }
 {
-    let Some(count) = program.piece_count() else {
-        return Err(LoadEnd::NoMemory);
-    };
-    let Some(number) = number_behind(count) else {
-        return Err(LoadEnd::NoMemory);
-    };
-    with_piece(program, counts, cell_place(network, number), piece)
+    let place = cell_place(network, program.piece_number());
+    with_piece(program, counts, place, piece)
 }
 
 fn with_line(
@@ -103,11 +99,10 @@ fn with_text(
     counts: Counts,
     text: &str,
 ) -> Result<Program, LoadEnd>
+    requires { length program.networks < 499 }
     ensures { Gives (λ p. p) result (with_text (sizes_of counts) program text.now) }
 {
-    let Some(network) = number_behind(program.network_count()) else {
-        return Err(LoadEnd::NoMemory);
-    };
+    let network = program.network_number();
     let program = with_lines(program, counts, network, text)?;
     program.with_network(alloc)
 }
@@ -119,6 +114,7 @@ fn with_texts(
     counts: Counts,
     texts: &[&str],
 ) -> Result<Program, LoadEnd>
+    requires { length program.networks + length texts.now ≤ 499 }
     ensures { Gives (λ p. p) result (with_texts (sizes_of counts) program (map (λ t. t.now) texts.now)) }
 {
     for text in texts {
@@ -130,6 +126,7 @@ fn with_texts(
 /// The networks that texts stand for, or the first fault of a piece.
 #[tactic(auto, unfolding(crate::specs::Pieces::networks_of))]
 pub fn networks_of(alloc: Global, counts: Counts, texts: &[&str]) -> Result<List<Network>, LoadEnd>
+    requires { length texts.now ≤ 499 }
     ensures { Gives (λ networks. networks) result (networks_of (sizes_of counts) (map (λ t. t.now) texts.now)) }
 {
     let program = with_texts(alloc, Program::new(alloc), counts, texts)?;

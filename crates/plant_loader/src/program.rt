@@ -1,11 +1,11 @@
 //! The networks of a controller while they are read.
-ghost use Rattle.std.specs.Prelude.{◌≡◌, ◌∷◌, [], ◌++◌, false, not, length, IfSome, MatchResult};
+ghost use Rattle.std.specs.Prelude.{◌≡◌, ◌<◌, ◌+◌, ◌∷◌, [], ◌++◌, true, length};
 ghost use Rattle.std.specs.List.{cons_option};
 ghost use Rattle.plant_loader.specs.Driven.{HoldsJust};
-ghost use Rattle.plant_types.specs.Network.{driven_by};
-ghost use Rattle.cell_text.specs.Steps.{unless};
+ghost use Rattle.plant_types.specs.Network.{driven_by, has_cell_place, has_short_place};
+ghost use Rattle.plant_types.specs.Checks.{has_shape};
 ghost use Rattle.plant_loader.specs.Counts.{sizes_of};
-ghost use Rattle.plant_loader.specs.Refusals.{Gives, at_place};
+ghost use Rattle.plant_loader.specs.Refusals.{Gives, Makes, at_place};
 ghost use Rattle.plant_loader.specs.Program.{ReadNetworks, driven_coils, is_driven, with_cell, with_short, piece_count, with_network};
 
 use crate::cells::{driven_by, has_shape, has_short};
@@ -27,19 +27,19 @@ pub struct Program {
 }
 
 impl Model for Program {
-    ghost use Rattle.plant_loader.specs.Program.{ReadNetworks, driven_coils};
-    ghost use Rattle.plant_loader.specs.Driven.{HoldsJust};
+    ghost use Rattle.plant_loader.specs.Program.{ReadNetworks};
+    ghost use Rattle.plant_loader.specs.Kept.{IsKept};
 
     ghost Value = { ReadNetworks };
 
     ghost view = { λ p. record { networks = p.networks; cells = p.cells; shorts = p.shorts } };
 
-    ghost invariant = { λ p. HoldsJust p.driven.keys (driven_coils (record { networks = p.networks; cells = p.cells; shorts = p.shorts })) };
+    ghost invariant = { λ p. IsKept p.driven.keys (record { networks = p.networks; cells = p.cells; shorts = p.shorts }) };
 }
 
 /// The references of a set, and one more, if there is one.
 fn with_coil(mut driven: BTreeSet<Ref>, coil: Option<Ref>) -> Result<BTreeSet<Ref>, LoadEnd>
-    ensures { MatchResult result (λ new. HoldsJust new.keys (driven.keys ++ cons_option coil [])) (λ end. end ≡ LoadEnd.NoMemory) }
+    ensures { Makes result (λ new. HoldsJust new.keys (driven.keys ++ cons_option coil [])) }
 {
     let Some(coil) = coil else {
         return Ok(driven);
@@ -73,7 +73,9 @@ impl Program {
     }
 
     fn put_cell(self, cell: Cell) -> Result<Program, LoadEnd>
-        ensures { MatchResult result (λ program. program ≡ record self { cells = self.cells ++ cell ∷ [] }) (λ end. end ≡ LoadEnd.NoMemory) }
+        requires place { has_cell_place cell ≡ true }
+        requires shape { has_shape self.cells cell ≡ true }
+        ensures { Makes result (λ program. program ≡ record self { cells = self.cells ++ cell ∷ [] }) }
     {
         let Program {
             networks,
@@ -96,6 +98,7 @@ impl Program {
     /// One more cell of the network that is being read, or the first of its faults.
     #[tactic(auto, unfolding(crate::specs::Program::with_cell))]
     pub fn with_cell(self, counts: Counts, place: Place, cell: Cell) -> Result<Program, LoadEnd>
+        requires { has_cell_place cell ≡ true }
         ensures { Gives (λ program. program) result (at_place place (with_cell (sizes_of counts) self cell)) }
     {
         if !counts.has_room(cell.element) {
@@ -113,6 +116,7 @@ impl Program {
     /// One more short of the network that is being read.
     #[tactic(auto, unfolding(crate::specs::Program::with_short))]
     pub fn with_short(self, place: Place, short: Short) -> Result<Program, LoadEnd>
+        requires { has_short_place short ≡ true }
         ensures { Gives (λ program. program) result (at_place place (with_short self short)) }
     {
         if has_short(self.shorts.as_slice(), short) {
@@ -135,26 +139,25 @@ impl Program {
         })
     }
 
-    /// How many networks are whole.
-    pub fn network_count(&self) -> usize
-        ensures { result ≡ length self.now.networks }
+    /// The number of the network that is being read.
+    pub fn network_number(&self) -> u32
+        requires { length self.now.networks < 499 }
+        ensures { result ≡ length self.now.networks + 1 }
     {
-        self.networks.as_slice().len()
+        self.networks.as_slice().len() as u32 + 1
     }
 
-    /// How many pieces the network has that is being read.
-    pub fn piece_count(&self) -> Option<usize>
-        ensures { IfSome result (λ count. count ≡ piece_count self.now) }
+    /// The number of the piece that comes next.
+    pub fn piece_number(&self) -> u32
+        ensures { result ≡ piece_count self.now + 1 }
     {
-        self.cells
-            .as_slice()
-            .len()
-            .checked_add(self.shorts.as_slice().len())
+        let count = self.cells.as_slice().len() + self.shorts.as_slice().len();
+        count as u32 + 1
     }
 
     /// The network that was being read is whole.
     pub fn with_network(self, alloc: Global) -> Result<Program, LoadEnd>
-        ensures { MatchResult result (λ program. program ≡ with_network self) (λ end. end ≡ LoadEnd.NoMemory) }
+        ensures { Makes result (λ program. program ≡ with_network self) }
     {
         let Program {
             mut networks,
@@ -173,6 +176,7 @@ impl Program {
         })
     }
 
+    /// The networks that are whole, in their order.
     pub fn into_networks(self) -> List<Network>
         ensures { result ≡ self.networks }
     {

@@ -1,10 +1,10 @@
 //! The whole file.
-ghost use Rattle.std.specs.Prelude.{◌≡◌, true, [], ◌∷◌, length, IfOk, MatchResult};
+ghost use Rattle.std.specs.Prelude.{◌≡◌, true, [], ◌∷◌, length, IfOk};
 ghost use Rattle.std.specs.List.{list_all};
 ghost use Rattle.toml.specs.View.{table_view};
 ghost use Rattle.plant_types.specs.Checks.{passes_check};
 ghost use Rattle.cell_text.specs.Steps.{or_fault};
-ghost use Rattle.plant_loader.specs.Refusals.{Gives, bad_toml};
+ghost use Rattle.plant_loader.specs.Refusals.{Gives, Makes, bad_toml};
 ghost use Rattle.plant_loader.specs.Plant.{document_of, controller_of, plant_in, plant_of, IsRunnable};
 
 use crate::controller::{counts_at, has_first_order, network_texts, panel_at};
@@ -48,7 +48,7 @@ fn document(alloc: Global, bytes: &[u8]) -> Result<Table, LoadEnd>
 }
 
 fn only_segment(alloc: Global, networks: List<Network>) -> Result<List<Segment>, LoadEnd>
-    ensures { MatchResult result (λ segments. segments ≡ record { networks = networks } ∷ []) (λ end. end ≡ LoadEnd.NoMemory) }
+    ensures { Makes result (λ segments. segments ≡ record { networks = networks } ∷ []) }
 {
     let mut segments = List::new(alloc);
     if segments.push(Segment { networks }).is_err() {
@@ -91,7 +91,7 @@ fn only_controller(
     scan_time: u16,
     controller: ControllerPlan,
 ) -> Result<Plant, LoadEnd>
-    ensures { MatchResult result (λ plant. plant ≡ record { scan_time = scan_time; controllers = controller ∷ [] }) (λ end. end ≡ LoadEnd.NoMemory) }
+    ensures { Makes result (λ plant. plant ≡ record { scan_time = scan_time; controllers = controller ∷ [] }) }
 {
     let mut controllers = List::new(alloc);
     if controllers.push(controller).is_err() {

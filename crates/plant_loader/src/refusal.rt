@@ -1,5 +1,5 @@
 //! How loading ends without a plant.
-ghost use Rattle.std.specs.Prelude.{◌≡◌, ◌+◌, IfSome};
+ghost use Rattle.std.specs.Prelude.{◌≡◌};
 ghost use Rattle.plant_loader.specs.Refusals.{plant_place, cell_place, not_built};
 
 use plant_types::{Part, Place, PlantFault};
@@ -9,26 +9,22 @@ use plant_types::{Part, Place, PlantFault};
 pub enum LoadEnd {
     /// The first fault of the file, and where it is.
     Refused(PlantFault, Place),
+    /// Memory was refused.
     NoMemory,
 }
 
-/// The whole file.
-pub const PLANT: Place = Place {
-    part: Part::Plant,
-    at: [0; 4],
-};
-
+/// The bytes are no document.
 pub fn bad_toml() -> LoadEnd
     ensures { result ≡ LoadEnd.Refused PlantFault.BadToml plant_place }
 {
-    LoadEnd::Refused(PlantFault::BadToml, PLANT)
+    LoadEnd::Refused(PlantFault::BadToml, Place::PLANT)
 }
 
 /// The document is not of a form that is taken.
 pub fn not_built() -> LoadEnd
     ensures { result ≡ LoadEnd.Refused PlantFault.NotBuilt plant_place }
 {
-    LoadEnd::Refused(PlantFault::NotBuilt, PLANT)
+    LoadEnd::Refused(PlantFault::NotBuilt, Place::PLANT)
 }
 
 /// The place of a piece of a network of the first segment of the first controller.
@@ -39,14 +35,4 @@ pub fn cell_place(network: u32, cell: u32) -> Place
         part: Part::Cell,
         at: [1, 1, network, cell],
     }
-}
-
-/// One more than a count.
-pub fn number_behind(count: usize) -> Option<u32>
-    ensures { IfSome result (λ number. number ≡ count + 1) }
-{
-    let Ok(count) = u32::try_from(count) else {
-        return None;
-    };
-    count.checked_add(1)
 }

@@ -1,8 +1,11 @@
-use Rattle.std.proofs.Common.{◌≡◌, map, drop}
+use Rattle.std.proofs.Common.{◌≡◌, map, drop, length}
 use Rattle.toml.specs.View.{items_view}
 use Rattle.plant_loader.specs.Controller.{texts_of, with_front}
 use Rattle.plant_loader.proofs.controller.texts_of.Given as goal
 
--- the texts so far, before those of the items left
+-- the texts so far, before those of the items left; one for each item
 abbrev pub invariant-loop-item : goal.invariant-loop-item
-invariant-loop-item l = with_front (map (λ t. t.now) l.texts.items) (texts_of (items_view (drop l.item-index l.items))) ≡ texts_of (items_view l.items)
+invariant-loop-item l = record {
+  read : with_front (map (λ t. t.now) l.texts.items) (texts_of (items_view (drop l.item-index l.items))) ≡ texts_of (items_view l.items);
+  count : length l.texts.items ≡ l.item-index;
+}

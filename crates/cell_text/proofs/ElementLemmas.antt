@@ -1,0 +1,104 @@
+-- An element has the name and the operands that it was made of.
+use Rattle.std.proofs.Common.{◌≡◌, ℕ, List, [], ◌∷◌, Option, Some, None, refl, sym, ap, ◌∙◌}
+use Rattle.std.specs.Prelude.{option_map, option_and_then}
+use Rattle.plant_types.specs.declared.reference.Ref.{Ref}
+use Rattle.plant_types.specs.declared.element.Operand.{Operand}
+use Rattle.plant_types.specs.declared.element.Operand.TheVariants.{Const, At}
+use Rattle.plant_types.specs.declared.element.Element.{Element}
+use Rattle.plant_types.specs.declared.element.Element.TheVariants.{Open, Closed, Rise, Fall, Coil, Latch, Wire, Timer, Counter, Math, Move, Matrix}
+use Rattle.cell_text.specs.declared.names.Name.{Name}
+use Rattle.cell_text.specs.declared.names.Name.TheVariants as names
+use Rattle.cell_text.specs.Elements.{element_name, operands_of, reference_in, constant_in, one_reference, preset_and_acc, numbers_and_low, table_operands, element_of}
+use Rattle.cell_text.proofs.StepLemmas.{some-step, some-map}
+
+-- an element was made of a name and operands
+pub record MadeOf (element : Element) (name : Name) (operands : List Operand) : Type 0 where
+  pub names : element_name element ≡ name
+  pub takes : operands_of element ≡ operands
+
+reference_in-some : (operand : Operand) (at : Ref) → reference_in operand ≡ Some at → operand ≡ At at
+reference_in-some (At found) at h = cc
+reference_in-some (Const n) at h = cc
+
+constant_in-some : (operand : Operand) (n : ℕ) → constant_in operand ≡ Some n → operand ≡ Const n
+constant_in-some (Const found) n h = cc
+constant_in-some (At at) n h = cc
+
+one_reference-some : (operands : List Operand) (at : Ref) → one_reference operands ≡ Some at → operands ≡ At at ∷ []
+one_reference-some (operand ∷ []) at h = ap (λ o. o ∷ []) (reference_in-some operand at h)
+one_reference-some [] at h = cc
+one_reference-some (operand ∷ other ∷ operands) at h = cc
+
+preset_and_acc-some : (operands : List Operand) (o : Operand × Ref) → preset_and_acc operands ≡ Some o → operands ≡ o.0 ∷ At o.1 ∷ []
+preset_and_acc-some (preset ∷ acc ∷ []) o h =
+    let found = some-map (λ (at : Ref). (preset, at)) (reference_in acc) o h in
+    let same : (preset, found.0) ≡ o = found.1.1 in
+    rw (← same) (ap (λ operand. preset ∷ operand ∷ []) (reference_in-some acc found.0 found.1.0))
+preset_and_acc-some [] o h = cc
+preset_and_acc-some (preset ∷ []) o h = cc
+preset_and_acc-some (preset ∷ acc ∷ other ∷ operands) o h = cc
+
+numbers_and_low-some : (operands : List Operand) (o : Operand × Operand × Ref) → numbers_and_low operands ≡ Some o → operands ≡ o.0 ∷ o.1 ∷ At o.2 ∷ []
+numbers_and_low-some (top ∷ mid ∷ low ∷ []) o h =
+    let found = some-map (λ (at : Ref). (top, mid, at)) (reference_in low) o h in
+    let same : (top, mid, found.0) ≡ o = found.1.1 in
+    rw (← same) (ap (λ operand. top ∷ mid ∷ operand ∷ []) (reference_in-some low found.0 found.1.0))
+numbers_and_low-some [] o h = cc
+numbers_and_low-some (top ∷ []) o h = cc
+numbers_and_low-some (top ∷ mid ∷ []) o h = cc
+numbers_and_low-some (top ∷ mid ∷ low ∷ other ∷ operands) o h = cc
+
+table_operands-some : (operands : List Operand) (o : Operand × Ref × ℕ) → table_operands operands ≡ Some o → operands ≡ o.0 ∷ At o.1 ∷ Const o.2 ∷ []
+table_operands-some (top ∷ mid ∷ length ∷ []) o h =
+    let at = some-step (λ (at : Ref). option_map (λ (n : ℕ). (top, at, n)) (constant_in length)) (reference_in mid) o h in
+    let n = some-map (λ (n : ℕ). (top, at.0, n)) (constant_in length) o at.1.1 in
+    let same : (top, at.0, n.0) ≡ o = n.1.1 in
+    let parts : top ∷ mid ∷ length ∷ [] ≡ top ∷ At at.0 ∷ Const n.0 ∷ [] = ap (λ operand. top ∷ operand ∷ length ∷ []) (reference_in-some mid at.0 at.1.0) ∙ ap (λ operand. top ∷ At at.0 ∷ operand ∷ []) (constant_in-some length n.0 n.1.0) in
+    rw (← same) parts
+table_operands-some [] o h = cc
+table_operands-some (top ∷ []) o h = cc
+table_operands-some (top ∷ mid ∷ []) o h = cc
+table_operands-some (top ∷ mid ∷ length ∷ other ∷ operands) o h = cc
+
+-- what one element was made of, another that is the same was
+same_made : (made element : Element) (name : Name) (parts operands : List Operand) → made ≡ element → operands ≡ parts → element_name made ≡ name → operands_of made ≡ parts → MadeOf element name operands
+same_made made element name parts operands e p n o = record {
+  names = ap element_name (sym e) ∙ n;
+  takes = ap operands_of (sym e) ∙ o ∙ sym p;
+}
+
+-- an element of one reference
+one_made : (make : Ref → Element) (name : Name) → ((at : Ref) → element_name (make at) ≡ name) → ((at : Ref) → operands_of (make at) ≡ At at ∷ []) → (operands : List Operand) (element : Element) → option_map make (one_reference operands) ≡ Some element → MadeOf element name operands
+one_made make name n o operands element h =
+    let found = some-map make (one_reference operands) element h in
+    same_made (make found.0) element name (At found.0 ∷ []) operands found.1.1 (one_reference-some operands found.0 found.1.0) (n found.0) (o found.0)
+
+-- the element of a name and operands was made of them
+pub element_of-made : (name : Name) (operands : List Operand) (element : Element) → element_of name operands ≡ Some element → MadeOf element name operands
+unfolding element_of
+element_of-made names.Open operands element h = one_made Open names.Open (λ at. refl) (λ at. refl) operands element h
+element_of-made names.Closed operands element h = one_made Closed names.Closed (λ at. refl) (λ at. refl) operands element h
+element_of-made names.Rise operands element h = one_made Rise names.Rise (λ at. refl) (λ at. refl) operands element h
+element_of-made names.Fall operands element h = one_made Fall names.Fall (λ at. refl) (λ at. refl) operands element h
+element_of-made names.Coil operands element h = one_made Coil names.Coil (λ at. refl) (λ at. refl) operands element h
+element_of-made names.Latch operands element h = one_made Latch names.Latch (λ at. refl) (λ at. refl) operands element h
+element_of-made names.Wire [] element h = same_made Wire element names.Wire [] [] (cc) refl refl refl
+element_of-made names.Wire (operand ∷ operands) element h = cc
+element_of-made names.Short operands element h = cc
+element_of-made (names.Timer unit) operands element h =
+    let found = some-map (λ (o : Operand × Ref). Timer unit o.0 o.1) (preset_and_acc operands) element h in
+    same_made (Timer unit found.0.0 found.0.1) element (names.Timer unit) (found.0.0 ∷ At found.0.1 ∷ []) operands found.1.1 (preset_and_acc-some operands found.0 found.1.0) refl refl
+element_of-made (names.Counter up) operands element h =
+    let found = some-map (λ (o : Operand × Ref). Counter up o.0 o.1) (preset_and_acc operands) element h in
+    same_made (Counter up found.0.0 found.0.1) element (names.Counter up) (found.0.0 ∷ At found.0.1 ∷ []) operands found.1.1 (preset_and_acc-some operands found.0 found.1.0) refl refl
+element_of-made (names.Math op) operands element h =
+    let found = some-map (λ (o : Operand × Operand × Ref). Math op o.0 o.1 o.2) (numbers_and_low operands) element h in
+    same_made (Math op found.0.0 found.0.1 found.0.2) element (names.Math op) (found.0.0 ∷ found.0.1 ∷ At found.0.2 ∷ []) operands found.1.1 (numbers_and_low-some operands found.0 found.1.0) refl refl
+element_of-made (names.Move op) operands element h =
+    let found = some-step (λ (o : Operand × Ref × ℕ). option_map (λ (top : Ref). Move op top o.1 o.2) (reference_in o.0)) (table_operands operands) element h in
+    let top = some-map (λ (top : Ref). Move op top found.0.1 found.0.2) (reference_in found.0.0) element found.1.1 in
+    let parts = table_operands-some operands found.0 found.1.0 ∙ ap (λ operand. operand ∷ At found.0.1 ∷ Const found.0.2 ∷ []) (reference_in-some found.0.0 top.0 top.1.0) in
+    same_made (Move op top.0 found.0.1 found.0.2) element (names.Move op) (At top.0 ∷ At found.0.1 ∷ Const found.0.2 ∷ []) operands top.1.1 parts refl refl
+element_of-made (names.Matrix op) operands element h =
+    let found = some-map (λ (o : Operand × Ref × ℕ). Matrix op o.0 o.1 o.2) (table_operands operands) element h in
+    same_made (Matrix op found.0.0 found.0.1 found.0.2) element (names.Matrix op) (found.0.0 ∷ At found.0.1 ∷ Const found.0.2 ∷ []) operands found.1.1 (table_operands-some operands found.0 found.1.0) refl refl

@@ -1,0 +1,90 @@
+-- The operands that a name takes, and what each has to be.
+use Rattle.std.specs.Option.{option_map_or}
+use Rattle.std.specs.Prelude.{ℕ, Bool, false, true, ◌||◌, if◌then◌else◌, List, [], ◌∷◌, Option, Some, None, option_map, option_and_then, Result}
+use lib.Pointwise.{pointwise}
+use Rattle.plant_types.specs.declared.reference.RefKind.{RefKind}
+use Rattle.plant_types.specs.declared.reference.Ref.{Ref}
+use Rattle.plant_types.specs.declared.element.Operand.{Operand}
+use Rattle.plant_types.specs.declared.element.Operand.TheVariants.{Const, At}
+use Rattle.plant_types.specs.declared.element.MoveOp.TheVariants.{FirstOut}
+use Rattle.plant_types.specs.declared.element.MatrixOp.TheVariants.{Mbit, Sens}
+use Rattle.plant_types.specs.Reference.{is_coil, is_discrete, is_register, is_holding}
+use Rattle.plant_types.specs.Operands.{is_length}
+use Rattle.cell_text.specs.declared.names.Name.{Name}
+use Rattle.cell_text.specs.declared.names.Name.TheVariants.{Open, Closed, Rise, Fall, Coil, Latch, Wire, Short, Timer, Counter, Math, Move, Matrix}
+use Rattle.cell_text.specs.declared.slots.Slot.{Slot}
+use Rattle.cell_text.specs.declared.slots.Slot.TheVariants.{Discrete, Driven, Number, Source, Target, Length}
+use Rattle.cell_text.specs.declared.slots.Test.{Test}
+use Rattle.cell_text.specs.declared.slots.Test.TheVariants.{Form, Value}
+use Rattle.cell_text.specs.declared.piece.CellFault.{CellFault}
+use Rattle.cell_text.specs.declared.piece.CellFault.TheVariants.{BadCell, BadValue, BadRef}
+use Rattle.cell_text.specs.Steps.{◌>>=◌, or_fault, unless}
+use Rattle.cell_text.specs.Numbers.{value_of, is_number, number_of, is_reference_word, reference_of}
+
+-- The operands that a name takes, in their order. Modicon Ladder Logic Block Library User Guide; the lengths are this project's own.
+unfoldable pub slots_of : Name → List Slot
+slots_of Open = Discrete ∷ []
+slots_of Closed = Discrete ∷ []
+slots_of Rise = Discrete ∷ []
+slots_of Fall = Discrete ∷ []
+slots_of Coil = Driven ∷ []
+slots_of Latch = Driven ∷ []
+slots_of Wire = []
+slots_of Short = []
+slots_of (Timer unit) = Number ∷ Target ∷ []
+slots_of (Counter up) = Number ∷ Target ∷ []
+slots_of (Math op) = Number ∷ Number ∷ Target ∷ []
+slots_of (Move FirstOut) = Target ∷ Target ∷ Length 255 ∷ []
+slots_of (Move op) = Source ∷ Target ∷ Length 255 ∷ []
+slots_of (Matrix Mbit) = Number ∷ Target ∷ Length 100 ∷ []
+slots_of (Matrix Sens) = Number ∷ Source ∷ Length 100 ∷ []
+slots_of (Matrix op) = Source ∷ Target ∷ Length 100 ∷ []
+
+-- The forms that an operand can have: five digits are a reference, one to four a constant. This project's own.
+abbrev pub takes_form : Slot → List ℕ → Bool
+takes_form Number word = is_number word || is_reference_word word
+takes_form (Length most) word = is_number word
+takes_form _ word = is_reference_word word
+
+-- A length is from 1 to the largest. This project's own.
+abbrev pub takes_value : Slot → List ℕ → Bool
+takes_value (Length most) word = option_map_or (is_length most) (number_of word) false
+takes_value _ word = true
+
+-- A word passes a test of an operand. This project's own.
+abbrev pub passes : Test → Slot → List ℕ → Bool
+passes Form slot word = takes_form slot word
+passes Value slot word = takes_value slot word
+
+-- The kinds of reference that an operand can be. Modicon Ladder Logic Block Library User Guide.
+abbrev pub takes_kind : Slot → RefKind → Bool
+takes_kind Discrete kind = is_discrete kind
+takes_kind Driven kind = is_coil kind
+takes_kind Number kind = is_register kind
+takes_kind Source kind = is_register kind
+takes_kind Target kind = is_holding kind
+takes_kind (Length most) kind = false
+
+-- A reference, where it is of a kind that is taken. This project's own.
+abbrev pub taken_reference : Slot → Option Ref → Option Operand
+taken_reference slot None = None
+taken_reference slot (Some at) = if takes_kind slot at.kind then Some (At at) else None
+
+-- The operand that a word stands for. This project's own.
+abbrev pub operand_in : Slot → List ℕ → Option Operand
+operand_in slot word =
+    if is_reference_word word then taken_reference slot (reference_of word) else option_map Const (number_of word)
+
+-- The operands that words stand for, one for each slot. This project's own.
+unfoldable pub operands_in : List Slot → List (List ℕ) → Option (List Operand)
+operands_in [] [] = Some []
+operands_in (slot ∷ slots) (word ∷ words) =
+    option_and_then (λ operand. option_map (λ operands. operand ∷ operands) (operands_in slots words)) (operand_in slot word)
+operands_in _ _ = None
+
+-- The operands of a piece: each test is made of all of them before the next test. This project's own.
+unfoldable pub read_operands : List Slot → List (List ℕ) → Result (List Operand) CellFault
+read_operands slots words = do
+  forms ← unless (pointwise takes_form slots words) BadCell
+  values ← unless (pointwise takes_value slots words) BadValue
+  or_fault BadRef (operands_in slots words)
