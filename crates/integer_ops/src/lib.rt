@@ -40,7 +40,7 @@ const BOTTOM: NodePower = NodePower {
 /// Adds two numbers: the last four digits of the sum go to `low`.
 ///
 /// The top output is on where the sum is above 9999.
-#[tactic(auto, using(crate::proofs::Kept::kept), unfolding(crate::specs::Arithmetic::add_effect))]
+#[tactic(auto, unfolding(crate::specs::Arithmetic::add_effect))]
 pub fn add<R: RefStore>(a: u16, b: u16, low: Ref, inputs: u8, ram: &mut R) -> u8
     requires { HasRegisters (R.contents ram.old) low 1 }
     ensures outputs { result ≡ bits_of (add_effect a b low (nodes_of inputs) (R.contents ram.old)).outputs }
@@ -63,7 +63,7 @@ pub fn add<R: RefStore>(a: u16, b: u16, low: Ref, inputs: u8, ram: &mut R) -> u8
 ///
 /// The top output is on where `a` is above `b`, the middle one where they are equal, the bottom one
 /// where `a` is below `b`.
-#[tactic(auto, using(crate::proofs::Kept::kept), unfolding(crate::specs::Arithmetic::sub_effect))]
+#[tactic(auto, unfolding(crate::specs::Arithmetic::sub_effect))]
 pub fn sub<R: RefStore>(a: u16, b: u16, low: Ref, inputs: u8, ram: &mut R) -> u8
     requires { HasRegisters (R.contents ram.old) low 1 }
     ensures outputs { result ≡ bits_of (sub_effect a b low (nodes_of inputs) (R.contents ram.old)).outputs }

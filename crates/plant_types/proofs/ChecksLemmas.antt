@@ -1,74 +1,268 @@
 -- A plan that passes its tests finds all that it asks in the store that its sizes make.
-use Rattle.std.proofs.Common.{◌≡◌, ℕ, Bool, true, false, cond, ◌&&◌, List, [], ◌∷◌, ◌++◌, Option, Some, None, is_some, refl, sym, ap, ◌∙◌, arith}
-use Rattle.std.specs.List.{list_all}
-use Rattle.std.specs.FinMap.{contains_key}
+use Rattle.std.proofs.Common.{◌≡◌, ℕ, ◌+◌, ◌<◌, ◌≤◌, ◌%◌, true, false, ◌&&◌, ◌==◌, List, [], ◌∷◌, ◌++◌, refl, sym, ap, ◌∙◌, arith}
+use Rattle.std.specs.Prelude.{nat_le}
+use Rattle.std.specs.List.{list_all, AllByRecursion}
+use Rattle.std.proofs.lemmas.Bool.{and_parts, and_from, leb-true, le-leb}
 use Rattle.plant_types.specs.declared.reference.Ref.{Ref}
 use Rattle.plant_types.specs.declared.reference.RefKind.{RefKind}
 use Rattle.plant_types.specs.declared.reference.RefKind.TheVariants as kinds
+use Rattle.plant_types.specs.declared.element.Operand.{Operand}
+use Rattle.plant_types.specs.declared.element.Operand.TheVariants.{Const, At}
+use Rattle.plant_types.specs.declared.element.MathOp.{MathOp}
+use Rattle.plant_types.specs.declared.element.MathOp.TheVariants as math
+use Rattle.plant_types.specs.declared.element.MoveOp.{MoveOp}
+use Rattle.plant_types.specs.declared.element.MoveOp.TheVariants as moves
+use Rattle.plant_types.specs.declared.element.MatrixOp.{MatrixOp}
+use Rattle.plant_types.specs.declared.element.MatrixOp.TheVariants as matrices
 use Rattle.plant_types.specs.declared.element.Element.{Element}
-use Rattle.plant_types.specs.declared.element.Element.TheVariants.{Open, Closed, Coil, Wire}
+use Rattle.plant_types.specs.declared.element.Element.TheVariants.{Open, Closed, Rise, Fall, Coil, Latch, Wire, Timer, Counter, Math, Move, Matrix}
 use Rattle.plant_types.specs.declared.network.Cell.{Cell}
 use Rattle.plant_types.specs.declared.network.Network.{Network}
 use Rattle.plant_types.specs.declared.network.Segment.{Segment}
-use Rattle.plant_types.specs.Reference.{is_discrete}
-use Rattle.plant_types.specs.Sizes.{Sizes, has_reference, cleared}
-use Rattle.plant_types.specs.Checks.{is_coil, has_kinds, has_room, HasOperands, HasCellOperands, HasNetworkOperands, HasSegmentOperands, HasPanel, cells_pass, network_passes, segment_passes, CheckedPlansFindAll}
-use Rattle.plant_types.proofs.SizesLemmas.{get-cleared}
+use Rattle.plant_types.specs.declared.plan.ControllerPlan.{ControllerPlan}
+use Rattle.plant_types.specs.Reference.{ref_from, is_coil, is_discrete, is_register, is_holding}
+use Rattle.plant_types.specs.Store.{HasDiscrete, HasRegisters}
+use Rattle.plant_types.specs.Sizes.{Sizes, count_of, has_reference, has_run, discretes_of, cleared}
+use Rattle.plant_types.specs.Operands.{Kind, OnlyCoil, AnyDiscrete, AnyRegister, OnlyHolding, takes, Named, named_in, math_names, move_names, matrix_names, names_of, has_form, has_values, has_kinds, HasKind, HasNamed, HasOperands, HasDiscreteKind, HasPast}
+use Rattle.plant_types.specs.Network.{has_cell_place}
+use Rattle.plant_types.specs.Checks.{has_room, element_passes, has_shape, cell_passes, cells_pass, shorts_pass, network_passes, segment_passes, sizes_of, is_size, is_discrete_size, numbers_pass, EachOfCells, EachOfNetworks, EachOfSegments, HasPanel, are_driven_once, coils_of, CheckedPlansFindAll}
+use Rattle.plant_types.proofs.SizesLemmas.{contains_key-cleared}
 
--- both of two tests
-and-left : (a b : Bool) → a && b ≡ true → a ≡ true
-and-left true b h = refl
-and-left false b h = h
+-- no kind has more than 9984 references
+abbrev FitsKinds : Sizes → Type 0
+FitsKinds sizes = (kind : RefKind) → count_of sizes kind ≤ 9984
 
-and-right : (a b : Bool) → a && b ≡ true → b ≡ true
-and-right true b h = h
-and-right false b h = absurd (Rattle.std.proofs.Common.true≢false (sym h))
+-- a coil is a discrete
+discrete_from_coil : (kind : RefKind) → is_coil kind ≡ true → is_discrete kind ≡ true
+discrete_from_coil kinds.Coil h = refl
+discrete_from_coil kinds.Input h = refl
+discrete_from_coil kinds.InputRegister h = h
+discrete_from_coil kinds.Register h = h
 
-some_in : (b : Bool) → is_some {T = ℕ} (cond b (Some 0) None) ≡ b
-some_in true = refl
-some_in false = refl
+-- a register is none
+register_no_discrete : (kind : RefKind) → is_register kind ≡ true → is_discrete kind ≡ false
+register_no_discrete kinds.Coil h = sym h
+register_no_discrete kinds.Input h = sym h
+register_no_discrete kinds.InputRegister h = refl
+register_no_discrete kinds.Register h = refl
 
--- the store that sizes make has the references of the sizes
-pub contains_key-cleared : (sizes : Sizes) (at : Ref) → contains_key (cleared sizes) at ≡ has_reference sizes at
-contains_key-cleared sizes at = ap is_some (get-cleared sizes at) ∙ some_in (has_reference sizes at)
+-- a holding register is a register
+register_from_holding : (kind : RefKind) → is_holding kind ≡ true → is_register kind ≡ true
+register_from_holding kinds.Coil h = h
+register_from_holding kinds.Input h = h
+register_from_holding kinds.InputRegister h = refl
+register_from_holding kinds.Register h = refl
 
-coil_is_discrete : (kind : RefKind) → is_coil kind ≡ true → is_discrete kind ≡ true
-coil_is_discrete kinds.Coil h = refl
-coil_is_discrete kinds.Input h = refl
-coil_is_discrete kinds.InputRegister h = h
-coil_is_discrete kinds.Register h = h
+-- the discretes alone are as many
+count_of-discretes : (sizes : Sizes) (kind : RefKind) → is_discrete kind ≡ true → count_of (discretes_of sizes) kind ≡ count_of sizes kind
+count_of-discretes sizes kinds.Coil h = refl
+count_of-discretes sizes kinds.Input h = refl
+count_of-discretes sizes kinds.InputRegister h = absurd (cc)
+count_of-discretes sizes kinds.Register h = absurd (cc)
 
--- an element whose references pass finds them
-element_finds : (sizes : Sizes) (element : Element) → has_kinds element ≡ true → has_room sizes element ≡ true → HasOperands (cleared sizes) element
-element_finds sizes (Open at) kind room = (contains_key-cleared sizes at ∙ room, kind)
-element_finds sizes (Closed at) kind room = (contains_key-cleared sizes at ∙ room, kind)
-element_finds sizes (Coil at) kind room = (contains_key-cleared sizes at ∙ room, coil_is_discrete at.kind kind)
-element_finds sizes Wire kind room = tt
+-- each reference of a run that fits the sizes is one of theirs
+has_reference-run : (sizes : Sizes) (at : Ref) (count i : ℕ) → has_run sizes at count ≡ true → i < count → has_reference sizes (ref_from at i) ≡ true
+has_reference-run sizes at count i room within =
+    let parts = and_parts (nat_le 1 at.number) (nat_le (at.number + count) (count_of sizes at.kind + 1)) room in
+    let low = leb-true _ _ parts.0 in
+    let high = leb-true _ _ parts.1 in
+    and_from (nat_le 1 (at.number + i)) (nat_le (at.number + i) (count_of sizes at.kind)) (le-leb _ _ (omega arith)) (le-leb _ _ (omega arith))
 
-cells_find : (sizes : Sizes) (earlier cells : List Cell) → cells_pass sizes earlier cells ≡ true → HasCellOperands (cleared sizes) cells
+-- the first of a run of at least one
+has_reference-first : (sizes : Sizes) (at : Ref) → has_run sizes at 1 ≡ true → has_reference sizes at ≡ true
+has_reference-first sizes at room =
+    let parts = and_parts (nat_le 1 at.number) (nat_le (at.number + 1) (count_of sizes at.kind + 1)) room in
+    let high = leb-true _ _ parts.1 in
+    and_from (nat_le 1 at.number) (nat_le at.number (count_of sizes at.kind)) parts.0 (le-leb _ _ (omega arith))
+
+-- a discrete with room is found
+discrete_found : (sizes : Sizes) (at : Ref) → is_discrete at.kind ≡ true → has_run sizes at 1 ≡ true → HasDiscrete (cleared sizes) at
+discrete_found sizes at kind room = (contains_key-cleared sizes at ∙ has_reference-first sizes at room, kind)
+
+-- registers with room are found
+registers_found : (sizes : Sizes) (at : Ref) (count : ℕ) → FitsKinds sizes → is_register at.kind ≡ true → has_run sizes at count ≡ true → HasRegisters (cleared sizes) at count
+registers_found sizes at count fits kind room = record {
+  kind = register_no_discrete at.kind kind;
+  range =
+      let parts = and_parts (nat_le 1 at.number) (nat_le (at.number + count) (count_of sizes at.kind + 1)) room in
+      let high = leb-true _ _ parts.1 in
+      let most = fits at.kind in
+      omega arith;
+  held = λ i l. contains_key-cleared sizes (ref_from at i) ∙ has_reference-run sizes at count i room l;
+}
+
+-- a discrete that is found in all references stands among the discretes alone
+discretes_found : (sizes : Sizes) (at : Ref) → HasDiscrete (cleared sizes) at → HasDiscrete (cleared (discretes_of sizes)) at
+discretes_found sizes at found =
+    let most = count_of-discretes sizes at.kind found.1 in (
+      contains_key-cleared (discretes_of sizes) at
+          ∙ ap (λ count. nat_le 1 at.number && nat_le at.number count) most
+          ∙ sym (contains_key-cleared sizes at)
+          ∙ found.0,
+      found.1,
+    )
+
+-- a discrete is named with no more behind it
+abbrev IsAlone : Kind → ℕ → Type 0
+IsAlone OnlyCoil count = count ≡ 1
+IsAlone AnyDiscrete count = count ≡ 1
+IsAlone AnyRegister count = Unit {0}
+IsAlone OnlyHolding count = Unit {0}
+
+-- each discrete of these is
+abbrev AreAlone : List Named → Type 0
+AreAlone names = AllByRecursion (λ named. IsAlone named.kind named.count) names
+
+-- so it is by each element, block by block
+operand_alone : (operand : Operand) (count : ℕ) (rest : List Named) → AreAlone rest → AreAlone (named_in operand count ++ rest)
+operand_alone (Const n) count rest h = h
+operand_alone (At at) count rest h = (tt, h)
+
+math_alone : (op : MathOp) (top mid : Operand) (low : Ref) → AreAlone (math_names op top mid low)
+math_alone math.Add top mid low = operand_alone top 1 _ (operand_alone mid 1 _ (tt, tt))
+math_alone math.Sub top mid low = operand_alone top 1 _ (operand_alone mid 1 _ (tt, tt))
+math_alone math.Mul top mid low = operand_alone top 1 _ (operand_alone mid 1 _ (tt, tt))
+math_alone math.Div top mid low = operand_alone top 2 _ (operand_alone mid 1 _ (tt, tt))
+
+move_alone : (op : MoveOp) (top mid : Ref) (length : ℕ) → AreAlone (move_names op top mid length)
+move_alone moves.RegToTable top mid length = (tt, (tt, tt))
+move_alone moves.TableToReg top mid length = (tt, (tt, tt))
+move_alone moves.TableToTable top mid length = (tt, (tt, tt))
+move_alone moves.Copy top mid length = (tt, (tt, tt))
+move_alone moves.FirstIn top mid length = (tt, (tt, tt))
+move_alone moves.FirstOut top mid length = (tt, (tt, tt))
+move_alone moves.Search top mid length = (tt, (tt, tt))
+
+matrix_alone : (op : MatrixOp) (top : Operand) (mid : Ref) (length : ℕ) → AreAlone (matrix_names op top mid length)
+matrix_alone matrices.And top mid length = operand_alone top length _ (tt, tt)
+matrix_alone matrices.Or top mid length = operand_alone top length _ (tt, tt)
+matrix_alone matrices.Xor top mid length = operand_alone top length _ (tt, tt)
+matrix_alone matrices.Comp top mid length = operand_alone top length _ (tt, tt)
+matrix_alone matrices.Brot top mid length = operand_alone top length _ (tt, tt)
+matrix_alone matrices.Cmpr top mid length = operand_alone top length _ (tt, tt)
+matrix_alone matrices.Mbit top mid length = operand_alone top 1 _ (tt, tt)
+matrix_alone matrices.Sens top mid length = operand_alone top 1 _ (tt, tt)
+
+names_alone : (element : Element) → AreAlone (names_of element)
+names_alone (Open at) = (refl, tt)
+names_alone (Closed at) = (refl, tt)
+names_alone (Rise at) = (refl, tt)
+names_alone (Fall at) = (refl, tt)
+names_alone (Coil at) = (refl, tt)
+names_alone (Latch at) = (refl, tt)
+names_alone Wire = tt
+names_alone (Timer unit preset acc) = operand_alone preset 1 _ (tt, tt)
+names_alone (Counter up preset acc) = operand_alone preset 1 _ (tt, tt)
+names_alone (Math op top mid low) = math_alone op top mid low
+names_alone (Move op top mid length) = move_alone op top mid length
+names_alone (Matrix op top mid length) = matrix_alone op top mid length
+
+-- a discrete that is named alone, with room, is found
+discrete_alone : (sizes : Sizes) (at : Ref) (count : ℕ) → count ≡ 1 → is_discrete at.kind ≡ true → has_run sizes at count ≡ true → HasDiscrete (cleared sizes) at
+discrete_alone sizes at count alone kind room = discrete_found sizes at kind (ap (has_run sizes at) (sym alone) ∙ room)
+
+-- a named reference of the right kind, with room in the sizes, is found
+kind_found : (sizes : Sizes) (at : Ref) (count : ℕ) (kind : Kind) → FitsKinds sizes → IsAlone kind count → takes kind at.kind ≡ true → has_run sizes at count ≡ true → HasKind (cleared sizes) at count kind
+kind_found sizes at count OnlyCoil fits alone kind room = discrete_alone sizes at count alone (discrete_from_coil at.kind kind) room
+kind_found sizes at count AnyDiscrete fits alone kind room = discrete_alone sizes at count alone kind room
+kind_found sizes at count AnyRegister fits alone kind room = registers_found sizes at count fits kind room
+kind_found sizes at count OnlyHolding fits alone kind room = registers_found sizes at count fits (register_from_holding at.kind kind) room
+
+-- a discrete that is found in all references is found among the discretes alone
+past_found : (sizes : Sizes) (at : Ref) (count : ℕ) (kind : Kind) → HasKind (cleared sizes) at count kind → HasDiscreteKind (cleared (discretes_of sizes)) at kind
+past_found sizes at count OnlyCoil found = discretes_found sizes at found
+past_found sizes at count AnyDiscrete found = discretes_found sizes at found
+past_found sizes at count AnyRegister found = tt
+past_found sizes at count OnlyHolding found = tt
+
+-- the same of all that an element names
+names_found : (sizes : Sizes) (names : List Named) → FitsKinds sizes → AreAlone names
+    → list_all (λ (named : Named). takes named.kind named.at.kind) names ≡ true → list_all (λ (named : Named). has_run sizes named.at named.count) names ≡ true
+    → AllByRecursion (HasNamed (cleared sizes)) names
+names_found sizes [] fits alone kinds room = tt
+names_found sizes (named ∷ names) fits alone kinds room =
+    let kind = and_parts (takes named.kind named.at.kind) _ kinds in
+    let run = and_parts (has_run sizes named.at named.count) _ room in
+    (kind_found sizes named.at named.count named.kind fits alone.0 kind.0 run.0, names_found sizes names fits alone.1 kind.1 run.1)
+
+-- and of the discretes among it
+pasts_found : (sizes : Sizes) (names : List Named) → AllByRecursion (HasNamed (cleared sizes)) names → AllByRecursion (λ (named : Named). HasDiscreteKind (cleared (discretes_of sizes)) named.at named.kind) names
+pasts_found sizes [] found = tt
+pasts_found sizes (named ∷ names) found = (past_found sizes named.at named.count named.kind found.0, pasts_found sizes names found.1)
+
+-- an element that passes finds what it asks
+element_finds : (sizes : Sizes) (element : Element) → FitsKinds sizes → element_passes sizes element ≡ true → HasOperands (cleared sizes) element
+element_finds sizes element fits passes =
+    let room = and_parts (has_form element && has_values element && has_kinds element) (has_room sizes element) passes in
+    let kinds = and_parts (has_form element && has_values element) (has_kinds element) room.0 in
+    let constants = and_parts (has_form element) (has_values element) kinds.0 in
+    record {
+      form = constants.0;
+      values = constants.1;
+      references = names_found sizes (names_of element) fits (names_alone element) kinds.1 room.1;
+    }
+
+-- an element that passes finds the discretes that it names as the scan before ended
+element_finds_past : (sizes : Sizes) (element : Element) → FitsKinds sizes → element_passes sizes element ≡ true → HasPast (cleared (discretes_of sizes)) element
+element_finds_past sizes element fits passes = pasts_found sizes (names_of element) ((element_finds sizes element fits passes).references)
+
+-- what follows for each element that passes follows for all elements of cells, networks and segments that pass
+cells_such : (Such : Element → Type 0) (sizes : Sizes) → ((element : Element) → element_passes sizes element ≡ true → Such element)
+    → (earlier cells : List Cell) → cells_pass sizes earlier cells ≡ true → EachOfCells Such cells
 unfolding cells_pass
-cells_find sizes earlier [] h = tt
-cells_find sizes earlier (cell ∷ cells) h =
-    let here = and-left _ _ h in
-    let kinds = and-right _ _ here in
-    (element_finds sizes cell.element (and-left _ _ kinds) (and-left _ _ (and-right _ _ kinds)), cells_find sizes (earlier ++ cell ∷ []) cells (and-right _ _ h))
+cells_such Such sizes such earlier [] h = tt
+cells_such Such sizes such earlier (cell ∷ cells) h =
+    let parts = and_parts (cell_passes sizes earlier cell) _ h in
+    let shape = and_parts (has_cell_place cell && element_passes sizes cell.element) (has_shape earlier cell) parts.0 in
+    let element = and_parts (has_cell_place cell) (element_passes sizes cell.element) shape.0 in
+    (such cell.element element.1, cells_such Such sizes such (earlier ++ cell ∷ []) cells parts.1)
 
-networks_find : (sizes : Sizes) (networks : List Network) → list_all (network_passes sizes) networks ≡ true → HasNetworkOperands (cleared sizes) networks
-networks_find sizes [] h = tt
-networks_find sizes (network ∷ networks) h = (cells_find sizes [] network.cells (and-left _ _ (and-left _ _ h)), networks_find sizes networks (and-right _ _ h))
+networks_such : (Such : Element → Type 0) (sizes : Sizes) → ((element : Element) → element_passes sizes element ≡ true → Such element)
+    → (networks : List Network) → list_all (network_passes sizes) networks ≡ true → EachOfNetworks Such networks
+networks_such Such sizes such [] h = tt
+networks_such Such sizes such (network ∷ networks) h =
+    let parts = and_parts (network_passes sizes network) _ h in
+    let cells = and_parts (cells_pass sizes [] network.cells) (shorts_pass [] network.shorts) parts.0 in
+    (cells_such Such sizes such [] network.cells cells.0, networks_such Such sizes such networks parts.1)
 
-segments_find : (sizes : Sizes) (segments : List Segment) → list_all (segment_passes sizes) segments ≡ true → HasSegmentOperands (cleared sizes) segments
-segments_find sizes [] h = tt
-segments_find sizes (segment ∷ segments) h = (networks_find sizes segment.networks (and-left _ _ h), segments_find sizes segments (and-right _ _ h))
+segments_such : (Such : Element → Type 0) (sizes : Sizes) → ((element : Element) → element_passes sizes element ≡ true → Such element)
+    → (segments : List Segment) → list_all (segment_passes sizes) segments ≡ true → EachOfSegments Such segments
+segments_such Such sizes such [] h = tt
+segments_such Such sizes such (segment ∷ segments) h =
+    let parts = and_parts (segment_passes sizes segment) _ h in
+    (networks_such Such sizes such segment.networks parts.0, segments_such Such sizes such segments parts.1)
 
+-- a panel that passes finds its references
 panel_finds : (sizes : Sizes) (panel : List Ref) → list_all (has_reference sizes) panel ≡ true → HasPanel (cleared sizes) panel
 panel_finds sizes [] h = tt
-panel_finds sizes (at ∷ panel) h = (contains_key-cleared sizes at ∙ and-left _ _ h, panel_finds sizes panel (and-right _ _ h))
+panel_finds sizes (at ∷ panel) h =
+    let parts = and_parts (has_reference sizes at) _ h in
+    (contains_key-cleared sizes at ∙ parts.0, panel_finds sizes panel parts.1)
 
+-- sizes that pass are those of kinds of at most 9984
+sizes_fit : (plan : ControllerPlan) → numbers_pass plan ≡ true → FitsKinds (sizes_of plan)
+sizes_fit plan h =
+    let node = and_parts (nat_le 1 plan.node && nat_le plan.node 64) _ h in
+    let coils = and_parts (is_discrete_size plan.coils) _ node.1 in
+    let inputs = and_parts (is_discrete_size plan.inputs) _ coils.1 in
+    let registers = and_parts (is_size plan.input_registers) (is_size plan.registers) inputs.1 in
+    λ kind. elim kind as (λ k. count_of (sizes_of plan) k ≤ 9984) [
+      | kinds.Coil ↦ leb-true _ _ (and_parts (is_size plan.coils) (plan.coils % 16 == 0) coils.0).0
+      | kinds.Input ↦ leb-true _ _ (and_parts (is_size plan.inputs) (plan.inputs % 16 == 0) inputs.0).0
+      | kinds.InputRegister ↦ leb-true _ _ registers.0
+      | kinds.Register ↦ leb-true _ _ registers.1
+    ]
+
+-- a plan that passes finds all that it asks
 pub checked-find_all : CheckedPlansFindAll
 checked-find_all plan h =
-    let tested = and-right _ _ h in
+    let sizes = sizes_of plan in
+    let numbers = and_parts (numbers_pass plan) _ h in
+    let segments = and_parts (list_all (segment_passes sizes) plan.segments) _ numbers.1 in
+    let panel = and_parts (are_driven_once [] (coils_of plan)) (list_all (has_reference sizes) plan.panel) segments.1 in
+    let fits = sizes_fit plan numbers.0 in
     record {
-      operands = segments_find _ plan.segments (and-left _ _ tested);
-      panel = panel_finds _ plan.panel (and-right _ _ (and-right _ _ tested));
+      operands = segments_such (HasOperands (cleared sizes)) sizes (λ element. element_finds sizes element fits) plan.segments segments.0;
+      past = segments_such (HasPast (cleared (discretes_of sizes))) sizes (λ element. element_finds_past sizes element fits) plan.segments segments.0;
+      panel = panel_finds sizes plan.panel panel.1;
     }

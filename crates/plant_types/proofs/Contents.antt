@@ -49,7 +49,7 @@ derived_kinds Register Input = refl
 derived_kinds Register InputRegister = refl
 derived_kinds Register Register = refl
 
-derived_refs : (a b : Ref) → derived.cmp-value.it a b ≡ ref_cmp a b
+pub derived_refs : (a b : Ref) → derived.cmp-value.it a b ≡ ref_cmp a b
 derived_refs a b = ap (λ o. ordering_then o (nat_cmp a.number b.number)) (derived_kinds a.kind b.kind)
 
 -- so the map of the code finds what the definitions find

@@ -1,14 +1,15 @@
 -- A store when it starts has the references of its sizes, each 0, and no others.
-use Rattle.std.proofs.Common.{◌≡◌, ℕ, zero, suc, Bool, true, false, cond, ◌&&◌, ◌==◌, List, [], ◌++◌, Option, Some, None, nat_cmp, refl, sym, ap, ◌∙◌, arith}
+use Rattle.std.proofs.Common.{◌≡◌, ℕ, zero, suc, Bool, true, false, cond, ◌&&◌, ◌==◌, List, [], ◌++◌, Option, Some, None, is_some, nat_cmp, refl, sym, ap, ◌∙◌, arith}
 use Rattle.std.specs.Ordering.{is_eq, ordering_then}
 use Rattle.std.proofs.lemmas.Bool.Decides.{nat_tests}
 use Rattle.std.proofs.lemmas.List.{append-nil}
+use Rattle.std.specs.FinMap.{contains_key}
 use Rattle.std.specs.Prelude.{nat_le}
 use Rattle.plant_types.specs.declared.reference.RefKind.{RefKind}
 use Rattle.plant_types.specs.declared.reference.RefKind.TheVariants.{Coil, Input, InputRegister, Register}
 use Rattle.plant_types.specs.declared.reference.Ref.{Ref}
 use Rattle.plant_types.specs.Reference.{rank_of}
-use Rattle.plant_types.specs.Sizes.{Sizes, zeros, count_of, StartsCleared}
+use Rattle.plant_types.specs.Sizes.{Sizes, zeros, count_of, has_reference, cleared, StartsCleared}
 use Rattle.plant_types.proofs.Contents.{found_at, get_ref}
 
 -- a number from 1 to a count
@@ -47,3 +48,11 @@ get-cleared s q =
     get_ref es q
     ∙ ap (λ t. found_at (zeros Coil s.coils ++ (zeros Input s.inputs ++ (zeros InputRegister s.input_registers ++ t))) q) (sym (append-nil (zeros Register s.registers)))
     ∙ all_found s q.kind q.number
+
+some_in : (b : Bool) → is_some {T = ℕ} (cond b (Some 0) None) ≡ b
+some_in true = refl
+some_in false = refl
+
+-- the store that sizes make has the references of the sizes
+pub contains_key-cleared : (sizes : Sizes) (at : Ref) → contains_key (cleared sizes) at ≡ has_reference sizes at
+contains_key-cleared sizes at = ap is_some (get-cleared sizes at) ∙ some_in (has_reference sizes at)

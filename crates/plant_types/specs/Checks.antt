@@ -11,7 +11,7 @@ use Rattle.plant_types.specs.declared.network.Segment.{Segment}
 use Rattle.plant_types.specs.declared.plan.ControllerPlan.{ControllerPlan}
 use Rattle.plant_types.specs.Reference.{rank_of}
 use Rattle.plant_types.specs.Sizes.{Sizes, has_reference, has_run, discretes_of, cleared}
-use Rattle.plant_types.specs.Store.{Contents}
+use Rattle.plant_types.specs.Store.{Contents, Keeps}
 use Rattle.plant_types.specs.Operands.{names_of, has_form, has_values, has_kinds, HasOperands, HasPast}
 use Rattle.plant_types.specs.Network.{driven_by, has_cell_place, has_short_place, is_within, clashes, same_short}
 
@@ -123,3 +123,11 @@ pub record FindsAll (plan : ControllerPlan) : Type 0 where
 
 abbrev pub CheckedPlansFindAll : Type 0
 CheckedPlansFindAll = (plan : ControllerPlan) → passes_check plan ≡ true → FindsAll plan
+
+-- What a store has for elements and panels, each store that keeps its references has too. This project's own.
+pub record KeptStoresFindAll : Type 0 where
+  pub operands : (m n : Contents) (segments : List Segment) → Keeps m n → HasSegmentOperands m segments → HasSegmentOperands n segments
+  pub past : (m n : Contents) (segments : List Segment) → Keeps m n → HasSegmentPast m segments → HasSegmentPast n segments
+  pub network_operands : (m n : Contents) (networks : List Network) → Keeps m n → EachOfNetworks (HasOperands m) networks → EachOfNetworks (HasOperands n) networks
+  pub network_past : (m n : Contents) (networks : List Network) → Keeps m n → EachOfNetworks (HasPast m) networks → EachOfNetworks (HasPast n) networks
+  pub panel : (m n : Contents) (panel : List Ref) → Keeps m n → HasPanel m panel → HasPanel n panel

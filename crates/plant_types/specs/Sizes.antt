@@ -1,10 +1,10 @@
 -- How many references of each kind a controller has, and its store when it starts.
 use Rattle.std.specs.Prelude.{◌≡◌, ℕ, zero, suc, ◌+◌, Bool, ◌&&◌, nat_le, List, [], ◌∷◌, ◌++◌, Some, None, if◌then◌else◌}
-use Rattle.std.specs.FinMap.{get, from_entries}
+use Rattle.std.specs.FinMap.{get, from_entries, retain_keys}
 use Rattle.plant_types.specs.declared.reference.RefKind.{RefKind}
 use Rattle.plant_types.specs.declared.reference.RefKind.TheVariants.{Coil, Input, InputRegister, Register}
 use Rattle.plant_types.specs.declared.reference.Ref.{Ref}
-use Rattle.plant_types.specs.Store.{Contents}
+use Rattle.plant_types.specs.Store.{Contents, Keeps, part_at}
 
 -- How many references of each kind there are. This project's own.
 pub record Sizes : Type 0 where
@@ -45,3 +45,14 @@ cleared sizes =
 -- A store when it starts has the references of its sizes, each 0, and no others. This project's own.
 abbrev pub StartsCleared : Type 0
 StartsCleared = (sizes : Sizes) (at : Ref) → get (cleared sizes) at ≡ (if has_reference sizes at then Some 0 else None)
+
+-- The coils and inputs of a map of these sizes, with the numbers that a store has there. This project's own.
+abbrev pub discretes : Sizes → Contents → Contents
+discretes sizes m = retain_keys m (has_reference (discretes_of sizes))
+
+-- What holds of the discretes of stores that have all references of their sizes: those of a fresh store are a fresh store of discretes; a copy that takes its numbers from another such store becomes that store's, and can always be taken. This project's own.
+pub record DiscretesFollow : Type 0 where
+  pub fresh : (sizes : Sizes) → discretes sizes (cleared sizes) ≡ cleared (discretes_of sizes)
+  pub copied : (sizes : Sizes) (m n : Contents) → Keeps (cleared sizes) m → part_at (discretes sizes m) n ≡ discretes sizes n
+  pub held : (sizes : Sizes) (m n : Contents) → Keeps (cleared sizes) n → Keeps (discretes sizes m) n
+  pub kept : (sizes : Sizes) (m : Contents) → Keeps (cleared sizes) m → Keeps (cleared (discretes_of sizes)) (discretes sizes m)

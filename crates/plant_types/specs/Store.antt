@@ -1,6 +1,6 @@
 -- What a store of references stands for: a finite map from reference to number.
 use Rattle.std.specs.Prelude.{◌≡◌, ℕ, zero, suc, ◌+◌, ◌≤◌, ◌<◌, Bool, true, false, nat_lt, unwrap_or, if◌then◌else◌, List, [], ◌∷◌}
-use Rattle.std.specs.FinMap.{FinMap, get, insert, contains_key}
+use Rattle.std.specs.FinMap.{FinMap, get, insert, contains_key, retain_keys}
 use Rattle.plant_types.specs.declared.reference.Ref.{Ref}
 use Rattle.plant_types.specs.Reference.{ref_cmp, is_discrete, ref_from}
 
@@ -31,6 +31,10 @@ HasDiscrete m at = (contains_key m at ≡ true) × (is_discrete at.kind ≡ true
 -- Each reference that stood before still stands. This project's own.
 abbrev pub Keeps : Contents → Contents → Type 0
 Keeps old new = (at : Ref) → contains_key old at ≡ true → contains_key new at ≡ true
+
+-- The part of a store that stands at the references of another. This project's own.
+abbrev pub part_at : Contents → Contents → Contents
+part_at other m = retain_keys m (contains_key other)
 
 -- So many registers from one on are there, with numbers that a reference can have. This project's own.
 pub record HasRegisters (m : Contents) (at : Ref) (count : ℕ) : Type 0 where

@@ -1,10 +1,11 @@
 //! Copies of values that own memory.
 ghost use Rattle.std.specs.Prelude.{◌≡◌, IfOk};
 
+use crate::element::{Element, MathOp, MatrixOp, MoveOp, Operand, Unit};
 use crate::list::List;
 use crate::network::{Cell, Network, Segment, Short};
 use crate::plan::{ControllerPlan, Plant};
-use crate::reference::Ref;
+use crate::reference::{Ref, RefKind};
 use crate::words::{Block, Pdu, Words};
 use std::alloc::{AllocError, Global};
 
@@ -32,7 +33,49 @@ impl Copied for u16 {
     }
 }
 
+impl Copied for RefKind {
+    fn copied(&self, _: Global) -> Result<Self, AllocError> {
+        Ok(*self)
+    }
+}
+
 impl Copied for Ref {
+    fn copied(&self, _: Global) -> Result<Self, AllocError> {
+        Ok(*self)
+    }
+}
+
+impl Copied for Operand {
+    fn copied(&self, _: Global) -> Result<Self, AllocError> {
+        Ok(*self)
+    }
+}
+
+impl Copied for Unit {
+    fn copied(&self, _: Global) -> Result<Self, AllocError> {
+        Ok(*self)
+    }
+}
+
+impl Copied for MathOp {
+    fn copied(&self, _: Global) -> Result<Self, AllocError> {
+        Ok(*self)
+    }
+}
+
+impl Copied for MoveOp {
+    fn copied(&self, _: Global) -> Result<Self, AllocError> {
+        Ok(*self)
+    }
+}
+
+impl Copied for MatrixOp {
+    fn copied(&self, _: Global) -> Result<Self, AllocError> {
+        Ok(*self)
+    }
+}
+
+impl Copied for Element {
     fn copied(&self, _: Global) -> Result<Self, AllocError> {
         Ok(*self)
     }

@@ -15,12 +15,12 @@ pub mod runs;
 pub mod store;
 pub mod words;
 
-pub use checks::checked_plans_find_all;
+pub use checks::{checked_plans_find_all, kept_stores_find_all};
 pub use copied::Copied;
 pub use element::{Element, MathOp, MatrixOp, MoveOp, Operand, Unit};
 pub use fault::{Part, Place, PlantFault};
 pub use list::List;
-pub use map_ram::MapRam;
+pub use map_ram::{MapRam, discretes_follow, starts_cleared};
 pub use network::{Cell, Network, Segment, Short};
 pub use plan::{ControllerPlan, Plant};
 pub use power::NodePower;

@@ -3,7 +3,8 @@ ghost use Rattle.std.specs.Prelude.{◌≡◌, true, Some, IfOk, OnOk};
 ghost use Rattle.std.specs.BTreeMap as tree;
 ghost use Rattle.std.specs.FinMap as map;
 ghost use Rattle.plant_types.specs.MapRam.{AddsZeros};
-ghost use Rattle.plant_types.specs.Sizes.{cleared, StartsCleared};
+ghost use Rattle.plant_types.specs.Sizes.{cleared, StartsCleared, DiscretesFollow};
+ghost use Rattle.plant_types.specs.Store.{Keeps, part_at};
 
 use crate::reference::{Ref, RefKind};
 use crate::store::RefStore;
@@ -59,6 +60,19 @@ impl MapRam {
         Ok(MapRam { values })
     }
 
+    /// Each reference of this store takes the number that it has in another. Takes no memory.
+    pub fn copy_from(&mut self, other: &MapRam)
+        requires { Keeps self.old other.now }
+        ensures copied { self.new ≡ part_at self.old other.now }
+        ensures keeps { Keeps self.old self.new }
+        ensures no_more { Keeps self.new self.old }
+    {
+        self.values.retain(|at, number| {
+            *number = other.value(*at).unwrap_or(0);
+            true
+        });
+    }
+
     fn value(&self, at: Ref) -> Option<u16>
         ensures { result ≡ map.get self.now at }
     {
@@ -67,7 +81,8 @@ impl MapRam {
 
     fn set(&mut self, at: Ref, value: u16)
         requires { map.contains_key self.old at ≡ true }
-        ensures { self.new ≡ map.insert self.old at value }
+        ensures stored { self.new ≡ map.insert self.old at value }
+        ensures keeps { Keeps self.old self.new }
     {
         if let Some(place) = self.values.get_mut(&at) {
             *place = value;
@@ -102,4 +117,9 @@ impl RefStore for MapRam {
 /// A store when it starts has the references of its sizes, each 0, and no others.
 pub fn starts_cleared()
     ensures { StartsCleared }
+{}
+
+/// The discretes of a store that keeps the references of its sizes, as `copy_from` takes them.
+pub fn discretes_follow()
+    ensures { DiscretesFollow }
 {}

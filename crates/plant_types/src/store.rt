@@ -2,7 +2,7 @@
 ghost use Rattle.std.specs.Prelude.{◌≡◌, true, false};
 ghost use Rattle.std.specs.FinMap as map;
 ghost use Rattle.plant_types.specs.Reference.{is_discrete};
-ghost use Rattle.plant_types.specs.Store.{Contents, word_at, is_on, with_bit};
+ghost use Rattle.plant_types.specs.Store.{Contents, Keeps, word_at, is_on, with_bit};
 
 use crate::reference::Ref;
 
@@ -23,7 +23,8 @@ pub trait RefStore {
     fn set_bit(&mut self, at: Ref, on: bool)
         requires held { map.contains_key (contents self.old) at ≡ true }
         requires kind { is_discrete at.kind ≡ true }
-        ensures { contents self.new ≡ with_bit (contents self.old) at on };
+        ensures stored { contents self.new ≡ with_bit (contents self.old) at on }
+        ensures keeps { Keeps (contents self.old) (contents self.new) };
 
     /// The number in a register.
     fn word(&self, at: Ref) -> u16
@@ -34,5 +35,6 @@ pub trait RefStore {
     fn set_word(&mut self, at: Ref, value: u16)
         requires held { map.contains_key (contents self.old) at ≡ true }
         requires kind { is_discrete at.kind ≡ false }
-        ensures { contents self.new ≡ map.insert (contents self.old) at value };
+        ensures stored { contents self.new ≡ map.insert (contents self.old) at value }
+        ensures keeps { Keeps (contents self.old) (contents self.new) };
 }

@@ -1,12 +1,20 @@
 //! Values from outside: each public call once, with ample memory.
+ghost use Rattle.std.specs.Prelude.{IfOk};
+ghost use Rattle.plant_types.specs.Store.{Keeps};
+
 use crate::{
-    Block, Copied, List, MapRam, Network, NodePower, Part, Pdu, Place, PlantFault, Ref, RefKind,
-    RefStore, Short, Words,
+    Block, Cell, Copied, Element, List, MapRam, Network, NodePower, Operand, Part, Pdu, Place,
+    PlantFault, Ref, RefKind, RefStore, Short, Unit, Words, discretes_follow,
 };
-use std::alloc::AllocError;
+use std::alloc::{AllocError, Global};
 
 const COIL_16: Ref = Ref {
     kind: RefKind::Coil,
+    number: 16,
+};
+
+const INPUT_16: Ref = Ref {
+    kind: RefKind::Input,
     number: 16,
 };
 
@@ -45,6 +53,41 @@ fn a_store_holds_its_references(rt: HostRuntime) -> Result<(), AllocError> {
     Ok(())
 }
 
+/// A store, and one of its discretes alone.
+fn stores(alloc: Global) -> Result<(MapRam, MapRam), AllocError>
+    ensures { IfOk result (λ stores. Keeps stores.1 stores.0) }
+{
+    discretes_follow();
+    let ram = MapRam::new(alloc, 16, 16, 0, 3)?;
+    let past = MapRam::new(alloc, 16, 16, 0, 0)?;
+    Ok((ram, past))
+}
+
+#[test]
+fn a_store_takes_numbers_from_another(rt: HostRuntime) -> Result<(), AllocError> {
+    let (mut ram, mut past) = stores(rt.alloc())?;
+    assert!(rt; ram.has(COIL_16));
+    ram.set_bit(COIL_16, true);
+    past.copy_from(&ram);
+    assert!(rt; past.has(COIL_16));
+    assert!(rt; past.bit(COIL_16));
+    assert!(rt; past.has(INPUT_16));
+    assert!(rt; !past.bit(INPUT_16));
+    assert!(rt; !past.has(REGISTER_3));
+    Ok(())
+}
+
+#[test]
+fn operands_have_numbers(rt: HostRuntime) -> Result<(), AllocError> {
+    let mut ram = MapRam::new(rt.alloc(), 0, 0, 0, 3)?;
+    assert!(rt; ram.has(REGISTER_3));
+    ram.set_word(REGISTER_3, 65_535);
+    assert!(rt; ram.has(REGISTER_3));
+    assert_eq!(rt; Operand::At(REGISTER_3).number(&ram), 65_535);
+    assert_eq!(rt; Operand::Const(9999).number(&ram), 9999);
+    Ok(())
+}
+
 #[test]
 fn lists_and_their_copies(rt: HostRuntime) -> Result<(), AllocError> {
     let alloc = rt.alloc();
@@ -52,18 +95,23 @@ fn lists_and_their_copies(rt: HostRuntime) -> Result<(), AllocError> {
     list.push(7u16)?;
     assert_eq!(rt; list.as_slice(), [7].as_slice());
     assert_eq!(rt; Words::of(alloc, &[7])?.words(), [7].as_slice());
-    let mut shorts = List::new(alloc);
-    shorts.push(Short { row: 1, column: 11 })?;
-    let network = Network {
-        cells: List::new(alloc),
-        shorts,
+    let cell = Cell {
+        row: 1,
+        column: 2,
+        element: Element::Timer {
+            unit: Unit::Tenth,
+            preset: Operand::Const(50),
+            acc: REGISTER_3,
+        },
     };
-    let copy = network.copied(alloc)?;
-    assert_eq!(rt;
-        copy.shorts.as_slice(),
-        [Short { row: 1, column: 11 }].as_slice()
-    );
-    assert!(rt; copy.cells.as_slice().is_empty());
+    let short = Short { row: 1, column: 11 };
+    let mut cells = List::new(alloc);
+    cells.push(cell)?;
+    let mut shorts = List::new(alloc);
+    shorts.push(short)?;
+    let copy = Network { cells, shorts }.copied(alloc)?;
+    assert_eq!(rt; copy.cells.as_slice(), [cell].as_slice());
+    assert_eq!(rt; copy.shorts.as_slice(), [short].as_slice());
     Ok(())
 }
 

@@ -40,7 +40,6 @@ pub fn contact<R: RefStore, P: RefStore>(kind: ContactKind, at: Ref, ram: &R, pa
 }
 
 /// The reference of a coil becomes its power, for a normal coil and a latch alike.
-#[tactic(auto, using(crate::proofs::Kept::kept))]
 pub fn coil<R: RefStore>(at: Ref, power: bool, ram: &mut R)
     requires { HasDiscrete (R.contents ram.old) at }
     ensures stored { R.contents ram.new ≡ with_bit (R.contents ram.old) at power }

@@ -57,7 +57,7 @@ fn lengthened(time: u16, gained: u64, preset: u16) -> u16
 ///
 /// The upper input lets time pass, the lower one enables the timer: while it is off the accumulator
 /// is 0. The upper output is on where the preset is reached, the lower one before.
-#[tactic(auto, using(crate::proofs::Kept::kept), unfolding(crate::specs::Timer::timer_effect))]
+#[tactic(auto, unfolding(crate::specs::Timer::timer_effect))]
 pub fn timer<R: RefStore>(
     unit: Unit,
     preset: u16,
@@ -101,7 +101,7 @@ fn rises(inputs: NodePower, edge: &mut bool) -> bool
 ///
 /// The lower input enables the counter: while it is off the accumulator is 0. The upper output is on
 /// where the preset is reached, the lower one before. `edge` is the upper input of the solve before.
-#[tactic(auto, using(crate::proofs::Kept::kept), unfolding(crate::specs::Counter::up_count_effect))]
+#[tactic(auto, unfolding(crate::specs::Counter::up_count_effect))]
 pub fn up_count<R: RefStore>(preset: u16, acc: Ref, inputs: u8, edge: &mut bool, ram: &mut R) -> u8
     requires { HasRegisters (R.contents ram.old) acc 1 }
     ensures outputs { result ≡ bits_of (up_count_effect preset acc (nodes_of inputs) edge.old (R.contents ram.old)).outputs }
@@ -132,7 +132,7 @@ pub fn up_count<R: RefStore>(preset: u16, acc: Ref, inputs: u8, edge: &mut bool,
 ///
 /// The lower input enables the counter: while it is off the accumulator is the preset. The upper
 /// output is on at 0, the lower one above. `edge` is the upper input of the solve before.
-#[tactic(auto, using(crate::proofs::Kept::kept), unfolding(crate::specs::Counter::down_count_effect))]
+#[tactic(auto, unfolding(crate::specs::Counter::down_count_effect))]
 pub fn down_count<R: RefStore>(
     preset: u16,
     acc: Ref,

@@ -26,7 +26,7 @@ loop-place-preserved g c =
     let place = c.loop-place.place in
     let words = bit_words c.args.bits.now in
     let within : place < length words = omega (arith, length-bit_words c.args.bits.now) in
-    c.set_bit.ensures
+    c.set_bit.ensures.stored
     ∙ ap (λ r. insert (g.R.RefStore.contents c.loop-place.ram) r (cond (get_or c.args.bits.now place false) 1 0)) c.reference_behind.ensures
     ∙ ap (λ n. insert n (ref_from at place) (cond (get_or c.args.bits.now place false) 1 0)) c.loop-place.invariant
     ∙ ap (insert (with_words m at (take place words)) (ref_from at place)) (sym (stored_bit c.args.bits.now place (omega arith)))

@@ -26,7 +26,7 @@ loop-place-preserved g c =
     let place = c.loop-place.place in
     let words = c.args.words.now in
     let within : place < length words = omega arith in
-    c.set_word.ensures
+    c.set_word.ensures.stored
     ∙ ap (λ r. insert (g.R.RefStore.contents c.loop-place.ram) r (get_or c.args.words.now place 0)) c.reference_behind.ensures
     ∙ ap (λ n. insert n (ref_from at place) (get_or c.args.words.now place 0)) c.loop-place.invariant
     ∙ sym (with_words-more m at words place within)

@@ -24,7 +24,7 @@ loop-i-preserved g c =
     let within : c.loop-i.i < length ws = omega arith in
     let front = take c.loop-i.i ws in
     let size = length-take-le c.loop-i.i ws (omega arith) in
-    c.set_word.ensures
+    c.set_word.ensures.stored
     ∙ ap (λ r. insert (g.R.RefStore.contents c.loop-i.ram) r (get_or ws c.loop-i.i 0)) (c.ref_after.ensures ∙ ap (ref_from c.args.at) (sym size))
     ∙ ap (λ n. insert n (ref_from c.args.at (length front)) (get_or ws c.loop-i.i 0)) c.loop-i.invariant
     ∙ sym (with_words-push m c.args.at front (get_or ws c.loop-i.i 0))

@@ -1,8 +1,7 @@
-use Rattle.std.proofs.Common.{◌≡◌, ◌+◌, ◌∙◌, true, sym, ap, subst, arith}
+use Rattle.std.proofs.Common.{◌≡◌, ◌+◌, ◌∙◌, true, sym, ap, arith}
 use Rattle.std.specs.FinMap.{contains_key}
 use Rattle.plant_types.specs.Reference.{ref_from}
-use Rattle.plant_types.specs.Store.{Keeps}
-use Rattle.plant_types.proofs.RunLemmas.{ref_from-zero, ref_from-ref_from, Keeps-insert}
+use Rattle.plant_types.proofs.RunLemmas.{ref_from-zero, ref_from-ref_from}
 use Rattle.table_ops.proofs.TableLemmas.{HasRegisters-at}
 use Rattle.table_ops.proofs.queues.first_in.Goals as goal
 
@@ -20,12 +19,4 @@ set_word-requires-2-clause-held g c =
     let m = g.R.RefStore.contents c.args.ram.now in
     let first : contains_key m c.args.mid ≡ true = ap (contains_key m) (sym (ref_from-zero c.args.mid)) ∙ c.requires.queue.held 0 (omega arith) in
     let moved = g.R.RefStore.contents c.move_words.new.ram in
-    ap (λ n. contains_key n c.args.mid) c.set_word.ensures ∙ Keeps-insert moved c.ref_after-queue.result _ c.args.mid (c.move_words.ensures.keeps c.args.mid first)
-
-pub returns-clause-keeps : goal.returns-clause-keeps
-returns-clause-keeps g c =
-    let contents = g.R.RefStore.contents in
-    let moved = contents c.move_words.new.ram in
-    let first = subst (Keeps moved) (sym c.set_word.ensures) (Keeps-insert moved c.ref_after-queue.result _) in
-    let second = subst (Keeps (contents c.set_word.new.self)) (sym c.set_word-2.ensures) (Keeps-insert (contents c.set_word.new.self) c.args.mid _) in
-    λ at h. second at (first at (c.move_words.ensures.keeps at h))
+    c.set_word.ensures.keeps c.args.mid (c.move_words.ensures.keeps c.args.mid first)

@@ -1,15 +1,7 @@
-use Rattle.std.proofs.Common.{◌+◌, ◌-◌, sym, subst, arith}
-use Rattle.plant_types.specs.Store.{Keeps}
-use Rattle.plant_types.proofs.RunLemmas.{Keeps-insert}
+use Rattle.std.proofs.Common.{◌+◌, arith}
 use Rattle.table_ops.proofs.TableLemmas.{HasRegisters-at}
 use Rattle.table_ops.proofs.queues.first_out.Goals as goal
 
 pub move_word-requires-clause-source : goal.move_word-requires-clause-source
 move_word-requires-clause-source g c =
     HasRegisters-at (g.R.RefStore.contents c.args.ram.now) c.args.top (c.args.length + 1) c.word-count.result 1 c.ref_after.result c.requires.queue (omega arith) c.ref_after.ensures
-
-pub returns-clause-keeps : goal.returns-clause-keeps
-returns-clause-keeps g c =
-    let moved = g.R.RefStore.contents c.move_word.new.ram in
-    let last = subst (Keeps moved) (sym c.set_word.ensures) (Keeps-insert moved c.args.top _) in
-    λ at h. last at (c.move_word.ensures.keeps at h)
