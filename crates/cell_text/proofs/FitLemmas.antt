@@ -1,16 +1,12 @@
 -- The operands that fit the slots of a name are those that its element takes.
-use Rattle.std.proofs.Common.{◌≡◌, ℕ, ◌+◌, Bool, true, false, ◌&&◌, List, [], ◌∷◌, ◌++◌, refl, sym, ap, ◌∙◌}
-use Rattle.std.specs.Prelude.{nat_le}
+use Rattle.std.proofs.Common.{◌≡◌, ℕ, ◌+◌, Bool, true, false, ◌&&◌, List, [], ◌∷◌, ◌++◌, refl, ap, ◌∙◌}
 use Rattle.std.specs.List.{list_all}
 use lib.Pointwise.{pointwise}
 use Rattle.plant_types.specs.declared.reference.Ref.{Ref}
 use Rattle.plant_types.specs.declared.element.Operand.{Operand}
 use Rattle.plant_types.specs.declared.element.Operand.TheVariants.{Const, At}
-use Rattle.plant_types.specs.declared.element.MathOp.{MathOp}
 use Rattle.plant_types.specs.declared.element.MathOp.TheVariants as math
-use Rattle.plant_types.specs.declared.element.MoveOp.{MoveOp}
 use Rattle.plant_types.specs.declared.element.MoveOp.TheVariants as moves
-use Rattle.plant_types.specs.declared.element.MatrixOp.{MatrixOp}
 use Rattle.plant_types.specs.declared.element.MatrixOp.TheVariants as matrices
 use Rattle.plant_types.specs.declared.element.Element.{Element}
 use Rattle.plant_types.specs.declared.element.Element.TheVariants.{Open, Closed, Rise, Fall, Coil, Latch, Wire, Timer, Counter, Math, Move, Matrix}

@@ -1,5 +1,5 @@
 -- A piece that reads has a text.
-use Rattle.std.proofs.Common.{◌≡◌, ℕ, ◌+◌, ◌*◌, ◌-◌, ◌<◌, ◌≤◌, Bool, true, false, ◌&&◌, ◌||◌, List, [], ◌∷◌, drop, length, Option, Some, None, Result, Ok, Err, refl, sym, ap, ◌∙◌, arith}
+use Rattle.std.proofs.Common.{◌≡◌, ℕ, ◌-◌, ◌≤◌, Bool, true, false, ◌&&◌, ◌||◌, List, [], ◌∷◌, drop, length, Option, Some, None, Result, Ok, Err, refl, sym, ap, ◌∙◌, arith}
 use Rattle.std.specs.Prelude.{nat_le, slice_index, option_map, option_and_then, ◌==◌, if◌then◌else◌, not}
 use Rattle.std.specs.Option.{option_map_or}
 use Rattle.std.specs.Result.{IfOk}
@@ -26,12 +26,12 @@ use Rattle.cell_text.specs.Steps.{◌>>=◌, or_fault, unless}
 use Rattle.cell_text.specs.Numbers.{is_digit, value_of, is_number, number_of, numbered, position_of, kind_of, is_reference_word, reference_of}
 use Rattle.cell_text.specs.Names.{name_of}
 use Rattle.cell_text.specs.Slots.{slots_of, takes_form, takes_value, takes_kind, taken_reference, operand_in, operands_in, read_operands}
-use Rattle.cell_text.specs.Elements.{element_name, operands_of, element_of}
+use Rattle.cell_text.specs.Elements.{operands_of, element_of}
 use Rattle.cell_text.specs.Pieces.{short_at, piece_at, piece_of}
 use Rattle.cell_text.specs.Texts.{has_number, has_numbers, has_text}
 use Rattle.cell_text.proofs.StepLemmas.{step-ok, or_fault-ok, unless-ok, some-step, some-map, some-guard, or_fault-some}
-use Rattle.cell_text.proofs.FitLemmas.{fits_form, fits_value, fits_reference, fits, pointwise-fits}
-use Rattle.cell_text.proofs.ElementLemmas.{MadeOf, element_of-made}
+use Rattle.cell_text.proofs.FitLemmas.{fits_form, fits_value, fits, pointwise-fits}
+use Rattle.cell_text.proofs.ElementLemmas.{element_of-made}
 
 and_both : (a b : Bool) → a ≡ true → b ≡ true → a && b ≡ true
 and_both a b x y = rw (x, y) refl
@@ -109,7 +109,7 @@ form_of_kind Source at h = refl
 form_of_kind Target at h = refl
 form_of_kind (Length most) at h = cc
 
-reference-fits : (slot : Slot) (found : Option Ref) (operand : Operand) → ((at : Ref) → found ≡ Some at → has_number at ≡ true) → taken_reference slot found ≡ Some operand → fits slot operand ≡ true
+reference-fits : (slot : Slot) (found : Option Ref) (operand : Operand) → ((at : Ref) → found ≡ Some at → has_number at ≡ true) → option_and_then (taken_reference slot) found ≡ Some operand → fits slot operand ≡ true
 reference-fits slot None operand has h = cc
 reference-fits slot (Some at) operand has h =
     let (kind, some) = some-guard (takes_kind slot at.kind) (Some (At at)) operand h in
@@ -139,7 +139,7 @@ constant-fits slot word operand five form value h =
     rw (← same) (and_both _ _ (and_both _ _ (constant_form slot word n five form) (constant_value slot word n number value)) refl)
 
 fits-by : (slot : Slot) (word : List ℕ) (operand : Operand) (five : Bool) → is_reference_word word ≡ five → takes_form slot word ≡ true → takes_value slot word ≡ true
-    → (if five then taken_reference slot (reference_of word) else option_map Const (number_of word)) ≡ Some operand → fits slot operand ≡ true
+    → (if five then option_and_then (taken_reference slot) (reference_of word) else option_map Const (number_of word)) ≡ Some operand → fits slot operand ≡ true
 fits-by slot word operand true five form value h = reference-fits slot (reference_of word) operand (reference_of-has word) h
 fits-by slot word operand false five form value h = constant-fits slot word operand five form value h
 

@@ -1,5 +1,5 @@
 -- The text of a piece reads back.
-use Rattle.std.proofs.Common.{◌≡◌, ℕ, ◌≤◌, Bool, true, false, ◌&&◌, ◌||◌, List, [], ◌∷◌, map, Option, Some, None, Result, Ok, Err, refl, sym, ap, ◌∙◌, arith, String, Global, string_bytes}
+use Rattle.std.proofs.Common.{◌≡◌, ℕ, ◌≤◌, Bool, true, false, ◌&&◌, ◌||◌, List, [], ◌∷◌, map, Option, Some, None, Result, Ok, Err, refl, ap, ◌∙◌, arith, String, Global, string_bytes}
 use Rattle.std.specs.Prelude.{nat_le, option_map, option_and_then, if◌then◌else◌}
 use Rattle.std.specs.Option.{option_map_or}
 use Rattle.std.specs.Result.{IfOk}
@@ -18,9 +18,7 @@ use Rattle.plant_types.specs.declared.element.MoveOp.TheVariants.{RegToTable, Ta
 use Rattle.plant_types.specs.declared.element.MatrixOp.TheVariants.{And, Or, Xor, Comp, Cmpr, Mbit, Sens, Brot}
 use Rattle.plant_types.specs.declared.element.Element.{Element}
 use Rattle.plant_types.specs.declared.element.Element.TheVariants as elements
-use Rattle.plant_types.specs.declared.network.Cell.{Cell}
-use Rattle.plant_types.specs.declared.network.Short.{Short}
-use Rattle.plant_types.specs.Network.{is_row, is_column, has_cell_place, has_short_place}
+use Rattle.plant_types.specs.Network.{is_row, is_column, has_cell_place}
 use Rattle.plant_types.specs.Operands.{has_form, has_values, has_kinds, is_length}
 use Rattle.plant_types.specs.Reference.{reference_text}
 use Rattle.cell_text.specs.declared.names.Name.{Name}
@@ -30,18 +28,18 @@ use Rattle.cell_text.specs.declared.slots.Slot.TheVariants.{Discrete, Driven, Nu
 use Rattle.cell_text.specs.declared.piece.Piece.{Piece}
 use Rattle.cell_text.specs.declared.piece.Piece.TheVariants as pieces
 use Rattle.cell_text.specs.declared.piece.CellFault.{CellFault}
-use Rattle.cell_text.specs.declared.piece.CellFault.TheVariants.{BadCell, BadValue, BadRef}
-use Rattle.cell_text.specs.Steps.{◌>>=◌, or_fault, unless}
+use Rattle.cell_text.specs.declared.piece.CellFault.TheVariants.{BadCell}
+use Rattle.cell_text.specs.Steps.{◌>>=◌, or_fault}
 use Rattle.cell_text.specs.Words.{words_of}
-use Rattle.cell_text.specs.Numbers.{number_of, position_of, is_number, is_reference_word, reference_of}
+use Rattle.cell_text.specs.Numbers.{number_of, is_number, is_reference_word, reference_of}
 use Rattle.cell_text.specs.Names.{name_text, all_names, name_of}
 use Rattle.cell_text.specs.Slots.{slots_of, takes_form, takes_value, takes_kind, taken_reference, operand_in, operands_in, read_operands}
 use Rattle.cell_text.specs.Elements.{element_name, operands_of, element_of}
-use Rattle.cell_text.specs.Pieces.{short_at, piece_at, piece_of}
-use Rattle.cell_text.specs.Texts.{has_number, has_numbers, has_text, position_text, operand_text, piece_place, piece_name, piece_operands, piece_words, piece_text}
+use Rattle.cell_text.specs.Pieces.{piece_at, piece_of}
+use Rattle.cell_text.specs.Texts.{has_number, has_numbers, has_text, operand_text, piece_place, piece_name, piece_operands, piece_words, piece_text}
 use Rattle.cell_text.proofs.JoinLemmas.{is_word, words_of-join}
 use Rattle.cell_text.proofs.NumberLemmas.{is_number-decimal, number_of-decimal, position_of-text, position_word, decimal_word, decimal_no_reference, reference_word, reference_of-text, reference_text_word}
-use Rattle.cell_text.proofs.FitLemmas.{fits_form, fits_value, fits_reference, fits, pointwise-fits}
+use Rattle.cell_text.proofs.FitLemmas.{fits_form, fits_value, fits, pointwise-fits}
 
 -- the letters of each name are a word that names it
 record Named (name : Name) : Type 0 where
@@ -112,7 +110,7 @@ reference_reads slot at h =
     record {
       form = tests.0;
       value = tests.1;
-      back = ap (λ (b : Bool). if b then taken_reference slot (reference_of (reference_text at)) else option_map Const (number_of (reference_text at))) five ∙ ap (taken_reference slot) (reference_of-text at number) ∙ ap (λ (b : Bool). if b then Some (At at) else None) kind;
+      back = ap (λ (b : Bool). if b then option_and_then (taken_reference slot) (reference_of (reference_text at)) else option_map Const (number_of (reference_text at))) five ∙ ap (option_and_then (taken_reference slot)) (reference_of-text at number) ∙ ap (λ (b : Bool). if b then Some (At at) else None) kind;
       word = reference_text_word at number;
     }
 
