@@ -1,4 +1,10 @@
-pub mod Stored
-pub mod Steps
+pub mod PlaceSets
+pub mod EdgeBits
+pub mod States
+pub mod ElementLemmas
 pub mod Spread
 pub mod Simulation
+pub mod Stored
+pub mod Steps
+pub mod Networks
+pub mod LadderLemmas

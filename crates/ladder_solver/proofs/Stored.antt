@@ -1,69 +1,55 @@
 -- References stay in a store that only changes what they hold.
-use Rattle.std.proofs.Common.{◌≡◌, ℕ, ◌<◌, zero, suc, length, get_or, Bool, true, false, cond, List, [], ◌∷◌, Option, Some, is_some, refl, sym, ◌∙◌, ap, subst, arith}
-use Rattle.std.specs.Prelude.{find}
+use Rattle.std.proofs.Common.{◌≡◌, ℕ, ◌<◌, zero, suc, length, get_or, List, [], ◌∷◌, sym, subst, arith}
 use Rattle.std.specs.List.{AllByRecursion}
-use Rattle.std.specs.FinMap.{insert, get, get-insert}
-use Rattle.std.specs.Ordering.{eq_by_cmp}
-use Rattle.plant_types.proofs.Contents.{refs_total}
 use Rattle.plant_types.specs.declared.reference.Ref.{Ref}
-use Rattle.plant_types.specs.declared.network.Cell.{Cell}
 use Rattle.plant_types.specs.declared.element.Element.{Element}
-use Rattle.plant_types.specs.declared.element.Element.TheVariants.{Open, Closed, Coil, Wire}
-use Rattle.plant_types.specs.Reference.{ref_cmp}
-use Rattle.plant_types.specs.Checks.{HasOperands, HasCellOperands}
+use Rattle.plant_types.specs.declared.network.Cell.{Cell}
+use Rattle.plant_types.specs.Operands.{Named, Kind, OnlyCoil, AnyDiscrete, AnyRegister, OnlyHolding, HasKind, HasNamed, HasOperands, names_of}
 use Rattle.plant_types.specs.Store.{Contents, Keeps}
 use Rattle.ladder_solver.specs.declared.layout.Column.{Column}
 use Rattle.ladder_solver.specs.declared.layout.Grid.{Grid}
-use Rattle.ladder_solver.specs.Conditions.{CanSolve, CanSolveCells, CanSolveColumns, CanSolveGrids}
+use Rattle.ladder_solver.specs.Conditions.{CanSolve, CanSolveCells, CanSolveGrid, CanSolveGrids}
 
-some_cond : (b : Bool) (v : ℕ) (o : Option ℕ) → is_some o ≡ true → is_some (cond b (Some v) o) ≡ true
-some_cond true v o h = refl
-some_cond false v o h = h
-
--- a set keeps each reference
-pub Keeps-insert : (m : Contents) (at : Ref) (v : ℕ) → Keeps m (insert m at v)
-Keeps-insert m at v q h = ap is_some (get-insert refs_total m at v q) ∙ some_cond (eq_by_cmp ref_cmp q at) v (get m q) h
-
-HasOperands-kept : (old new : Contents) (element : Element) → Keeps old new → HasOperands old element → HasOperands new element
-HasOperands-kept old new (Open at) k h = (k at h.0, h.1)
-HasOperands-kept old new (Closed at) k h = (k at h.0, h.1)
-HasOperands-kept old new (Coil at) k h = (k at h.0, h.1)
-HasOperands-kept old new Wire k h = h
-
-CanSolve-kept : (old new : Contents) (cell : Cell) → Keeps old new → CanSolve old cell → CanSolve new cell
-CanSolve-kept old new cell k h = record { first = h.first; last = h.last; operands = HasOperands-kept old new cell.element k h.operands }
-
--- what holds of each element holds of the one at an index
+-- what holds of each item holds of the one at an index
 pub all_at : {X : Type 0} (P : X → Type 0) (xs : List X) (i : ℕ) (d : X) → i < length xs → AllByRecursion P xs → P (get_or xs i d)
 all_at P [] i d h all = absurd (omega arith)
 all_at P (x ∷ xs) zero d h all = all.0
 all_at P (x ∷ xs) (suc i) d h all = all_at P xs i d (omega arith) all.1
 
--- what holds of each element holds of one that is read
+-- what holds of each item holds of one that is read
 pub all_at_item : {X : Type 0} (P : X → Type 0) (xs : List X) (i : ℕ) (x : X) → i < length xs → x ≡ get_or xs i x → AllByRecursion P xs → P x
 all_at_item P xs i x h is all = subst P (sym is) (all_at P xs i x h all)
 
--- what follows for each element follows for all
-pub all_follow : {X : Type 0} (P Q : X → Type 0) → ((x : X) → P x → Q x) → (xs : List X) → AllByRecursion P xs → AllByRecursion Q xs
+-- what follows for each item follows for all
+all_follow : {X : Type 0} (P Q : X → Type 0) → ((x : X) → P x → Q x) → (xs : List X) → AllByRecursion P xs → AllByRecursion Q xs
 all_follow P Q f [] all = tt
 all_follow P Q f (x ∷ xs) all = (f x all.0, all_follow P Q f xs all.1)
 
-pub CanSolveCells-kept : (old new : Contents) (cells : List Cell) → Keeps old new → CanSolveCells old cells → CanSolveCells new cells
-CanSolveCells-kept old new cells k h = all_follow (CanSolve old) (CanSolve new) (λ cell. CanSolve-kept old new cell k) cells h
+HasKind-kept : (old new : Contents) → Keeps old new → (at : Ref) (count : ℕ) (kind : Kind) → HasKind old at count kind → HasKind new at count kind
+HasKind-kept old new k at count OnlyCoil h = (k at h.0, h.1)
+HasKind-kept old new k at count AnyDiscrete h = (k at h.0, h.1)
+HasKind-kept old new k at count AnyRegister h = record { kind = h.kind; range = h.range; held = λ i within. k _ (h.held i within) }
+HasKind-kept old new k at count OnlyHolding h = record { kind = h.kind; range = h.range; held = λ i within. k _ (h.held i within) }
 
-pub CanSolveColumns-kept : (old new : Contents) (columns : List Column) → Keeps old new → CanSolveColumns old columns → CanSolveColumns new columns
-CanSolveColumns-kept old new columns k h =
-    all_follow (λ (column : Column). CanSolveCells old column.cells) (λ column. CanSolveCells new column.cells) (λ column. CanSolveCells-kept old new column.cells k) columns h
+HasOperands-kept : (old new : Contents) (element : Element) → Keeps old new → HasOperands old element → HasOperands new element
+HasOperands-kept old new element k h = record {
+  form = h.form;
+  values = h.values;
+  references = all_follow (HasNamed old) (HasNamed new) (λ named. HasKind-kept old new k named.at named.count named.kind) (names_of element) h.references;
+}
 
-pub CanSolveGrids-kept : (old new : Contents) (grids : List Grid) → Keeps old new → CanSolveGrids old grids → CanSolveGrids new grids
-CanSolveGrids-kept old new grids k h =
-    all_follow (λ (grid : Grid). CanSolveColumns old grid.columns) (λ grid. CanSolveColumns new grid.columns) (λ grid. CanSolveColumns-kept old new grid.columns k) grids h
+CanSolve-kept : (old new past : Contents) (cell : Cell) → Keeps old new → CanSolve old past cell → CanSolve new past cell
+CanSolve-kept old new past cell k h = record { first = h.first; last = h.last; operands = HasOperands-kept old new cell.element k h.operands; past = h.past }
 
-found_or : (m : Contents) (b : Bool) (x c : Cell) (rest : Option Cell) → HasOperands m x.element → (rest ≡ Some c → HasOperands m c.element) → cond b (Some x) rest ≡ Some c → HasOperands m c.element
-found_or m true x c rest here there e = let same : x ≡ c = cc in subst (λ (y : Cell). HasOperands m y.element) same here
-found_or m false x c rest here there e = there e
+pub CanSolveCells-kept : (old new past : Contents) (cells : List Cell) → Keeps old new → CanSolveCells old past cells → CanSolveCells new past cells
+CanSolveCells-kept old new past cells k h = all_follow (CanSolve old past) (CanSolve new past) (λ cell. CanSolve-kept old new past cell k) cells h
 
--- a cell that is found asks no more than all cells
-pub HasOperands-found : (m : Contents) (p : Cell → Bool) (cells : List Cell) (c : Cell) → HasCellOperands m cells → find p cells ≡ Some c → HasOperands m c.element
-HasOperands-found m p [] c h e = absurd (cc)
-HasOperands-found m p (x ∷ cells) c h e = found_or m (p x) x c (find p cells) h.0 (HasOperands-found m p cells c h.1) e
+pub CanSolveColumns-kept : (old new past : Contents) (columns : List Column) → Keeps old new → AllByRecursion (λ (column : Column). CanSolveCells old past column.cells) columns → AllByRecursion (λ (column : Column). CanSolveCells new past column.cells) columns
+CanSolveColumns-kept old new past columns k h =
+    all_follow (λ (column : Column). CanSolveCells old past column.cells) (λ column. CanSolveCells new past column.cells) (λ column. CanSolveCells-kept old new past column.cells k) columns h
+
+CanSolveGrid-kept : (old new past : Contents) (grid : Grid) → Keeps old new → CanSolveGrid old past grid → CanSolveGrid new past grid
+CanSolveGrid-kept old new past grid k h = record { columns = CanSolveColumns-kept old new past grid.columns k h.columns; eleven = h.eleven }
+
+pub CanSolveGrids-kept : (old new past : Contents) (grids : List Grid) → Keeps old new → CanSolveGrids old past grids → CanSolveGrids new past grids
+CanSolveGrids-kept old new past grids k h = all_follow (CanSolveGrid old past) (CanSolveGrid new past) (λ grid. CanSolveGrid-kept old new past grid k) grids h

@@ -1,6 +1,7 @@
 -- Flags of rows, as the solver keeps them: seven for power, six for the shorts of a column.
 use Rattle.std.specs.Prelude.{◌≡◌, ℕ, zero, suc, ◌+◌, ◌-◌, ◌≤◌, ◌<◌, Bool, true, false, ◌&&◌, ◌||◌, nat_le, if◌then◌else◌, List, [], ◌∷◌, slice_index_or}
 use Rattle.plant_types.specs.declared.network.Short.{Short}
+use Rattle.plant_types.specs.declared.power.NodePower.{NodePower}
 use Rattle.plant_types.specs.Network.{is_row}
 use Rattle.plant_types.specs.Wire.{is_shorted}
 
@@ -32,7 +33,21 @@ pub record SpreadsUp (marks : List Bool) (row : ℕ) (old new : List Bool) : Typ
   pub above : (r : ℕ) → 1 ≤ r → r ≤ row → flag_of new r ≡ are_marked marks r (row - r) || flag_of old r
   pub below : (r : ℕ) → row < r → r ≤ 7 → flag_of new r ≡ flag_of old r
 
--- An output that is on at one of the seven rows has fed each row that it is linked to. This project's own.
+-- An output at one of the seven rows reaches a row that it is linked to. This project's own.
+abbrev pub reaches : Bool → List Bool → ℕ → ℕ → Bool
+reaches output marks row r = (output && is_row row) && are_linked marks row r
+
+-- An output has fed each row that it reaches. This project's own.
 abbrev pub Feeds : Bool → List Bool → ℕ → List Bool → List Bool → Type 0
-Feeds output marks row old new =
-    (r : ℕ) → 1 ≤ r → r ≤ 7 → flag_of new r ≡ ((output && is_row row) && are_linked marks row r) || flag_of old r
+Feeds output marks row old new = (r : ℕ) → 1 ≤ r → r ≤ 7 → flag_of new r ≡ reaches output marks row r || flag_of old r
+
+-- The outputs of three nodes from a row down have each fed the rows that they reach. This project's own.
+abbrev pub FeedsAll : NodePower → List Bool → ℕ → List Bool → List Bool → Type 0
+FeedsAll outputs marks row old new =
+    (r : ℕ) → 1 ≤ r → r ≤ 7 →
+    flag_of new r ≡
+    reaches outputs.bottom marks (row + 2) r || (reaches outputs.middle marks (row + 1) r || (reaches outputs.top marks row r || flag_of old r))
+
+-- The flags of three rows from one down. This project's own.
+abbrev pub flags_at : List Bool → ℕ → NodePower
+flags_at left row = record { top = flag_of left row; middle = flag_of left (row + 1); bottom = flag_of left (row + 2) }

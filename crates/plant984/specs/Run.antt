@@ -27,7 +27,7 @@ begun scan_time s = record s { clock = record { before = s.clock.now; now = s.cl
 abbrev pub solved : ControllerPlan → State → State
 solved controller s = segment_after controller.segments 1 s
 
--- End: the coils and inputs as they stand are what the transitional contacts of the next scan compare with. Modicon Ladder Logic Block Library User Guide.
+-- End: the coils and inputs are kept as they stand, and transitional contacts of the next scan compare with them. Modicon Ladder Logic Block Library User Guide; the order of a scan is this project's own.
 abbrev pub ended : ControllerPlan → State → State
 ended controller s = record s { past = discretes (sizes_of controller) s.map }
 
@@ -38,7 +38,8 @@ scan_after controller scan_time s = ended controller (solved controller (begun s
 -- A controller after so many scans. This project's own.
 unfoldable pub state_after : ControllerPlan → ℕ → ℕ → State
 state_after controller scan_time zero = start controller
-state_after controller scan_time (suc scans) = scan_after controller scan_time (state_after controller scan_time scans)
+state_after controller scan_time (suc scans) =
+    scan_after controller scan_time (state_after controller scan_time scans)
 
 -- The end of one scan of a controller: the number of the scan, counted from 1, and the store right after it. This project's own.
 pub record ScanEnd : Type 0 where
@@ -48,7 +49,8 @@ pub record ScanEnd : Type 0 where
 
 -- How a controller ends a scan. This project's own.
 abbrev pub end_of : ℕ → ℕ → ControllerPlan → ScanEnd
-end_of scan_time scan controller = record { scan = scan; controller = controller; store = (state_after controller scan_time scan).map }
+end_of scan_time scan controller =
+    record { scan = scan; controller = controller; store = (state_after controller scan_time scan).map }
 
 -- The serial run: in each scan from 1 on each controller of the plant, in rising address, ends its scan. This project's own.
 abbrev pub serial : Plant → ℕ → List ScanEnd

@@ -25,7 +25,8 @@ fn refusal_text(alloc: Global, fault: PlantFault, place: Place) -> Result<String
 
 fn answer_to_run(alloc: Global, scans: u32, input: &[u8]) -> Result<Answer, AllocError>
     requires { scans ≤ 2000 }
-    ensures { IfOk result (λ answer. due (Command.Run scans) input.now ≡ record { status = answer.status; text = string_bytes answer.text }) }
+    ensures { IfOk result (λ answer. due (Command.Run scans) input.now
+        ≡ record { status = answer.status; text = string_bytes answer.text }) }
 {
     match load(alloc, input) {
         Ok(plant) => {
@@ -50,7 +51,8 @@ fn answer_to_run(alloc: Global, scans: u32, input: &[u8]) -> Result<Answer, Allo
 /// The answer to a command over an input.
 pub fn answer_to(alloc: Global, command: Command, input: &[u8]) -> Result<Answer, AllocError>
     requires { IsInRange command }
-    ensures { IfOk result (λ answer. due command input.now ≡ record { status = answer.status; text = string_bytes answer.text }) }
+    ensures { IfOk result (λ answer. due command input.now
+        ≡ record { status = answer.status; text = string_bytes answer.text }) }
 {
     match command {
         Command::Run(scans) => answer_to_run(alloc, scans, input),

@@ -53,7 +53,8 @@ fn push_values<R: RefStore>(
     ram: &R,
 ) -> Result<(), AllocError>
     requires { HasPanel (R.contents ram.now) (map (λ reading. reading.at) readings.now) }
-    ensures { OnOk result (string_bytes text.new ≡ string_bytes text.old ++ flat_map (value_text (R.contents ram.now)) (map (λ reading. reading.at) readings.now)) }
+    ensures { OnOk result (string_bytes text.new ≡ string_bytes text.old
+        ++ flat_map (value_text (R.contents ram.now)) (map (λ reading. reading.at) readings.now)) }
 {
     for reading in readings {
         let value = value_of(reading.at, ram);
@@ -72,7 +73,8 @@ pub fn push_line<R: RefStore>(
     ram: &R,
 ) -> Result<(), AllocError>
     requires { HasPanel (R.contents ram.now) (map (λ reading. reading.at) readings.now) }
-    ensures { OnOk result (string_bytes text.new ≡ string_bytes text.old ++ line_text scan node (flat_map (value_text (R.contents ram.now)) (map (λ reading. reading.at) readings.now))) }
+    ensures { OnOk result (string_bytes text.new ≡ string_bytes text.old
+        ++ line_text scan node (flat_map (value_text (R.contents ram.now)) (map (λ reading. reading.at) readings.now))) }
 {
     write!(text, "S {scan} N {node}")?;
     push_values(text, readings, ram)?;

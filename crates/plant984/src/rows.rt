@@ -27,11 +27,29 @@ struct Row {
     text: &'static str,
 }
 
-const ROWS: [Row; 9] = [
+const ROWS: [Row; 11] = [
+    // The contact of column 2 sees the old state, that of column 4 the new one.
+    Row {
+        top: "",
+        controller: r#"panel = ["00001", "00002", "00003"]"#,
+        networks: r#""1,1 H; 1,2 NO 00001; 1,3 CO 00002; 2,1 H; 2,2 H; 2,3 H; 2,4 NO 00001; 2,5 CO 00003; 7,1 H; 7,2 H; 7,3 CO 00001""#,
+        words: "run 2",
+        status: Status::Ok,
+        text: "S 1 N 1 00001=1 00002=0 00003=1\nS 2 N 1 00001=1 00002=1 00003=1\n",
+    },
+    // Shorts over all rows.
+    Row {
+        top: "",
+        controller: r#"panel = ["00001", "00007"]"#,
+        networks: r#""4,1 H; 1,1 V; 2,1 V; 3,1 V; 4,1 V; 5,1 V; 6,1 V; 1,2 CO 00001; 7,2 CO 00007""#,
+        words: "run 1",
+        status: Status::Ok,
+        text: "S 1 N 1 00001=1 00007=1\n",
+    },
     // A scan takes 0.3 s, and the timer counts seconds that have ended.
     Row {
-        top: "scan_time = 30\n",
-        controller: "panel = [\"40001\", \"00001\", \"00002\"]\n",
+        top: "scan_time = 30",
+        controller: r#"panel = ["40001", "00001", "00002"]"#,
         networks: r#""1,1 T1.0 2 40001; 1,2 CO 00001; 2,2 CO 00002""#,
         words: "run 7",
         status: Status::Ok,
@@ -47,7 +65,8 @@ S 7 N 1 40001=2 00001=1 00002=0
     // A scan takes 0.1 s where the plant doesn't say.
     Row {
         top: "",
-        controller: "input_registers = 1\npanel = [\"40001\", \"30001\"]\n",
+        controller: r#"input_registers = 1
+panel = ["40001", "30001"]"#,
         networks: r#""1,1 T.01 25 40001""#,
         words: "run 3",
         status: Status::Ok,
@@ -56,8 +75,11 @@ S 7 N 1 40001=2 00001=1 00002=0
     // Transitional contacts behind the coil that they name.
     Row {
         top: "",
-        controller: "panel = [\"00001\", \"00002\", \"00003\"]\n",
-        networks: r#""1,1 NC 00001; 1,2 CO 00001", "1,1 PT 00001; 1,2 CO 00002; 2,1 NT 00001; 2,2 CO 00003""#,
+        controller: r#"panel = ["00001", "00002", "00003"]"#,
+        networks: r#"
+"1,1 NC 00001; 1,2 CO 00001",
+"1,1 PT 00001; 1,2 CO 00002; 2,1 NT 00001; 2,2 CO 00003"
+"#,
         words: "run 3",
         status: Status::Ok,
         text: "S 1 N 1 00001=1 00002=1 00003=0
@@ -68,8 +90,11 @@ S 3 N 1 00001=1 00002=1 00003=0
     // And before it, where it is as the scan before ended.
     Row {
         top: "",
-        controller: "panel = [\"00001\", \"00002\", \"00003\"]\n",
-        networks: r#""1,1 PT 00001; 1,2 CO 00002; 2,1 NT 00001; 2,2 CO 00003", "1,1 NC 00001; 1,2 CO 00001""#,
+        controller: r#"panel = ["00001", "00002", "00003"]"#,
+        networks: r#"
+"1,1 PT 00001; 1,2 CO 00002; 2,1 NT 00001; 2,2 CO 00003",
+"1,1 NC 00001; 1,2 CO 00001"
+"#,
         words: "run 3",
         status: Status::Ok,
         text: "S 1 N 1 00001=1 00002=0 00003=0
@@ -80,8 +105,11 @@ S 3 N 1 00001=1 00002=0 00003=0
     // A counter counts each time that its upper input goes on.
     Row {
         top: "",
-        controller: "panel = [\"40001\"]\n",
-        networks: r#""1,1 NC 00001; 1,2 CO 00001", "1,1 NO 00001; 2,1 H; 1,2 UCTR 9 40001""#,
+        controller: r#"panel = ["40001"]"#,
+        networks: r#"
+"1,1 NC 00001; 1,2 CO 00001",
+"1,1 NO 00001; 2,1 H; 1,2 UCTR 9 40001"
+"#,
         words: "run 3",
         status: Status::Ok,
         text: "S 1 N 1 40001=1\nS 2 N 1 40001=1\nS 3 N 1 40001=2\n",
@@ -89,9 +117,12 @@ S 3 N 1 00001=1 00002=0 00003=0
     // A sum of 10,000, a product of eight digits; quotients by 0, and with a decimal remainder.
     Row {
         top: "",
-        controller: r#"panel = ["00001", "00002", "00003", "40001", "40002", "40003", "40004", "40006", "40007"]
+        controller: r#"panel = ["00001", "00002", "00003", "40001", "40002", "40003", "40004", "40006", "40007"]"#,
+        networks: r#"
+"1,1 ADD 9999 1 40001; 1,2 CO 00001; 4,1 MUL 8000 2 40002; 4,2 CO 00002",
+"1,1 DIV 7 0 40004; 3,2 CO 00003",
+"1,1 DIV 7 2 40006"
 "#,
-        networks: r#""1,1 ADD 9999 1 40001; 1,2 CO 00001; 4,1 MUL 8000 2 40002; 4,2 CO 00002", "1,1 DIV 7 0 40004; 3,2 CO 00003", "1,1 DIV 7 2 40006""#,
         words: "run 1",
         status: Status::Ok,
         text: "S 1 N 1 00001=1 00002=1 00003=1 40001=0 40002=1 40003=6000 40004=0 40006=3 40007=5000\n",
@@ -100,9 +131,13 @@ S 3 N 1 00001=1 00002=0 00003=0
     // a register of that table that is 0.
     Row {
         top: "",
-        controller: r#"panel = ["40001", "00001", "40011", "00002", "40030", "00004"]
+        controller: r#"panel = ["40001", "00001", "40011", "00002", "40030", "00004"]"#,
+        networks: r#"
+"1,1 ADD 5 0 40021",
+"1,1 H; 1,2 R>T 40021 40001 2; 2,3 CO 00001",
+"1,1 H; 1,2 FIN 40021 40011 1; 2,3 CO 00002",
+"1,1 H; 1,2 SRCH 40002 40030 2; 2,3 CO 00004"
 "#,
-        networks: r#""1,1 ADD 5 0 40021", "1,1 H; 1,2 R>T 40021 40001 2; 2,3 CO 00001", "1,1 H; 1,2 FIN 40021 40011 1; 2,3 CO 00002", "1,1 H; 1,2 SRCH 40002 40030 2; 2,3 CO 00004""#,
         words: "run 3",
         status: Status::Ok,
         text: "S 1 N 1 40001=1 00001=0 40011=1 00002=1 40030=2 00004=1
@@ -113,13 +148,16 @@ S 3 N 1 40001=2 00001=1 40011=1 00002=1 40030=0 00004=0
     // The last bit of the largest matrix, and one behind it.
     Row {
         top: "",
-        controller: r#"panel = ["40100", "00001", "00002", "00003", "00004"]
+        controller: r#"panel = ["40100", "00001", "00002", "00003", "00004"]"#,
+        networks: r#"
+"1,1 MBIT 1600 40001 100; 2,2 CO 00001; 3,2 CO 00002",
+"1,1 MBIT 1601 40001 100; 2,2 CO 00003; 3,2 CO 00004"
 "#,
-        networks: r#""1,1 MBIT 1600 40001 100; 2,2 CO 00001; 3,2 CO 00002", "1,1 MBIT 1601 40001 100; 2,2 CO 00003; 3,2 CO 00004""#,
         words: "run 1",
         status: Status::Ok,
         text: "S 1 N 1 40100=1 00001=1 00002=0 00003=0 00004=1\n",
     },
+    // Two coils of one reference.
     Row {
         top: "",
         controller: "",
@@ -134,8 +172,10 @@ fn plant_of(alloc: Global, row: &Row) -> Result<Vec<u8>, AllocError> {
     let mut text = Vec::new(alloc);
     for piece in [
         row.top,
+        "\n",
         CONTROLLER,
         row.controller,
+        "\n",
         SEGMENT,
         row.networks,
         "]\n",
@@ -146,7 +186,7 @@ fn plant_of(alloc: Global, row: &Row) -> Result<Vec<u8>, AllocError> {
 }
 
 #[test]
-fn writes_each_panel(rt: HostRuntime) -> Result<(), Fail> {
+fn writes_each_text(rt: HostRuntime) -> Result<(), Fail> {
     let alloc = rt.alloc();
     for row in &ROWS {
         let words = words_of(alloc, row.words)?;

@@ -23,7 +23,8 @@ pub fn panel_of(
     requires passes { passes_check controller.now ≡ true }
     requires segment { 1 ≤ length controller.now.segments }
     requires scans { scans ≤ 2000 }
-    ensures { IfOk result (λ text. string_bytes text ≡ panel (map (λ scan. end_of scan_time scan controller.now) (range_with_len 1 scans))) }
+    ensures { IfOk result (λ text. string_bytes text
+        ≡ panel (map (λ scan. end_of scan_time scan controller.now) (range_with_len 1 scans))) }
 {
     checked_plans_find_all();
     kept_stores_find_all();

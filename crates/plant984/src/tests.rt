@@ -18,31 +18,6 @@ panel = ["00001"]
 networks = ["1,1 NC 10001; 1,2 CO 00001"]
 "#;
 
-// The contact of column 2 sees the old state, that of column 4 the new one.
-const OLD_AND_NEW: &str = r#"version = 1
-[[controller]]
-node = 1
-coils = 16
-inputs = 16
-registers = 100
-orders = ["1 - - -"]
-panel = ["00001", "00002", "00003"]
-[[controller.segment]]
-networks = ["1,1 H; 1,2 NO 00001; 1,3 CO 00002; 2,1 H; 2,2 H; 2,3 H; 2,4 NO 00001; 2,5 CO 00003; 7,1 H; 7,2 H; 7,3 CO 00001"]
-"#;
-
-const SHORTS_OVER_ALL_ROWS: &str = r#"version = 1
-[[controller]]
-node = 1
-coils = 16
-inputs = 16
-registers = 100
-orders = ["1 - - -"]
-panel = ["00001", "00007"]
-[[controller.segment]]
-networks = ["4,1 H; 1,1 V; 2,1 V; 3,1 V; 4,1 V; 5,1 V; 6,1 V; 1,2 CO 00001; 7,2 CO 00007"]
-"#;
-
 const OTHER_NODE: &str = r#"version = 1
 [[controller]]
 node = 64
@@ -65,7 +40,7 @@ struct Case {
     text: &'static str,
 }
 
-const CASES: [Case; 10] = [
+const CASES: [Case; 8] = [
     Case {
         words: "run 1",
         input: CONTACT_AND_COIL,
@@ -73,22 +48,6 @@ const CASES: [Case; 10] = [
         failing_writes: &[],
         status: Status::Ok,
         text: "S 1 N 1 00001=1\n",
-    },
-    Case {
-        words: "run 2",
-        input: OLD_AND_NEW,
-        failing_reads: &[],
-        failing_writes: &[],
-        status: Status::Ok,
-        text: "S 1 N 1 00001=1 00002=0 00003=1\nS 2 N 1 00001=1 00002=1 00003=1\n",
-    },
-    Case {
-        words: "run 1",
-        input: SHORTS_OVER_ALL_ROWS,
-        failing_reads: &[],
-        failing_writes: &[],
-        status: Status::Ok,
-        text: "S 1 N 1 00001=1 00007=1\n",
     },
     Case {
         words: "run 1",

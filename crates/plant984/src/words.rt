@@ -32,7 +32,8 @@ fn number_of(word: &str) -> Option<u32>
 }
 
 fn run_of(word: &str) -> Option<Command>
-    ensures { (scans : ℕ) → (result ≡ Some (Command.Run scans)) ↔ ((word.now ≡ decimal scans) × (1 ≤ scans) × (scans ≤ SCAN_LIMIT)) }
+    ensures { (scans : ℕ) → (result ≡ Some (Command.Run scans))
+        ↔ ((word.now ≡ decimal scans) × (1 ≤ scans) × (scans ≤ SCAN_LIMIT)) }
 {
     match number_of(word) {
         Some(scans) if 1 <= scans && scans <= SCAN_LIMIT => Some(Command::Run(scans)),

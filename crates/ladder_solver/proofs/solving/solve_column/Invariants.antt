@@ -9,5 +9,5 @@ invariant-loop-cell g l =
     let contents = g.R.RefStore.contents in
     record {
       keeps : Keeps (contents l.fn.ram) (contents l.ram);
-      solved : SolvesCells l.column.shorts (take l.cell-index l.column.cells) l.left l.next (contents l.fn.ram) (contents l.ram);
+      solved : SolvesCells l.column.shorts (take l.cell-index l.column.cells) l.left l.next l.clock (g.P.RefStore.contents l.past) l.fn.edges l.edges (contents l.fn.ram) (contents l.ram);
     }

@@ -1,27 +1,29 @@
-use Rattle.std.proofs.Common.{◌≤◌, length, sym, ap, ◌∙◌}
-use Rattle.std.proofs.lemmas.List.{at_drop_all, length-map}
-use Rattle.ladder_solver.specs.declared.layout.Grid.{Grid}
-use Rattle.ladder_solver.specs.State.{State}
-use Rattle.ladder_solver.specs.Conditions.{CanSolveColumns}
-use Rattle.ladder_solver.specs.Segment.{segment_after}
+use Rattle.std.proofs.Common.{◌≡◌, ◌<◌, ◌≤◌, length, arith}
+use Rattle.std.proofs.lemmas.List.{length-map, take_all}
+use Rattle.ladder_solver.specs.Conditions.{CanSolveGrid}
+use Rattle.ladder_solver.specs.Segment.{networks_after}
 use Rattle.ladder_solver.specs.Layout.{grid_of}
 use Rattle.ladder_solver.proofs.Stored.{all_at_item, CanSolveGrids-kept}
-use Rattle.ladder_solver.proofs.Simulation.{segment_after-more}
+use Rattle.ladder_solver.proofs.Networks.{SolvesNetworks-more}
 use Rattle.ladder_solver.proofs.solving.solve_grids.Goals as goal
+
+pub loop-i-init : goal.loop-i-init
+unfolding networks_after
+loop-i-init g c = record { keeps = λ at h. h; solved = λ networks segment start s same h. h }
 
 pub solve_grid-requires : goal.solve_grid-requires
 solve_grid-requires g c =
-    all_at_item (λ (grid : Grid). CanSolveColumns _ grid.columns) c.args.grids.now c.loop-grid.grid-index c.grid-item.result c.loop-grid-test.true c.grid-item.is (CanSolveGrids-kept _ _ c.args.grids.now c.loop-grid.invariant.keeps c.requires)
+    all_at_item (CanSolveGrid _ _) c.args.grids.now c.loop-i.i c.index-grids-i.result c.loop-i-test.true c.index-grids-i.is (CanSolveGrids-kept _ _ _ c.args.grids.now c.loop-i.invariant.keeps c.requires.can_solve)
 
-pub loop-grid-preserved : goal.loop-grid-preserved
-loop-grid-preserved g c = record {
-  keeps = λ at h. c.solve_grid.ensures.keeps at (c.loop-grid.invariant.keeps at h);
-  solved = λ networks same.
-      c.loop-grid.invariant.solved networks same
-      ∙ segment_after-more networks c.loop-grid.grid-index c.grid-item.result _ _ (rw same at c.loop-grid-test.true) (rw same at c.grid-item.is) c.solve_grid.ensures.solved;
+pub loop-i-preserved : goal.loop-i-preserved
+loop-i-preserved g c = record {
+  keeps = λ at h. c.solve_grid.ensures.keeps at (c.loop-i.invariant.keeps at h);
+  solved = λ networks segment start s same h.
+      SolvesNetworks-more networks segment c.loop-i.i c.index-grids-i.result _ _ start _ _ _ _ s (rw same at c.loop-i-test.true) (rw same at c.index-grids-i.is) (omega arith)
+      (c.loop-i.invariant.solved networks segment start s same h) c.solve_grid.ensures.solved;
 }
 
 pub returns-clause-solved : goal.returns-clause-solved
-returns-clause-solved g c networks same =
-    let over : length networks ≤ c.loop-grid.grid-index = rw (same, length-map networks grid_of) at c.loop-grid-test.false in
-    sym (ap (λ (s : State). s.map) (c.loop-grid.invariant.solved networks same ∙ at_drop_all (λ rest. segment_after rest (record { map = g.R.RefStore.contents c.loop-grid.ram })) networks c.loop-grid.grid-index over))
+returns-clause-solved g c networks segment start s same h =
+    let over : length networks ≤ c.loop-i.i = rw (same, length-map networks grid_of) at c.loop-i-test.false in
+    rw (take_all c.loop-i.i networks over) at (c.loop-i.invariant.solved networks segment start s same h)
