@@ -21,7 +21,7 @@ use Rattle.cell_text.specs.declared.piece.CellFault.TheVariants.{BadCell, BadVal
 use Rattle.cell_text.specs.Steps.{◌>>=◌, or_fault, unless}
 use Rattle.cell_text.specs.Numbers.{is_number, number_of, is_reference_word, reference_of}
 
--- The operands that a name takes, in their order. Modicon Ladder Logic Block Library User Guide; the lengths are this project's own.
+-- The operands that a name takes, in their order. This project's own table of operands.
 unfoldable pub slots_of : Name → List Slot
 slots_of Open = Discrete ∷ []
 slots_of Closed = Discrete ∷ []
@@ -56,7 +56,7 @@ abbrev pub passes : WordTest → Slot → List ℕ → Bool
 passes Form slot word = takes_form slot word
 passes Value slot word = takes_value slot word
 
--- The kinds of reference that an operand can be. Modicon Ladder Logic Block Library User Guide.
+-- The kinds of reference that an operand can be. This project's own table of operands.
 abbrev pub takes_kind : Slot → RefKind → Bool
 takes_kind Discrete kind = is_discrete kind
 takes_kind Driven kind = is_coil kind
