@@ -1,6 +1,7 @@
 use super::*;
 use plant_types::{Cell, ControllerPlan, Element, MoveOp, Network, Plant, Ref, RefKind, Short};
 use std::alloc::{AllocError, Global};
+use std::process::Abort;
 use std::test::Fail;
 
 // A plant of a scan time and one controller of 16 coils, 16 inputs, 10 input registers and 100
@@ -216,132 +217,125 @@ const TAKEN: [&str; 23] = [
     "1,1 MBIT 9999 40001 100; 1,2 SENS 30010 30001 10",
 ];
 
-// Texts of a network that are refused: the fault that comes first, and the cell that has it.
-const REFUSED: [(&str, &str, u32); 101] = [
-    // A name that a later version takes.
-    ("1,1 SKP 1", "14 NotBuilt", 1),
-    ("1,1 LAB 1", "14 NotBuilt", 1),
-    ("1,1 JSR 1", "14 NotBuilt", 1),
-    ("1,1 RET", "14 NotBuilt", 1),
-    ("8,1 MSTR x", "14 NotBuilt", 1),
-    ("1,1 H; 1,2 NO 00017; 1,3 RET", "5 BadRef", 2),
-    // A piece that does not read.
-    ("1,1", "6 BadCell", 1),
-    ("1,1 ", "6 BadCell", 1),
-    ("0,1 H", "6 BadCell", 1),
-    ("8,1 H", "6 BadCell", 1),
-    ("1,0 H", "6 BadCell", 1),
-    ("1,12 H", "6 BadCell", 1),
-    ("01,1 H", "6 BadCell", 1),
-    ("1,01 H", "6 BadCell", 1),
-    ("1;1 H", "6 BadCell", 1),
-    ("1, 1 H", "6 BadCell", 1),
-    ("1,1,1 H", "6 BadCell", 1),
-    ("+1,1 H", "6 BadCell", 1),
-    ("1,1 h", "6 BadCell", 1),
-    ("1,1 HH", "6 BadCell", 1),
-    ("1,1 TON 40001", "6 BadCell", 1),
-    ("1,1 H H", "6 BadCell", 1),
-    ("1,1 NO", "6 BadCell", 1),
-    ("1,1 NO 00001 00002", "6 BadCell", 1),
-    ("1,1 NO 0001", "6 BadCell", 1),
-    ("1,1 NO 1", "6 BadCell", 1),
-    ("1,1 NO 000001", "6 BadCell", 1),
-    ("7,1 V", "6 BadCell", 1),
-    ("1,1 V 1", "6 BadCell", 1),
-    ("1,1 ADD 1 40001", "6 BadCell", 1),
-    ("1,1 ADD 1 1 40001 1", "6 BadCell", 1),
-    ("1,1 ADD 007 1 40001", "6 BadCell", 1),
-    ("1,1 ADD 1 1 1", "6 BadCell", 1),
-    ("1,1 T1.0 10", "6 BadCell", 1),
-    ("1,1 T1.0 10 1", "6 BadCell", 1),
-    ("1,1 BLKM 40001 40002 40003", "6 BadCell", 1),
-    ("1,1 BLKM 1 40002 1", "6 BadCell", 1),
-    ("1,1 AND 1 40002 1", "6 BadCell", 1),
-    ("1,1 R>T 40001 40002 01", "6 BadCell", 1),
-    ("1,1 H;\\r", "6 BadCell", 2),
-    ("1,1 H\\r;1,2 H", "6 BadCell", 1),
-    ("1,1\\u00a0H", "6 BadCell", 1),
-    (";; 1,1 H;\\t;\\n; 8,1 H", "6 BadCell", 2),
-    ("8,1 R>T 40001 40010 0", "6 BadCell", 1),
-    // A constant outside its range.
-    ("1,1 R>T 40001 40010 0", "3 BadValue", 1),
-    ("1,1 R>T 40001 40010 256", "3 BadValue", 1),
-    ("1,1 SRCH 40001 40010 1000", "3 BadValue", 1),
-    ("1,1 AND 40001 40010 0", "3 BadValue", 1),
-    ("1,1 AND 40001 40010 101", "3 BadValue", 1),
-    ("1,1 MBIT 1 40001 101", "3 BadValue", 1),
-    ("1,1 R>T 00001 20001 256", "3 BadValue", 1),
-    ("1,1 H; 1,1 BLKM 40001 40010 0", "3 BadValue", 2),
-    // What is no reference, of a wrong kind, or not wholly in the map.
-    ("1,1 NO 00000", "5 BadRef", 1),
-    ("1,1 NO 00017", "5 BadRef", 1),
-    ("1,1 NO 09985", "5 BadRef", 1),
-    ("1,1 NO 20001", "5 BadRef", 1),
-    ("1,1 NO 30001", "5 BadRef", 1),
-    ("1,1 NC 40001", "5 BadRef", 1),
-    ("1,1 NC 10017", "5 BadRef", 1),
-    ("1,1 CO 10001", "5 BadRef", 1),
-    ("1,1 CO 00017", "5 BadRef", 1),
-    ("1,1 CL 10001", "5 BadRef", 1),
-    ("1,1 ADD 12345 1 40001", "5 BadRef", 1),
-    ("1,1 ADD 1 1 30001", "5 BadRef", 1),
-    ("1,1 ADD 30011 1 40001", "5 BadRef", 1),
-    ("1,1 SUB 1 1 40101", "5 BadRef", 1),
-    ("1,1 MUL 1 1 40100", "5 BadRef", 1),
-    ("1,1 DIV 40100 1 40001", "5 BadRef", 1),
-    ("1,1 DIV 1 1 40100", "5 BadRef", 1),
-    ("1,1 T0.1 00001 40001", "5 BadRef", 1),
-    ("1,1 UCTR 1 30001", "5 BadRef", 1),
-    ("1,1 R>T 40001 40095 6", "5 BadRef", 1),
-    ("1,1 T>R 40095 40001 7", "5 BadRef", 1),
-    ("1,1 T>R 40001 40100 1", "5 BadRef", 1),
-    ("1,1 T>T 40001 40095 6", "5 BadRef", 1),
-    ("1,1 BLKM 40001 40095 7", "5 BadRef", 1),
-    ("1,1 FIN 40001 40095 6", "5 BadRef", 1),
-    ("1,1 FOUT 40095 40001 6", "5 BadRef", 1),
-    ("1,1 FOUT 30001 40001 1", "5 BadRef", 1),
-    ("1,1 SRCH 40001 40100 1", "5 BadRef", 1),
-    ("1,1 XOR 40001 40095 7", "5 BadRef", 1),
-    ("1,1 CMPR 40001 40095 6", "5 BadRef", 1),
-    ("1,1 SENS 1 30005 7", "5 BadRef", 1),
-    ("1,1 MBIT 40001 30001 1", "5 BadRef", 1),
-    ("1,1 H; 1,1 NO 00017", "5 BadRef", 2),
-    ("1,1 H; 7,1 ADD 1 1 40101", "5 BadRef", 2),
-    // A place that is taken, is below row 7 or stands right of a coil.
-    ("1,1 V; 1,1 V", "7 BadShape", 2),
-    ("1,1 H; 1,1 NO 00001", "7 BadShape", 2),
-    ("6,1 ADD 1 1 40001", "7 BadShape", 1),
-    ("7,1 T.01 1 40001", "7 BadShape", 1),
-    ("1,1 ADD 1 1 40001; 2,1 H", "7 BadShape", 2),
-    ("3,1 H; 1,1 ADD 1 1 40001", "7 BadShape", 2),
-    ("1,1 T1.0 1 40001; 2,1 H", "7 BadShape", 2),
-    ("1,1 CO 00001; 1,2 H", "7 BadShape", 2),
-    ("1,2 H; 1,1 CO 00001", "7 BadShape", 2),
-    ("3,1 CL 00001; 1,2 ADD 1 1 40001", "7 BadShape", 2),
-    ("1,2 ADD 1 1 40001; 3,1 CL 00001", "7 BadShape", 2),
-    ("1,1 CO 00001; 1,1 CO 00001", "7 BadShape", 2),
-    // A coil that is driven already.
-    (
-        "1,1 NO 10001; 1,2 CO 00001; 2,1 NO 10002; 2,2 CO 00001",
-        "8 CoilTwice",
-        4,
-    ),
-    ("1,1 CO 00001; 2,1 CL 00001", "8 CoilTwice", 2),
-    ("1,1 CL 00001; 2,1 CL 00001", "8 CoilTwice", 2),
-];
+// Texts of networks with their refusals. The tests of a piece go in the order of these tables.
 
-// The same, in a second network.
-const REFUSED_LATER: [(&str, &str); 2] = [
-    (
-        "1,1 H\", \"1,1 H; 1,2 H; 1,3 x",
-        "6 BadCell controller 1 segment 1 network 2 cell 3",
-    ),
-    (
-        "1,1 CL 00002\", \"1,1 V; 1,1 CO 00002",
-        "8 CoilTwice controller 1 segment 1 network 2 cell 2",
-    ),
-];
+// A name that a later version takes, whatever else is wrong.
+const NOT_BUILT_PIECES: &str = r#"1,1 SKP 1 => 14 NotBuilt controller 1 segment 1 network 1 cell 1
+1,1 LAB 1 => 14 NotBuilt controller 1 segment 1 network 1 cell 1
+1,1 JSR 1 => 14 NotBuilt controller 1 segment 1 network 1 cell 1
+1,1 RET => 14 NotBuilt controller 1 segment 1 network 1 cell 1
+8,1 MSTR x => 14 NotBuilt controller 1 segment 1 network 1 cell 1"#;
+
+// What does not read: a position, a name, the number of operands, a constant for a reference.
+const BAD_CELLS: &str = r#"1,1 => 6 BadCell controller 1 segment 1 network 1 cell 1
+1,1  => 6 BadCell controller 1 segment 1 network 1 cell 1
+0,1 H => 6 BadCell controller 1 segment 1 network 1 cell 1
+8,1 H => 6 BadCell controller 1 segment 1 network 1 cell 1
+1,0 H => 6 BadCell controller 1 segment 1 network 1 cell 1
+1,12 H => 6 BadCell controller 1 segment 1 network 1 cell 1
+01,1 H => 6 BadCell controller 1 segment 1 network 1 cell 1
+1,01 H => 6 BadCell controller 1 segment 1 network 1 cell 1
+1;1 H => 6 BadCell controller 1 segment 1 network 1 cell 1
+1, 1 H => 6 BadCell controller 1 segment 1 network 1 cell 1
+1,1,1 H => 6 BadCell controller 1 segment 1 network 1 cell 1
++1,1 H => 6 BadCell controller 1 segment 1 network 1 cell 1
+1,1 h => 6 BadCell controller 1 segment 1 network 1 cell 1
+1,1 HH => 6 BadCell controller 1 segment 1 network 1 cell 1
+1,1 TON 40001 => 6 BadCell controller 1 segment 1 network 1 cell 1
+1,1 H H => 6 BadCell controller 1 segment 1 network 1 cell 1
+1,1 NO => 6 BadCell controller 1 segment 1 network 1 cell 1
+1,1 NO 00001 00002 => 6 BadCell controller 1 segment 1 network 1 cell 1
+1,1 NO 0001 => 6 BadCell controller 1 segment 1 network 1 cell 1
+1,1 NO 1 => 6 BadCell controller 1 segment 1 network 1 cell 1
+1,1 NO 000001 => 6 BadCell controller 1 segment 1 network 1 cell 1
+7,1 V => 6 BadCell controller 1 segment 1 network 1 cell 1
+1,1 V 1 => 6 BadCell controller 1 segment 1 network 1 cell 1
+1,1 ADD 1 40001 => 6 BadCell controller 1 segment 1 network 1 cell 1
+1,1 ADD 1 1 40001 1 => 6 BadCell controller 1 segment 1 network 1 cell 1
+1,1 ADD 007 1 40001 => 6 BadCell controller 1 segment 1 network 1 cell 1
+1,1 ADD 1 1 1 => 6 BadCell controller 1 segment 1 network 1 cell 1
+1,1 T1.0 10 => 6 BadCell controller 1 segment 1 network 1 cell 1
+1,1 T1.0 10 1 => 6 BadCell controller 1 segment 1 network 1 cell 1
+1,1 BLKM 40001 40002 40003 => 6 BadCell controller 1 segment 1 network 1 cell 1
+1,1 BLKM 1 40002 1 => 6 BadCell controller 1 segment 1 network 1 cell 1
+1,1 AND 1 40002 1 => 6 BadCell controller 1 segment 1 network 1 cell 1
+1,1 R>T 40001 40002 01 => 6 BadCell controller 1 segment 1 network 1 cell 1
+1,1 H;\r => 6 BadCell controller 1 segment 1 network 1 cell 2
+1,1 H\r;1,2 H => 6 BadCell controller 1 segment 1 network 1 cell 1
+1,1\u00a0H => 6 BadCell controller 1 segment 1 network 1 cell 1
+;; 1,1 H;\t;\n; 8,1 H => 6 BadCell controller 1 segment 1 network 1 cell 2
+8,1 R>T 40001 40010 0 => 6 BadCell controller 1 segment 1 network 1 cell 1
+1,1 H", "1,1 H; 1,2 H; 1,3 x => 6 BadCell controller 1 segment 1 network 2 cell 3"#;
+
+// Constants outside their ranges.
+const BAD_VALUES: &str =
+    r#"1,1 R>T 40001 40010 0 => 3 BadValue controller 1 segment 1 network 1 cell 1
+1,1 R>T 40001 40010 256 => 3 BadValue controller 1 segment 1 network 1 cell 1
+1,1 SRCH 40001 40010 1000 => 3 BadValue controller 1 segment 1 network 1 cell 1
+1,1 AND 40001 40010 0 => 3 BadValue controller 1 segment 1 network 1 cell 1
+1,1 AND 40001 40010 101 => 3 BadValue controller 1 segment 1 network 1 cell 1
+1,1 MBIT 1 40001 101 => 3 BadValue controller 1 segment 1 network 1 cell 1
+1,1 R>T 00001 20001 256 => 3 BadValue controller 1 segment 1 network 1 cell 1
+1,1 H; 1,1 BLKM 40001 40010 0 => 3 BadValue controller 1 segment 1 network 1 cell 2"#;
+
+// What is no reference, of a wrong kind, or not wholly in the map.
+const BAD_REFS: &str =
+    r#"1,1 H; 1,2 NO 00017; 1,3 RET => 5 BadRef controller 1 segment 1 network 1 cell 2
+1,1 NO 00000 => 5 BadRef controller 1 segment 1 network 1 cell 1
+1,1 NO 00017 => 5 BadRef controller 1 segment 1 network 1 cell 1
+1,1 NO 09985 => 5 BadRef controller 1 segment 1 network 1 cell 1
+1,1 NO 20001 => 5 BadRef controller 1 segment 1 network 1 cell 1
+1,1 NO 30001 => 5 BadRef controller 1 segment 1 network 1 cell 1
+1,1 NC 40001 => 5 BadRef controller 1 segment 1 network 1 cell 1
+1,1 NC 10017 => 5 BadRef controller 1 segment 1 network 1 cell 1
+1,1 CO 10001 => 5 BadRef controller 1 segment 1 network 1 cell 1
+1,1 CO 00017 => 5 BadRef controller 1 segment 1 network 1 cell 1
+1,1 CL 10001 => 5 BadRef controller 1 segment 1 network 1 cell 1
+1,1 ADD 12345 1 40001 => 5 BadRef controller 1 segment 1 network 1 cell 1
+1,1 ADD 1 1 30001 => 5 BadRef controller 1 segment 1 network 1 cell 1
+1,1 ADD 30011 1 40001 => 5 BadRef controller 1 segment 1 network 1 cell 1
+1,1 SUB 1 1 40101 => 5 BadRef controller 1 segment 1 network 1 cell 1
+1,1 MUL 1 1 40100 => 5 BadRef controller 1 segment 1 network 1 cell 1
+1,1 DIV 40100 1 40001 => 5 BadRef controller 1 segment 1 network 1 cell 1
+1,1 DIV 1 1 40100 => 5 BadRef controller 1 segment 1 network 1 cell 1
+1,1 T0.1 00001 40001 => 5 BadRef controller 1 segment 1 network 1 cell 1
+1,1 UCTR 1 30001 => 5 BadRef controller 1 segment 1 network 1 cell 1
+1,1 R>T 40001 40095 6 => 5 BadRef controller 1 segment 1 network 1 cell 1
+1,1 T>R 40095 40001 7 => 5 BadRef controller 1 segment 1 network 1 cell 1
+1,1 T>R 40001 40100 1 => 5 BadRef controller 1 segment 1 network 1 cell 1
+1,1 T>T 40001 40095 6 => 5 BadRef controller 1 segment 1 network 1 cell 1
+1,1 BLKM 40001 40095 7 => 5 BadRef controller 1 segment 1 network 1 cell 1
+1,1 FIN 40001 40095 6 => 5 BadRef controller 1 segment 1 network 1 cell 1
+1,1 FOUT 40095 40001 6 => 5 BadRef controller 1 segment 1 network 1 cell 1
+1,1 FOUT 30001 40001 1 => 5 BadRef controller 1 segment 1 network 1 cell 1
+1,1 SRCH 40001 40100 1 => 5 BadRef controller 1 segment 1 network 1 cell 1
+1,1 XOR 40001 40095 7 => 5 BadRef controller 1 segment 1 network 1 cell 1
+1,1 CMPR 40001 40095 6 => 5 BadRef controller 1 segment 1 network 1 cell 1
+1,1 SENS 1 30005 7 => 5 BadRef controller 1 segment 1 network 1 cell 1
+1,1 MBIT 40001 30001 1 => 5 BadRef controller 1 segment 1 network 1 cell 1
+1,1 H; 1,1 NO 00017 => 5 BadRef controller 1 segment 1 network 1 cell 2
+1,1 H; 7,1 ADD 1 1 40101 => 5 BadRef controller 1 segment 1 network 1 cell 2"#;
+
+// Places that are taken, below row 7 or right of a coil.
+const BAD_SHAPES: &str = r#"1,1 V; 1,1 V => 7 BadShape controller 1 segment 1 network 1 cell 2
+1,1 H; 1,1 NO 00001 => 7 BadShape controller 1 segment 1 network 1 cell 2
+6,1 ADD 1 1 40001 => 7 BadShape controller 1 segment 1 network 1 cell 1
+7,1 T.01 1 40001 => 7 BadShape controller 1 segment 1 network 1 cell 1
+1,1 ADD 1 1 40001; 2,1 H => 7 BadShape controller 1 segment 1 network 1 cell 2
+3,1 H; 1,1 ADD 1 1 40001 => 7 BadShape controller 1 segment 1 network 1 cell 2
+1,1 T1.0 1 40001; 2,1 H => 7 BadShape controller 1 segment 1 network 1 cell 2
+1,1 CO 00001; 1,2 H => 7 BadShape controller 1 segment 1 network 1 cell 2
+1,2 H; 1,1 CO 00001 => 7 BadShape controller 1 segment 1 network 1 cell 2
+3,1 CL 00001; 1,2 ADD 1 1 40001 => 7 BadShape controller 1 segment 1 network 1 cell 2
+1,2 ADD 1 1 40001; 3,1 CL 00001 => 7 BadShape controller 1 segment 1 network 1 cell 2
+1,1 CO 00001; 1,1 CO 00001 => 7 BadShape controller 1 segment 1 network 1 cell 2"#;
+
+// Coils that are driven already.
+const COILS_TWICE: &str =
+    r#"1,1 NO 10001; 1,2 CO 00001; 2,1 NO 10002; 2,2 CO 00001 => 8 CoilTwice controller 1 segment 1 network 1 cell 4
+1,1 CO 00001; 2,1 CL 00001 => 8 CoilTwice controller 1 segment 1 network 1 cell 2
+1,1 CL 00001; 2,1 CL 00001 => 8 CoilTwice controller 1 segment 1 network 1 cell 2
+1,1 CL 00002", "1,1 V; 1,1 CO 00002 => 8 CoilTwice controller 1 segment 1 network 2 cell 2"#;
 
 #[test]
 fn networks_are_taken(rt: HostRuntime) -> Result<(), Fail> {
@@ -354,20 +348,26 @@ fn networks_are_taken(rt: HostRuntime) -> Result<(), Fail> {
     Ok(())
 }
 
+// Each line of a table is a text of networks and its refusal.
+fn refuses_each(rt: &impl Abort, alloc: Global, table: &str) -> Result<(), Fail> {
+    for line in table.lines() {
+        let (networks, refusal) = line.split_once(" => ").ok_or("a refusal")?;
+        let text = network_text(alloc, networks)?;
+        let answer = answer_to(alloc, text.as_bytes())?;
+        assert_eq!(rt; answer.as_str(), refusal, "{networks}");
+    }
+    Ok(())
+}
+
 #[test]
 fn first_faults_are_answered(rt: HostRuntime) -> Result<(), Fail> {
     let alloc = rt.alloc();
-    for (network, fault, cell) in REFUSED {
-        let text = network_text(alloc, network)?;
-        let answer = answer_to(alloc, text.as_bytes())?;
-        let want = format!(in alloc; "{fault} controller 1 segment 1 network 1 cell {cell}")?;
-        assert_eq!(rt; answer.as_str(), want.as_str(), "{network}");
-    }
-    for (networks, want) in REFUSED_LATER {
-        let text = network_text(alloc, networks)?;
-        let answer = answer_to(alloc, text.as_bytes())?;
-        assert_eq!(rt; answer.as_str(), want, "{networks}");
-    }
+    refuses_each(&rt, alloc, NOT_BUILT_PIECES)?;
+    refuses_each(&rt, alloc, BAD_CELLS)?;
+    refuses_each(&rt, alloc, BAD_VALUES)?;
+    refuses_each(&rt, alloc, BAD_REFS)?;
+    refuses_each(&rt, alloc, BAD_SHAPES)?;
+    refuses_each(&rt, alloc, COILS_TWICE)?;
     Ok(())
 }
 
