@@ -1,9 +1,8 @@
 use Rattle.std.proofs.Common.{◌≡◌, ◌+◌, ap, sym, ◌∙◌, refl, map, string_bytes, arith}
-use Rattle.plant_types.specs.Checks.{sizes_of, HasSegmentPast}
+use Rattle.plant_types.specs.Checks.{sizes_of}
 use Rattle.plant_types.specs.Sizes.{cleared, discretes_of, discretes}
 use Rattle.plant_types.specs.Store.{part_at}
 use Rattle.ladder_solver.specs.State.{State, state_of}
-use Rattle.plant984.specs.Run.{state_after}
 use Rattle.plant984.specs.declared.panel.Reading.{Reading}
 use Rattle.plant984.proofs.RunLemmas.{state_after-none, state_after-more, panel-more}
 use Rattle.plant984.proofs.run.panel_of.Goals as goal
