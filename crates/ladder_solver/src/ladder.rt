@@ -14,6 +14,9 @@ use std::alloc::{AllocError, Global};
 use std::marker::Model;
 use timer_ops::Clock;
 
+#[cfg(test)]
+mod tests;
+
 /// The segments of a controller, ready to be solved, with the edge bits of its counters.
 #[derive(Drop)]
 pub struct Ladder {
