@@ -1,10 +1,8 @@
 -- References stay in a store that only changes what they hold.
 use Rattle.std.proofs.Common.{◌≡◌, ℕ, ◌<◌, zero, suc, length, get_or, List, [], ◌∷◌, sym, subst, arith}
 use Rattle.std.specs.List.{AllByRecursion}
-use Rattle.plant_types.specs.declared.reference.Ref.{Ref}
-use Rattle.plant_types.specs.declared.element.Element.{Element}
 use Rattle.plant_types.specs.declared.network.Cell.{Cell}
-use Rattle.plant_types.specs.Operands.{Named, Kind, OnlyCoil, AnyDiscrete, AnyRegister, OnlyHolding, HasKind, HasNamed, HasOperands, names_of}
+use Rattle.plant_types.proofs.KeptLemmas.{all_follow, HasOperands-kept}
 use Rattle.plant_types.specs.Store.{Contents, Keeps}
 use Rattle.ladder_solver.specs.declared.layout.Column.{Column}
 use Rattle.ladder_solver.specs.declared.layout.Grid.{Grid}
@@ -19,24 +17,6 @@ all_at P (x ∷ xs) (suc i) d h all = all_at P xs i d (omega arith) all.1
 -- what holds of each item holds of one that is read
 pub all_at_item : {X : Type 0} (P : X → Type 0) (xs : List X) (i : ℕ) (x : X) → i < length xs → x ≡ get_or xs i x → AllByRecursion P xs → P x
 all_at_item P xs i x h is all = subst P (sym is) (all_at P xs i x h all)
-
--- what follows for each item follows for all
-all_follow : {X : Type 0} (P Q : X → Type 0) → ((x : X) → P x → Q x) → (xs : List X) → AllByRecursion P xs → AllByRecursion Q xs
-all_follow P Q f [] all = tt
-all_follow P Q f (x ∷ xs) all = (f x all.0, all_follow P Q f xs all.1)
-
-HasKind-kept : (old new : Contents) → Keeps old new → (at : Ref) (count : ℕ) (kind : Kind) → HasKind old at count kind → HasKind new at count kind
-HasKind-kept old new k at count OnlyCoil h = (k at h.0, h.1)
-HasKind-kept old new k at count AnyDiscrete h = (k at h.0, h.1)
-HasKind-kept old new k at count AnyRegister h = record { kind = h.kind; range = h.range; held = λ i within. k _ (h.held i within) }
-HasKind-kept old new k at count OnlyHolding h = record { kind = h.kind; range = h.range; held = λ i within. k _ (h.held i within) }
-
-HasOperands-kept : (old new : Contents) (element : Element) → Keeps old new → HasOperands old element → HasOperands new element
-HasOperands-kept old new element k h = record {
-  form = h.form;
-  values = h.values;
-  references = all_follow (HasNamed old) (HasNamed new) (λ named. HasKind-kept old new k named.at named.count named.kind) (names_of element) h.references;
-}
 
 CanSolve-kept : (old new past : Contents) (cell : Cell) → Keeps old new → CanSolve old past cell → CanSolve new past cell
 CanSolve-kept old new past cell k h = record { first = h.first; last = h.last; operands = HasOperands-kept old new cell.element k h.operands; past = h.past }

@@ -46,7 +46,8 @@ pub record AgreesPower (shorts : List Short) (column : ℕ) (left next : List Bo
   pub beyond : (c r : ℕ) → column < c → is_live shorts p.on c r ≡ false
 
 -- Both, while a column is solved. This project's own.
-pub record Agrees (shorts : List Short) (site : Site) (column : ℕ) (left next edges : List Bool) (start : Places) (now past : Contents) (clock : Clock) (p : Power) : Type 0 where
+pub record Agrees (shorts : List Short) (site : Site) (column : ℕ) (left next edges : List Bool) (start : Places)
+    (now past : Contents) (clock : Clock) (p : Power) : Type 0 where
   pub power : AgreesPower shorts column left next p
   pub state : AgreesState (is_in_column site column) (row_bit edges) start now past clock p.state
 

@@ -46,7 +46,8 @@ abbrev pub FeedsAll : NodePower → List Bool → ℕ → List Bool → List Boo
 FeedsAll outputs marks row old new =
     (r : ℕ) → 1 ≤ r → r ≤ 7 →
     flag_of new r ≡
-    reaches outputs.bottom marks (row + 2) r || (reaches outputs.middle marks (row + 1) r || (reaches outputs.top marks row r || flag_of old r))
+    reaches outputs.bottom marks (row + 2) r
+    || (reaches outputs.middle marks (row + 1) r || (reaches outputs.top marks row r || flag_of old r))
 
 -- The flags of three rows from one down. This project's own.
 abbrev pub flags_at : List Bool → ℕ → NodePower

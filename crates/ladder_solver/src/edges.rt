@@ -25,7 +25,8 @@ pub(crate) fn cleared_edges(
     alloc: Global,
     segments: &[Segment],
 ) -> Result<Vec<Vec<NetworkEdges>>, AllocError>
-    ensures { IfOk result (λ edges. map (λ networks. networks.items) edges.items ≡ cleared_bits segments.now) }
+    ensures { IfOk result
+        (λ edges. map (λ networks. networks.items) edges.items ≡ cleared_bits segments.now) }
 {
     let mut edges = Vec::new(alloc);
     for segment in segments {

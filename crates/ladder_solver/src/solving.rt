@@ -23,7 +23,8 @@ fn solve_column<R: RefStore, P: RefStore>(
 ) -> Rows
     requires { CanSolveCells (R.contents ram.old) (P.contents past.now) column.now.cells }
     ensures keeps { Keeps (R.contents ram.old) (R.contents ram.new) }
-    ensures solved { SolvesCells column.now.shorts column.now.cells left.now result clock (P.contents past.now) edges.old edges.new (R.contents ram.old) (R.contents ram.new) }
+    ensures solved { SolvesCells column.now.shorts column.now.cells left.now result clock
+        (P.contents past.now) edges.old edges.new (R.contents ram.old) (R.contents ram.new) }
 {
     let mut next = [false; 7];
     for cell in column.cells.as_slice() {
@@ -46,7 +47,8 @@ fn solve_grid<R: RefStore, P: RefStore>(
 )
     requires { CanSolveGrid (R.contents ram.old) (P.contents past.now) grid.now }
     ensures keeps { Keeps (R.contents ram.old) (R.contents ram.new) }
-    ensures solved { SolvesGrid grid.now clock (P.contents past.now) edges.old edges.new (R.contents ram.old) (R.contents ram.new) }
+    ensures solved { SolvesGrid grid.now clock (P.contents past.now) edges.old edges.new
+        (R.contents ram.old) (R.contents ram.new) }
 {
     let mut power = [true; 7];
     for (i, column) in grid.columns.as_slice().iter().enumerate() {
@@ -65,7 +67,8 @@ pub(crate) fn solve_grids<R: RefStore, P: RefStore>(
     requires can_solve { CanSolveGrids (R.contents ram.old) (P.contents past.now) grids.now }
     requires as_many { length edges.old ≡ length grids.now }
     ensures keeps { Keeps (R.contents ram.old) (R.contents ram.new) }
-    ensures solved { SolvesGrids grids.now clock (P.contents past.now) edges.old edges.new (R.contents ram.old) (R.contents ram.new) }
+    ensures solved { SolvesGrids grids.now clock (P.contents past.now) edges.old edges.new
+        (R.contents ram.old) (R.contents ram.new) }
 {
     for (i, grid) in grids.iter().enumerate() {
         solve_grid(grid, clock, &mut edges[i], ram, past);
