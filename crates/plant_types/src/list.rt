@@ -33,6 +33,7 @@ impl<T> List<T> {
         List { items }
     }
 
+    /// Its items, the first one first.
     pub fn as_slice(&self) -> &[T]
         ensures { result.now ≡ self.now }
     {

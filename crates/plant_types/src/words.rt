@@ -20,6 +20,7 @@ impl Model for Words {
 }
 
 impl Words {
+    /// A copy of these words.
     pub fn of(alloc: Global, words: &[u16]) -> Result<Words, AllocError>
         ensures { IfOk result (λ made. made ≡ words.now) }
     {
@@ -28,6 +29,7 @@ impl Words {
         })
     }
 
+    /// Its words, the first one first.
     pub fn words(&self) -> &[u16]
         ensures { result.now ≡ self.now }
     {
@@ -77,6 +79,7 @@ impl Pdu {
         })
     }
 
+    /// Its bytes, the function first.
     pub fn bytes(&self) -> &[u8]
         ensures bytes { result.now ≡ self.now }
         ensures some { 1 ≤ length self.now }
@@ -120,6 +123,7 @@ impl Block {
         }
     }
 
+    /// Its words, the first one first.
     pub fn words(&self) -> &[u16]
         ensures words { result.now ≡ self.now }
         ensures fits { length self.now ≤ BLOCK_LIMIT }
