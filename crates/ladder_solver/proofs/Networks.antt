@@ -1,5 +1,5 @@
 -- Columns of a network and networks of a segment, one after another.
-use Rattle.std.proofs.Common.{◌≡◌, ℕ, ◌+◌, ◌-◌, ◌<◌, ◌≤◌, zero, suc, get_or, set, Bool, true, false, ◌&&◌, ◌||◌, ◌==◌, List, [], ◌∷◌, ◌++◌, refl, ◌∙◌, sym, ap, subst, length, take, ◌⊎◌, inl, inr, arith}
+use Rattle.std.proofs.Common.{◌≡◌, ℕ, ◌+◌, ◌-◌, ◌<◌, ◌≤◌, zero, suc, get_or, set, Bool, true, false, ◌&&◌, ◌==◌, List, [], ◌∷◌, ◌++◌, refl, ◌∙◌, sym, ap, length, take, ◌⊎◌, inl, inr, arith}
 use Rattle.std.specs.Prelude.{map, replicate}
 use Rattle.std.proofs.lemmas.Bool.Decides.{nat_tests}
 use Rattle.std.proofs.lemmas.List.{get_or-replicate, get_or_past}
@@ -16,25 +16,31 @@ use Rattle.ladder_solver.specs.Segment.{networks_after}
 use Rattle.ladder_solver.specs.Edges.{row_bit, network_bit, segment_bit}
 use Rattle.ladder_solver.specs.Layout.{column_of, columns_from, grid_of}
 use Rattle.ladder_solver.specs.Rows.{flag_of}
-use Rattle.ladder_solver.specs.Agreement.{Agrees, AgreesPower, AgreesState, SolvesCells, SolvesGrid, cells_after, is_in_network, is_in_segment, no_power}
+use Rattle.ladder_solver.specs.Agreement.{AgreesPower, AgreesState, SolvesCells, SolvesGrid, cells_after, is_in_network, is_in_segment, no_power}
 use Rattle.ladder_solver.proofs.States.{AgreesState-inner, AgreesState-outer}
 use Rattle.ladder_solver.proofs.Steps.{get_or-columns_from, rows_after-cells, columns_after-more, networks_after-more}
 
+-- flags that are all off
 none_on : (n i : ℕ) → get_or (replicate n false) i false ≡ false
 none_on zero i = refl
 none_on (suc n) zero = refl
 none_on (suc n) (suc i) = none_on n i
 
+-- so no row is live yet
 no_flag : (r : ℕ) → flag_of no_power r ≡ false
 no_flag r = none_on 7 (r - 1)
 
+-- a row of the seven, or below them
 rows_or : (r : ℕ) → (r ≤ 7) ⊎ (7 < r)
 rows_or r = grind arith
 
+-- by the test of a row
 in_rows : (r : ℕ) → 1 ≤ r → ((r ≤ 7) × (is_row r ≡ true)) ⊎ ((7 < r) × (is_row r ≡ false))
 in_rows r h = elim (rows_or r) [ inl low ↦ inl (low, grind (arith, nat_tests)) | inr past ↦ inr (past, grind (arith, nat_tests)) ]
 
-fed_row : (r : ℕ) (x : Bool) (flags : List Bool) → length flags ≡ 7 → 1 ≤ r → (r ≤ 7 → x ≡ flag_of flags r) → is_row r && x ≡ flag_of flags r
+-- a row is fed as its flag says, none below the seventh
+fed_row : (r : ℕ) (x : Bool) (flags : List Bool) → length flags ≡ 7 → 1 ≤ r → (r ≤ 7 → x ≡ flag_of flags r)
+    → is_row r && x ≡ flag_of flags r
 fed_row r x flags seven low within =
     elim (in_rows r low) [
       | inl (high, here) ↦ rw here (within high)
@@ -42,7 +48,8 @@ fed_row r x flags seven low within =
     ]
 
 -- what is live at one border feeds the next column
-AgreesPower-next : (shorts : List Short) (column : ℕ) (left next : List Bool) (p : Power) → 1 ≤ column → length next ≡ 7 → AgreesPower shorts column left next p → AgreesPower shorts (column + 1) next no_power p
+AgreesPower-next : (shorts : List Short) (column : ℕ) (left next : List Bool) (p : Power) → 1 ≤ column → length next ≡ 7
+    → AgreesPower shorts column left next p → AgreesPower shorts (column + 1) next no_power p
 AgreesPower-next shorts column left next p first seven h = record {
   fed = λ r a.
       let later : ((column + 1) == 1) ≡ false = grind (arith, nat_tests) in
@@ -65,8 +72,10 @@ pub record SolvesColumns (network : Network) (site : Site) (count : ℕ) (flags 
   pub power : AgreesPower network.shorts (count + 1) flags no_power (columns_after network site 1 count (record { state = s; on = [] }))
   pub state : AgreesState (is_in_network site) (network_bit edges) start now before time (columns_after network site 1 count (record { state = s; on = [] })).state
 
+-- no column yet
 pub SolvesColumns-start : (network : Network) (site : Site) (edges : List (List Bool)) (start : Places) (now before : Contents) (time : Clock) (s : State)
-    → AgreesState (is_in_network site) (network_bit edges) start now before time s → SolvesColumns network site 0 (replicate 7 true) edges start now before time s
+    → AgreesState (is_in_network site) (network_bit edges) start now before time s
+    → SolvesColumns network site 0 (replicate 7 true) edges start now before time s
 unfolding columns_after
 SolvesColumns-start network site edges start now before time s h = record { power = AgreesPower-start network.shorts s; state = h }
 
@@ -95,7 +104,8 @@ SolvesColumns-more network site i x left next rows edges start now new before ti
     }
 
 -- a network that is laid out at an index
-pub network_at : (networks : List Network) (i : ℕ) (grid : Grid) → i < length (map grid_of networks) → grid ≡ get_or (map grid_of networks) i grid
+network_at : (networks : List Network) (i : ℕ) (grid : Grid) → i < length (map grid_of networks)
+    → grid ≡ get_or (map grid_of networks) i grid
     → (network : Network) × (take (i + 1) networks ≡ take i networks ++ network ∷ []) × (length (take i networks) ≡ i) × (grid ≡ grid_of network)
 network_at [] i grid within is = absurd (omega arith)
 network_at (network ∷ networks) zero grid within is = (network, refl, refl, is)

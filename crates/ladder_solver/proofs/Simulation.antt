@@ -1,21 +1,19 @@
 -- What each step leaves of the agreement between flags and definitions.
 use Rattle.std.proofs.Common.{◌≡◌, ℕ, ◌+◌, ◌-◌, ◌<◌, ◌≤◌, zero, suc, get_or, set, Bool, true, false, ◌&&◌, ◌||◌, ◌==◌, List, [], ◌∷◌, ◌++◌, refl, ◌∙◌, sym, ap, subst, add-zero, length, take, ◌⊎◌, inl, inr, arith}
-use Rattle.std.specs.Prelude.{map, replicate, if◌then◌else◌}
-use Rattle.std.specs.FinSet.{contains}
+use Rattle.std.specs.Prelude.{if◌then◌else◌}
 use Rattle.std.proofs.lemmas.Bool.Decides.{nat_tests}
-use Rattle.std.proofs.lemmas.List.{get_or-replicate, get_or_past, take_more}
+use Rattle.std.proofs.lemmas.List.{take_more}
 use Rattle.plant_types.specs.declared.element.Element.{Element}
 use Rattle.plant_types.specs.declared.network.Cell.{Cell}
 use Rattle.plant_types.specs.declared.network.Short.{Short}
-use Rattle.plant_types.specs.declared.network.Network.{Network}
 use Rattle.plant_types.specs.declared.power.NodePower.{NodePower}
 use Rattle.plant_types.specs.Network.{is_row}
 use Rattle.plant_types.specs.Store.{Contents}
 use Rattle.timer_ops.specs.declared.Clock.{Clock}
 use Rattle.ladder_solver.specs.State.{Places, State, with_place}
-use Rattle.ladder_solver.specs.Network.{Power, Site, is_live, is_fed, inputs_at, place_in, with_output, with_outputs, element_at}
-use Rattle.ladder_solver.specs.Rows.{flag_of, flags_at, marks_of, are_linked, reaches, FeedsAll}
-use Rattle.ladder_solver.specs.Agreement.{Agrees, AgreesPower, GivesEffect, SolvesCells, cells_after, no_power}
+use Rattle.ladder_solver.specs.Network.{Power, Place, Site, is_live, inputs_at, place_in, with_output, with_outputs, element_at}
+use Rattle.ladder_solver.specs.Rows.{flags_at, marks_of, are_linked, reaches, FeedsAll}
+use Rattle.ladder_solver.specs.Agreement.{Agrees, AgreesPower, GivesEffect, SolvesCells, cells_after}
 use Rattle.ladder_solver.proofs.Spread.{are_linked-joined}
 use Rattle.ladder_solver.proofs.States.{edge_at, AgreesState-cell}
 
@@ -23,27 +21,35 @@ use Rattle.ladder_solver.proofs.States.{edge_at, AgreesState-cell}
 other_column : (a b : ℕ) → a < b → (a == b) ≡ false
 other_column a b h = grind (arith, nat_tests)
 
+-- nor is one on the other side
 other_column_below : (a b : ℕ) → b < a → (a == b) ≡ false
 other_column_below a b h = grind (arith, nat_tests)
 
+-- a column is itself
 same_column : (a : ℕ) → (a == a) ≡ true
 same_column a = grind (arith, nat_tests)
 
+-- an output that counts stands in the seven rows
 last_row : (row : ℕ) (output : Bool) → output && is_row row ≡ true → row ≤ 7
 last_row row true h = grind (arith, nat_tests)
 last_row row false h = absurd (Rattle.std.proofs.Common.true≢false (sym h))
 
 -- an output is live at the right border of its own column, in the rows that it reaches
-live_place : (shorts : List Short) (on : List Rattle.ladder_solver.specs.Network.Place) (column row r : ℕ) (b : Bool) → 1 ≤ row → (b ≡ true → row ≤ 7) → 1 ≤ r → r ≤ 7
+live_place : (shorts : List Short) (on : List Place) (column row r : ℕ) (b : Bool) → 1 ≤ row
+    → (b ≡ true → row ≤ 7) → 1 ≤ r → r ≤ 7
     → is_live shorts (if b then record { column = column; row = row } ∷ on else on) column r ≡ (b && are_linked (marks_of shorts column) row r) || is_live shorts on column r
 live_place shorts on column row r false low high from to = refl
 live_place shorts on column row r true low high from to = rw (same_column column, are_linked-joined shorts column row r low (high refl) from to) refl
 
-live_output : (shorts : List Short) (on : List Rattle.ladder_solver.specs.Network.Place) (column row r : ℕ) (output : Bool) → 1 ≤ row → 1 ≤ r → r ≤ 7
+-- the same of an output that counts in the seven rows alone
+live_output : (shorts : List Short) (on : List Place) (column row r : ℕ) (output : Bool) → 1 ≤ row
+    → 1 ≤ r → r ≤ 7
     → is_live shorts (with_output output column row on) column r ≡ reaches output (marks_of shorts column) row r || is_live shorts on column r
 live_output shorts on column row r output low from to = live_place shorts on column row r (output && is_row row) low (last_row row output) from to
 
-live_outputs : (shorts : List Short) (on : List Rattle.ladder_solver.specs.Network.Place) (column row r : ℕ) (outputs : NodePower) → 1 ≤ row → 1 ≤ r → r ≤ 7
+-- the same of three outputs
+live_outputs : (shorts : List Short) (on : List Place) (column row r : ℕ) (outputs : NodePower) → 1 ≤ row
+    → 1 ≤ r → r ≤ 7
     → is_live shorts (with_outputs outputs column row on) column r
     ≡ reaches outputs.bottom (marks_of shorts column) (row + 2) r || (reaches outputs.middle (marks_of shorts column) (row + 1) r || (reaches outputs.top (marks_of shorts column) row r || is_live shorts on column r))
 live_outputs shorts on column row r outputs low from to =
@@ -55,12 +61,15 @@ live_outputs shorts on column row r outputs low from to =
     ∙ ap (λ b. reaches outputs.middle (marks_of shorts column) (row + 1) r || b) (live_output shorts on column row r outputs.top low from to))
 
 -- and nowhere else
-elsewhere_place : (shorts : List Short) (on : List Rattle.ladder_solver.specs.Network.Place) (c column row r : ℕ) (b : Bool) → (column == c) ≡ false
+elsewhere_place : (shorts : List Short) (on : List Place) (c column row r : ℕ) (b : Bool)
+    → (column == c) ≡ false
     → is_live shorts (if b then record { column = column; row = row } ∷ on else on) c r ≡ is_live shorts on c r
 elsewhere_place shorts on c column row r false apart = refl
 elsewhere_place shorts on c column row r true apart = rw apart refl
 
-elsewhere : (shorts : List Short) (on : List Rattle.ladder_solver.specs.Network.Place) (c column row r : ℕ) (outputs : NodePower) → (column == c) ≡ false
+-- three outputs leave the other columns
+elsewhere : (shorts : List Short) (on : List Place) (c column row r : ℕ) (outputs : NodePower)
+    → (column == c) ≡ false
     → is_live shorts (with_outputs outputs column row on) c r ≡ is_live shorts on c r
 elsewhere shorts on c column row r outputs apart =
     let top = with_output outputs.top column row on in
@@ -70,7 +79,8 @@ elsewhere shorts on c column row r outputs apart =
     ∙ elsewhere_place shorts on c column row r (outputs.top && is_row row) apart
 
 -- the outputs of a block
-AgreesPower-outputs : (shorts : List Short) (column row : ℕ) (left next after : List Bool) (p : Power) (outputs : NodePower) (s : State) → 1 ≤ column → 1 ≤ row
+AgreesPower-outputs : (shorts : List Short) (column row : ℕ) (left next after : List Bool) (p : Power) (outputs : NodePower) (s : State)
+    → 1 ≤ column → 1 ≤ row
     → AgreesPower shorts column left next p → FeedsAll outputs (marks_of shorts column) row next after
     → AgreesPower shorts column left after (record { state = s; on = with_outputs outputs column row p.on })
 AgreesPower-outputs shorts column row left next after p outputs s first low h feeds = record {
@@ -83,12 +93,14 @@ AgreesPower-outputs shorts column row left next after p outputs s first low h fe
   beyond = λ c r above. elsewhere shorts p.on c column row r outputs (other_column column c above) ∙ h.beyond c r above;
 }
 
-inputs_at-flags : (shorts : List Short) (column row : ℕ) (left next : List Bool) (p : Power) → 1 ≤ row → AgreesPower shorts column left next p → inputs_at shorts p.on column row ≡ flags_at left row
+-- the inputs of a block are the flags of its rows
+inputs_at-flags : (shorts : List Short) (column row : ℕ) (left next : List Bool) (p : Power) → 1 ≤ row
+    → AgreesPower shorts column left next p → inputs_at shorts p.on column row ≡ flags_at left row
 inputs_at-flags shorts column row left next p low h =
     λ i. record { top = h.fed row low i; middle = h.fed (row + 1) (omega arith) i; bottom = h.fed (row + 2) (omega arith) i }
 
 -- a whole cell
-pub Agrees-cell : (shorts : List Short) (site : Site) (column row : ℕ) (element : Element) (left next after edges : List Bool) (edge_after : Bool) (start : Places) (old new past : Contents) (clock : Clock) (outputs : NodePower) (p : Power)
+Agrees-cell : (shorts : List Short) (site : Site) (column row : ℕ) (element : Element) (left next after edges : List Bool) (edge_after : Bool) (start : Places) (old new past : Contents) (clock : Clock) (outputs : NodePower) (p : Power)
     → 1 ≤ column → 1 ≤ row → row ≤ length edges
     → GivesEffect element (flags_at left row) clock past (get_or edges (row - 1) false) edge_after old new outputs
     → FeedsAll outputs (marks_of shorts column) row next after
@@ -105,10 +117,12 @@ Agrees-cell shorts site column row element left next after edges edge_after star
     }
 
 -- one cell more
-cells_after-more : (shorts : List Short) (site : Site) (column : ℕ) (cells : List Cell) (cell : Cell) (p : Power) → cells_after shorts site column (cells ++ cell ∷ []) p ≡ element_at shorts site column cell.row cell.element (cells_after shorts site column cells p)
+cells_after-more : (shorts : List Short) (site : Site) (column : ℕ) (cells : List Cell) (cell : Cell) (p : Power)
+    → cells_after shorts site column (cells ++ cell ∷ []) p ≡ element_at shorts site column cell.row cell.element (cells_after shorts site column cells p)
 cells_after-more shorts site column [] cell p = refl
 cells_after-more shorts site column (x ∷ cells) cell p = cells_after-more shorts site column cells cell (element_at shorts site column x.row x.element p)
 
+-- the same for a column so far
 pub SolvesCells-more : (marks : List Bool) (cells : List Cell) (i : ℕ) (d : Cell) (left next after edges : List Bool) (edge_after : Bool) (edges_start : List Bool) (old now new past : Contents) (clock : Clock) (outputs : NodePower)
     → i < length cells → 1 ≤ (get_or cells i d).row → (get_or cells i d).row ≤ 7 → length edges ≡ 7
     → SolvesCells marks (take i cells) left next clock past edges_start edges old now

@@ -1,10 +1,9 @@
 -- What solving asks of a store and of cells that are laid out.
-use Rattle.std.specs.Prelude.{◌≡◌, ◌≤◌, ℕ, List, length, map}
+use Rattle.std.specs.Prelude.{◌≡◌, ◌≤◌, List, length}
 use Rattle.std.specs.List.{AllByRecursion}
 use Rattle.plant_types.specs.declared.network.Cell.{Cell}
 use Rattle.plant_types.specs.Operands.{HasOperands, HasPast}
 use Rattle.plant_types.specs.Store.{Contents}
-use Rattle.ladder_solver.specs.declared.layout.Column.{Column}
 use Rattle.ladder_solver.specs.declared.layout.Grid.{Grid}
 
 -- A cell stands in one of the seven rows, and the stores have what its element asks. This project's own.
