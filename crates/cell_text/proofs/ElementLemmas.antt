@@ -1,6 +1,6 @@
 -- An element has the name and the operands that it was made of.
-use Rattle.std.proofs.Common.{◌≡◌, ℕ, List, [], ◌∷◌, Option, Some, None, refl, sym, ap, ◌∙◌}
-use Rattle.std.specs.Prelude.{option_map, option_and_then}
+use Rattle.std.proofs.Common.{◌≡◌, ℕ, List, [], ◌∷◌, Some, refl, sym, ap, ◌∙◌}
+use Rattle.std.specs.Prelude.{option_map}
 use Rattle.plant_types.specs.declared.reference.Ref.{Ref}
 use Rattle.plant_types.specs.declared.element.Operand.{Operand}
 use Rattle.plant_types.specs.declared.element.Operand.TheVariants.{Const, At}
@@ -16,19 +16,23 @@ pub record MadeOf (element : Element) (name : Name) (operands : List Operand) : 
   pub names : element_name element ≡ name
   pub takes : operands_of element ≡ operands
 
+-- an operand that is a reference
 reference_in-some : (operand : Operand) (at : Ref) → reference_in operand ≡ Some at → operand ≡ At at
 reference_in-some (At found) at h = cc
 reference_in-some (Const n) at h = cc
 
+-- an operand that is a constant
 constant_in-some : (operand : Operand) (n : ℕ) → constant_in operand ≡ Some n → operand ≡ Const n
 constant_in-some (Const found) n h = cc
 constant_in-some (At at) n h = cc
 
+-- operands that are one reference
 one_reference-some : (operands : List Operand) (at : Ref) → one_reference operands ≡ Some at → operands ≡ At at ∷ []
 one_reference-some (operand ∷ []) at h = ap (λ o. o ∷ []) (reference_in-some operand at h)
 one_reference-some [] at h = cc
 one_reference-some (operand ∷ other ∷ operands) at h = cc
 
+-- operands that are a preset and an accumulator
 preset_and_acc-some : (operands : List Operand) (o : Operand × Ref) → preset_and_acc operands ≡ Some o → operands ≡ o.0 ∷ At o.1 ∷ []
 preset_and_acc-some (preset ∷ acc ∷ []) o h =
     let found = some-map (λ (at : Ref). (preset, at)) (reference_in acc) o h in
@@ -38,6 +42,7 @@ preset_and_acc-some [] o h = cc
 preset_and_acc-some (preset ∷ []) o h = cc
 preset_and_acc-some (preset ∷ acc ∷ other ∷ operands) o h = cc
 
+-- operands that are two numbers and a reference
 numbers_and_low-some : (operands : List Operand) (o : Operand × Operand × Ref) → numbers_and_low operands ≡ Some o → operands ≡ o.0 ∷ o.1 ∷ At o.2 ∷ []
 numbers_and_low-some (top ∷ mid ∷ low ∷ []) o h =
     let found = some-map (λ (at : Ref). (top, mid, at)) (reference_in low) o h in
@@ -48,6 +53,7 @@ numbers_and_low-some (top ∷ []) o h = cc
 numbers_and_low-some (top ∷ mid ∷ []) o h = cc
 numbers_and_low-some (top ∷ mid ∷ low ∷ other ∷ operands) o h = cc
 
+-- operands that are a top, a reference and a length
 table_operands-some : (operands : List Operand) (o : Operand × Ref × ℕ) → table_operands operands ≡ Some o → operands ≡ o.0 ∷ At o.1 ∷ Const o.2 ∷ []
 table_operands-some (top ∷ mid ∷ length ∷ []) o h =
     let at = some-step (λ (at : Ref). option_map (λ (n : ℕ). (top, at, n)) (constant_in length)) (reference_in mid) o h in

@@ -1,16 +1,12 @@
 -- The operands that fit the slots of a name are those that its element takes.
-use Rattle.std.proofs.Common.{◌≡◌, ℕ, ◌+◌, Bool, true, false, ◌&&◌, List, [], ◌∷◌, ◌++◌, refl, sym, ap, ◌∙◌}
-use Rattle.std.specs.Prelude.{nat_le}
+use Rattle.std.proofs.Common.{◌≡◌, ℕ, ◌+◌, Bool, true, false, ◌&&◌, List, [], ◌∷◌, ◌++◌, refl, ap, ◌∙◌}
 use Rattle.std.specs.List.{list_all}
 use lib.Pointwise.{pointwise}
 use Rattle.plant_types.specs.declared.reference.Ref.{Ref}
 use Rattle.plant_types.specs.declared.element.Operand.{Operand}
 use Rattle.plant_types.specs.declared.element.Operand.TheVariants.{Const, At}
-use Rattle.plant_types.specs.declared.element.MathOp.{MathOp}
 use Rattle.plant_types.specs.declared.element.MathOp.TheVariants as math
-use Rattle.plant_types.specs.declared.element.MoveOp.{MoveOp}
 use Rattle.plant_types.specs.declared.element.MoveOp.TheVariants as moves
-use Rattle.plant_types.specs.declared.element.MatrixOp.{MatrixOp}
 use Rattle.plant_types.specs.declared.element.MatrixOp.TheVariants as matrices
 use Rattle.plant_types.specs.declared.element.Element.{Element}
 use Rattle.plant_types.specs.declared.element.Element.TheVariants.{Open, Closed, Rise, Fall, Coil, Latch, Wire, Timer, Counter, Math, Move, Matrix}
@@ -44,6 +40,7 @@ fits_reference slot (At at) = takes_kind slot at.kind && has_number at
 abbrev pub fits : Slot → Operand → Bool
 fits slot operand = (fits_form slot operand && fits_value slot operand) && fits_reference slot operand
 
+-- four tests in two orders
 and_shuffle : (a b c d : Bool) → (a && b) && (c && d) ≡ (a && c) && (b && d)
 and_shuffle false b c d = refl
 and_shuffle true true c d = refl
@@ -57,10 +54,12 @@ pointwise-and p q [] (y ∷ ys) = refl
 pointwise-and p q (x ∷ xs) [] = refl
 pointwise-and p q (x ∷ xs) (y ∷ ys) = ap (λ b. (p x y && q x y) && b) (pointwise-and p q xs ys) ∙ and_shuffle (p x y) (q x y) (pointwise p xs ys) (pointwise q xs ys)
 
+-- a test, and one that always holds
 and_true : (a : Bool) → a && true ≡ a
 and_true true = refl
 and_true false = refl
 
+-- the forms of operands fit exactly where the element has its form
 pointwise-fits_form : (element : Element) → pointwise fits_form (slots_of (element_name element)) (operands_of element) ≡ has_form element
 unfolding slots_of
 pointwise-fits_form (Open at) = refl
@@ -80,6 +79,7 @@ pointwise-fits_form (Matrix matrices.Sens top mid length) = refl
 pointwise-fits_form (Matrix op (Const n) mid length) = refl
 pointwise-fits_form (Matrix op (At at) mid length) = refl
 
+-- constants fit exactly where the element has its values
 pointwise-fits_value : (element : Element) → pointwise fits_value (slots_of (element_name element)) (operands_of element) ≡ has_values element
 unfolding slots_of
 pointwise-fits_value (Open at) = refl
@@ -102,14 +102,17 @@ pointwise-fits_value (Matrix op top mid length) = ap (λ b. is_constant top && b
 abbrev is_named : Named → Bool
 is_named named = takes named.kind named.at.kind && has_number named.at
 
+-- what one operand names, before other references
 named_in-all : (operand : Operand) (count : ℕ) (others : List Named) → fits_reference Number operand && list_all is_named others ≡ list_all is_named (named_in operand count ++ others)
 named_in-all (Const n) count others = refl
 named_in-all (At at) count others = refl
 
+-- what two operands and a low register name
 numbers-all : (top mid : Operand) (low : Ref) (high count : ℕ)
     → fits_reference Number top && (fits_reference Number mid && list_all is_named (target low count ∷ [])) ≡ list_all is_named (named_in top high ++ (named_in mid 1 ++ target low count ∷ []))
 numbers-all top mid low high count = ap (λ b. fits_reference Number top && b) (named_in-all mid 1 (target low count ∷ [])) ∙ named_in-all top high (named_in mid 1 ++ target low count ∷ [])
 
+-- references fit exactly where those that the element names are such
 pointwise-fits_reference : (element : Element) → pointwise fits_reference (slots_of (element_name element)) (operands_of element) ≡ list_all is_named (names_of element)
 unfolding slots_of
 pointwise-fits_reference (Open at) = refl
@@ -146,6 +149,7 @@ list_all-and : {A : Type 0} (p q : A → Bool) (xs : List A) → list_all (λ x.
 list_all-and p q [] = refl
 list_all-and p q (x ∷ xs) = ap (λ b. (p x && q x) && b) (list_all-and p q xs) ∙ and_shuffle (p x) (q x) (list_all p xs) (list_all q xs)
 
+-- three tests are grouped to the left
 and_assoc : (a b c : Bool) → a && (b && c) ≡ (a && b) && c
 and_assoc true b c = refl
 and_assoc false b c = refl

@@ -1,5 +1,5 @@
 -- Words joined by single blanks, and the words of such a text.
-use Rattle.std.proofs.Common.{◌≡◌, ℕ, ◌<◌, Bool, true, false, ◌&&◌, not, List, [], ◌∷◌, ◌++◌, length, map, refl, sym, ap, ◌∙◌, append_assoc, arith}
+use Rattle.std.proofs.Common.{◌≡◌, ℕ, Bool, true, false, ◌&&◌, not, List, [], ◌∷◌, ◌++◌, length, map, refl, sym, ap, ◌∙◌, append_assoc, arith}
 use Rattle.std.specs.Prelude.{◌==◌, nat_lt}
 use Rattle.std.specs.List.{list_all, slice_split, join_with_byte, flat_map}
 use Rattle.std.specs.Fmt.{decimal}
@@ -9,6 +9,7 @@ use Rattle.std.proofs.lemmas.List.{append-nil}
 use Rattle.plant_types.specs.declared.element.Operand.{Operand}
 use Rattle.cell_text.specs.Words.{is_blank, words_of}
 use Rattle.cell_text.specs.Texts.{operand_text, position_text}
+use Rattle.cell_text.proofs.WordLemmas.{not_blank, words_of_nil}
 
 -- bytes of which none is a blank
 abbrev pub is_solid : List ℕ → Bool
@@ -18,22 +19,21 @@ is_solid word = list_all (λ byte. not (is_blank byte)) word
 abbrev pub is_word : List ℕ → Bool
 is_word word = nat_lt 0 (length word) && is_solid word
 
-solid_byte : (v : Bool) → not v ≡ true → v ≡ false
-solid_byte true h = sym h
-solid_byte false h = refl
-
+-- a text is cut behind a word before a blank
 split-solid : (word rest : List ℕ) → is_solid word ≡ true → slice_split is_blank (word ++ 32 ∷ rest) ≡ word ∷ slice_split is_blank rest
 split-solid [] rest h = refl
 split-solid (b ∷ bs) rest h =
     let (here, more) = and_parts (not (is_blank b)) (is_solid bs) h in
-    rw (solid_byte (is_blank b) here, split-solid bs rest more) refl
+    rw (not_blank (is_blank b) here, split-solid bs rest more) refl
 
+-- a text that is one word is not cut
 split-last : (word : List ℕ) → is_solid word ≡ true → slice_split is_blank word ≡ word ∷ []
 split-last [] h = refl
 split-last (b ∷ bs) h =
     let (here, more) = and_parts (not (is_blank b)) (is_solid bs) h in
-    rw (solid_byte (is_blank b) here, split-last bs more) refl
+    rw (not_blank (is_blank b) here, split-last bs more) refl
 
+-- a word that has a byte is not dropped
 some_length : (n : ℕ) → nat_lt 0 n ≡ true → not (n == 0) ≡ true
 some_length n h = grind (arith, nat_tests)
 
@@ -44,19 +44,16 @@ words_of-word word rest h =
     let (some, solid) = and_parts (nat_lt 0 (length word)) (is_solid word) h in
     rw (split-solid word rest solid, some_length (length word) some) refl
 
+-- a text that is one word has that word
 words_of-last : (word : List ℕ) → is_word word ≡ true → words_of word ≡ word ∷ []
 unfolding words_of
 words_of-last word h =
     let (some, solid) = and_parts (nat_lt 0 (length word)) (is_solid word) h in
     rw (split-last word solid, some_length (length word) some) refl
 
-words_of-nothing : words_of [] ≡ []
-unfolding words_of
-words_of-nothing = refl
-
 -- the words of a text that joins words by single blanks are those words
 pub words_of-join : (words : List (List ℕ)) → list_all is_word words ≡ true → words_of (join_with_byte 32 words) ≡ words
-words_of-join [] h = words_of-nothing
+words_of-join [] h = words_of_nil
 words_of-join (word ∷ []) h = words_of-last word (and_parts (is_word word) true h).0
 words_of-join (word ∷ next ∷ words) h =
     let (here, more) = and_parts (is_word word) (list_all is_word (next ∷ words)) h in

@@ -1,5 +1,5 @@
 -- A piece that reads has a text.
-use Rattle.std.proofs.Common.{◌≡◌, ℕ, ◌+◌, ◌*◌, ◌-◌, ◌<◌, ◌≤◌, Bool, true, false, ◌&&◌, ◌||◌, List, [], ◌∷◌, drop, length, Option, Some, None, Result, Ok, Err, refl, sym, ap, ◌∙◌, arith}
+use Rattle.std.proofs.Common.{◌≡◌, ℕ, ◌-◌, ◌≤◌, Bool, true, false, ◌&&◌, ◌||◌, List, [], ◌∷◌, drop, length, Option, Some, None, Result, Ok, Err, refl, sym, ap, ◌∙◌, arith}
 use Rattle.std.specs.Prelude.{nat_le, slice_index, option_map, option_and_then, ◌==◌, if◌then◌else◌, not}
 use Rattle.std.specs.Option.{option_map_or}
 use Rattle.std.specs.Result.{IfOk}
@@ -26,31 +26,36 @@ use Rattle.cell_text.specs.Steps.{◌>>=◌, or_fault, unless}
 use Rattle.cell_text.specs.Numbers.{is_digit, value_of, is_number, number_of, numbered, position_of, kind_of, is_reference_word, reference_of}
 use Rattle.cell_text.specs.Names.{name_of}
 use Rattle.cell_text.specs.Slots.{slots_of, takes_form, takes_value, takes_kind, taken_reference, operand_in, operands_in, read_operands}
-use Rattle.cell_text.specs.Elements.{element_name, operands_of, element_of}
+use Rattle.cell_text.specs.Elements.{operands_of, element_of}
 use Rattle.cell_text.specs.Pieces.{short_at, piece_at, piece_of}
 use Rattle.cell_text.specs.Texts.{has_number, has_numbers, has_text}
 use Rattle.cell_text.proofs.StepLemmas.{step-ok, or_fault-ok, unless-ok, some-step, some-map, some-guard, or_fault-some}
-use Rattle.cell_text.proofs.FitLemmas.{fits_form, fits_value, fits_reference, fits, pointwise-fits}
-use Rattle.cell_text.proofs.ElementLemmas.{MadeOf, element_of-made}
+use Rattle.cell_text.proofs.FitLemmas.{fits_form, fits_value, fits, pointwise-fits}
+use Rattle.cell_text.proofs.ElementLemmas.{element_of-made}
 
+-- two tests that hold are one that holds
 and_both : (a b : Bool) → a ≡ true → b ≡ true → a && b ≡ true
 and_both a b x y = rw (x, y) refl
 
+-- two values that are there are the same
 some_value : {A : Type 0} (x y : A) → Some x ≡ Some y → x ≡ y
 some_value x y h = cc
 
+-- a reference that was numbered has its number
 numbered-has : (kind : RefKind) (number : ℕ) (at : Ref) → numbered kind number ≡ Some at → has_number at ≡ true
 numbered-has kind number at h =
     let found = some-guard (nat_le 1 number && nat_le number 9984) (Some (record { kind = kind; number = number })) at h in
     let same : record { kind = kind; number = number } ≡ at = some_value _ _ found.1 in
     rw (← same) found.0
 
+-- so has one that was read
 reference_of-has : (word : List ℕ) (at : Ref) → reference_of word ≡ Some at → has_number at ≡ true
 reference_of-has word at h =
     let five = some-guard (is_reference_word word) (option_and_then (λ kind. numbered kind (value_of (drop 1 word))) (kind_of (slice_index word 0))) at h in
     let kind = some-step (λ kind. numbered kind (value_of (drop 1 word))) (kind_of (slice_index word 0)) at five.1 in
     numbered-has kind.0 (value_of (drop 1 word)) at kind.1.1
 
+-- a position that was read is in the grid
 position_of-has : (word : List ℕ) (place : ℕ × ℕ) → position_of word ≡ Some place → (is_row place.0 ≡ true) × (is_column place.1 ≡ true)
 position_of-has word place h =
     let before = number_of (before_first (λ byte. byte == 44) word) in
@@ -61,6 +66,7 @@ position_of-has word place h =
     let same : (row.0, column.0) ≡ place = some_value (row.0, column.0) place within.1 in
     rw (← same) (and_parts (is_row row.0) (is_column column.0) within.0)
 
+-- a digit stands for at most 9
 digit_le : (b : ℕ) → is_digit b ≡ true → b - 48 ≤ 9
 digit_le b h = grind (arith, nat_tests)
 
@@ -85,12 +91,15 @@ value_of-le (a ∷ b ∷ c ∷ d ∷ []) h few =
     omega (arith, digit_le a first, digit_le b second, digit_le c third, digit_le d fourth)
 value_of-le (a ∷ b ∷ c ∷ d ∷ e ∷ word) h few = absurd (omega arith)
 
+-- a test of order that holds
 le_from_test : (m n : ℕ) → nat_le m n ≡ true → m ≤ n
 le_from_test m n h = grind (arith, nat_tests)
 
+-- and the other way round
 test_from_le : (m n : ℕ) → m ≤ n → nat_le m n ≡ true
 test_from_le m n h = grind (arith, nat_tests)
 
+-- so is a number that was read
 number_of-le : (word : List ℕ) (n : ℕ) → number_of word ≡ Some n → nat_le n 9999 ≡ true
 number_of-le word n h =
     let (number, some) = some-guard (is_number word) (Some (value_of word)) n h in
@@ -109,7 +118,8 @@ form_of_kind Source at h = refl
 form_of_kind Target at h = refl
 form_of_kind (Length most) at h = cc
 
-reference-fits : (slot : Slot) (found : Option Ref) (operand : Operand) → ((at : Ref) → found ≡ Some at → has_number at ≡ true) → taken_reference slot found ≡ Some operand → fits slot operand ≡ true
+-- a reference that is taken fits
+reference-fits : (slot : Slot) (found : Option Ref) (operand : Operand) → ((at : Ref) → found ≡ Some at → has_number at ≡ true) → option_and_then (taken_reference slot) found ≡ Some operand → fits slot operand ≡ true
 reference-fits slot None operand has h = cc
 reference-fits slot (Some at) operand has h =
     let (kind, some) = some-guard (takes_kind slot at.kind) (Some (At at)) operand h in
@@ -125,6 +135,7 @@ constant_form Source word n five form = cc
 constant_form Target word n five form = cc
 constant_form (Length most) word n five form = refl
 
+-- a constant that passes the tests of a slot is in its range
 constant_value : (slot : Slot) (word : List ℕ) (n : ℕ) → number_of word ≡ Some n → takes_value slot word ≡ true → fits_value slot (Const n) ≡ true
 constant_value Discrete word n h value = number_of-le word n h
 constant_value Driven word n h value = number_of-le word n h
@@ -133,13 +144,15 @@ constant_value Source word n h value = number_of-le word n h
 constant_value Target word n h value = number_of-le word n h
 constant_value (Length most) word n h value = sym (ap (λ (o : Option ℕ). option_map_or (is_length most) o false) h) ∙ value
 
+-- a constant that passes the tests of a slot fits it
 constant-fits : (slot : Slot) (word : List ℕ) (operand : Operand) → is_reference_word word ≡ false → takes_form slot word ≡ true → takes_value slot word ≡ true → option_map Const (number_of word) ≡ Some operand → fits slot operand ≡ true
 constant-fits slot word operand five form value h =
     let (n, (number, same)) = some-map Const (number_of word) operand h in
     rw (← same) (and_both _ _ (and_both _ _ (constant_form slot word n five form) (constant_value slot word n number value)) refl)
 
+-- an operand fits, whether it is a reference or a constant
 fits-by : (slot : Slot) (word : List ℕ) (operand : Operand) (five : Bool) → is_reference_word word ≡ five → takes_form slot word ≡ true → takes_value slot word ≡ true
-    → (if five then taken_reference slot (reference_of word) else option_map Const (number_of word)) ≡ Some operand → fits slot operand ≡ true
+    → (if five then option_and_then (taken_reference slot) (reference_of word) else option_map Const (number_of word)) ≡ Some operand → fits slot operand ≡ true
 fits-by slot word operand true five form value h = reference-fits slot (reference_of word) operand (reference_of-has word) h
 fits-by slot word operand false five form value h = constant-fits slot word operand five form value h
 
@@ -161,6 +174,7 @@ words-fit (slot ∷ slots) (word ∷ words) operands form value h =
     let same : first.0 ∷ rest.0 ≡ operands = rest.1.1 in
     rw (← same) (and_both _ _ (word-fits slot word first.0 form1 value1 first.1.0) (words-fit slots words rest.0 forms values rest.1.0))
 
+-- operands that were read fit the slots
 read_operands-fit : (slots : List Slot) (words : List (List ℕ)) (operands : List Operand) → read_operands slots words ≡ Ok operands → pointwise fits slots operands ≡ true
 unfolding read_operands
 read_operands-fit slots words operands h =
@@ -174,6 +188,7 @@ element-has name operands element h e =
     let made = element_of-made name operands element e in
     sym (pointwise-fits element) ∙ ap (λ n. pointwise fits (slots_of n) (operands_of element)) made.names ∙ ap (λ o. pointwise fits (slots_of name) o) made.takes ∙ h
 
+-- a cell of operands that fit has a text
 cell-has : (row column : ℕ) (name : Name) (operands : List Operand) (piece : Piece) → is_row row ≡ true → is_column column ≡ true → pointwise fits (slots_of name) operands ≡ true
     → option_map (λ element. pieces.Cell (record { row = row; column = column; element = element })) (element_of name operands) ≡ Some piece → has_text piece ≡ true
 cell-has row column name operands piece r k fit h =
@@ -181,6 +196,7 @@ cell-has row column name operands piece r k fit h =
     let same : pieces.Cell (record { row = row; column = column; element = found.0 }) ≡ piece = found.1.1 in
     rw (← same) (and_both _ _ (and_both _ _ r k) (element-has name operands found.0 fit found.1.0))
 
+-- a short that reads has a text
 short-has : (row column : ℕ) (piece : Piece) → is_row row ≡ true → is_column column ≡ true → short_at row column ≡ Some piece → has_text piece ≡ true
 short-has row column piece r k h =
     let (low, some) = some-guard (nat_le row 6) (Some (pieces.Short (record { row = row; column = column }))) piece h in
@@ -188,6 +204,7 @@ short-has row column piece r k h =
     let above = and_parts (nat_le 1 row) (nat_le row 7) r in
     rw (← same) (and_both _ _ (and_both _ _ above.0 low) k)
 
+-- a piece of operands that fit has a text
 piece_at-has : (row column : ℕ) (name : Name) (operands : List Operand) (piece : Piece) → is_row row ≡ true → is_column column ≡ true → pointwise fits (slots_of name) operands ≡ true → piece_at row column name operands ≡ Some piece → has_text piece ≡ true
 piece_at-has row column names.Short operands piece r k fit h = short-has row column piece r k h
 piece_at-has row column name operands piece r k fit h = cell-has row column name operands piece r k fit h

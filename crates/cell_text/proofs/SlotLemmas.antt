@@ -15,14 +15,17 @@ behind operands more = option_map (λ rest. operands ++ rest) more
 abbrev first_and : Option Operand → Option (List Operand) → Option (List Operand)
 first_and first more = option_and_then (λ operand. option_map (λ rest. operand ∷ rest) more) first
 
+-- the first word, and the words behind it
 operands_in-cons : (slot : Slot) (slots : List Slot) (word : List ℕ) (words : List (List ℕ)) → operands_in (slot ∷ slots) (word ∷ words) ≡ first_and (operand_in slot word) (operands_in slots words)
 unfolding operands_in
 operands_in-cons slot slots word words = refl
 
+-- a slot without a word
 operands_in-missing : (slot : Slot) (slots : List Slot) → operands_in (slot ∷ slots) [] ≡ None
 unfolding operands_in
 operands_in-missing slot slots = refl
 
+-- the words from one slot on
 operands_in-drop : (slots : List Slot) (i : ℕ) (word : List ℕ) (words : List (List ℕ)) → i < length slots → operands_in (drop i slots) (word ∷ words) ≡ first_and (operand_in (get_or slots i Discrete) word) (operands_in (drop (i + 1) slots) words)
 operands_in-drop slots i word words h = ap (λ left. operands_in left (word ∷ words)) (drop_more slots i Discrete h) ∙ operands_in-cons (get_or slots i Discrete) (drop (i + 1) slots) word words
 
@@ -35,6 +38,7 @@ pub behind-none : (operands : List Operand) (slots : List Slot) (i : ℕ) (all w
 behind-none operands slots i all words word h e none =
     ap (λ left. behind operands (operands_in (drop i slots) left)) e ∙ ap (behind operands) (operands_in-drop slots i word words h) ∙ ap (λ first. behind operands (first_and first (operands_in (drop (i + 1) slots) words))) (sym none)
 
+-- an operand before others, behind those before it
 behind-push : (operands : List Operand) (operand : Operand) (more : Option (List Operand)) → behind operands (first_and (Some operand) more) ≡ behind (operands ++ operand ∷ []) more
 behind-push operands operand (Some rest) = ap Some (sym (append_assoc operands (operand ∷ []) rest))
 behind-push operands operand None = refl

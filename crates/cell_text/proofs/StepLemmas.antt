@@ -23,18 +23,17 @@ pub some-step : {A B : Type 0} (f : A → Option B) (o : Option A) (y : B) → o
 some-step f (Some x) y h = (x, (refl, h))
 some-step f None y h = cc
 
+-- an option that was mapped was there
 pub some-map : {A B : Type 0} (f : A → B) (o : Option A) (y : B) → option_map f o ≡ Some y → (x : A) × ((o ≡ Some x) × (f x ≡ y))
 some-map f (Some x) y h = (x, (refl, cc))
 some-map f None y h = cc
 
+-- a test before a value held
 pub some-guard : {A : Type 0} (b : Bool) (o : Option A) (y : A) → (if b then o else None) ≡ Some y → (b ≡ true) × (o ≡ Some y)
 some-guard true o y h = (refl, h)
 some-guard false o y h = cc
 
+-- a value in place of a fault was there
 pub or_fault-some : {A E : Type 0} (e : E) (o : Option A) (x : A) → or_fault e o ≡ Ok x → o ≡ Some x
 or_fault-some e (Some y) x h = cc
 or_fault-some e None x h = cc
-
-pub guard-ok : {A E : Type 0} (b : Bool) (r : Result A E) (e : E) (y : A) → (if b then r else Err e) ≡ Ok y → (b ≡ true) × (r ≡ Ok y)
-guard-ok true r e y h = (refl, h)
-guard-ok false r e y h = cc

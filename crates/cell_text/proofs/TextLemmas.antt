@@ -1,5 +1,5 @@
 -- The text of a piece reads back.
-use Rattle.std.proofs.Common.{◌≡◌, ℕ, ◌≤◌, Bool, true, false, ◌&&◌, ◌||◌, List, [], ◌∷◌, map, Option, Some, None, Result, Ok, Err, refl, sym, ap, ◌∙◌, arith, String, Global, string_bytes}
+use Rattle.std.proofs.Common.{◌≡◌, ℕ, ◌≤◌, Bool, true, false, ◌&&◌, ◌||◌, List, [], ◌∷◌, map, Option, Some, None, Result, Ok, Err, refl, ap, ◌∙◌, arith, String, Global, string_bytes}
 use Rattle.std.specs.Prelude.{nat_le, option_map, option_and_then, if◌then◌else◌}
 use Rattle.std.specs.Option.{option_map_or}
 use Rattle.std.specs.Result.{IfOk}
@@ -18,9 +18,7 @@ use Rattle.plant_types.specs.declared.element.MoveOp.TheVariants.{RegToTable, Ta
 use Rattle.plant_types.specs.declared.element.MatrixOp.TheVariants.{And, Or, Xor, Comp, Cmpr, Mbit, Sens, Brot}
 use Rattle.plant_types.specs.declared.element.Element.{Element}
 use Rattle.plant_types.specs.declared.element.Element.TheVariants as elements
-use Rattle.plant_types.specs.declared.network.Cell.{Cell}
-use Rattle.plant_types.specs.declared.network.Short.{Short}
-use Rattle.plant_types.specs.Network.{is_row, is_column, has_cell_place, has_short_place}
+use Rattle.plant_types.specs.Network.{is_row, is_column, has_cell_place}
 use Rattle.plant_types.specs.Operands.{has_form, has_values, has_kinds, is_length}
 use Rattle.plant_types.specs.Reference.{reference_text}
 use Rattle.cell_text.specs.declared.names.Name.{Name}
@@ -30,24 +28,25 @@ use Rattle.cell_text.specs.declared.slots.Slot.TheVariants.{Discrete, Driven, Nu
 use Rattle.cell_text.specs.declared.piece.Piece.{Piece}
 use Rattle.cell_text.specs.declared.piece.Piece.TheVariants as pieces
 use Rattle.cell_text.specs.declared.piece.CellFault.{CellFault}
-use Rattle.cell_text.specs.declared.piece.CellFault.TheVariants.{BadCell, BadValue, BadRef}
-use Rattle.cell_text.specs.Steps.{◌>>=◌, or_fault, unless}
+use Rattle.cell_text.specs.declared.piece.CellFault.TheVariants.{BadCell}
+use Rattle.cell_text.specs.Steps.{◌>>=◌, or_fault}
 use Rattle.cell_text.specs.Words.{words_of}
-use Rattle.cell_text.specs.Numbers.{number_of, position_of, is_number, is_reference_word, reference_of}
+use Rattle.cell_text.specs.Numbers.{number_of, is_number, is_reference_word, reference_of}
 use Rattle.cell_text.specs.Names.{name_text, all_names, name_of}
 use Rattle.cell_text.specs.Slots.{slots_of, takes_form, takes_value, takes_kind, taken_reference, operand_in, operands_in, read_operands}
 use Rattle.cell_text.specs.Elements.{element_name, operands_of, element_of}
-use Rattle.cell_text.specs.Pieces.{short_at, piece_at, piece_of}
-use Rattle.cell_text.specs.Texts.{has_number, has_numbers, has_text, position_text, operand_text, piece_place, piece_name, piece_operands, piece_words, piece_text}
+use Rattle.cell_text.specs.Pieces.{piece_at, piece_of}
+use Rattle.cell_text.specs.Texts.{has_number, has_numbers, has_text, operand_text, piece_place, piece_name, piece_operands, piece_words, piece_text}
 use Rattle.cell_text.proofs.JoinLemmas.{is_word, words_of-join}
 use Rattle.cell_text.proofs.NumberLemmas.{is_number-decimal, number_of-decimal, position_of-text, position_word, decimal_word, decimal_no_reference, reference_word, reference_of-text, reference_text_word}
-use Rattle.cell_text.proofs.FitLemmas.{fits_form, fits_value, fits_reference, fits, pointwise-fits}
+use Rattle.cell_text.proofs.FitLemmas.{fits_form, fits_value, fits, pointwise-fits}
 
 -- the letters of each name are a word that names it
 record Named (name : Name) : Type 0 where
   word : is_word (name_text name) ≡ true
   found : name_of (name_text name) ≡ Some name
 
+-- so it is with each name
 named : (name : Name) → Named name
 unfolding name_text all_names name_of
 named names.Open = record { word = refl; found = refl }
@@ -90,10 +89,12 @@ record Reads (slot : Slot) (operand : Operand) : Type 0 where
   back : operand_in slot (operand_text operand) ≡ Some operand
   word : is_word (operand_text operand) ≡ true
 
+-- a test, or one that always holds
 or_true : (b : Bool) → b || true ≡ true
 or_true true = refl
 or_true false = refl
 
+-- the text of a reference passes the tests of a slot that takes it
 reference_form : (slot : Slot) (at : Ref) → fits_form slot (At at) ≡ true → is_reference_word (reference_text at) ≡ true → (takes_form slot (reference_text at) ≡ true) × (takes_value slot (reference_text at) ≡ true)
 reference_form Discrete at fit five = (five, refl)
 reference_form Driven at fit five = (five, refl)
@@ -102,6 +103,7 @@ reference_form Source at fit five = (five, refl)
 reference_form Target at fit five = (five, refl)
 reference_form (Length most) at fit five = cc
 
+-- the text of a reference that fits reads as the reference
 reference_reads : (slot : Slot) (at : Ref) → fits slot (At at) ≡ true → Reads slot (At at)
 reference_reads slot at h =
     let (forms, references) = and_parts (fits_form slot (At at) && fits_value slot (At at)) (takes_kind slot at.kind && has_number at) h in
@@ -112,7 +114,7 @@ reference_reads slot at h =
     record {
       form = tests.0;
       value = tests.1;
-      back = ap (λ (b : Bool). if b then taken_reference slot (reference_of (reference_text at)) else option_map Const (number_of (reference_text at))) five ∙ ap (taken_reference slot) (reference_of-text at number) ∙ ap (λ (b : Bool). if b then Some (At at) else None) kind;
+      back = ap (λ (b : Bool). if b then option_and_then (taken_reference slot) (reference_of (reference_text at)) else option_map Const (number_of (reference_text at))) five ∙ ap (option_and_then (taken_reference slot)) (reference_of-text at number) ∙ ap (λ (b : Bool). if b then Some (At at) else None) kind;
       word = reference_text_word at number;
     }
 
@@ -121,12 +123,15 @@ abbrev is_small : Slot → Bool
 is_small (Length most) = nat_le most 9999
 is_small slot = true
 
+-- a constant is below 10,000, as a test
 constant_le : (n : ℕ) → nat_le n 9999 ≡ true → n ≤ 9999
 constant_le n h = grind (arith, nat_tests)
 
+-- a length up to a largest constant is one
 length_le : (most n : ℕ) → nat_le most 9999 ≡ true → nat_le 1 n && nat_le n most ≡ true → n ≤ 9999
 length_le most n small h = let (low, high) = and_parts (nat_le 1 n) (nat_le n most) h in grind (arith, nat_tests)
 
+-- a constant that fits is below 10,000
 fits-le : (slot : Slot) (n : ℕ) → is_small slot ≡ true → fits_value slot (Const n) ≡ true → n ≤ 9999
 fits-le Discrete n small h = constant_le n h
 fits-le Driven n small h = constant_le n h
@@ -135,6 +140,7 @@ fits-le Source n small h = constant_le n h
 fits-le Target n small h = constant_le n h
 fits-le (Length most) n small h = length_le most n small h
 
+-- the text of a constant passes the tests of a slot that takes it
 constant_form : (slot : Slot) (n : ℕ) → fits_form slot (Const n) ≡ true → fits_value slot (Const n) ≡ true → n ≤ 9999 → (takes_form slot (decimal n) ≡ true) × (takes_value slot (decimal n) ≡ true)
 constant_form Discrete n form value few = cc
 constant_form Driven n form value few = cc
@@ -143,6 +149,7 @@ constant_form Source n form value few = cc
 constant_form Target n form value few = cc
 constant_form (Length most) n form value few = (is_number-decimal n few, ap (λ (o : Option ℕ). option_map_or (is_length most) o false) (number_of-decimal n few) ∙ value)
 
+-- the text of a constant that fits reads as the constant
 constant_reads : (slot : Slot) (n : ℕ) → is_small slot ≡ true → fits slot (Const n) ≡ true → Reads slot (Const n)
 constant_reads slot n small h =
     let (forms, references) = and_parts (fits_form slot (Const n) && fits_value slot (Const n)) true h in
@@ -156,6 +163,7 @@ constant_reads slot n small h =
       word = decimal_word n few;
     }
 
+-- the text of an operand that fits reads as the operand
 operand_reads : (slot : Slot) (operand : Operand) → is_small slot ≡ true → fits slot operand ≡ true → Reads slot operand
 operand_reads slot (Const n) small h = constant_reads slot n small h
 operand_reads slot (At at) small h = reference_reads slot at h
@@ -167,6 +175,7 @@ record AllRead (slots : List Slot) (operands : List Operand) : Type 0 where
   back : operands_in slots (map operand_text operands) ≡ Some operands
   words : list_all is_word (map operand_text operands) ≡ true
 
+-- so do the texts of all operands that fit
 all_read : (slots : List Slot) (operands : List Operand) → list_all is_small slots ≡ true → pointwise fits slots operands ≡ true → AllRead slots operands
 unfolding operands_in
 all_read [] [] small h = record { forms = refl; values = refl; back = refl; words = refl }
@@ -184,6 +193,7 @@ all_read (slot ∷ slots) (operand ∷ operands) small h =
       words = rw (first.word, rest.words) refl;
     }
 
+-- the lengths of all slots are constants
 small_slots : (name : Name) → list_all is_small (slots_of name) ≡ true
 unfolding slots_of
 small_slots (names.Move FirstOut) = refl
@@ -193,10 +203,12 @@ small_slots (names.Matrix Sens) = refl
 small_slots (names.Matrix op) = refl
 small_slots name = refl
 
+-- operands whose texts read are read back
 read_operands-back : (slots : List Slot) (operands : List Operand) → AllRead slots operands → read_operands slots (map operand_text operands) ≡ Ok operands
 unfolding read_operands
 read_operands-back slots operands all = rw (all.forms, all.values, all.back) refl
 
+-- the name and the operands of an element make the element
 cell_back : (row column : ℕ) (element : Element) → piece_at row column (element_name element) (operands_of element) ≡ Some (pieces.Cell (record { row = row; column = column; element = element }))
 unfolding element_of
 cell_back row column (elements.Open at) = refl
@@ -226,16 +238,19 @@ record Fitting (piece : Piece) : Type 0 where
   column : is_column (piece_place piece).1 ≡ true
   operands : pointwise fits (slots_of (piece_name piece)) (piece_operands piece) ≡ true
 
+-- one of the first six rows is a row
 six_rows : (row : ℕ) → nat_le 1 row && nat_le row 6 ≡ true → is_row row ≡ true
 six_rows row h =
     let (low, high) = and_parts (nat_le 1 row) (nat_le row 6) h in
     let seven : nat_le row 7 ≡ true = grind (arith, nat_tests) in
     rw (low, seven) refl
 
+-- a short has no slots
 no_slots : pointwise fits (slots_of names.Short) [] ≡ true
 unfolding slots_of
 no_slots = refl
 
+-- so it is with each piece that has a text
 fitting : (piece : Piece) → has_text piece ≡ true → Fitting piece
 fitting (pieces.Cell cell) h =
     let (place, operands) = and_parts (has_cell_place cell) (has_form cell.element && has_values cell.element && has_kinds cell.element && has_numbers cell.element) h in
@@ -245,6 +260,7 @@ fitting (pieces.Short short) h =
     let (rows, column) = and_parts (nat_le 1 short.row && nat_le short.row 6) (is_column short.column) h in
     record { row = six_rows short.row rows; column = column; operands = no_slots }
 
+-- the texts of the operands of a piece read
 piece_all_read : (piece : Piece) → Fitting piece → AllRead (slots_of (piece_name piece)) (piece_operands piece)
 piece_all_read piece f = all_read (slots_of (piece_name piece)) (piece_operands piece) (small_slots (piece_name piece)) f.operands
 
@@ -254,6 +270,7 @@ piece_words-are piece h =
     let f = fitting piece h in
     rw (position_word (piece_place piece) f.row f.column, (named (piece_name piece)).word, (piece_all_read piece f).words) refl
 
+-- the words of a piece read as the piece
 piece_of-words : (piece : Piece) → has_text piece ≡ true → piece_of (piece_words piece) ≡ Ok piece
 unfolding piece_of
 piece_of-words piece h =

@@ -10,15 +10,19 @@ use Rattle.std.proofs.lemmas.List.Sums.{position_or_len_is}
 use Rattle.std.proofs.lemmas.Bool.Decides.{nat_tests}
 use Rattle.cell_text.specs.Words.{is_blank, words_of}
 
+-- a word has a byte
 abbrev is_some_byte : List ℕ → Bool
 is_some_byte word = not (length word == 0)
 
+-- a byte of a word
 abbrev is_word_byte : ℕ → Bool
 is_word_byte byte = not (is_blank byte)
 
+-- one byte more is taken
 pub take-front : (n b : ℕ) (bs : List ℕ) → take (1 + n) (b ∷ bs) ≡ b ∷ take n bs
 take-front n b bs = rw (add_comm 1 n, add-one) refl
 
+-- one byte more is dropped
 pub drop-front : (n b : ℕ) (bs : List ℕ) → drop (1 + n) (b ∷ bs) ≡ drop n bs
 drop-front n b bs = rw (add_comm 1 n, add-one) refl
 
@@ -27,26 +31,32 @@ words_of-blank : (b : ℕ) (bs : List ℕ) → is_blank b ≡ true → words_of 
 unfolding words_of
 words_of-blank b bs h = rw h refl
 
+-- a blank in front is skipped, another byte is not
 skipped : (v : Bool) (b : ℕ) (bs : List ℕ) → is_blank b ≡ v → words_of bs ≡ words_of (drop (position_or_len is_word_byte bs) bs)
     → words_of (b ∷ bs) ≡ words_of (drop (cond (not (not v)) (1 + position_or_len is_word_byte bs) 0) (b ∷ bs))
 skipped true b bs h ih = words_of-blank b bs h ∙ ih ∙ ap words_of (sym (drop-front (position_or_len is_word_byte bs) b bs))
 skipped false b bs h ih = refl
 
+-- the words of a text are those from its first word on
 words_of-skip : (t : List ℕ) → words_of t ≡ words_of (drop (position_or_len is_word_byte t) t)
 words_of-skip [] = refl
 words_of-skip (b ∷ bs) = skipped (is_blank b) b bs refl (words_of-skip bs)
 
+-- the words are the parts that have a byte
 pub words_as_filter : (t : List ℕ) → filter is_some_byte (slice_split is_blank t) ≡ words_of t
 unfolding words_of
 words_as_filter t = refl
 
-words_of_nil : words_of [] ≡ []
+-- a text of nothing has no words
+pub words_of_nil : words_of [] ≡ []
 unfolding words_of
 words_of_nil = refl
 
+-- the same, the other way round
 words_as_filter_nil : [] ≡ words_of []
 words_as_filter_nil = sym words_of_nil
 
+-- one byte more within the length
 len_more : (v : Bool) (m n : ℕ) → m ≤ n → cond v (1 + m) 0 ≤ suc n
 len_more true m n h = omega arith
 len_more false m n h = omega arith
@@ -62,6 +72,7 @@ record Cut (t : List ℕ) : Type 0 where
   parts : slice_split is_blank t ≡ take (position_or_len is_blank t) t ∷ others
   behind : filter is_some_byte others ≡ words_of (drop (position_or_len is_blank t) t)
 
+-- a cut of a text that has one byte more in front
 cut_more : (v : Bool) (b : ℕ) (bs : List ℕ) → is_blank b ≡ v → Cut bs → Cut (b ∷ bs)
 cut_more true b bs h c =
     let same : b ∷ bs ≡ drop (position_or_len is_blank (b ∷ bs)) (b ∷ bs) = rw h refl in
@@ -78,13 +89,16 @@ cut_more false b bs h c =
       behind = c.behind ∙ ap words_of same;
     }
 
+-- so each text is cut
 cut : (t : List ℕ) → Cut t
 cut [] = record { others = []; parts = refl; behind = words_as_filter_nil }
 cut (b ∷ bs) = cut_more (is_blank b) b bs refl (cut bs)
 
+-- a length above 0
 some_byte : (n : ℕ) → not (suc n == 0) ≡ true
 some_byte n = grind (arith, nat_tests)
 
+-- a first part that has a byte is a word
 some_first : (word : List ℕ) (others rest : List (List ℕ)) (b : ℕ) (bs : List ℕ) → word ≡ b ∷ bs → filter is_some_byte others ≡ rest → filter is_some_byte (word ∷ others) ≡ word ∷ rest
 some_first word others rest b bs same h = rw (same, h, some_byte (length bs)) refl
 
@@ -95,7 +109,8 @@ words_of-first b bs h =
     let word : take (position_or_len is_blank (b ∷ bs)) (b ∷ bs) ≡ b ∷ take (position_or_len is_blank bs) bs = rw (h, take-front) refl in
     sym (words_as_filter (b ∷ bs)) ∙ ap (filter is_some_byte) c.parts ∙ some_first (take (position_or_len is_blank (b ∷ bs)) (b ∷ bs)) c.others (words_of (drop (position_or_len is_blank (b ∷ bs)) (b ∷ bs))) b (take (position_or_len is_blank bs) bs) word c.behind
 
-not_blank : (v : Bool) → not v ≡ true → v ≡ false
+-- a test that does not hold
+pub not_blank : (v : Bool) → not v ≡ true → v ≡ false
 not_blank true h = sym h
 not_blank false h = refl
 
@@ -111,6 +126,7 @@ words_of-split t rest word behind start end found r e w b =
     let again : words_of rest ≡ take (position_or_len is_blank rest) rest ∷ words_of (drop (position_or_len is_blank rest) rest) = rw (r, front) first in
     words_of-skip t ∙ ap (λ n. words_of (drop n t)) at ∙ ap words_of (sym r) ∙ again ∙ rw (w, b, e) refl
 
+-- a place that is not found is none
 position_none : (v : Bool) (m n : ℕ) → cond v (Some m) None ≡ None → v ≡ false
 position_none true m n h = cc
 position_none false m n h = refl

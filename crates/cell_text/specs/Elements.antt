@@ -23,7 +23,7 @@ element_name (Math op top mid low) = names.Math op
 element_name (Move op top mid length) = names.Move op
 element_name (Matrix op top mid length) = names.Matrix op
 
--- The operands of an element, in the order in which they are written. Modicon Ladder Logic Block Library User Guide.
+-- The operands of an element, in the order in which they are written. This project's own table of operands.
 abbrev pub operands_of : Element → List Operand
 operands_of (Open at) = At at ∷ []
 operands_of (Closed at) = At at ∷ []
@@ -48,33 +48,33 @@ abbrev pub constant_in : Operand → Option ℕ
 constant_in (Const n) = Some n
 constant_in (At at) = None
 
--- The one operand of a contact or a coil. Modicon Ladder Logic Block Library User Guide.
+-- The one operand of a contact or a coil. This project's own table of operands.
 abbrev pub one_reference : List Operand → Option Ref
 one_reference (at ∷ []) = reference_in at
 one_reference _ = None
 
--- A horizontal short has no operand. Modicon Ladder Logic Block Library User Guide.
+-- A horizontal short has no operand. This project's own table of operands.
 abbrev pub wire_of : List Operand → Option Element
 wire_of [] = Some Wire
 wire_of _ = None
 
--- The preset and the accumulator of a timer or a counter. Modicon Ladder Logic Block Library User Guide.
+-- The preset and the accumulator of a timer or a counter. This project's own table of operands.
 abbrev pub preset_and_acc : List Operand → Option (Operand × Ref)
 preset_and_acc (preset ∷ acc ∷ []) = option_map (λ acc. (preset, acc)) (reference_in acc)
 preset_and_acc _ = None
 
--- The two numbers of a block of arithmetic, and where it stores. Modicon Ladder Logic Block Library User Guide.
+-- The two numbers of a block of arithmetic, and where it stores. This project's own table of operands.
 abbrev pub numbers_and_low : List Operand → Option (Operand × Operand × Ref)
 numbers_and_low (top ∷ mid ∷ low ∷ []) = option_map (λ low. (top, mid, low)) (reference_in low)
 numbers_and_low _ = None
 
--- The operands of a block on a table: its top, its middle and its length. Modicon Ladder Logic Block Library User Guide.
+-- The operands of a block on a table: its top, its middle and its length. This project's own table of operands.
 abbrev pub table_operands : List Operand → Option (Operand × Ref × ℕ)
 table_operands (top ∷ mid ∷ length ∷ []) =
     option_and_then (λ mid. option_map (λ length. (top, mid, length)) (constant_in length)) (reference_in mid)
 table_operands _ = None
 
--- The element of a name and operands. Modicon Ladder Logic Block Library User Guide.
+-- The element of a name and operands. This project's own table of operands.
 unfoldable pub element_of : Name → List Operand → Option Element
 element_of names.Open operands = option_map Open (one_reference operands)
 element_of names.Closed operands = option_map Closed (one_reference operands)

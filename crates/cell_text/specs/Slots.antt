@@ -14,14 +14,14 @@ use Rattle.cell_text.specs.declared.names.Name.{Name}
 use Rattle.cell_text.specs.declared.names.Name.TheVariants.{Open, Closed, Rise, Fall, Coil, Latch, Wire, Short, Timer, Counter, Math, Move, Matrix}
 use Rattle.cell_text.specs.declared.slots.Slot.{Slot}
 use Rattle.cell_text.specs.declared.slots.Slot.TheVariants.{Discrete, Driven, Number, Source, Target, Length}
-use Rattle.cell_text.specs.declared.slots.Test.{Test}
-use Rattle.cell_text.specs.declared.slots.Test.TheVariants.{Form, Value}
+use Rattle.cell_text.specs.declared.slots.WordTest.{WordTest}
+use Rattle.cell_text.specs.declared.slots.WordTest.TheVariants.{Form, Value}
 use Rattle.cell_text.specs.declared.piece.CellFault.{CellFault}
 use Rattle.cell_text.specs.declared.piece.CellFault.TheVariants.{BadCell, BadValue, BadRef}
 use Rattle.cell_text.specs.Steps.{◌>>=◌, or_fault, unless}
-use Rattle.cell_text.specs.Numbers.{value_of, is_number, number_of, is_reference_word, reference_of}
+use Rattle.cell_text.specs.Numbers.{is_number, number_of, is_reference_word, reference_of}
 
--- The operands that a name takes, in their order. Modicon Ladder Logic Block Library User Guide; the lengths are this project's own.
+-- The operands that a name takes, in their order. This project's own table of operands.
 unfoldable pub slots_of : Name → List Slot
 slots_of Open = Discrete ∷ []
 slots_of Closed = Discrete ∷ []
@@ -52,11 +52,11 @@ takes_value (Length most) word = option_map_or (is_length most) (number_of word)
 takes_value _ word = true
 
 -- A word passes a test of an operand. This project's own.
-abbrev pub passes : Test → Slot → List ℕ → Bool
+abbrev pub passes : WordTest → Slot → List ℕ → Bool
 passes Form slot word = takes_form slot word
 passes Value slot word = takes_value slot word
 
--- The kinds of reference that an operand can be. Modicon Ladder Logic Block Library User Guide.
+-- The kinds of reference that an operand can be. This project's own table of operands.
 abbrev pub takes_kind : Slot → RefKind → Bool
 takes_kind Discrete kind = is_discrete kind
 takes_kind Driven kind = is_coil kind
@@ -65,15 +65,14 @@ takes_kind Source kind = is_register kind
 takes_kind Target kind = is_holding kind
 takes_kind (Length most) kind = false
 
--- A reference, where it is of a kind that is taken. This project's own.
-abbrev pub taken_reference : Slot → Option Ref → Option Operand
-taken_reference slot None = None
-taken_reference slot (Some at) = if takes_kind slot at.kind then Some (At at) else None
+-- A reference as an operand, where it is of a kind that is taken. This project's own.
+abbrev pub taken_reference : Slot → Ref → Option Operand
+taken_reference slot at = if takes_kind slot at.kind then Some (At at) else None
 
 -- The operand that a word stands for. This project's own.
 abbrev pub operand_in : Slot → List ℕ → Option Operand
 operand_in slot word =
-    if is_reference_word word then taken_reference slot (reference_of word) else option_map Const (number_of word)
+    if is_reference_word word then option_and_then (taken_reference slot) (reference_of word) else option_map Const (number_of word)
 
 -- The operands that words stand for, one for each slot. This project's own.
 unfoldable pub operands_in : List Slot → List (List ℕ) → Option (List Operand)

@@ -24,7 +24,7 @@ has_number at = nat_le 1 at.number && nat_le at.number 9984
 abbrev pub has_numbers : Element → Bool
 has_numbers element = list_all (λ named. has_number named.at) (names_of element)
 
--- A piece has a text: its position, and the constants, kinds and numbers of its operands, are such as its name takes. This project's own.
+-- A piece has a text: its position and its operands are such as its name takes. This project's own.
 abbrev pub has_text : Piece → Bool
 has_text (Cell cell) =
     has_cell_place cell && (has_form cell.element && has_values cell.element && has_kinds cell.element && has_numbers cell.element)
@@ -49,7 +49,7 @@ abbrev pub piece_name : Piece → Name
 piece_name (Cell cell) = element_name cell.element
 piece_name (Short short) = names.Short
 
--- The operands of a piece. Modicon Ladder Logic Block Library User Guide.
+-- The operands of a piece. This project's own table of operands.
 abbrev pub piece_operands : Piece → List Operand
 piece_operands (Cell cell) = operands_of cell.element
 piece_operands (Short short) = []

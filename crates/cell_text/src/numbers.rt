@@ -84,6 +84,7 @@ pub fn position_of(word: &[u8]) -> Option<(u8, u8)>
     }
 }
 
+/// Whether a word is a reference, or the fault of one: it has five digits.
 pub fn is_reference_word(word: &[u8]) -> bool
     ensures { result ≡ is_reference_word word.now }
 {

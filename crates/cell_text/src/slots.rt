@@ -2,7 +2,6 @@
 ghost use Rattle.std.specs.Prelude.{◌≡◌, ◌≤◌, length};
 ghost use lib.Pointwise.{pointwise};
 ghost use Rattle.cell_text.specs.Words.{words_of};
-ghost use Rattle.cell_text.specs.Numbers.{reference_of};
 ghost use Rattle.plant_types.specs.Operands.{is_length};
 ghost use Rattle.cell_text.specs.Slots.{slots_of, takes_form, takes_value, passes, takes_kind, taken_reference, operand_in, operands_in, read_operands};
 
@@ -11,7 +10,7 @@ use crate::numbers::{is_number, is_reference_word, number_of, reference_of};
 use crate::operands::{OPERAND_LIMIT, Operands};
 use crate::piece::CellFault;
 use crate::words::next_word;
-use plant_types::{MatrixOp, MoveOp, Operand, RefKind};
+use plant_types::{MatrixOp, MoveOp, Operand, Ref, RefKind};
 
 /// What an operand of a piece has to be.
 #[derive(Clone, Copy, Debug, PartialEq, Eq)]
@@ -52,7 +51,7 @@ pub fn slots_of(name: Name) -> &'static [Slot]
 
 /// The tests that the words of all operands pass before their references are read.
 #[derive(Clone, Copy, Debug, PartialEq, Eq)]
-pub enum Test {
+pub enum WordTest {
     Form,
     Value,
 }
@@ -77,19 +76,18 @@ impl Slot {
     fn takes_value(self, word: &[u8]) -> bool
         ensures { result ≡ takes_value self word.now }
     {
-        match (self, number_of(word)) {
-            (Slot::Length(most), Some(length)) => is_length(most, length),
-            (Slot::Length(_), None) => false,
+        match self {
+            Slot::Length(most) => number_of(word).is_some_and(|length| is_length(most, length)),
             _ => true,
         }
     }
 
-    fn passes(self, test: Test, word: &[u8]) -> bool
+    fn passes(self, test: WordTest, word: &[u8]) -> bool
         ensures { result ≡ passes test self word.now }
     {
         match test {
-            Test::Form => self.takes_form(word),
-            Test::Value => self.takes_value(word),
+            WordTest::Form => self.takes_form(word),
+            WordTest::Value => self.takes_value(word),
         }
     }
 
@@ -107,10 +105,9 @@ impl Slot {
         }
     }
 
-    fn reference_in(self, word: &[u8]) -> Option<Operand>
-        ensures { result ≡ taken_reference self (reference_of word.now) }
+    fn taken_reference(self, at: Ref) -> Option<Operand>
+        ensures { result ≡ taken_reference self at }
     {
-        let at = reference_of(word)?;
         if self.takes_kind(at.kind) {
             Some(Operand::At(at))
         } else {
@@ -122,13 +119,13 @@ impl Slot {
         ensures { result ≡ operand_in self word.now }
     {
         if is_reference_word(word) {
-            return self.reference_in(word);
+            return self.taken_reference(reference_of(word)?);
         }
         number_of(word).map(Operand::Const)
     }
 }
 
-fn all_pass(test: Test, slots: &[Slot], text: &[u8]) -> bool
+fn all_pass(test: WordTest, slots: &[Slot], text: &[u8]) -> bool
     ensures { result ≡ pointwise (passes test) slots.now (words_of text.now) }
 {
     let mut rest = text;
@@ -168,10 +165,10 @@ pub fn read_operands(slots: &[Slot], text: &[u8]) -> Result<Operands, CellFault>
     requires { length slots.now ≤ OPERAND_LIMIT }
     ensures { result ≡ read_operands slots.now (words_of text.now) }
 {
-    if !all_pass(Test::Form, slots, text) {
+    if !all_pass(WordTest::Form, slots, text) {
         return Err(CellFault::BadCell);
     }
-    if !all_pass(Test::Value, slots, text) {
+    if !all_pass(WordTest::Value, slots, text) {
         return Err(CellFault::BadValue);
     }
     operands_in(slots, text).ok_or(CellFault::BadRef)

@@ -1,18 +1,18 @@
 use super::*;
-use plant_types::{Cell, Element, Ref, RefKind, Short};
+use plant_types::{Cell, Element, MathOp, MatrixOp, MoveOp, Operand, Ref, RefKind, Short, Unit};
 use std::test::Fail;
 
-fn coil(number: u16) -> Ref {
-    Ref {
-        kind: RefKind::Coil,
-        number,
-    }
+fn at(kind: RefKind, number: u16) -> Ref {
+    Ref { kind, number }
 }
 
-const INPUT: Ref = Ref {
-    kind: RefKind::Input,
-    number: 9984,
-};
+fn coil(number: u16) -> Ref {
+    at(RefKind::Coil, number)
+}
+
+fn register(number: u16) -> Ref {
+    at(RefKind::Register, number)
+}
 
 fn cell(row: u8, column: u8, element: Element) -> Piece {
     Piece::Cell(Cell {
@@ -22,8 +22,8 @@ fn cell(row: u8, column: u8, element: Element) -> Piece {
     })
 }
 
-// Pieces as they are written, each beside what it stands for.
-fn written() -> [(&'static str, Piece); 14] {
+// Contacts, coils and shorts as they are written, each beside what it stands for.
+fn relays() -> [(&'static str, Piece); 17] {
     [
         ("1,1 H", cell(1, 1, Element::Wire)),
         ("1,2 NO 00001", cell(1, 2, Element::Open(coil(1)))),
@@ -36,67 +36,286 @@ fn written() -> [(&'static str, Piece); 14] {
         ("7,1 H", cell(7, 1, Element::Wire)),
         ("7,2 H", cell(7, 2, Element::Wire)),
         ("7,3 CO 00001", cell(7, 3, Element::Coil(coil(1)))),
-        ("7,11 NC 19984", cell(7, 11, Element::Closed(INPUT))),
+        (
+            "7,11 NC 19984",
+            cell(7, 11, Element::Closed(at(RefKind::Input, 9984))),
+        ),
+        ("2,1 PT 00007", cell(2, 1, Element::Rise(coil(7)))),
+        ("2,2 NT 00008", cell(2, 2, Element::Fall(coil(8)))),
+        ("2,3 CL 00009", cell(2, 3, Element::Latch(coil(9)))),
         ("6,10 V", Piece::Short(Short { row: 6, column: 10 })),
         ("1,1 V", Piece::Short(Short { row: 1, column: 1 })),
     ]
 }
 
+// Blocks, as those above.
+fn blocks() -> [(&'static str, Piece); 7] {
+    [
+        (
+            "1,2 T1.0 7 40001",
+            cell(
+                1,
+                2,
+                Element::Timer {
+                    unit: Unit::Second,
+                    preset: Operand::Const(7),
+                    acc: register(1),
+                },
+            ),
+        ),
+        (
+            "6,11 DCTR 30001 40002",
+            cell(
+                6,
+                11,
+                Element::Counter {
+                    up: false,
+                    preset: Operand::At(at(RefKind::InputRegister, 1)),
+                    acc: register(2),
+                },
+            ),
+        ),
+        (
+            "4,1 ADD 300 0 40012",
+            cell(
+                4,
+                1,
+                Element::Math {
+                    op: MathOp::Add,
+                    top: Operand::Const(300),
+                    mid: Operand::Const(0),
+                    low: register(12),
+                },
+            ),
+        ),
+        (
+            "1,1 FOUT 40001 40012 10",
+            cell(
+                1,
+                1,
+                Element::Move {
+                    op: MoveOp::FirstOut,
+                    top: register(1),
+                    mid: register(12),
+                    length: 10,
+                },
+            ),
+        ),
+        (
+            "1,2 MBIT 5 40011 1",
+            cell(
+                1,
+                2,
+                Element::Matrix {
+                    op: MatrixOp::Mbit,
+                    top: Operand::Const(5),
+                    mid: register(11),
+                    length: 1,
+                },
+            ),
+        ),
+        (
+            "1,1 SENS 1 30001 100",
+            cell(
+                1,
+                1,
+                Element::Matrix {
+                    op: MatrixOp::Sens,
+                    top: Operand::Const(1),
+                    mid: at(RefKind::InputRegister, 1),
+                    length: 100,
+                },
+            ),
+        ),
+        (
+            "5,3 XOR 30001 40002 3",
+            cell(
+                5,
+                3,
+                Element::Matrix {
+                    op: MatrixOp::Xor,
+                    top: Operand::At(at(RefKind::InputRegister, 1)),
+                    mid: register(2),
+                    length: 3,
+                },
+            ),
+        ),
+    ]
+}
+
 #[test]
-fn pieces_are_read_and_written(rt: HostRuntime) -> Result<(), Fail> {
-    let alloc = rt.alloc();
-    for (text, piece) in written() {
-        match read_cell(text) {
-            Ok(read) => {
-                assert_eq!(rt; read, piece, "{text}");
-                let again = cell_text(alloc, &read)?;
-                assert_eq!(rt; again.as_str(), text);
-            }
-            Err(fault) => assert!(rt; false, "{text}: {fault:?}"),
-        }
+fn pieces_stand_for_cells_and_shorts(rt: HostRuntime) {
+    for (text, piece) in relays() {
+        assert_eq!(rt; read_cell(text), Ok(piece), "{text}");
+    }
+    for (text, piece) in blocks() {
+        assert_eq!(rt; read_cell(text), Ok(piece), "{text}");
     }
     assert_eq!(rt;
         read_cell("\t 1,2\tNO   00001 "),
         Ok(cell(1, 2, Element::Open(coil(1))))
     );
+}
+
+// Each name at least once, with the ends of the ranges.
+fn texts() -> [&'static str; 35] {
+    [
+        "1,1 NO 10001",
+        "1,1 NC 00001",
+        "1,1 PT 10016",
+        "1,1 NT 09984",
+        "1,1 CO 00001",
+        "1,1 CL 09984",
+        "7,11 H",
+        "6,11 V",
+        "1,1 T1.0 9 40001",
+        "1,1 T0.1 30001 40001",
+        "1,1 T.01 40002 49984",
+        "1,1 UCTR 9999 40001",
+        "1,1 DCTR 0 40001",
+        "1,1 ADD 300 0 40012",
+        "1,1 SUB 30001 40002 40003",
+        "1,1 MUL 1 2 40003",
+        "1,1 DIV 40001 7 40003",
+        "1,1 DIV 9999 30001 40003",
+        "1,1 R>T 30001 40002 1",
+        "1,1 T>R 40001 40002 255",
+        "1,1 T>T 30001 40002 10",
+        "1,1 BLKM 30001 40002 10",
+        "1,1 FIN 30001 40002 255",
+        "1,1 FOUT 40001 40002 255",
+        "1,1 SRCH 30001 40002 100",
+        "1,1 AND 30001 40002 1",
+        "1,1 OR 40001 40002 100",
+        "1,1 XOR 30001 40002 2",
+        "1,1 COMP 30001 40002 3",
+        "1,1 BROT 30001 40002 4",
+        "1,1 CMPR 30001 40002 5",
+        "1,1 MBIT 30001 40002 100",
+        "1,1 MBIT 1600 40002 100",
+        "1,1 SENS 40001 40002 6",
+        "1,1 SENS 1 30001 100",
+    ]
+}
+
+#[test]
+fn canonical_texts_are_written_back(rt: HostRuntime) -> Result<(), Fail> {
+    let alloc = rt.alloc();
+    for text in texts() {
+        match read_cell(text) {
+            Ok(piece) => {
+                let again = cell_text(alloc, &piece)?;
+                assert_eq!(rt; again.as_str(), text);
+            }
+            Err(fault) => assert!(rt; false, "{text}: {fault:?}"),
+        }
+    }
     Ok(())
 }
 
-const FAULTS: [(&str, CellFault); 20] = [
-    ("", CellFault::BadCell),
-    ("1,1", CellFault::BadCell),
-    ("0,1 H", CellFault::BadCell),
-    ("1,12 H", CellFault::BadCell),
-    ("1,01 H", CellFault::BadCell),
-    ("1.1 H", CellFault::BadCell),
-    ("11 H", CellFault::BadCell),
-    (",1 H", CellFault::BadCell),
-    ("1, H", CellFault::BadCell),
-    ("10001,1 H", CellFault::BadCell),
-    ("1,1 NO 7", CellFault::BadCell),
-    ("1,1 NO 0000a", CellFault::BadCell),
-    ("1,1 CO", CellFault::BadCell),
-    ("7,1 V", CellFault::BadCell),
-    ("1,1 H\u{a0}", CellFault::BadCell),
-    ("1,1 MSTR 40001 40011 1", CellFault::BadCell),
-    ("1,1 NO 50001", CellFault::BadRef),
-    ("1,1 NO 00000", CellFault::BadRef),
-    ("1,1 NO 30001", CellFault::BadRef),
-    ("1,1 CO 10001", CellFault::BadRef),
+// Pieces that do not read: position, name, number of operands, their forms.
+const UNREAD: [&str; 34] = [
+    "",
+    "1,1",
+    "0,1 H",
+    "8,1 ADD 1 1 20001",
+    "1,12 H",
+    "1,01 H",
+    "1.1 H",
+    "11 H",
+    ",1 H",
+    "1, H",
+    "10001,1 H",
+    "7,1 V",
+    "1,1 H\u{a0}",
+    "1,1 add 1 1 40001",
+    "1,1 T01 7 40001",
+    "1,1 MSTR 40001 40011 1",
+    "1,1 SKP 1",
+    "1,1 V 00001",
+    "1,1 CO",
+    "1,1 T1.0 7",
+    "1,1 UCTR 7 40001 1",
+    "1,1 ADD 1 40001",
+    "1,1 NO 7",
+    "1,1 NO 0000a",
+    "1,1 R>T 5 40001 0",
+    "1,1 FOUT 5 20001 256",
+    "1,1 AND 5 40001 2",
+    "1,1 AND 5 40001 101",
+    "1,1 ADD 007 1 40001",
+    "1,1 ADD +7 1 40001",
+    "1,1 ADD 123456 1 40001",
+    "1,1 ADD 1 1 12",
+    "1,1 SRCH 40001 40002 40003",
+    "1,1 MBIT 20001 40001 00",
+];
+
+// Pieces with a constant outside its range, some with a reference that is none besides.
+const OUT_OF_RANGE: [&str; 8] = [
+    "1,1 R>T 20001 40001 0",
+    "1,1 T>T 30001 30002 0",
+    "1,1 FIN 40001 40002 256",
+    "1,1 FOUT 30001 40002 9999",
+    "1,1 AND 40001 40002 101",
+    "1,1 MBIT 5 30001 101",
+    "1,1 SENS 5 30001 0",
+    "1,1 CMPR 00001 49985 0",
+];
+
+// Pieces with five digits that are no reference, or one of a kind that is not taken.
+const NO_REFERENCE: [&str; 22] = [
+    "1,1 NO 50001",
+    "1,1 NO 00000",
+    "1,1 NO 30001",
+    "1,1 CO 10001",
+    "1,1 PT 40001",
+    "1,1 CL 09985",
+    "1,1 T1.0 7 30001",
+    "1,1 DCTR 00001 40001",
+    "1,1 ADD 12345 1 40001",
+    "1,1 SUB 1 20001 40001",
+    "1,1 MUL 1 1 30001",
+    "1,1 DIV 10000 1 40001",
+    "1,1 T>R 00001 40001 1",
+    "1,1 BLKM 30001 30002 1",
+    "1,1 FIN 30001 30002 1",
+    "1,1 FOUT 30001 40002 1",
+    "1,1 FOUT 40001 30002 1",
+    "1,1 CMPR 00001 40001 1",
+    "1,1 BROT 30001 30002 1",
+    "1,1 MBIT 1 30001 100",
+    "1,1 MBIT 10001 40001 1",
+    "1,1 SENS 1 00001 1",
 ];
 
 #[test]
 fn other_pieces_have_faults(rt: HostRuntime) {
-    for (text, fault) in &FAULTS {
-        assert_eq!(rt; read_cell(text), Err(*fault), "{text}");
+    for text in UNREAD {
+        assert_eq!(rt; read_cell(text), Err(CellFault::BadCell), "{text}");
     }
+    for text in OUT_OF_RANGE {
+        assert_eq!(rt; read_cell(text), Err(CellFault::BadValue), "{text}");
+    }
+    for text in NO_REFERENCE {
+        assert_eq!(rt; read_cell(text), Err(CellFault::BadRef), "{text}");
+    }
+}
+
+#[test]
+fn words_are_told_apart(rt: HostRuntime) {
     assert!(rt; has_later_name(b"9,9 MSTR"));
+    assert!(rt; has_later_name(b"1,1 SKP 1"));
+    assert!(rt; has_later_name(b"1,1 LAB"));
+    assert!(rt; has_later_name(b"1,1 JSR 1"));
+    assert!(rt; has_later_name(b"1,1 RET"));
     assert!(rt; !has_later_name(b"1,1 MST"));
+    assert!(rt; !has_later_name(b"1,1 SENS 1 30001 100"));
     assert!(rt; !has_later_name(b"MSTR"));
     assert!(rt; has_words(b" 1 - ", &["1", "-"]));
     assert!(rt; !has_words(b"1 - -", &["1", "-"]));
     assert_eq!(rt; only_word(b"\t00001 "), Some(b"00001".as_slice()));
     assert_eq!(rt; only_word(b"a b"), None);
-    assert_eq!(rt; reference_of(b"19984"), Some(INPUT));
+    assert_eq!(rt; reference_of(b"19984"), Some(at(RefKind::Input, 9984)));
     assert_eq!(rt; reference_of(b"19985"), None);
 }

@@ -57,6 +57,7 @@ pub fn only_word(text: &[u8]) -> Option<&[u8]>
     }
 }
 
+/// Whether a word is this text.
 pub fn is_text(word: &[u8], text: &str) -> bool
     ensures { result ≡ bytes_eq word.now text.now }
 {
