@@ -1,5 +1,5 @@
 -- What each block that works on the bits of a matrix does when it is solved.
-use Rattle.std.specs.Prelude.{◌≡◌, ◌≤◌, ℕ, ◌+◌, ◌-◌, ◌*◌, ◌/◌, ◌%◌, Bool, true, false, not, ◌&&◌, nat_le, if◌then◌else◌, List, [], ◌∷◌, ◌++◌, take, drop, map, zip, slice_set, Option, is_some, option_map, unwrap_or}
+use Rattle.std.specs.Prelude.{◌≡◌, ◌≤◌, ℕ, ◌+◌, ◌-◌, ◌*◌, ◌/◌, ◌%◌, Bool, false, not, ◌&&◌, nat_le, if◌then◌else◌, List, [], ◌∷◌, ◌++◌, take, drop, map, zip, slice_set, Option, is_some, option_map, unwrap_or}
 use Rattle.std.specs.Int.{bit_not, w16}
 use Rattle.std.specs.List.{position_from}
 use Rattle.std.specs.FinMap.{insert}
@@ -7,11 +7,10 @@ use Rattle.plant_types.specs.declared.element.Operand.{Operand}
 use Rattle.plant_types.specs.declared.element.Operand.TheVariants.{Const, At}
 use Rattle.plant_types.specs.declared.power.NodePower.{NodePower}
 use Rattle.plant_types.specs.declared.reference.Ref.{Ref}
-use Rattle.plant_types.specs.declared.reference.RefKind.{RefKind}
-use Rattle.plant_types.specs.declared.reference.RefKind.TheVariants.{Register}
 use Rattle.plant_types.specs.Effect.{Effect}
-use Rattle.plant_types.specs.Reference.{ref_from}
-use Rattle.plant_types.specs.Store.{Contents, HasRegisters, word_at, words_from, with_words}
+use Rattle.plant_types.specs.Operands.{number_of}
+use Rattle.plant_types.specs.Reference.{ref_from, is_holding}
+use Rattle.plant_types.specs.Store.{Contents, word_at, words_from, with_words}
 use Rattle.matrix_ops.specs.Bits.{word_bits, matrix_bits, bit_number, number_of_bits, matrix_words}
 
 -- Two matrices put together word by word. This project's own.
@@ -74,21 +73,6 @@ brot_effect top mid length inputs m =
       outputs = record { top = inputs.top; middle = inputs.top && bit_out; bottom = false };
       stored = if inputs.top then with_words m mid (matrix_words turned) else m;
     }
-
--- The number of an operand. Modicon Ladder Logic Block Library User Guide.
-abbrev pub number_of : Contents → Operand → ℕ
-number_of m (Const n) = n
-number_of m (At at) = word_at m at
-
--- A constant, or a register that stands. This project's own.
-abbrev pub HasNumber : Contents → Operand → Type 0
-HasNumber m (Const n) = Unit {0}
-HasNumber m (At at) = HasRegisters m at 1
-
--- Holding registers alone can be stored in. Modicon Ladder Logic Block Library User Guide.
-abbrev pub is_holding : RefKind → Bool
-is_holding Register = true
-is_holding _ = false
 
 -- Whether an operand is a pointer, which a block moves on. This project's own.
 abbrev pub is_pointer : Operand → Bool

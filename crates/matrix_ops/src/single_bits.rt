@@ -1,24 +1,14 @@
 //! MBIT and SENS.
 ghost use Rattle.std.specs.Prelude.{◌≡◌, ◌≤◌, true, ◌*◌};
+ghost use Rattle.plant_types.specs.Operands.{HasNumber};
 ghost use Rattle.plant_types.specs.Power.{nodes_of, bits_of};
 ghost use Rattle.plant_types.specs.Store.{HasRegisters, Keeps, words_from};
 ghost use Rattle.matrix_ops.specs.Bits.{matrix_bits, bit_number};
-ghost use Rattle.matrix_ops.specs.Matrices.{number_of, HasNumber, is_pointer, with_pointer, is_bit_of, with_matrix_bit, SetsOneBit, mbit_effect, sens_effect};
+ghost use Rattle.matrix_ops.specs.Matrices.{is_pointer, with_pointer, is_bit_of, with_matrix_bit, SetsOneBit, mbit_effect, sens_effect};
 
 use crate::MATRIX_LIMIT;
 use crate::bits::{with_word_bit, word_bit};
 use plant_types::{NodePower, Operand, Ref, RefKind, RefStore, ref_after};
-
-/// The number of an operand.
-fn number<R: RefStore>(operand: Operand, ram: &R) -> u16
-    requires { HasNumber (R.contents ram.now) operand }
-    ensures { result ≡ number_of (R.contents ram.now) operand }
-{
-    match operand {
-        Operand::Const(number) => number,
-        Operand::At(at) => ram.word(at),
-    }
-}
 
 /// Whether an operand is a holding register, in which a block can store.
 fn is_pointer_operand(operand: Operand) -> bool
@@ -100,7 +90,7 @@ pub fn mbit<R: RefStore>(top: Operand, mid: Ref, length: u16, inputs: u8, ram: &
     if !nodes.top {
         return NodePower::OFF.bits();
     }
-    let k = number(top, ram);
+    let k = top.number(ram);
     let inside = has_bit(length, k);
     if inside {
         set_bit(mid, length, k, nodes.middle, ram);
@@ -138,7 +128,7 @@ pub fn sens<R: RefStore>(top: Operand, mid: Ref, length: u16, inputs: u8, ram: &
     let k = if nodes.bottom && is_pointer_operand(top) {
         1
     } else {
-        number(top, ram)
+        top.number(ram)
     };
     let inside = has_bit(length, k);
     let on = inside && bit(mid, length, k, ram);

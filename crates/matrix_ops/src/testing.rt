@@ -1,32 +1,17 @@
-//! What the tests of the blocks share. Registers count from 40001.
+//! What the tests of the blocks share. Registers count from 40001. Of the bits of inputs and
+//! outputs 1 is the top node, 2 the middle one and 4 the bottom one.
 ghost use Rattle.std.specs.Prelude.{◌≡◌};
 ghost use Rattle.std.specs.Bool.{OnTrue};
+ghost use Rattle.plant_types.specs.Operands.{HasNumber};
 ghost use Rattle.plant_types.specs.Store.{HasRegisters};
-ghost use Rattle.matrix_ops.specs.Matrices.{HasNumber};
 
 use crate::{and, brot, cmpr, comp, mbit, or, sens, xor};
-use plant_types::{MapRam, Operand, Ref, RefKind, RefStore, ref_after};
+use plant_types::{MapRam, MatrixOp, Operand, Ref, RefKind, RefStore, ref_after};
 use std::process::Abort;
 use std::test::Fail;
 
-/// The power of nodes, as bits.
-pub(crate) const TOP: u8 = 1;
-
-pub(crate) const MIDDLE: u8 = 2;
-
-pub(crate) const BOTTOM: u8 = 4;
-
-#[derive(Clone, Copy)]
-pub(crate) enum Name {
-    And,
-    Or,
-    Xor,
-    Comp,
-    Cmpr,
-    Brot,
-    Mbit,
-    Sens,
-}
+/// All bits of a register are on.
+pub(crate) const ON: u16 = 0xffff;
 
 /// A block and the registers before and after it is solved.
 #[derive(Clone, Copy)]
@@ -74,29 +59,29 @@ fn has_number(ram: &MapRam, operand: Operand) -> bool
     }
 }
 
-fn solve_bit(rt: &impl Abort, name: Name, case: Case<'_>, ram: &mut MapRam) -> u8 {
+fn solve_bit(rt: &impl Abort, op: MatrixOp, case: Case<'_>, ram: &mut MapRam) -> u8 {
     let mid = register(case.mid);
     assert!(rt; case.length <= 100);
     assert!(rt; has_number(ram, case.top));
     assert!(rt; has_run(ram, mid, case.length));
-    match name {
-        Name::Mbit => mbit(case.top, mid, case.length, case.inputs, ram),
+    match op {
+        MatrixOp::Mbit => mbit(case.top, mid, case.length, case.inputs, ram),
         _ => sens(case.top, mid, case.length, case.inputs, ram),
     }
 }
 
-fn solve_matrix(rt: &impl Abort, name: Name, top: Ref, case: Case<'_>, ram: &mut MapRam) -> u8 {
+fn solve_matrix(rt: &impl Abort, op: MatrixOp, top: Ref, case: Case<'_>, ram: &mut MapRam) -> u8 {
     let mid = register(case.mid);
     let length = case.length;
     assert!(rt; length >= 1 && length <= 100);
     assert!(rt; has_run(ram, top, length));
     assert!(rt; has_run(ram, mid, length));
-    match name {
-        Name::And => and(top, mid, length, case.inputs, ram),
-        Name::Or => or(top, mid, length, case.inputs, ram),
-        Name::Xor => xor(top, mid, length, case.inputs, ram),
-        Name::Comp => comp(top, mid, length, case.inputs, ram),
-        Name::Cmpr => {
+    match op {
+        MatrixOp::And => and(top, mid, length, case.inputs, ram),
+        MatrixOp::Or => or(top, mid, length, case.inputs, ram),
+        MatrixOp::Xor => xor(top, mid, length, case.inputs, ram),
+        MatrixOp::Comp => comp(top, mid, length, case.inputs, ram),
+        MatrixOp::Cmpr => {
             assert!(rt; has_run(ram, mid, length + 1));
             cmpr(top, mid, length, case.inputs, ram)
         }
@@ -104,10 +89,10 @@ fn solve_matrix(rt: &impl Abort, name: Name, top: Ref, case: Case<'_>, ram: &mut
     }
 }
 
-pub(crate) fn solve(rt: &impl Abort, name: Name, case: Case<'_>, ram: &mut MapRam) -> u8 {
-    match (name, case.top) {
-        (Name::Mbit | Name::Sens, _) => solve_bit(rt, name, case, ram),
-        (_, Operand::At(top)) => solve_matrix(rt, name, top, case, ram),
+pub(crate) fn solve(rt: &impl Abort, op: MatrixOp, case: Case<'_>, ram: &mut MapRam) -> u8 {
+    match (op, case.top) {
+        (MatrixOp::Mbit | MatrixOp::Sens, _) => solve_bit(rt, op, case, ram),
+        (_, Operand::At(top)) => solve_matrix(rt, op, top, case, ram),
         _ => 0,
     }
 }
@@ -126,7 +111,7 @@ pub(crate) fn get(rt: &impl Abort, ram: &MapRam, number: u16) -> u16 {
 
 pub(crate) fn show(
     rt: &(impl Abort + AllocGlobal),
-    name: Name,
+    op: MatrixOp,
     case: Case<'_>,
 ) -> Result<(), Fail> {
     assert!(rt; case.before.len() < 100 && case.after.len() < 100);
@@ -134,7 +119,7 @@ pub(crate) fn show(
     for (i, word) in case.before.iter().enumerate() {
         set(rt, &mut ram, 1 + i as u16, *word);
     }
-    assert_eq!(rt; solve(rt, name, case, &mut ram), case.outputs);
+    assert_eq!(rt; solve(rt, op, case, &mut ram), case.outputs);
     for (i, word) in case.after.iter().enumerate() {
         assert_eq!(rt; get(rt, &ram, 1 + i as u16), *word);
     }

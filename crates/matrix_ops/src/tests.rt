@@ -1,102 +1,84 @@
-//! Each block on matrices of 100 registers.
-use crate::testing::{BOTTOM, Case, MIDDLE, Name, TOP, get, register, set, solve};
-use plant_types::{MapRam, Operand};
+//! Each block on matrices of 100 registers: the block, its first operand, the inputs, registers
+//! before, the outputs, registers after.
+use crate::testing::{Case, get, register, set, solve};
+use plant_types::MatrixOp::{And, Brot, Cmpr, Comp, Mbit, Sens, Xor};
+use plant_types::{MapRam, MatrixOp, Operand};
+use std::process::Abort;
 use std::test::Fail;
+
+/// A block on the matrices of 100 registers from 40001 and from 40101 on.
+fn show_largest(
+    rt: &(impl Abort + AllocGlobal),
+    op: MatrixOp,
+    top: Operand,
+    inputs: u8,
+    before: [(u16, u16); 2],
+    outputs: u8,
+    after: [(u16, u16); 2],
+) -> Result<(), Fail> {
+    let mut ram = MapRam::new(rt.alloc(), 0, 0, 0, 201)?;
+    for (number, value) in before {
+        set(rt, &mut ram, number, value);
+    }
+    let case = Case {
+        top,
+        mid: 101,
+        length: 100,
+        inputs,
+        before: &[],
+        outputs,
+        after: &[],
+    };
+    assert_eq!(rt; solve(rt, op, case, &mut ram), outputs);
+    for (number, value) in after {
+        assert_eq!(rt; get(rt, &ram, number), value);
+    }
+    Ok(())
+}
 
 #[test]
 fn largest_matrices(rt: HostRuntime) -> Result<(), Fail> {
     let first = Operand::At(register(1));
-    for (name, top, inputs, before, outputs, after) in [
+    for (op, inputs, before, outputs, after) in [
         (
-            Name::And,
-            first,
-            TOP,
+            And,
+            1,
             [(100, 0xffff), (200, 0xff)],
-            TOP,
+            1,
             [(101, 0), (200, 0xff)],
         ),
+        (Xor, 1, [(1, 5), (200, 7)], 1, [(101, 5), (200, 7)]),
         (
-            Name::Xor,
-            first,
-            TOP,
-            [(1, 5), (200, 7)],
-            TOP,
-            [(101, 5), (200, 7)],
-        ),
-        (
-            Name::Comp,
-            first,
-            TOP,
+            Comp,
+            1,
             [(1, 0xffff), (100, 1)],
-            TOP,
+            1,
             [(101, 0), (200, 0xfffe)],
         ),
+        (Cmpr, 1, [(100, 1), (101, 1599)], 7, [(100, 1), (101, 1600)]),
+        (Brot, 5, [(1, 0), (100, 1)], 3, [(101, 0x8000), (200, 0)]),
+    ] {
+        show_largest(&rt, op, first, inputs, before, outputs, after)?;
+    }
+    Ok(())
+}
+
+#[test]
+fn last_bits_of_the_largest_matrices(rt: HostRuntime) -> Result<(), Fail> {
+    for (op, k, inputs, before, outputs, after) in [
+        (Mbit, 1600, 3, [(101, 0), (200, 0)], 3, [(101, 0), (200, 1)]),
+        (Mbit, 1601, 3, [(101, 0), (200, 0)], 5, [(200, 0), (201, 0)]),
+        (Sens, 1600, 1, [(101, 0), (200, 1)], 3, [(101, 0), (200, 1)]),
         (
-            Name::Cmpr,
-            first,
-            TOP,
-            [(100, 1), (101, 1599)],
-            TOP + MIDDLE + BOTTOM,
-            [(100, 1), (101, 1600)],
-        ),
-        (
-            Name::Brot,
-            first,
-            TOP + BOTTOM,
-            [(1, 0), (100, 1)],
-            TOP + MIDDLE,
-            [(101, 0x8000), (200, 0)],
-        ),
-        (
-            Name::Mbit,
-            Operand::Const(1600),
-            TOP + MIDDLE,
-            [(101, 0), (200, 0)],
-            TOP + MIDDLE,
-            [(101, 0), (200, 1)],
-        ),
-        (
-            Name::Mbit,
-            Operand::Const(1601),
-            TOP + MIDDLE,
-            [(101, 0), (200, 0)],
-            TOP + BOTTOM,
-            [(200, 0), (201, 0)],
-        ),
-        (
-            Name::Sens,
-            Operand::Const(1600),
-            TOP,
-            [(101, 0), (200, 1)],
-            TOP + MIDDLE,
-            [(101, 0), (200, 1)],
-        ),
-        (
-            Name::Sens,
-            Operand::Const(1601),
-            TOP,
+            Sens,
+            1601,
+            1,
             [(200, 1), (201, 0x8000)],
-            TOP + BOTTOM,
+            5,
             [(200, 1), (201, 0x8000)],
         ),
     ] {
-        let mut ram = MapRam::new(rt.alloc(), 0, 0, 0, 201)?;
-        for (number, value) in before {
-            set(&rt, &mut ram, number, value);
-        }
-        let case = Case {
-            top,
-            mid: 101,
-            length: 100,
-            inputs,
-            before: &[],
-            outputs,
-            after: &[],
-        };
-        assert_eq!(rt; solve(&rt, name, case, &mut ram), outputs);
-        for (number, value) in after {
-            assert_eq!(rt; get(&rt, &ram, number), value);
-        }
+        show_largest(&rt, op, Operand::Const(k), inputs, before, outputs, after)?;
     }
     Ok(())
 }

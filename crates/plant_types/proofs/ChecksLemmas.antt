@@ -1,8 +1,7 @@
 -- A plan that passes its tests finds all that it asks in the store that its sizes make.
-use Rattle.std.proofs.Common.{◌≡◌, ℕ, ◌+◌, ◌<◌, ◌≤◌, ◌%◌, Bool, true, false, cond, ◌&&◌, ◌||◌, ◌==◌, List, [], ◌∷◌, ◌++◌, Option, Some, None, is_some, refl, sym, ap, subst, ◌∙◌, arith}
+use Rattle.std.proofs.Common.{◌≡◌, ℕ, ◌+◌, ◌<◌, ◌≤◌, ◌%◌, true, false, ◌&&◌, ◌==◌, List, [], ◌∷◌, ◌++◌, refl, sym, ap, ◌∙◌, arith}
 use Rattle.std.specs.Prelude.{nat_le}
 use Rattle.std.specs.List.{list_all, AllByRecursion}
-use Rattle.std.specs.FinMap.{contains_key}
 use Rattle.std.proofs.lemmas.Bool.{and_parts, and_from, leb-true, le-leb}
 use Rattle.plant_types.specs.declared.reference.Ref.{Ref}
 use Rattle.plant_types.specs.declared.reference.RefKind.{RefKind}
@@ -22,7 +21,7 @@ use Rattle.plant_types.specs.declared.network.Network.{Network}
 use Rattle.plant_types.specs.declared.network.Segment.{Segment}
 use Rattle.plant_types.specs.declared.plan.ControllerPlan.{ControllerPlan}
 use Rattle.plant_types.specs.Reference.{ref_from, is_coil, is_discrete, is_register, is_holding}
-use Rattle.plant_types.specs.Store.{Contents, HasDiscrete, HasRegisters}
+use Rattle.plant_types.specs.Store.{HasDiscrete, HasRegisters}
 use Rattle.plant_types.specs.Sizes.{Sizes, count_of, has_reference, has_run, discretes_of, cleared}
 use Rattle.plant_types.specs.Operands.{Kind, OnlyCoil, AnyDiscrete, AnyRegister, OnlyHolding, takes, Named, named_in, math_names, move_names, matrix_names, names_of, has_form, has_values, has_kinds, HasKind, HasNamed, HasOperands, HasDiscreteKind, HasPast}
 use Rattle.plant_types.specs.Network.{has_cell_place}
@@ -33,18 +32,21 @@ use Rattle.plant_types.proofs.SizesLemmas.{contains_key-cleared}
 abbrev FitsKinds : Sizes → Type 0
 FitsKinds sizes = (kind : RefKind) → count_of sizes kind ≤ 9984
 
+-- a coil is a discrete
 discrete_from_coil : (kind : RefKind) → is_coil kind ≡ true → is_discrete kind ≡ true
 discrete_from_coil kinds.Coil h = refl
 discrete_from_coil kinds.Input h = refl
 discrete_from_coil kinds.InputRegister h = h
 discrete_from_coil kinds.Register h = h
 
+-- a register is none
 register_no_discrete : (kind : RefKind) → is_register kind ≡ true → is_discrete kind ≡ false
 register_no_discrete kinds.Coil h = sym h
 register_no_discrete kinds.Input h = sym h
 register_no_discrete kinds.InputRegister h = refl
 register_no_discrete kinds.Register h = refl
 
+-- a holding register is a register
 register_from_holding : (kind : RefKind) → is_holding kind ≡ true → is_register kind ≡ true
 register_from_holding kinds.Coil h = h
 register_from_holding kinds.Input h = h
@@ -73,9 +75,11 @@ has_reference-first sizes at room =
     let high = leb-true _ _ parts.1 in
     and_from (nat_le 1 at.number) (nat_le at.number (count_of sizes at.kind)) parts.0 (le-leb _ _ (omega arith))
 
+-- a discrete with room is found
 discrete_found : (sizes : Sizes) (at : Ref) → is_discrete at.kind ≡ true → has_run sizes at 1 ≡ true → HasDiscrete (cleared sizes) at
 discrete_found sizes at kind room = (contains_key-cleared sizes at ∙ has_reference-first sizes at room, kind)
 
+-- registers with room are found
 registers_found : (sizes : Sizes) (at : Ref) (count : ℕ) → FitsKinds sizes → is_register at.kind ≡ true → has_run sizes at count ≡ true → HasRegisters (cleared sizes) at count
 registers_found sizes at count fits kind room = record {
   kind = register_no_discrete at.kind kind;
@@ -105,9 +109,11 @@ IsAlone AnyDiscrete count = count ≡ 1
 IsAlone AnyRegister count = Unit {0}
 IsAlone OnlyHolding count = Unit {0}
 
+-- each discrete of these is
 abbrev AreAlone : List Named → Type 0
 AreAlone names = AllByRecursion (λ named. IsAlone named.kind named.count) names
 
+-- so it is by each element, block by block
 operand_alone : (operand : Operand) (count : ℕ) (rest : List Named) → AreAlone rest → AreAlone (named_in operand count ++ rest)
 operand_alone (Const n) count rest h = h
 operand_alone (At at) count rest h = (tt, h)
@@ -151,6 +157,7 @@ names_alone (Math op top mid low) = math_alone op top mid low
 names_alone (Move op top mid length) = move_alone op top mid length
 names_alone (Matrix op top mid length) = matrix_alone op top mid length
 
+-- a discrete that is named alone, with room, is found
 discrete_alone : (sizes : Sizes) (at : Ref) (count : ℕ) → count ≡ 1 → is_discrete at.kind ≡ true → has_run sizes at count ≡ true → HasDiscrete (cleared sizes) at
 discrete_alone sizes at count alone kind room = discrete_found sizes at kind (ap (has_run sizes at) (sym alone) ∙ room)
 
@@ -168,6 +175,7 @@ past_found sizes at count AnyDiscrete found = discretes_found sizes at found
 past_found sizes at count AnyRegister found = tt
 past_found sizes at count OnlyHolding found = tt
 
+-- the same of all that an element names
 names_found : (sizes : Sizes) (names : List Named) → FitsKinds sizes → AreAlone names
     → list_all (λ (named : Named). takes named.kind named.at.kind) names ≡ true → list_all (λ (named : Named). has_run sizes named.at named.count) names ≡ true
     → AllByRecursion (HasNamed (cleared sizes)) names
@@ -177,6 +185,7 @@ names_found sizes (named ∷ names) fits alone kinds room =
     let run = and_parts (has_run sizes named.at named.count) _ room in
     (kind_found sizes named.at named.count named.kind fits alone.0 kind.0 run.0, names_found sizes names fits alone.1 kind.1 run.1)
 
+-- and of the discretes among it
 pasts_found : (sizes : Sizes) (names : List Named) → AllByRecursion (HasNamed (cleared sizes)) names → AllByRecursion (λ (named : Named). HasDiscreteKind (cleared (discretes_of sizes)) named.at named.kind) names
 pasts_found sizes [] found = tt
 pasts_found sizes (named ∷ names) found = (past_found sizes named.at named.count named.kind found.0, pasts_found sizes names found.1)
@@ -193,6 +202,7 @@ element_finds sizes element fits passes =
       references = names_found sizes (names_of element) fits (names_alone element) kinds.1 room.1;
     }
 
+-- an element that passes finds the discretes that it names as the scan before ended
 element_finds_past : (sizes : Sizes) (element : Element) → FitsKinds sizes → element_passes sizes element ≡ true → HasPast (cleared (discretes_of sizes)) element
 element_finds_past sizes element fits passes = pasts_found sizes (names_of element) ((element_finds sizes element fits passes).references)
 
@@ -222,6 +232,7 @@ segments_such Such sizes such (segment ∷ segments) h =
     let parts = and_parts (segment_passes sizes segment) _ h in
     (networks_such Such sizes such segment.networks parts.0, segments_such Such sizes such segments parts.1)
 
+-- a panel that passes finds its references
 panel_finds : (sizes : Sizes) (panel : List Ref) → list_all (has_reference sizes) panel ≡ true → HasPanel (cleared sizes) panel
 panel_finds sizes [] h = tt
 panel_finds sizes (at ∷ panel) h =
@@ -242,6 +253,7 @@ sizes_fit plan h =
       | kinds.Register ↦ leb-true _ _ registers.1
     ]
 
+-- a plan that passes finds all that it asks
 pub checked-find_all : CheckedPlansFindAll
 checked-find_all plan h =
     let sizes = sizes_of plan in

@@ -17,14 +17,16 @@ pub all_follow : {X : Type 0} (P Q : X → Type 0) → ((x : X) → P x → Q x)
 all_follow P Q each [] all = tt
 all_follow P Q each (x ∷ xs) all = (each x all.0, all_follow P Q each xs all.1)
 
--- the same of the elements of cells, networks and segments
+-- the same of the elements of cells
 pub EachOfCells-follow : (P Q : Element → Type 0) → ((element : Element) → P element → Q element) → (cells : List Cell) → EachOfCells P cells → EachOfCells Q cells
 EachOfCells-follow P Q each cells = all_follow (λ (cell : Cell). P cell.element) (λ cell. Q cell.element) (λ cell. each cell.element) cells
 
+-- the same of networks
 pub EachOfNetworks-follow : (P Q : Element → Type 0) → ((element : Element) → P element → Q element) → (networks : List Network) → EachOfNetworks P networks → EachOfNetworks Q networks
 EachOfNetworks-follow P Q each networks =
     all_follow (λ (network : Network). EachOfCells P network.cells) (λ network. EachOfCells Q network.cells) (λ network. EachOfCells-follow P Q each network.cells) networks
 
+-- the same of segments: whatever follows for each element follows for all
 pub EachOfSegments-follow : (P Q : Element → Type 0) → ((element : Element) → P element → Q element) → (segments : List Segment) → EachOfSegments P segments → EachOfSegments Q segments
 EachOfSegments-follow P Q each segments =
     all_follow (λ (segment : Segment). EachOfNetworks P segment.networks) (λ segment. EachOfNetworks Q segment.networks) (λ segment. EachOfNetworks-follow P Q each segment.networks) segments
@@ -40,6 +42,7 @@ HasKind-kept m n at count AnyDiscrete keeps has = HasDiscrete-kept m n at keeps 
 HasKind-kept m n at count AnyRegister keeps has = HasRegisters-kept m n at count keeps has
 HasKind-kept m n at count OnlyHolding keeps has = HasRegisters-kept m n at count keeps has
 
+-- and each discrete of an element
 HasDiscreteKind-kept : (m n : Contents) (at : Ref) (kind : Kind) → Keeps m n → HasDiscreteKind m at kind → HasDiscreteKind n at kind
 HasDiscreteKind-kept m n at OnlyCoil keeps has = HasDiscrete-kept m n at keeps has
 HasDiscreteKind-kept m n at AnyDiscrete keeps has = HasDiscrete-kept m n at keeps has
@@ -63,6 +66,7 @@ HasPast-kept m n element keeps has =
 pub HasPanel-kept : (m n : Contents) (panel : List Ref) → Keeps m n → HasPanel m panel → HasPanel n panel
 HasPanel-kept m n panel keeps = all_follow (λ at. contains_key m at ≡ true) (λ at. contains_key n at ≡ true) keeps panel
 
+-- what a store has for elements and panels
 pub kept-find_all : KeptStoresFindAll
 kept-find_all = record {
   operands = λ m n segments keeps. EachOfSegments-follow (HasOperands m) (HasOperands n) (λ element. HasOperands-kept m n element keeps) segments;

@@ -7,7 +7,7 @@ use Rattle.std.specs.declared.cmp.Ordering.{Ordering}
 use Rattle.std.specs.declared.cmp.Ordering.TheVariants.{Less, Equal, Greater}
 use Rattle.std.specs.BTreeMap.{is_at}
 use Rattle.std.specs.Map.Calls.{RetainsPairs}
-use Rattle.std.specs.FinMap.{FinMap, get, contains_key, from_entries, retain_keys, get-retain_keys, same_map}
+use Rattle.std.specs.FinMap.{get, contains_key, from_entries, get-retain_keys, same_map}
 use Rattle.plant_types.specs.declared.reference.Ref.{Ref}
 use Rattle.plant_types.specs.declared.reference.RefKind.{RefKind}
 use Rattle.plant_types.specs.declared.reference.RefKind.TheVariants.{Coil, Input, InputRegister, Register}
@@ -25,6 +25,7 @@ alike p q x e = ap p (sym (exact_refs q x e))
 pub get-part_at : (other m : Contents) (q : Ref) → get (part_at other m) q ≡ cond (contains_key other q) (get m q) None
 get-part_at other m q = get-retain_keys m (contains_key other) q (alike (contains_key other) q)
 
+-- what is held wherever it is asked for is held exactly there
 held_or : (b : Bool) (o : Option ℕ) → (b ≡ true → is_some o ≡ true) → is_some (cond b o None) ≡ b
 held_or true o h = h refl
 held_or false o h = refl
@@ -33,7 +34,7 @@ held_or false o h = refl
 pub contains_key-part_at : (other m : Contents) (q : Ref) → Keeps other m → contains_key (part_at other m) q ≡ contains_key other q
 contains_key-part_at other m q keeps = ap is_some (get-part_at other m q) ∙ held_or (contains_key other q) (get m q) (keeps q)
 
--- an `Option` that holds something holds what a default is not taken for
+-- no default is taken where something is held
 unless_none : (b : Bool) (o : Option ℕ) → (b ≡ true → is_some o ≡ true) → cond b (Some (unwrap_or o 0)) None ≡ cond b o None
 unless_none true None h = absurd (false≢true (h refl))
 unless_none true (Some n) h = refl
@@ -49,13 +50,14 @@ pairs_written T g f each (e ∷ es) kept r =
     let rest = pairs_written T g f each es r.3 (subst (λ u. RetainsPairs T u es r.3) here.2 r.5) in
     r.6 ∙ ap (λ b. cond b ((e.0, r.1) ∷ r.3) r.3) here.0 ∙ (λ i. (e.0, here.1 i) ∷ rest i)
 
+-- an entry that stands at a reference is one of that reference
 found-here : (o : Ordering) (g : Ref → ℕ) (q x : Ref) (n : ℕ) (rest : Option ℕ) → ref_cmp q x ≡ o
     → cond (is_eq o) (Some (g x)) (cond (is_some rest) (Some (g q)) None) ≡ cond (is_some (cond (is_eq o) (Some n) rest)) (Some (g q)) None
 found-here Less g q x n rest e = refl
 found-here Equal g q x n rest e = ap (λ r. Some (g r)) (sym (exact_refs q x e))
 found-here Greater g q x n rest e = refl
 
--- so the entries have it at each of their references
+-- entries that have at each of their references what it is given
 found_at-written : (g : Ref → ℕ) (es : List (Ref × ℕ)) (q : Ref) → found_at (map (λ e. (e.0, g e.0)) es) q ≡ cond (is_some (found_at es q)) (Some (g q)) None
 found_at-written g [] q = refl
 found_at-written g (e ∷ es) q =
@@ -75,6 +77,7 @@ from_entries-copied es m keeps = same_map refs_total exact_refs _ _ (λ q.
 get-discretes : (sizes : Sizes) (m : Contents) (q : Ref) → get (discretes sizes m) q ≡ cond (has_reference (discretes_of sizes) q) (get m q) None
 get-discretes sizes m q = get-retain_keys m (has_reference (discretes_of sizes)) q (alike (has_reference (discretes_of sizes)) q)
 
+-- there is no number from 1 to 0
 no_register : (number : ℕ) → nat_le 1 number && nat_le number 0 ≡ true → ⊥
 no_register number h =
     let parts = and_parts (nat_le 1 number) (nat_le number 0) h in
@@ -99,15 +102,18 @@ contains_key-discretes : (sizes : Sizes) (m : Contents) (q : Ref) → Keeps (cle
 contains_key-discretes sizes m q keeps =
     ap is_some (get-discretes sizes m q) ∙ held_or (has_reference (discretes_of sizes) q) (get m q) (has_discrete sizes m q keeps)
 
+-- what is held only where it is asked for is asked for
 asked : (b : Bool) (o : Option ℕ) → is_some (cond b o None) ≡ true → b ≡ true
 asked true o h = refl
 asked false o h = h
 
+-- a 0 that stands wherever it is asked for
 fresh_number : (b c : Bool) → (b ≡ true → c ≡ true) → cond {A = Option ℕ} b (cond c (Some 0) None) None ≡ cond b (Some 0) None
 fresh_number true true h = refl
 fresh_number true false h = absurd (false≢true (h refl))
 fresh_number false c h = refl
 
+-- the discretes of a store follow it
 pub discretes-follow : DiscretesFollow
 discretes-follow = record {
   fresh = λ sizes. same_map refs_total exact_refs _ _ (λ q.

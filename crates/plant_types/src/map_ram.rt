@@ -67,6 +67,7 @@ impl MapRam {
         ensures keeps { Keeps self.old self.new }
         ensures no_more { Keeps self.new self.old }
     {
+        // A loop over the places would leave unsaid what each of them holds then.
         self.values.retain(|at, number| {
             *number = other.value(*at).unwrap_or(0);
             true

@@ -1,7 +1,7 @@
 use Rattle.std.proofs.Common.{◌+◌, sym, subst, arith}
 use Rattle.plant_types.specs.declared.reference.Ref.{Ref}
-use Rattle.plant_types.specs.Store.{HasRegisters, Keeps}
-use Rattle.plant_types.proofs.RunLemmas.{HasRegisters-part, Keeps-insert}
+use Rattle.plant_types.specs.Store.{HasRegisters}
+use Rattle.plant_types.proofs.RunLemmas.{HasRegisters-part}
 use Rattle.matrix_ops.proofs.comparing.cmpr.Goals as goal
 
 pub register_difference-found-requires-clause-second : goal.register_difference-found-requires-clause-second

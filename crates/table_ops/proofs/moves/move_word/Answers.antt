@@ -1,7 +1,5 @@
-use Rattle.std.proofs.Common.{◌∙◌, ap, sym, subst}
+use Rattle.std.proofs.Common.{◌∙◌, ap, sym}
 use Rattle.std.specs.FinMap.{insert}
-use Rattle.plant_types.specs.Store.{Keeps}
-use Rattle.plant_types.proofs.RunLemmas.{Keeps-insert}
 use Rattle.table_ops.proofs.TableLemmas.{moved-one}
 use Rattle.table_ops.proofs.moves.move_word.Goals as goal
 

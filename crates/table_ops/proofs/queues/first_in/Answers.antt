@@ -1,8 +1,7 @@
-use Rattle.std.proofs.Common.{◌≡◌, ◌+◌, ◌∙◌, true, sym, ap, subst, arith}
+use Rattle.std.proofs.Common.{◌≡◌, ◌+◌, ◌∙◌, true, sym, ap, arith}
 use Rattle.std.specs.FinMap.{contains_key}
 use Rattle.plant_types.specs.Reference.{ref_from}
-use Rattle.plant_types.specs.Store.{Keeps}
-use Rattle.plant_types.proofs.RunLemmas.{ref_from-zero, ref_from-ref_from, Keeps-insert}
+use Rattle.plant_types.proofs.RunLemmas.{ref_from-zero, ref_from-ref_from}
 use Rattle.table_ops.proofs.TableLemmas.{HasRegisters-at}
 use Rattle.table_ops.proofs.queues.first_in.Goals as goal
 

@@ -1,6 +1,4 @@
-use Rattle.std.proofs.Common.{◌+◌, ◌-◌, sym, subst, arith}
-use Rattle.plant_types.specs.Store.{Keeps}
-use Rattle.plant_types.proofs.RunLemmas.{Keeps-insert}
+use Rattle.std.proofs.Common.{◌+◌, arith}
 use Rattle.table_ops.proofs.TableLemmas.{HasRegisters-at}
 use Rattle.table_ops.proofs.queues.first_out.Goals as goal
 

@@ -1,4 +1,4 @@
-use Rattle.std.proofs.Common.{◌≡◌, ◌∙◌, ap, sym, subst, unwrap_or, rules}
+use Rattle.std.proofs.Common.{◌∙◌, ap, sym, subst, unwrap_or, rules}
 use Rattle.std.specs.FinMap.{get, contains_key, from_entries}
 use Rattle.plant_types.specs.Reference.{ref_cmp}
 use Rattle.plant_types.specs.Store.{Keeps, part_at}
