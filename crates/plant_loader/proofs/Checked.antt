@@ -32,9 +32,11 @@ use Rattle.plant_loader.specs.Refusals.{cell_place, at_place}
 use Rattle.plant_loader.specs.Pieces.{pieces_of, with_read, with_piece, with_pieces, with_text, with_texts, networks_of}
 use Rattle.plant_loader.specs.Program.{ReadNetworks, open_network, driven_coils, is_driven, with_cell, with_short, piece_count, with_network}
 
+-- the value of a step that went well
 pub ok_value : {A E : Type 0} (x y : A) → ◌≡◌ {A = Result A E} (Ok x) (Ok y) → x ≡ y
 ok_value x y h = cc
 
+-- both of two tests pass
 pub and_both : (a b : Bool) → a ≡ true → b ≡ true → a && b ≡ true
 and_both a b x y = rw (x, y) refl
 
@@ -48,14 +50,17 @@ passes-push test pass none more earlier (y ∷ ys) x h t =
     let (here, rest) = and_parts (test earlier y) (pass (earlier ++ y ∷ []) ys) (sym (more earlier y ys) ∙ h) in
     more earlier y (ys ++ x ∷ []) ∙ and_both _ _ here (passes-push test pass none more (earlier ++ y ∷ []) ys x rest (ap (λ e. test e x) (append_assoc earlier (y ∷ []) ys) ∙ t))
 
+-- one more cell that passes behind those before it
 cells_pass-push : (sizes : Sizes) (cells : List Cell) (cell : Cell) → cells_pass sizes [] cells ≡ true → cell_passes sizes cells cell ≡ true → cells_pass sizes [] (cells ++ cell ∷ []) ≡ true
 unfolding cells_pass
 cells_pass-push sizes cells cell h t = passes-push (λ e x. cell_passes sizes e x) (λ e xs. cells_pass sizes e xs) (λ e. refl) (λ e x xs. refl) [] cells cell h t
 
+-- one more short that passes behind those before it
 shorts_pass-push : (shorts : List Short) (short : Short) → shorts_pass [] shorts ≡ true → short_passes shorts short ≡ true → shorts_pass [] (shorts ++ short ∷ []) ≡ true
 unfolding shorts_pass
 shorts_pass-push shorts short h t = passes-push (λ e x. short_passes e x) (λ e xs. shorts_pass e xs) (λ e. refl) (λ e x xs. refl) [] shorts short h t
 
+-- one more coil that none before it is
 driven_once-push : (coils : List Ref) (coil : Ref) → are_driven_once [] coils ≡ true → not (list_any (is_same coil) coils) ≡ true → are_driven_once [] (coils ++ coil ∷ []) ≡ true
 unfolding are_driven_once
 driven_once-push coils coil h t = passes-push (λ e x. not (list_any (is_same x) e)) (λ e xs. are_driven_once e xs) (λ e. refl) (λ e x xs. refl) [] coils coil h t
@@ -73,6 +78,7 @@ driven_once-option : (coils : List Ref) (coil : Option Ref) (added : List Ref) �
 driven_once-option coils None added h t e = rw (e, append-nil coils) h
 driven_once-option coils (Some coil) added h t e = rw e (driven_once-push coils coil h t)
 
+-- one more cell drives its coil behind those of the cells before it
 pub coils-push : (cells : List Cell) (shorts : List Short) (cell : Cell) → coils_of_network (record { cells = cells ++ cell ∷ []; shorts = shorts }) ≡ coils_of_network (record { cells = cells; shorts = shorts }) ++ cons_option (driven_by cell.element) []
 coils-push cells shorts cell = filter_map-append (λ c. driven_by c.element) cells (cell ∷ [])
 
@@ -83,6 +89,7 @@ record TakesCell (sizes : Sizes) (read next : ReadNetworks) (cell : Cell) : Type
   coil : not (is_driven (driven_coils read) (driven_by cell.element)) ≡ true
   whole : record read { cells = read.cells ++ cell ∷ [] } ≡ next
 
+-- a cell that is taken has passed its tests
 with_cell-takes : (sizes : Sizes) (read next : ReadNetworks) (cell : Cell) → with_cell sizes read cell ≡ Ok next → TakesCell sizes read next cell
 unfolding with_cell
 with_cell-takes sizes read next cell h =
@@ -105,9 +112,11 @@ with_cell-passes sizes read next cell place operands h p =
     } in
     rw (← taken.whole) passes
 
+-- a cell is no network yet
 with_cell-networks : (sizes : Sizes) (read next : ReadNetworks) (cell : Cell) → with_cell sizes read cell ≡ Ok next → next.networks ≡ read.networks
 with_cell-networks sizes read next cell h = ap (λ (r : ReadNetworks). r.networks) (sym (with_cell-takes sizes read next cell h).whole)
 
+-- a short that is taken is none of those before it
 with_short-takes : (read next : ReadNetworks) (short : Short) → with_short read short ≡ Ok next → (not (list_any (same_short short) read.shorts) ≡ true) × (record read { shorts = read.shorts ++ short ∷ [] } ≡ next)
 unfolding with_short
 with_short-takes read next short h =
@@ -127,6 +136,7 @@ with_short-passes sizes read next short place h p =
     } in
     rw (← taken.1) passes
 
+-- a short is no network yet
 with_short-networks : (read next : ReadNetworks) (short : Short) → with_short read short ≡ Ok next → next.networks ≡ read.networks
 with_short-networks read next short h = ap (λ (r : ReadNetworks). r.networks) (sym (with_short-takes read next short h).1)
 
@@ -145,14 +155,17 @@ with_network-passes sizes read p = record {
   coils = ap (are_driven_once []) (driven_coils-with_network read) ∙ p.coils;
 }
 
+-- what went well did so behind the test that refuses
 else-ok : {A E : Type 0} (b : Bool) (r : Result A E) (e : E) (y : A) → (if b then Err e else r) ≡ Ok y → r ≡ Ok y
 else-ok true r e y h = cc
 else-ok false r e y h = h
 
+-- what went well has no place
 at_place-ok : {A : Type 0} (place : Place) (r : Result A PlantFault) (y : A) → at_place place r ≡ Ok y → r ≡ Ok y
 at_place-ok place (Ok x) y h = cc
 at_place-ok place (Err e) y h = cc
 
+-- a piece that reads and is taken keeps all passing
 with_read-passes : (sizes : Sizes) (read next : ReadNetworks) (r : Result Piece CellFault) → ((piece : Piece) → r ≡ Ok piece → has_text piece ≡ true) → with_read sizes read r ≡ Ok next → Passes sizes read → Passes sizes next
 with_read-passes sizes read next (Ok (pieces.Cell cell)) t h p =
     let operands = has_form cell.element && has_values cell.element && has_kinds cell.element in
@@ -162,16 +175,19 @@ with_read-passes sizes read next (Ok (pieces.Cell cell)) t h p =
 with_read-passes sizes read next (Ok (pieces.Short short)) t h p = with_short-passes sizes read next short (t (pieces.Short short) refl) h p
 with_read-passes sizes read next (Err e) t h p = cc
 
+-- a piece that is taken keeps all passing
 with_piece-passes : (sizes : Sizes) (read next : ReadNetworks) (piece : List ℕ) → with_piece sizes read piece ≡ Ok next → Passes sizes read → Passes sizes next
 unfolding with_piece
 with_piece-passes sizes read next piece h p =
     with_read-passes sizes read next (piece_of (words_of piece)) (λ q e. piece_of-has (words_of piece) q e) (else-ok (has_later_name (words_of piece)) (with_read sizes read (piece_of (words_of piece))) faults.NotBuilt next h) p
 
+-- what a piece stands for is no network yet
 with_read-networks : (sizes : Sizes) (read next : ReadNetworks) (r : Result Piece CellFault) → with_read sizes read r ≡ Ok next → next.networks ≡ read.networks
 with_read-networks sizes read next (Ok (pieces.Cell cell)) h = with_cell-networks sizes read next cell h
 with_read-networks sizes read next (Ok (pieces.Short short)) h = with_short-networks read next short h
 with_read-networks sizes read next (Err e) h = cc
 
+-- a piece is no network yet
 with_piece-networks : (sizes : Sizes) (read next : ReadNetworks) (piece : List ℕ) → with_piece sizes read piece ≡ Ok next → next.networks ≡ read.networks
 unfolding with_piece
 with_piece-networks sizes read next piece h =
@@ -187,6 +203,7 @@ pieces_keep Holds sizes keep network (piece ∷ pieces) read next h p =
     let here = step-ok (at_place place (with_piece sizes read piece)) (λ after. with_pieces sizes network after pieces) next h in
     pieces_keep Holds sizes keep network pieces here.0 next here.1.1 (keep read here.0 piece (at_place-ok place (with_piece sizes read piece) here.0 here.1.0) p)
 
+-- pieces that are taken keep all passing
 with_pieces-passes : (sizes : Sizes) (network : ℕ) (pieces : List (List ℕ)) (read next : ReadNetworks) → with_pieces sizes network read pieces ≡ Ok next → Passes sizes read → Passes sizes next
 with_pieces-passes sizes = pieces_keep (Passes sizes) sizes (with_piece-passes sizes)
 
@@ -204,6 +221,7 @@ record PassesWhole (sizes : Sizes) (read : ReadNetworks) : Type 0 where
   passes : Passes sizes read
   closed : read.cells ≡ []
 
+-- a text that is taken is one more network that passes
 with_text-passes : (sizes : Sizes) (text : List ℕ) (read next : ReadNetworks) → with_text sizes read text ≡ Ok next → Passes sizes read → PassesWhole sizes next
 unfolding with_text
 with_text-passes sizes text read next h p =
@@ -215,6 +233,7 @@ with_text-passes sizes text read next h p =
     } in
     rw (← same) whole
 
+-- so it is with texts
 with_texts-passes : (sizes : Sizes) (texts : List (List ℕ)) (read next : ReadNetworks) → with_texts sizes read texts ≡ Ok next → PassesWhole sizes read → PassesWhole sizes next
 unfolding with_texts
 with_texts-passes sizes [] read next h p = let same : read ≡ next = ok_value read next h in rw (← same) p
@@ -222,6 +241,7 @@ with_texts-passes sizes (text ∷ texts) read next h p =
     let here = step-ok (with_text sizes read text) (λ after. with_texts sizes after texts) next h in
     with_texts-passes sizes texts here.0 next here.1.1 (with_text-passes sizes text read here.0 here.1.0 p.passes)
 
+-- nothing passes as long as nothing was read
 nothing_passes : (sizes : Sizes) → PassesWhole sizes (record { networks = []; cells = []; shorts = [] })
 unfolding cells_pass shorts_pass are_driven_once
 nothing_passes sizes = record {
@@ -229,6 +249,7 @@ nothing_passes sizes = record {
   closed = refl;
 }
 
+-- where no network is open, the coils are those of the networks that are whole
 coils_closed : (read : ReadNetworks) → read.cells ≡ [] → driven_coils read ≡ flat_map coils_of_network read.networks
 coils_closed read e = rw e (append-nil (flat_map coils_of_network read.networks))
 

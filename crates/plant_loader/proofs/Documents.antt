@@ -16,24 +16,30 @@ use Rattle.std.proofs.lemmas.Bool.Decides.{nat_tests}
 use Rattle.plant_loader.specs.Keys.{has_only, only_item, item_count, items_up_to}
 use Rattle.plant_loader.specs.Plant.{document_of}
 
+-- a test that fails gives no document
 not_text : (b : Bool) (r : Option Members) → (b ≡ true → ⊥) → (if b then r else None) ≡ None
 not_text true r h = absurd (h refl)
 not_text false r h = refl
 
+-- bytes that are no text are no document
 pub document-no_text : (bytes : List ℕ) → ¬ (IsUtf8 bytes) → document_of bytes ≡ None
 document-no_text bytes h = not_text (is_utf8 bytes) (parse_document bytes) (λ e. h (IsUtf8-from_is_utf8 bytes e))
 
+-- the document of bytes that are text is that of the text
 pub document-text : (bytes text : List ℕ) (r : Option Members) → text ≡ bytes → IsUtf8 bytes → parse_document text ≡ r → document_of bytes ≡ r
 document-text bytes text r same valid parsed = rw (is_utf8-from_IsUtf8 bytes valid, ← same) parsed
 
+-- a key is among texts as it is among their bytes
 any_of_views : (ks : List (Bor (List ℕ))) (key : List ℕ) → list_any (λ k. bytes_eq k.now key) ks ≡ list_any (λ k. bytes_eq k key) (map (λ k. k.now) ks)
 any_of_views [] key = refl
 any_of_views (k ∷ ks) key = rw (any_of_views ks key) refl
 
+-- the keys of a table are those of its members
 pub has_only-keys : (known : List (Bor (List ℕ))) (es : List (String Global × Value)) → list_all (λ key. list_any (λ k. bytes_eq k.now (string_bytes key)) known) (keys_of es) ≡ has_only (map (λ k. k.now) known) (members_view es)
 has_only-keys known [] = refl
 has_only-keys known (e ∷ es) = rw (any_of_views known (string_bytes e.0), has_only-keys known es) refl
 
+-- an array of another length has no one item
 pub only_item-other : (vs : List Value) → length vs ≢ 1 → only_item (items_view vs) ≡ None
 only_item-other [] h = refl
 only_item-other (v ∷ []) h = absurd (h refl)
@@ -44,6 +50,7 @@ pub item_count-view : (vs : List Value) → item_count (items_view vs) ≡ lengt
 item_count-view [] = refl
 item_count-view (v ∷ vs) = ap suc (item_count-view vs)
 
+-- a number above another is not at most that
 le_false : (m n : ℕ) → n < m → nat_le m n ≡ false
 le_false m n h = grind (arith, nat_tests)
 
@@ -51,5 +58,6 @@ le_false m n h = grind (arith, nat_tests)
 pub items_up_to-few : (most : ℕ) (d : Data) (vs : List Value) → Some (items_view vs) ≡ as_array d → length vs ≤ most → Some (items_view vs) ≡ items_up_to most d
 items_up_to-few most d vs h few = rw (← h, item_count-view vs, le-leb (length vs) most few) refl
 
+-- so an array of too many gives none
 pub items_up_to-many : (most : ℕ) (d : Data) (vs : List Value) → Some (items_view vs) ≡ as_array d → most < length vs → None ≡ items_up_to most d
 items_up_to-many most d vs h many = rw (← h, item_count-view vs, le_false (length vs) most many) refl

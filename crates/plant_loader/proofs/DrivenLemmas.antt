@@ -18,16 +18,17 @@ use Rattle.plant_types.proofs.Contents.{found_by_code}
 use Rattle.plant_loader.specs.Driven.{HoldsJust}
 use Rattle.plant_loader.specs.Program.{driven_coils}
 use Rattle.plant_loader.proofs.Checked.{coils-push, driven_coils-with_network}
+use Rattle.plant_loader.proofs.GridLemmas.{same_symm}
 
+-- two references are one where their kinds and their numbers are
 same_then : (a b m n : ℕ) → is_eq (ordering_then (nat_cmp a b) (nat_cmp m n)) ≡ (a == b) && (m == n)
 same_then a b m n = grind (arith, nat_tests)
 
-same_turned : (a b m n : ℕ) → (a == b) && (m == n) ≡ (b == a) && (n == m)
-same_turned a b m n = grind (arith, nat_tests)
-
+-- it is the same either way
 is_same-turned : (at other : Ref) → is_same at other ≡ is_same other at
-is_same-turned at other = same_turned (rank_of at.kind) (rank_of other.kind) at.number other.number
+is_same-turned at other = same_symm (rank_of at.kind) (rank_of other.kind) at.number other.number
 
+-- a test, and whether it finds something
 found_is : (b : Bool) → is_some {T = ℕ} (cond b (Some 0) None) ≡ b
 found_is true = refl
 found_is false = refl
@@ -38,10 +39,12 @@ is_at-same at other =
     sym (found_is (is_at (derived.cmp-value.it at) other)) ∙ ap is_some (found_by_code ((other, 0) ∷ []) at) ∙ found_is (is_at (ref_cmp at) other)
     ∙ same_then (rank_of at.kind) (rank_of other.kind) at.number other.number
 
-pub list_any-at : (at : Ref) (keys : List Ref) → list_any (is_at (derived.cmp-value.it at)) keys ≡ list_any (is_same at) keys
+-- the order finds a reference in a list where it is there
+list_any-at : (at : Ref) (keys : List Ref) → list_any (is_at (derived.cmp-value.it at)) keys ≡ list_any (is_same at) keys
 list_any-at at [] = refl
 list_any-at at (key ∷ keys) = rw (is_at-same at key, list_any-at at keys) refl
 
+-- what is tested first may as well be tested last
 or_last : (here there : Bool) → cond here true there ≡ there || (here || false)
 or_last true true = refl
 or_last true false = refl

@@ -1,9 +1,9 @@
 -- Places of the grid, no two of them one, are few.
-use Rattle.std.proofs.Common.{◌≡◌, ℕ, ◌+◌, ◌*◌, ◌≤◌, ◌<◌, Bool, true, false, ◌&&◌, ◌==◌, List, [], ◌∷◌, ◌++◌, length, map, refl, sym, ◌∙◌, arith, true≢false, inl, inr}
+use Rattle.std.proofs.Common.{◌≡◌, ℕ, ◌+◌, ◌*◌, ◌≤◌, ◌<◌, true, false, ◌&&◌, ◌==◌, List, [], ◌∷◌, ◌++◌, length, map, refl, sym, ◌∙◌, arith, true≢false, inl, inr}
 use Rattle.std.specs.Prelude.{nat_le, nat_eq}
 use Rattle.std.specs.List.{list_any, list_all, IsDistinct, AllByRecursion}
 use Rattle.std.specs.Cmp.{IsEquivalence}
-use Rattle.std.proofs.lemmas.Bool.{and_parts, or_cases, ne_eqb}
+use Rattle.std.proofs.lemmas.Bool.{and_parts, or_cases, ne_eqb, eqb-true, leb-true}
 use Rattle.std.proofs.lemmas.Bool.Decides.{nat_tests}
 use Rattle.std.proofs.lemmas.List.{length-map}
 use Rattle.std.proofs.lemmas.List.Folds.{list_all-append}
@@ -11,29 +11,32 @@ use Rattle.std.proofs.lemmas.Map.Keys.{IsDistinct-push}
 use Rattle.std.proofs.lemmas.Map.Steps.{length-le_from_distinct_below}
 use Rattle.plant_types.specs.Network.{is_row, is_column}
 use Rattle.plant_loader.specs.Grid.{is_place, same_place, AreApart}
+use Rattle.plant_loader.proofs.Checked.{and_both}
 
-same_symm : (a b m n : ℕ) → (a == b) && (m == n) ≡ (b == a) && (n == m)
+-- two pairs of numbers are one either way
+pub same_symm : (a b m n : ℕ) → (a == b) && (m == n) ≡ (b == a) && (n == m)
 same_symm a b m n = grind (arith, nat_tests)
 
+-- a pair of numbers is itself
 same_refl : (a m : ℕ) → (a == a) && (m == m) ≡ true
 same_refl a m = grind (arith, nat_tests)
 
+-- pairs that are one have their numbers in common
 same_parts : (a b m n : ℕ) → (a == b) && (m == n) ≡ true → (a ≡ b) × (m ≡ n)
-same_parts a b m n h = let parts = and_parts (a == b) (m == n) h in (grind (arith, nat_tests, parts.0), grind (arith, nat_tests, parts.1))
+same_parts a b m n h = let parts = and_parts (a == b) (m == n) h in (eqb-true a b parts.0, eqb-true m n parts.1)
 
+-- a place is one with each of two that are one, or with neither
 same_congr : (x y z : ℕ × ℕ) → same_place x y ≡ true → same_place x z ≡ same_place y z
 same_congr x y z h = let parts = same_parts x.0 y.0 x.1 y.1 h in rw (parts.0, parts.1) refl
 
+-- so places can be told apart as keys can
 same_equiv : IsEquivalence same_place
 same_equiv = record { refl = λ x. same_refl x.0 x.1; symm = λ x y. same_symm x.0 y.0 x.1 y.1; congr = same_congr }
-
-both : (a b : Bool) → a ≡ true → b ≡ true → a && b ≡ true
-both a b x y = rw (x, y) refl
 
 -- one more place, which none of them is
 pub AreApart-push : (places : List (ℕ × ℕ)) (place : ℕ × ℕ) → AreApart places → is_place place ≡ true → list_any (same_place place) places ≡ false → AreApart (places ++ place ∷ [])
 AreApart-push places place apart here other = record {
-  within = list_all-append is_place places (place ∷ []) ∙ both _ _ apart.within (both _ _ here refl);
+  within = list_all-append is_place places (place ∷ []) ∙ and_both _ _ apart.within (and_both _ _ here refl);
   distinct = IsDistinct-push same_equiv places place apart.distinct other;
 }
 
@@ -41,13 +44,14 @@ AreApart-push places place apart here other = record {
 abbrev number : ℕ × ℕ → ℕ
 number place = place.0 * 12 + place.1
 
+-- the number of a place of the grid is below 96, and its column below 12
 number-place : (place : ℕ × ℕ) → is_place place ≡ true → (number place < 96) × (place.1 < 12)
 number-place place h =
     let parts = and_parts (is_row place.0) (is_column place.1) h in
     let rows = and_parts (nat_le 1 place.0) (nat_le place.0 7) parts.0 in
     let columns = and_parts (nat_le 1 place.1) (nat_le place.1 11) parts.1 in
-    let low : place.0 ≤ 7 = grind (arith, nat_tests, rows.1) in
-    let left : place.1 ≤ 11 = grind (arith, nat_tests, columns.1) in
+    let low : place.0 ≤ 7 = leb-true place.0 7 rows.1 in
+    let left : place.1 ≤ 11 = leb-true place.1 11 columns.1 in
     (omega arith, omega arith)
 
 -- other places have other numbers
@@ -60,12 +64,14 @@ number-other one other p q h = ne_eqb (number one) (number other) (λ e.
     let same : same_place one other ≡ true = rw (rows, columns) (same_refl other.0 other.1) in
     true≢false (sym same ∙ h))
 
+-- so a place has another number than each other place
 numbers-other : (place : ℕ × ℕ) (places : List (ℕ × ℕ)) → is_place place ≡ true → list_all is_place places ≡ true → AllByRecursion (λ other. same_place place other ≡ false) places → AllByRecursion (λ n. nat_eq (number place) n ≡ false) (map number places)
 numbers-other place [] here all apart = tt
 numbers-other place (other ∷ places) here all apart =
     let parts = and_parts (is_place other) (list_all is_place places) all in
     (number-other place other here parts.0 apart.0, numbers-other place places here parts.1 apart.1)
 
+-- places of which no two are one have numbers of which no two are one
 numbers-distinct : (places : List (ℕ × ℕ)) → list_all is_place places ≡ true → IsDistinct same_place places → IsDistinct nat_eq (map number places)
 unfolding IsDistinct
 numbers-distinct [] all distinct = tt
@@ -73,12 +79,13 @@ numbers-distinct (place ∷ places) all distinct =
     let parts = and_parts (is_place place) (list_all is_place places) all in
     (numbers-other place places parts.0 parts.1 distinct.0, numbers-distinct places parts.1 distinct.1)
 
+-- the numbers of places of the grid are below 96
 numbers-below : (places : List (ℕ × ℕ)) → list_all is_place places ≡ true → (q : ℕ) → list_any (nat_eq q) (map number places) ≡ true → q < 96
 numbers-below [] all q h = cc
 numbers-below (place ∷ places) all q h =
     let parts = and_parts (is_place place) (list_all is_place places) all in
     let low = number-place place parts.0 in
-    elim (or_cases (nat_eq q (number place)) (list_any (nat_eq q) (map number places)) h) [ inl e ↦ (let same : q ≡ number place = grind (arith, nat_tests, e) in omega arith) | inr e ↦ numbers-below places parts.1 q e ]
+    elim (or_cases (nat_eq q (number place)) (list_any (nat_eq q) (map number places)) h) [ inl e ↦ (let same : q ≡ number place = eqb-true q (number place) e in omega arith) | inr e ↦ numbers-below places parts.1 q e ]
 
 -- places of the grid, no two of them one, are at most as many as the grid has
 pub AreApart-few : (places : List (ℕ × ℕ)) → AreApart places → length places ≤ 96

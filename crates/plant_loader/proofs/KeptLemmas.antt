@@ -43,12 +43,14 @@ free_place (other ∷ cells) cell h =
     let here = apart_places cell.row cell.column other.row other.column (node_count cell.element) (node_count other.element) (node_count-some cell.element) (node_count-some other.element) apart.0 in
     rw (here, free_place cells cell parts.1) refl
 
+-- a short that is none of these stands at another place than each
 free_short : (shorts : List Short) (short : Short) → list_any (same_short short) shorts ≡ false → list_any (same_place (short.row, short.column)) (short_places shorts) ≡ false
 free_short [] short h = refl
 free_short (other ∷ shorts) short h =
     let parts = or_parts (same_short short other) (list_any (same_short short) shorts) h in
     rw (parts.0, free_short shorts short parts.1) refl
 
+-- a short stands at a place of the grid
 short_is_place : (short : Short) → has_short_place short ≡ true → is_place (short.row, short.column) ≡ true
 short_is_place short h =
     let parts = and_parts (nat_le 1 short.row && nat_le short.row 6) (is_column short.column) h in

@@ -21,13 +21,16 @@ stops_first (ends.Refused fault place) r g h = rw h refl
 pub stops_along : {A : Type 0} (end : LoadEnd) (r s : Result A Refusal) → r ≡ s → Stops end r → Stops end s
 stops_along end r s e h = rw (← e) h
 
+-- what stands at an index comes before what is left behind it
 at_front : {A : Type 0} (xs : List A) (n : ℕ) (x : A) → n < length xs → x ≡ get_or xs n x → drop n xs ≡ x ∷ drop (n + 1) xs
 at_front xs n x h e = drop_more xs n x h ∙ ap (λ y. y ∷ drop (n + 1) xs) (sym e)
 
+-- a first piece, and then the others
 with_pieces-cons : (sizes : Sizes) (network : ℕ) (read : ReadNetworks) (piece : List ℕ) (pieces : List (List ℕ)) → with_pieces sizes network read (piece ∷ pieces) ≡ (at_place (cell_place network (piece_count read + 1)) (with_piece sizes read piece) >>= λ next. with_pieces sizes network next pieces)
 unfolding with_pieces
 with_pieces-cons sizes network read piece pieces = refl
 
+-- no piece changes nothing
 with_pieces-nil : (sizes : Sizes) (network : ℕ) (read : ReadNetworks) → with_pieces sizes network read [] ≡ Ok read
 unfolding with_pieces
 with_pieces-nil sizes network read = refl
@@ -55,6 +58,7 @@ piece-stops sizes network read parts n piece end h e some s =
 pub pieces-end : (sizes : Sizes) (network : ℕ) (read : ReadNetworks) (parts : List (List ℕ)) (n : ℕ) → n ≡ length parts → with_pieces sizes network read (filter has_word (drop n parts)) ≡ Ok read
 pieces-end sizes network read parts n e = rw (e, drop-length parts) (with_pieces-nil sizes network read)
 
+-- a step before pieces and other pieces
 then_append : (sizes : Sizes) (network : ℕ) (xs ys : List (List ℕ)) → ((next : ReadNetworks) → with_pieces sizes network next (xs ++ ys) ≡ (with_pieces sizes network next xs >>= λ after. with_pieces sizes network after ys))
     → (r : Result ReadNetworks Refusal) → (r >>= λ next. with_pieces sizes network next (xs ++ ys)) ≡ ((r >>= λ next. with_pieces sizes network next xs) >>= λ next. with_pieces sizes network next ys)
 then_append sizes network xs ys ih (Ok next) = ih next
@@ -68,6 +72,7 @@ with_pieces-append sizes network (x ∷ xs) ys read =
     with_pieces-cons sizes network read x (xs ++ ys) ∙ then_append sizes network xs ys (λ next. with_pieces-append sizes network xs ys next) first
     ∙ ap (λ (r : Result ReadNetworks Refusal). r >>= λ next. with_pieces sizes network next ys) (sym (with_pieces-cons sizes network read x xs))
 
+-- the lines that are left are a line and those behind it
 line-cons : (sizes : Sizes) (network : ℕ) (read : ReadNetworks) (all : List (List ℕ)) (n : ℕ) (line : List ℕ) → n < length all → line ≡ get_or all n line
     → with_pieces sizes network read (flat_map pieces_of_line (drop n all)) ≡ (with_pieces sizes network read (pieces_of_line line) >>= λ next. with_pieces sizes network next (flat_map pieces_of_line (drop (n + 1) all)))
 line-cons sizes network read all n line h e = rw (at_front all n line h e) (with_pieces-append sizes network (pieces_of_line line) (flat_map pieces_of_line (drop (n + 1) all)) read)

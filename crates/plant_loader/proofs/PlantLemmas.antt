@@ -1,9 +1,8 @@
 -- The plant of bytes has a scan time of 1 to 1000 ticks and one controller, whose plan passes its tests.
-use Rattle.std.proofs.Common.{◌≡◌, ℕ, ◌≤◌, true, ◌&&◌, List, [], ◌∷◌, ◌++◌, length, Option, Some, None, Result, Ok, Err, refl, ap, ◌∙◌, arith}
+use Rattle.std.proofs.Common.{◌≡◌, ℕ, ◌≤◌, true, ◌&&◌, List, [], ◌∷◌, ◌++◌, length, Option, Some, None, Result, Ok, Err, refl, ap, ◌∙◌}
 use Rattle.std.specs.Prelude.{codes, ℤ, pos, negsuc, nat_le, ◌%◌, ◌==◌}
 use Rattle.std.specs.List.{list_all, flat_map}
-use Rattle.std.proofs.lemmas.Bool.{and_parts}
-use Rattle.std.proofs.lemmas.Bool.Decides.{nat_tests}
+use Rattle.std.proofs.lemmas.Bool.{and_parts, leb-true}
 use Rattle.std.proofs.lemmas.List.{append-nil}
 use Rattle.toml.specs.Data.{Data, integer, Items, no_items, item, Members, get_member, as_str}
 use Rattle.plant_types.specs.declared.reference.Ref.{Ref}
@@ -25,9 +24,11 @@ use Rattle.plant_loader.specs.Pieces.{networks_of}
 use Rattle.plant_loader.specs.Plant.{document_of, controller_keys, plan_of, controller_of, plant_keys, plant_in, plant_of, IsRunnable}
 use Rattle.plant_loader.proofs.Checked.{networks_of-passes, ok_value, and_both}
 
+-- the value that is there
 some_value : {A : Type 0} (x y : A) → Some x ≡ Some y → x ≡ y
 some_value x y h = cc
 
+-- a number that is taken is within its limits
 number_from-within : (low high : ℕ) (z : ℤ) (n : ℕ) → number_from low high z ≡ Some n → nat_le low n && nat_le n high ≡ true
 number_from-within low high (pos m) n h =
     let found = some-guard (nat_le low m && nat_le m high) (Some m) n h in
@@ -35,6 +36,7 @@ number_from-within low high (pos m) n h =
     rw (← same) found.0
 number_from-within low high (negsuc m) n h = cc
 
+-- so is one that a value is read as
 number_of-within : (low high : ℕ) (d : Data) (n : ℕ) → number_of low high d ≡ Some n → nat_le low n && nat_le n high ≡ true
 number_of-within low high (integer z) n h = number_from-within low high z n h
 number_of-within low high _ n h = cc
@@ -44,9 +46,11 @@ number_or-within : (default low high : ℕ) (d : Option Data) (n : ℕ) → nat_
 number_or-within default low high None n usual h = let same : default ≡ n = some_value default n h in rw (← same) usual
 number_or-within default low high (Some d) n usual h = number_of-within low high d n h
 
+-- a number of references that is taken is at most 9984
 size_at-is_size : (key : List ℕ) (ms : Members) (n : ℕ) → size_at key ms ≡ Some n → is_size n ≡ true
 size_at-is_size key ms n h = let within = and_parts (nat_le 0 n) (nat_le n 9984) (number_or-within 0 0 9984 (get_member key ms) n refl h) in within.1
 
+-- a number of discretes that is taken comes in sixteens
 discrete_size_at-is_discrete_size : (key : List ℕ) (ms : Members) (n : ℕ) → discrete_size_at key ms ≡ Some n → is_discrete_size n ≡ true
 discrete_size_at-is_discrete_size key ms n h =
     let size = some-step in_sixteens (size_at key ms) n h in
@@ -54,6 +58,7 @@ discrete_size_at-is_discrete_size key ms n h =
     let same : size.0 ≡ n = some_value size.0 n whole.1 in
     rw (← same) (and_both _ _ (size_at-is_size key ms size.0 size.1.0) whole.0)
 
+-- a reference of a panel stands in the map
 panel_item-held : (sizes : Sizes) (d : Data) (at : Ref) → panel_item sizes d ≡ Ok at → has_reference sizes at ≡ true
 unfolding panel_item
 panel_item-held sizes d at h =
@@ -64,6 +69,7 @@ panel_item-held sizes d at h =
     let same : found.0 ≡ at = ok_value found.0 at held.1 in
     rw (← same) held.0
 
+-- so does each of its references
 panel_items-held : (sizes : Sizes) (ds : Items) (panel : List Ref) → panel_items sizes ds ≡ Ok panel → list_all (has_reference sizes) panel ≡ true
 panel_items-held sizes no_items panel h = let same : [] ≡ panel = ok_value [] panel h in rw (← same) refl
 panel_items-held sizes (item d ds) panel h =
@@ -72,6 +78,7 @@ panel_items-held sizes (item d ds) panel h =
     let same : at.0 ∷ more.0 ≡ panel = ok_value (at.0 ∷ more.0) panel more.1.1 in
     rw (← same) (and_both _ _ (panel_item-held sizes d at.0 at.1.0) (panel_items-held sizes ds more.0 more.1.0))
 
+-- also where there is no panel
 panel_in-held : (sizes : Sizes) (d : Option Data) (panel : List Ref) → panel_in sizes d ≡ Ok panel → list_all (has_reference sizes) panel ≡ true
 panel_in-held sizes None panel h = let same : [] ≡ panel = ok_value [] panel h in rw (← same) refl
 panel_in-held sizes (Some d) panel h = let items = or_fault-ok not_built (items_up_to 64 d) (panel_items sizes) panel h in panel_items-held sizes items.0 panel items.1.1
@@ -90,14 +97,17 @@ record SizesPass (sizes : Sizes) : Type 0 where
   input_registers : is_size sizes.input_registers ≡ true
   registers : is_size sizes.registers ≡ true
 
+-- a plan of one segment passes where its parts do
 plan_of-passes : (node : ℕ) (sizes : Sizes) (panel : List Ref) (networks : List Network) → SizesPass sizes → Parts sizes node panel networks → passes_check (plan_of node sizes panel networks) ≡ true
 plan_of-passes node sizes panel networks s p =
     let driven : are_driven_once [] (flat_map coils_of_network networks ++ []) ≡ true = ap (are_driven_once []) (append-nil (flat_map coils_of_network networks)) ∙ p.coils in
     and_both _ _ (and_both _ _ p.node_passes (and_both _ _ s.coils (and_both _ _ s.inputs (and_both _ _ s.input_registers s.registers)))) (and_both _ _ (and_both _ _ p.networks_pass refl) (and_both _ _ driven p.panel_passes))
 
+-- sizes from four numbers
 abbrev sizes_from : ℕ → ℕ → ℕ → ℕ → Sizes
 sizes_from coils inputs input_registers registers = record { coils = coils; inputs = inputs; input_registers = input_registers; registers = registers }
 
+-- the sizes that a table gives pass
 sizes_at-pass : (ms : Members) (sizes : Sizes) → sizes_at ms ≡ Ok sizes → SizesPass sizes
 unfolding sizes_at
 sizes_at-pass ms sizes h =
@@ -117,6 +127,7 @@ sizes_at-pass ms sizes h =
     } in
     rw (← same) passes
 
+-- the plan that a table gives passes, and has one segment
 controller_of-passes : (ms : Members) (plan : ControllerPlan) → controller_of ms ≡ Ok plan → (passes_check plan ≡ true) × (length plan.segments ≡ 1)
 unfolding controller_of
 controller_of-passes ms plan h =
@@ -148,6 +159,7 @@ record IsReadFrom (plant : Plant) : Type 0 where
   within : nat_le 1 scan_time && nat_le scan_time 1000 ≡ true
   whole : (controller_of table >>= λ controller. Ok (record { scan_time = scan_time; controllers = controller ∷ [] })) ≡ Ok plant
 
+-- a plant in a document is read from a scan time and a table
 plant_in-read : (top : Members) (plant : Plant) → plant_in top ≡ Ok plant → IsReadFrom plant
 unfolding plant_in
 plant_in-read top plant h =
@@ -167,8 +179,9 @@ plant_in-read top plant h =
       whole = table.1.1;
     }
 
+-- a number that two tests let through is within their limits
 from_tests : (n : ℕ) → nat_le 1 n && nat_le n 1000 ≡ true → (1 ≤ n) × (n ≤ 1000)
-from_tests n h = let tests = and_parts (nat_le 1 n) (nat_le n 1000) h in (grind (arith, nat_tests, tests.0), grind (arith, nat_tests, tests.1))
+from_tests n h = let tests = and_parts (nat_le 1 n) (nat_le n 1000) h in (leb-true 1 n tests.0, leb-true n 1000 tests.1)
 
 -- the plant of bytes has a scan time of 1 to 1000 ticks and one controller, and its plan passes
 pub plant_of-runnable : (bytes : List ℕ) (plant : Plant) → plant_of bytes ≡ Ok plant → IsRunnable plant
@@ -196,6 +209,7 @@ pub runnable-one : (r : Result Plant LoadEnd) → IfOk r (λ plant. IsRunnable p
 runnable-one (Ok plant) runnable = rw runnable.only refl
 runnable-one (Err end) runnable = tt
 
+-- so its plans pass
 pub runnable-checked : (r : Result Plant LoadEnd) → IfOk r (λ plant. IsRunnable plant) → IfOk r (λ plant. list_all passes_check plant.controllers ≡ true)
 runnable-checked (Ok plant) runnable = rw runnable.only (and_both _ _ runnable.passes refl)
 runnable-checked (Err end) runnable = tt
