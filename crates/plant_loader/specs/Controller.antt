@@ -31,13 +31,15 @@ abbrev pub is_first_order : Option (List ℕ) → Bool
 is_first_order None = false
 is_first_order (Some text) = are_words (words_of text) first_order
 
+-- The orders of a table are the first order alone. This project's own.
 abbrev pub has_first_order : Members → Bool
 has_first_order ms = is_first_order (option_and_then only_text (get_member (codes "orders") ms))
 
--- The reference of a panel text, which is its one word and stands in the map. This project's own.
+-- A reference that stands in the map. This project's own.
 abbrev pub in_map : Sizes → Ref → Result Ref Refusal
 in_map sizes at = unless (has_reference sizes at) not_built >>= λ held. Ok at
 
+-- A text of a panel is one word, which is a reference of the map. This project's own.
 unfoldable pub panel_item : Sizes → Data → Result Ref Refusal
 panel_item sizes d = do
   text ← or_fault not_built (as_str d)
@@ -53,10 +55,12 @@ panel_items sizes (item d ds) = do
   more ← panel_items sizes ds
   Ok (at ∷ more)
 
+-- The references of a panel of at most 64 texts; without one there are none. This project's own.
 abbrev pub panel_in : Sizes → Option Data → Result (List Ref) Refusal
 panel_in sizes None = Ok []
 panel_in sizes (Some d) = or_fault not_built (items_up_to 64 d) >>= panel_items sizes
 
+-- The references of the panel of a table. This project's own.
 abbrev pub panel_at : Sizes → Members → Result (List Ref) Refusal
 panel_at sizes ms = panel_in sizes (get_member (codes "panel") ms)
 

@@ -5,10 +5,11 @@ use Rattle.plant_types.specs.declared.network.Cell.{Cell}
 use Rattle.plant_types.specs.declared.network.Short.{Short}
 use Rattle.plant_types.specs.Network.{is_row, is_column}
 
--- The rows and columns of cells and of shorts. This project's own.
+-- The rows and columns of cells. This project's own.
 abbrev pub cell_places : List Cell → List (ℕ × ℕ)
 cell_places cells = map (λ cell. (cell.row, cell.column)) cells
 
+-- The rows and columns of shorts. This project's own.
 abbrev pub short_places : List Short → List (ℕ × ℕ)
 short_places shorts = map (λ short. (short.row, short.column)) shorts
 

@@ -14,6 +14,7 @@ abbrev pub number_from : ℕ → ℕ → ℤ → Option ℕ
 number_from low high (pos n) = if nat_le low n && nat_le n high then Some n else None
 number_from low high (negsuc n) = None
 
+-- A value that is such a whole number. This project's own.
 abbrev pub number_of : ℕ → ℕ → Data → Option ℕ
 number_of low high (integer z) = number_from low high z
 number_of low high _ = None
@@ -22,11 +23,12 @@ number_of low high _ = None
 abbrev pub number_at : List ℕ → ℕ → ℕ → Members → Option ℕ
 number_at key low high ms = option_and_then (number_of low high) (get_member key ms)
 
--- The number at a key, or a default where the key is not there. This project's own.
+-- The number of a value, or a default where there is no value. This project's own.
 abbrev pub number_or : ℕ → ℕ → ℕ → Option Data → Option ℕ
 number_or default low high None = Some default
 number_or default low high (Some d) = number_of low high d
 
+-- The number at a key, or a default where the key is not there. This project's own.
 abbrev pub number_at_or : List ℕ → ℕ → ℕ → ℕ → Members → Option ℕ
 number_at_or key default low high ms = number_or default low high (get_member key ms)
 
@@ -34,14 +36,15 @@ number_at_or key default low high ms = number_or default low high (get_member ke
 abbrev pub size_at : List ℕ → Members → Option ℕ
 size_at key ms = number_at_or key 0 0 9984 ms
 
--- A number of discretes, which come in sixteens. This project's own.
+-- Discretes come in sixteens. This project's own.
 abbrev pub in_sixteens : ℕ → Option ℕ
 in_sixteens size = if size % 16 == 0 then Some size else None
 
+-- A number of discretes, 0 where its key is not there. This project's own.
 abbrev pub discrete_size_at : List ℕ → Members → Option ℕ
 discrete_size_at key ms = option_and_then in_sixteens (size_at key ms)
 
--- How many items an array has.
+-- How many items an array has. This project's own.
 abbrev pub item_count : Items → ℕ
 item_count no_items = zero
 item_count (item d ds) = suc (item_count ds)
