@@ -48,104 +48,74 @@ fn relays() -> [(&'static str, Piece); 17] {
     ]
 }
 
-// Blocks, as those above.
-fn blocks() -> [(&'static str, Piece); 7] {
+fn math(op: MathOp, top: Operand, mid: Operand, low: Ref) -> Element {
+    Element::Math { op, top, mid, low }
+}
+
+fn table_move(op: MoveOp, top: Ref, mid: Ref, length: u16) -> Element {
+    Element::Move {
+        op,
+        top,
+        mid,
+        length,
+    }
+}
+
+fn matrix(op: MatrixOp, top: Operand, mid: Ref, length: u16) -> Element {
+    Element::Matrix {
+        op,
+        top,
+        mid,
+        length,
+    }
+}
+
+// Timers and counters, as those above.
+fn timing() -> [(&'static str, Piece); 2] {
+    let timer = Element::Timer {
+        unit: Unit::Second,
+        preset: Operand::Const(7),
+        acc: register(1),
+    };
+    let counter = Element::Counter {
+        up: false,
+        preset: Operand::At(at(RefKind::InputRegister, 1)),
+        acc: register(2),
+    };
     [
-        (
-            "1,2 T1.0 7 40001",
-            cell(
-                1,
-                2,
-                Element::Timer {
-                    unit: Unit::Second,
-                    preset: Operand::Const(7),
-                    acc: register(1),
-                },
-            ),
-        ),
-        (
-            "6,11 DCTR 30001 40002",
-            cell(
-                6,
-                11,
-                Element::Counter {
-                    up: false,
-                    preset: Operand::At(at(RefKind::InputRegister, 1)),
-                    acc: register(2),
-                },
-            ),
-        ),
-        (
-            "4,1 ADD 300 0 40012",
-            cell(
-                4,
-                1,
-                Element::Math {
-                    op: MathOp::Add,
-                    top: Operand::Const(300),
-                    mid: Operand::Const(0),
-                    low: register(12),
-                },
-            ),
-        ),
-        (
-            "1,1 FOUT 40001 40012 10",
-            cell(
-                1,
-                1,
-                Element::Move {
-                    op: MoveOp::FirstOut,
-                    top: register(1),
-                    mid: register(12),
-                    length: 10,
-                },
-            ),
-        ),
-        (
-            "1,2 MBIT 5 40011 1",
-            cell(
-                1,
-                2,
-                Element::Matrix {
-                    op: MatrixOp::Mbit,
-                    top: Operand::Const(5),
-                    mid: register(11),
-                    length: 1,
-                },
-            ),
-        ),
-        (
-            "1,1 SENS 1 30001 100",
-            cell(
-                1,
-                1,
-                Element::Matrix {
-                    op: MatrixOp::Sens,
-                    top: Operand::Const(1),
-                    mid: at(RefKind::InputRegister, 1),
-                    length: 100,
-                },
-            ),
-        ),
-        (
-            "5,3 XOR 30001 40002 3",
-            cell(
-                5,
-                3,
-                Element::Matrix {
-                    op: MatrixOp::Xor,
-                    top: Operand::At(at(RefKind::InputRegister, 1)),
-                    mid: register(2),
-                    length: 3,
-                },
-            ),
-        ),
+        ("1,2 T1.0 7 40001", cell(1, 2, timer)),
+        ("6,11 DCTR 30001 40002", cell(6, 11, counter)),
+    ]
+}
+
+// Blocks of three nodes, as those above.
+fn blocks() -> [(&'static str, Piece); 5] {
+    let input = at(RefKind::InputRegister, 1);
+    let sum = math(
+        MathOp::Add,
+        Operand::Const(300),
+        Operand::Const(0),
+        register(12),
+    );
+    let out = table_move(MoveOp::FirstOut, register(1), register(12), 10);
+    let set_bit = matrix(MatrixOp::Mbit, Operand::Const(5), register(11), 1);
+    let tell_bit = matrix(MatrixOp::Sens, Operand::Const(1), input, 100);
+    let exclusive = matrix(MatrixOp::Xor, Operand::At(input), register(2), 3);
+    [
+        ("4,1 ADD 300 0 40012", cell(4, 1, sum)),
+        ("1,1 FOUT 40001 40012 10", cell(1, 1, out)),
+        ("1,2 MBIT 5 40011 1", cell(1, 2, set_bit)),
+        ("1,1 SENS 1 30001 100", cell(1, 1, tell_bit)),
+        ("5,3 XOR 30001 40002 3", cell(5, 3, exclusive)),
     ]
 }
 
 #[test]
 fn pieces_stand_for_cells_and_shorts(rt: HostRuntime) {
     for (text, piece) in relays() {
+        assert_eq!(rt; read_cell(text), Ok(piece), "{text}");
+    }
+    for (text, piece) in timing() {
         assert_eq!(rt; read_cell(text), Ok(piece), "{text}");
     }
     for (text, piece) in blocks() {
