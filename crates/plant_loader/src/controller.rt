@@ -1,5 +1,5 @@
 //! The table of a controller apart from the pieces of its networks.
-ghost use Rattle.std.specs.Prelude.{◌≡◌, ◌≤◌, length, map, option_map, IfOk};
+ghost use Rattle.std.specs.Prelude.{◌≡◌, ◌≢◌, Err, ◌≤◌, length, map, option_map, IfOk};
 ghost use Rattle.toml.specs.View.{view, items_view, table_view};
 ghost use Rattle.plant_loader.specs.Counts.{sizes_of};
 ghost use Rattle.plant_loader.specs.Refusals.{Gives};
@@ -18,7 +18,8 @@ use toml::{Table, Value};
 /// How many references of each kind the controller has.
 #[tactic(auto, unfolding(crate::specs::Controller::sizes_at))]
 pub fn counts_at(table: &Table) -> Result<Counts, LoadEnd>
-    ensures { Gives sizes_of result (sizes_at (table_view table.now)) }
+    ensures read { Gives sizes_of result (sizes_at (table_view table.now)) }
+    ensures no_memory { result ≢ Err LoadEnd.NoMemory }
 {
     let Some(coils) = discrete_size_at(table, "coils") else {
         return Err(not_built());
@@ -70,7 +71,8 @@ pub fn has_first_order(table: &Table) -> bool
 
 #[tactic(auto, unfolding(crate::specs::Controller::panel_item))]
 fn panel_item(counts: Counts, value: &Value) -> Result<Ref, LoadEnd>
-    ensures { Gives (λ at. at) result (panel_item (sizes_of counts) (view value.now)) }
+    ensures read { Gives (λ at. at) result (panel_item (sizes_of counts) (view value.now)) }
+    ensures no_memory { result ≢ Err LoadEnd.NoMemory }
 {
     let Some(text) = value.as_str() else {
         return Err(not_built());
