@@ -1,11 +1,11 @@
 -- Requests that write coils, behind their function code.
-use Rattle.std.proofs.Common.{◌≡◌, ◌≢◌, ℕ, zero, suc, ◌+◌, ◌*◌, ◌/◌, ◌≤◌, Bool, List, [], ◌∷◌, ◌++◌, length, take, drop, Ok, refl, ap, subst, sym, ◌∙◌, arith}
+use Rattle.std.proofs.Common.{◌≡◌, ◌≢◌, ℕ, ◌*◌, ◌≤◌, Bool, List, ◌∷◌, ◌++◌, length, take, drop, Ok, refl, ap, subst, sym, ◌∙◌, arith}
 use Rattle.std.proofs.lemmas.List.{take_at, take-append-drop, length-append, length-take, length-drop}
 use Rattle.modbus_pdu.specs.Bytes.{word_bytes, bytes_for, packed, unpacked, counted_bits}
 use Rattle.modbus_pdu.specs.Spelling.{SpellsData, IsUpTo}
 use Rattle.modbus_pdu.specs.Decoding.{DecodesData}
 use Rattle.modbus_pdu.specs.declared.request.Request.{Request}
-use Rattle.modbus_pdu.specs.declared.request.Request.TheVariants.{ReadCoils, ReadInputs, ReadRegisters, ReadInputRegisters, WriteCoil, WriteRegister, Echo, Stats, WriteCoils, WriteRegisters, Mask, ReadWrite}
+use Rattle.modbus_pdu.specs.declared.request.Request.TheVariants.{WriteCoils}
 use Rattle.modbus_pdu.proofs.Bytes.{IsBytes, Counts, counts_one, counted_fits}
 use Rattle.modbus_pdu.proofs.Packing.{length-packed, length-unpacked, packed-unpacked, unpacked-packed}
 
@@ -24,15 +24,6 @@ coils_fit fields a q x e address bits s =
     let spare = s.form.0 in
     let one = counts_one fields address (length bits) a q (packed (bytes_for (length bits)) (bits ++ spare)) x (counted_packed fields address bits spare s.form.2) e in
     (one.0, one.1, one.2)
-
--- No coils are written where quantity or count do not fit.
-pub coils_unfit : (fields : List ℕ) (a q : ℕ) (x : List ℕ) → Counts fields a q x → (IsUpTo 1968 q → length x ≢ bytes_for q) → (request : Request) → ¬ SpellsData 15 fields request
-coils_unfit fields a q x e unfit (WriteCoils address bits) s =
-    let fit = coils_fit fields a q x e address bits s in
-    let range = s.range in
-    let quantity : length bits ≡ q = fit.1 in
-    unfit (omega arith, omega arith) (ap length (sym fit.2) ∙ length-packed (bytes_for (length bits)) (bits ++ s.form.0) ∙ ap bytes_for quantity)
-coils_unfit fields a q x e unfit _ s = absurd (omega arith)
 
 -- The coils that bytes write.
 pub coils_there : (fields : List ℕ) (a q : ℕ) (x : List ℕ) → IsBytes fields → Counts fields a q x → IsUpTo 1968 q → length x ≡ bytes_for q → SpellsData 15 fields (WriteCoils a (take q (unpacked x)))

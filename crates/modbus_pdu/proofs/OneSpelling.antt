@@ -1,13 +1,13 @@
 -- Bytes spell one request, and a reply has one spelling.
 use Rattle.std.specs.Prelude.{if◌then◌else◌}
-use Rattle.std.proofs.Common.{◌≡◌, ℕ, ◌+◌, ◌*◌, Bool, true, false, List, [], ◌∷◌, ◌++◌, length, refl, ap, sym, ◌∙◌, arith}
-use Rattle.modbus_pdu.specs.Bytes.{word_bytes, words_bytes, packed, unpacked, bytes_for, counted_words}
+use Rattle.std.proofs.Common.{◌≡◌, ℕ, Bool, true, false, List, [], ◌∷◌, ◌++◌, length, refl, sym, ◌∙◌, arith}
+use Rattle.modbus_pdu.specs.Bytes.{word_bytes, words_bytes, packed, bytes_for}
 use Rattle.modbus_pdu.specs.Spelling.{Spells, SpellsData, SpellsReply, IsEchoed}
 use Rattle.modbus_pdu.specs.declared.request.Request.{Request}
 use Rattle.modbus_pdu.specs.declared.request.Request.TheVariants.{ReadCoils, ReadInputs, ReadRegisters, ReadInputRegisters, WriteCoil, WriteRegister, Echo, Stats, WriteCoils, WriteRegisters, Mask, ReadWrite}
 use Rattle.modbus_pdu.specs.declared.reply.Reply.{Reply}
 use Rattle.modbus_pdu.specs.declared.reply.Reply.TheVariants as replies
-use Rattle.modbus_pdu.proofs.Bytes.{word_is, words_is, length-words_bytes, paired}
+use Rattle.modbus_pdu.proofs.Bytes.{word_is, words_is}
 use Rattle.modbus_pdu.proofs.Coils.{counted_packed, coils_only}
 use Rattle.modbus_pdu.proofs.Registers.{counted_registers}
 use Rattle.modbus_pdu.proofs.ReadWrites.{counted_both, both_one}

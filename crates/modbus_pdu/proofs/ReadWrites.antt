@@ -1,11 +1,11 @@
 -- Requests that write and then read registers, behind their function code.
-use Rattle.std.proofs.Common.{◌≡◌, ◌≢◌, ℕ, suc, ◌^◌, ◌<◌, get_or, ◌*◌, ◌≤◌, List, [], ◌∷◌, ◌++◌, length, Ok, Err, refl, ap, subst, sym, ◌∙◌, arith}
+use Rattle.std.proofs.Common.{◌≡◌, ◌≢◌, ℕ, suc, ◌^◌, ◌<◌, get_or, ◌*◌, List, ◌∷◌, ◌++◌, length, Ok, Err, refl, ap, subst, sym, ◌∙◌, arith}
 use Rattle.modbus_pdu.specs.Bytes.{word_bytes, words_bytes, counted_words}
 use Rattle.modbus_pdu.specs.Spelling.{SpellsData, IsUpTo}
 use Rattle.modbus_pdu.specs.Decoding.{DecodesData}
 use Rattle.modbus_pdu.specs.declared.end.DecodeEnd.TheVariants.{NoMemory}
 use Rattle.modbus_pdu.specs.declared.request.Request.{Request}
-use Rattle.modbus_pdu.specs.declared.request.Request.TheVariants.{ReadCoils, ReadInputs, ReadRegisters, ReadInputRegisters, WriteCoil, WriteRegister, Echo, Stats, WriteCoils, WriteRegisters, Mask, ReadWrite}
+use Rattle.modbus_pdu.specs.declared.request.Request.TheVariants.{ReadWrite}
 use Rattle.modbus_pdu.proofs.Bytes.{IsBytes, word_is, length-words_bytes, words_is, paired, words_paired}
 use Rattle.modbus_pdu.proofs.Registers.{counted_is}
 
@@ -34,16 +34,6 @@ counted_both fields a q w words e = e ∙ ap (λ (rest : List ℕ). word_bytes a
 pub no_read_write : (fields : List ℕ) → ((read quantity write count : ℕ) (rest : List ℕ) → fields ≢ word_bytes read ++ word_bytes quantity ++ word_bytes write ++ word_bytes count ++ (length rest ∷ rest)) → (request : Request) → ¬ SpellsData 23 fields request
 no_read_write fields none (ReadWrite a q w words) s = none a q w (length words) _ (counted_both fields a q w words s.form)
 no_read_write fields none _ s = absurd (omega arith)
-
--- No registers are written and read where a quantity or the count does not fit.
-pub read_write_unfit : (fields : List ℕ) (a q w n : ℕ) (x : List ℕ) → CountsBoth fields a q w n x → (IsUpTo 125 q → IsUpTo 121 n → length x ≢ 2 * n) → (request : Request) → ¬ SpellsData 23 fields request
-read_write_unfit fields a q w n x e unfit (ReadWrite read quantity write words) s =
-    let one = both_one fields read quantity write (length words) a q w n (words_bytes words) x (counted_both fields read quantity write words s.form) e in
-    let first : quantity ≡ q = one.1 in
-    let second : length words ≡ n = one.3 in
-    let range = s.range in
-    unfit (omega arith, omega arith) (omega arith, omega arith) (ap length (sym one.4) ∙ length-words_bytes words ∙ ap (λ (k : ℕ). 2 * k) second)
-read_write_unfit fields a q w n x e unfit _ s = absurd (omega arith)
 
 -- Registers that were read from the bytes are the request.
 pub read_write_read : (fields : List ℕ) (a q w n : ℕ) (x words : List ℕ) → CountsBoth fields a q w n x → IsUpTo 125 q → IsUpTo 121 n → length x ≡ 2 * n → words_bytes words ≡ x → DecodesData 23 fields (Ok (ReadWrite a q w words))

@@ -1,11 +1,11 @@
 -- Requests that write registers, behind their function code.
-use Rattle.std.proofs.Common.{◌≡◌, ◌≢◌, ℕ, ◌*◌, ◌≤◌, List, [], ◌∷◌, ◌++◌, length, Ok, Err, refl, ap, subst, sym, ◌∙◌, arith}
+use Rattle.std.proofs.Common.{◌≡◌, ◌≢◌, ℕ, ◌*◌, List, ◌∷◌, ◌++◌, length, Ok, Err, refl, ap, sym, ◌∙◌, arith}
 use Rattle.modbus_pdu.specs.Bytes.{word_bytes, words_bytes, counted_words}
 use Rattle.modbus_pdu.specs.Spelling.{SpellsData, IsUpTo}
 use Rattle.modbus_pdu.specs.Decoding.{DecodesData}
 use Rattle.modbus_pdu.specs.declared.end.DecodeEnd.TheVariants.{NoMemory}
 use Rattle.modbus_pdu.specs.declared.request.Request.{Request}
-use Rattle.modbus_pdu.specs.declared.request.Request.TheVariants.{ReadCoils, ReadInputs, ReadRegisters, ReadInputRegisters, WriteCoil, WriteRegister, Echo, Stats, WriteCoils, WriteRegisters, Mask, ReadWrite}
+use Rattle.modbus_pdu.specs.declared.request.Request.TheVariants.{WriteRegisters}
 use Rattle.modbus_pdu.proofs.Bytes.{IsBytes, Counts, counts_one, counted_fits, length-words_bytes, words_is, paired, words_paired}
 
 -- Words as they are counted.
@@ -20,15 +20,6 @@ counted_registers fields address words e = e ∙ ap (λ (rest : List ℕ). word_
 pub no_registers : (fields : List ℕ) → ((address quantity : ℕ) (rest : List ℕ) → fields ≢ word_bytes address ++ word_bytes quantity ++ (length rest ∷ rest)) → (request : Request) → ¬ SpellsData 16 fields request
 no_registers fields none (WriteRegisters address words) s = none address (length words) _ (counted_registers fields address words s.form)
 no_registers fields none _ s = absurd (omega arith)
-
--- No registers are written where quantity or count do not fit.
-pub registers_unfit : (fields : List ℕ) (a q : ℕ) (x : List ℕ) → Counts fields a q x → (IsUpTo 123 q → length x ≢ 2 * q) → (request : Request) → ¬ SpellsData 16 fields request
-registers_unfit fields a q x e unfit (WriteRegisters address words) s =
-    let one = counts_one fields address (length words) a q (words_bytes words) x (counted_registers fields address words s.form) e in
-    let quantity : length words ≡ q = one.1 in
-    let range = s.range in
-    unfit (omega arith, omega arith) (ap length (sym one.2) ∙ length-words_bytes words ∙ ap (λ (n : ℕ). 2 * n) quantity)
-registers_unfit fields a q x e unfit _ s = absurd (omega arith)
 
 -- Registers that were read from the bytes are the request.
 pub registers_read : (fields : List ℕ) (a q : ℕ) (x words : List ℕ) → Counts fields a q x → IsUpTo 123 q → length x ≡ 2 * q → words_bytes words ≡ x → DecodesData 16 fields (Ok (WriteRegisters a words))

@@ -1,9 +1,9 @@
 -- Which replies with bits or words the bytes spell.
-use Rattle.std.proofs.Common.{◌≡◌, ◌≢◌, ℕ, zero, suc, ◌+◌, ◌-◌, ◌*◌, ◌^◌, ◌<◌, ◌≤◌, Bool, true, false, List, [], ◌∷◌, ◌++◌, length, take, drop, replicate, get_or, Ok, Err, refl, ap, subst, sym, ◌∙◌, arith}
+use Rattle.std.proofs.Common.{◌≡◌, ◌≢◌, ℕ, zero, suc, ◌+◌, ◌-◌, ◌*◌, ◌^◌, ◌<◌, ◌≤◌, Bool, false, List, [], ◌∷◌, ◌++◌, length, take, drop, replicate, get_or, Ok, Err, refl, ap, subst, sym, ◌∙◌, arith}
 use Rattle.std.specs.Prelude.{◌⊎◌, ◌==◌, if◌then◌else◌}
 use Rattle.std.proofs.lemmas.List.{take_at, drop_at, take-append-drop, length-append, length-take, length-drop, length-replicate, get_or-drop}
 use Rattle.modbus_pdu.specs.Bytes.{word_bytes, words_bytes, packed, unpacked, bytes_for, clear_spare, counted_bits, counted_words}
-use Rattle.modbus_pdu.specs.Spelling.{SpellsReply, IsUpTo}
+use Rattle.modbus_pdu.specs.Spelling.{IsUpTo}
 use Rattle.modbus_pdu.specs.Decoding.{Finds, IsBits, IsWords, IsStats}
 use Rattle.modbus_pdu.specs.declared.end.BadReply.TheVariants.{NoMemory}
 use Rattle.modbus_pdu.specs.declared.reply.Reply.{Reply}
@@ -60,15 +60,6 @@ bits_behind f code bytes bits spare same e = rw (length-packed (bytes_for (lengt
 pub no_bits : (f q : ℕ) (bytes : List ℕ) → ((rest : List ℕ) → bytes ≢ f ∷ length rest ∷ rest) → (reply : Reply) → ¬ IsBits f q bytes reply
 no_bits f q bytes none (replies.Bits code bits) h = none _ (bits_behind f code bytes bits (clear_spare (length bits)) h.0.0 h.1.form)
 no_bits f q bytes none _ h = absurd h
-
--- No bits are told where quantity and count do not fit.
-pub bits_unfit : (f q : ℕ) (bytes x : List ℕ) → Behind f bytes x → (IsUpTo 2000 q → length x ≢ bytes_for q) → (reply : Reply) → ¬ IsBits f q bytes reply
-bits_unfit f q bytes x e unfit (replies.Bits code bits) h =
-    let rest = behind_one f f bytes (packed (bytes_for (length bits)) (bits ++ clear_spare (length bits))) x (bits_behind f code bytes bits (clear_spare (length bits)) h.0.0 h.1.form) e in
-    let range = h.1.range.1 in
-    let long : length bits ≡ q = h.0.1 in
-    unfit (omega arith, omega arith) (ap length (sym rest) ∙ length-packed (bytes_for (length bits)) (bits ++ clear_spare (length bits)) ∙ ap bytes_for long)
-bits_unfit f q bytes x e unfit _ h = absurd h
 
 -- The bits of a reply and its spare bits are those in the bytes.
 bits_are : (f q : ℕ) (bytes x : List ℕ) → Behind f bytes x → (code : ℕ) (bits : List Bool) → IsBits f q bytes (replies.Bits code bits) → bits ++ clear_spare (length bits) ≡ unpacked x

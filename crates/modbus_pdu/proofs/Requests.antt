@@ -7,7 +7,7 @@ use Rattle.modbus_pdu.specs.Decoding.{DecodesData}
 use Rattle.modbus_pdu.specs.declared.end.DecodeEnd.{DecodeEnd}
 use Rattle.modbus_pdu.specs.declared.end.DecodeEnd.TheVariants.{Exception, NoMemory}
 use Rattle.modbus_pdu.specs.declared.request.Request.{Request}
-use Rattle.modbus_pdu.specs.declared.request.Request.TheVariants.{ReadCoils, ReadInputs, ReadRegisters, ReadInputRegisters, WriteCoil, WriteRegister, Echo, Stats, WriteCoils, WriteRegisters, Mask, ReadWrite}
+use Rattle.modbus_pdu.specs.declared.request.Request.TheVariants.{Echo, Stats}
 
 -- A diagnostic request has two numbers.
 pub no_diagnosis : (fields : List ℕ) → ((first second : ℕ) → fields ≢ word_bytes first ++ word_bytes second) → (request : Request) → ¬ SpellsData 8 fields request
