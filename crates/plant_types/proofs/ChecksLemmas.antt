@@ -15,7 +15,7 @@ use Rattle.plant_types.specs.declared.element.MoveOp.TheVariants as moves
 use Rattle.plant_types.specs.declared.element.MatrixOp.{MatrixOp}
 use Rattle.plant_types.specs.declared.element.MatrixOp.TheVariants as matrices
 use Rattle.plant_types.specs.declared.element.Element.{Element}
-use Rattle.plant_types.specs.declared.element.Element.TheVariants.{Open, Closed, Rise, Fall, Coil, Latch, Wire, Timer, Counter, Math, Move, Matrix}
+use Rattle.plant_types.specs.declared.element.Element.TheVariants.{Open, Closed, Rise, Fall, Coil, Latch, Wire, Timer, Counter, Math, Move, Matrix, Skip, Label, Call, Return, Mstr}
 use Rattle.plant_types.specs.declared.network.Cell.{Cell}
 use Rattle.plant_types.specs.declared.network.Network.{Network}
 use Rattle.plant_types.specs.declared.network.Segment.{Segment}
@@ -118,6 +118,10 @@ operand_alone : (operand : Operand) (count : ℕ) (rest : List Named) → AreAlo
 operand_alone (Const n) count rest h = h
 operand_alone (At at) count rest h = (tt, h)
 
+operand_only : (operand : Operand) (count : ℕ) → AreAlone (named_in operand count)
+operand_only (Const n) count = tt
+operand_only (At at) count = (tt, tt)
+
 math_alone : (op : MathOp) (top mid : Operand) (low : Ref) → AreAlone (math_names op top mid low)
 math_alone math.Add top mid low = operand_alone top 1 _ (operand_alone mid 1 _ (tt, tt))
 math_alone math.Sub top mid low = operand_alone top 1 _ (operand_alone mid 1 _ (tt, tt))
@@ -156,6 +160,11 @@ names_alone (Counter up preset acc) = operand_alone preset 1 _ (tt, tt)
 names_alone (Math op top mid low) = math_alone op top mid low
 names_alone (Move op top mid length) = move_alone op top mid length
 names_alone (Matrix op top mid length) = matrix_alone op top mid length
+names_alone (Skip count) = operand_only count 1
+names_alone (Label number) = tt
+names_alone (Call number) = operand_only number 1
+names_alone Return = tt
+names_alone (Mstr control area length) = (tt, (tt, tt))
 
 -- a discrete that is named alone, with room, is found
 discrete_alone : (sizes : Sizes) (at : Ref) (count : ℕ) → count ≡ 1 → is_discrete at.kind ≡ true → has_run sizes at count ≡ true → HasDiscrete (cleared sizes) at

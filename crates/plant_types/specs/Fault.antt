@@ -45,11 +45,28 @@ fault_name faults.NotBuilt = codes "NotBuilt"
 abbrev pub fault_text : PlantFault → List ℕ
 fault_text fault = decimal (fault_number fault) ++ codes " " ++ fault_name fault
 
--- A place as its words and numbers, which are those of its controller, segment, network and cell. This project's own.
+-- A place as the names and numbers on the way to it. This project's own.
 abbrev pub text_of : Part → ℕ → ℕ → ℕ → ℕ → List ℕ
-text_of parts.Plant controller segment network cell = codes "plant"
-text_of parts.Cell controller segment network cell =
-    (codes "controller " ++ decimal controller ++ codes " segment " ++ decimal segment) ++ (codes " network " ++ decimal network ++ codes " cell " ++ decimal cell)
+text_of parts.Plant i j k m = codes "plant"
+text_of parts.Net i j k m = codes "net"
+text_of parts.Controller i j k m = codes "controller " ++ decimal i
+text_of parts.Drop i j k m = codes "controller " ++ decimal i ++ codes " drop " ++ decimal j
+text_of parts.Module i j k m =
+    codes "controller " ++ decimal i ++ codes " drop " ++ decimal j ++ codes " module " ++ decimal k
+text_of parts.Script i j k m =
+    codes "controller " ++ decimal i ++ codes " drop " ++ decimal j ++ codes " script " ++ decimal k
+text_of parts.Segment i j k m = codes "controller " ++ decimal i ++ codes " segment " ++ decimal j
+text_of parts.Cell i j k m =
+    (codes "controller " ++ decimal i ++ codes " segment " ++ decimal j) ++ (codes " network " ++ decimal k ++ codes " cell " ++ decimal m)
+text_of parts.Order i j k m = codes "controller " ++ decimal i ++ codes " order " ++ decimal j
+text_of parts.Panel i j k m = codes "controller " ++ decimal i ++ codes " panel " ++ decimal j
+text_of parts.Host i j k m = codes "host " ++ decimal i
+text_of parts.HostRequest i j k m = codes "host " ++ decimal i ++ codes " request " ++ decimal j
+
+-- The number at an index of a place, 0 where there is none. This project's own.
+abbrev pub number_at : Place → ℕ → ℕ
+number_at place index = slice_index_or place.at index 0
 
 abbrev pub place_text : Place → List ℕ
-place_text place = text_of place.part (slice_index_or place.at 0 0) (slice_index_or place.at 1 0) (slice_index_or place.at 2 0) (slice_index_or place.at 3 0)
+place_text place =
+    text_of place.part (number_at place 0) (number_at place 1) (number_at place 2) (number_at place 3)

@@ -2,7 +2,7 @@
 use Rattle.std.specs.Prelude.{ℕ, ◌+◌, Bool, ◌&&◌, ◌||◌, ◌==◌, nat_le, nat_lt, Option, Some, None, is_some}
 use Rattle.plant_types.specs.declared.reference.Ref.{Ref}
 use Rattle.plant_types.specs.declared.element.Element.{Element}
-use Rattle.plant_types.specs.declared.element.Element.TheVariants.{Open, Closed, Rise, Fall, Coil, Latch, Wire, Timer, Counter, Math, Move, Matrix}
+use Rattle.plant_types.specs.declared.element.Element.TheVariants.{Open, Closed, Rise, Fall, Coil, Latch, Wire, Timer, Counter, Math, Move, Matrix, Skip, Label, Call, Return, Mstr}
 use Rattle.plant_types.specs.declared.network.Cell.{Cell}
 use Rattle.plant_types.specs.declared.network.Short.{Short}
 
@@ -20,6 +20,11 @@ node_count (Counter up preset acc) = 2
 node_count (Math op top mid low) = 3
 node_count (Move op top mid length) = 3
 node_count (Matrix op top mid length) = 3
+node_count (Skip count) = 1
+node_count (Label number) = 1
+node_count (Call number) = 2
+node_count Return = 1
+node_count (Mstr control area length) = 3
 
 -- The coil that an element drives. Modicon Ladder Logic Block Library User Guide.
 abbrev pub driven_by : Element → Option Ref

@@ -12,7 +12,7 @@ use Rattle.plant_types.specs.declared.element.MoveOp.TheVariants as moves
 use Rattle.plant_types.specs.declared.element.MatrixOp.{MatrixOp}
 use Rattle.plant_types.specs.declared.element.MatrixOp.TheVariants as matrices
 use Rattle.plant_types.specs.declared.element.Element.{Element}
-use Rattle.plant_types.specs.declared.element.Element.TheVariants.{Open, Closed, Rise, Fall, Coil, Latch, Wire, Timer, Counter, Math, Move, Matrix}
+use Rattle.plant_types.specs.declared.element.Element.TheVariants.{Open, Closed, Rise, Fall, Coil, Latch, Wire, Timer, Counter, Math, Move, Matrix, Skip, Label, Call, Return, Mstr}
 use Rattle.plant_types.specs.Reference.{is_coil, is_discrete, is_register, is_holding}
 use Rattle.plant_types.specs.Store.{Contents, word_at, HasDiscrete, HasRegisters}
 
@@ -106,6 +106,11 @@ names_of (Counter up preset acc) = named_in preset 1 ++ target acc 1 ∷ []
 names_of (Math op top mid low) = math_names op top mid low
 names_of (Move op top mid length) = move_names op top mid length
 names_of (Matrix op top mid length) = matrix_names op top mid length
+names_of (Skip count) = named_in count 1
+names_of (Label number) = []
+names_of (Call number) = named_in number 1
+names_of Return = []
+names_of (Mstr control area length) = target control 9 ∷ target area length ∷ []
 
 -- The first operand of a matrix block is a register; MBIT and SENS take a constant too. This project's own table of operands.
 abbrev pub is_matrix_operand : MatrixOp → Operand → Bool
@@ -135,6 +140,10 @@ has_values (Counter up preset acc) = is_constant preset
 has_values (Math op top mid low) = is_constant top && is_constant mid
 has_values (Move op top mid length) = is_length 255 length
 has_values (Matrix op top mid length) = is_constant top && is_length 100 length
+has_values (Skip count) = is_constant count
+has_values (Label number) = is_length 255 number
+has_values (Call number) = is_constant number
+has_values (Mstr control area length) = is_length 100 length
 has_values _ = true
 
 -- An element's references are of the kinds that it takes. This project's own table of operands.

@@ -1,10 +1,14 @@
 //! Copies of values that own memory.
 ghost use Rattle.std.specs.Prelude.{◌≡◌, IfOk};
 
+use crate::drops::{IoDrop, Module, ModuleKind, ScriptRow};
 use crate::element::{Element, MathOp, MatrixOp, MoveOp, Operand, Unit};
+use crate::fault::{Part, Place, PlantFault};
 use crate::list::List;
+use crate::net::{Fate, HostAsk, HostPlan, NetPlan};
 use crate::network::{Cell, Network, Segment, Short};
-use crate::plan::{ControllerPlan, Plant};
+use crate::plan::{ControllerPlan, OrderRow, Plant};
+use crate::power::NodePower;
 use crate::reference::{Ref, RefKind};
 use crate::words::{Block, Pdu, Words};
 use std::alloc::{AllocError, Global};
@@ -93,6 +97,54 @@ impl Copied for Short {
     }
 }
 
+impl Copied for OrderRow {
+    fn copied(&self, _: Global) -> Result<Self, AllocError> {
+        Ok(*self)
+    }
+}
+
+impl Copied for ModuleKind {
+    fn copied(&self, _: Global) -> Result<Self, AllocError> {
+        Ok(*self)
+    }
+}
+
+impl Copied for Module {
+    fn copied(&self, _: Global) -> Result<Self, AllocError> {
+        Ok(*self)
+    }
+}
+
+impl Copied for Fate {
+    fn copied(&self, _: Global) -> Result<Self, AllocError> {
+        Ok(*self)
+    }
+}
+
+impl Copied for NodePower {
+    fn copied(&self, _: Global) -> Result<Self, AllocError> {
+        Ok(*self)
+    }
+}
+
+impl Copied for PlantFault {
+    fn copied(&self, _: Global) -> Result<Self, AllocError> {
+        Ok(*self)
+    }
+}
+
+impl Copied for Part {
+    fn copied(&self, _: Global) -> Result<Self, AllocError> {
+        Ok(*self)
+    }
+}
+
+impl Copied for Place {
+    fn copied(&self, _: Global) -> Result<Self, AllocError> {
+        Ok(*self)
+    }
+}
+
 impl<T: Copied + Drop> Copied for List<T> {
     fn copied(&self, alloc: Global) -> Result<Self, AllocError> {
         let mut copy = List::new(alloc);
@@ -138,6 +190,57 @@ impl Copied for Segment {
     }
 }
 
+impl Copied for ScriptRow {
+    fn copied(&self, alloc: Global) -> Result<Self, AllocError> {
+        match self {
+            ScriptRow::Silent => Ok(ScriptRow::Silent),
+            ScriptRow::Row(words) => Ok(ScriptRow::Row(words.copied(alloc)?)),
+        }
+    }
+}
+
+impl Copied for IoDrop {
+    fn copied(&self, alloc: Global) -> Result<Self, AllocError> {
+        Ok(IoDrop {
+            number: self.number,
+            modules: self.modules.copied(alloc)?,
+            script: self.script.copied(alloc)?,
+        })
+    }
+}
+
+impl Copied for HostAsk {
+    fn copied(&self, alloc: Global) -> Result<Self, AllocError> {
+        Ok(HostAsk {
+            hold: self.hold,
+            to: self.to,
+            pdu: self.pdu.copied(alloc)?,
+        })
+    }
+}
+
+impl Copied for HostPlan {
+    fn copied(&self, alloc: Global) -> Result<Self, AllocError> {
+        Ok(HostPlan {
+            node: self.node,
+            requests: self.requests.copied(alloc)?,
+        })
+    }
+}
+
+impl Copied for NetPlan {
+    fn copied(&self, alloc: Global) -> Result<Self, AllocError> {
+        Ok(NetPlan {
+            members: self.members.copied(alloc)?,
+            fates: self.fates.copied(alloc)?,
+            answer: self.answer,
+            rotations: self.rotations,
+            rounds: self.rounds,
+            holds: self.holds,
+        })
+    }
+}
+
 impl Copied for ControllerPlan {
     fn copied(&self, alloc: Global) -> Result<Self, AllocError> {
         Ok(ControllerPlan {
@@ -147,6 +250,8 @@ impl Copied for ControllerPlan {
             input_registers: self.input_registers,
             registers: self.registers,
             panel: self.panel.copied(alloc)?,
+            orders: self.orders.copied(alloc)?,
+            drops: self.drops.copied(alloc)?,
             segments: self.segments.copied(alloc)?,
         })
     }
@@ -156,7 +261,10 @@ impl Copied for Plant {
     fn copied(&self, alloc: Global) -> Result<Self, AllocError> {
         Ok(Plant {
             scan_time: self.scan_time,
+            watchdog: self.watchdog,
+            net: self.net.copied(alloc)?,
             controllers: self.controllers.copied(alloc)?,
+            hosts: self.hosts.copied(alloc)?,
         })
     }
 }

@@ -126,4 +126,21 @@ pub enum Element {
         /// Registers of the matrix, 1 to 100.
         length: u16,
     },
+    /// SKP: skips the rest of its network and further networks.
+    Skip(Operand),
+    /// LAB: a subroutine begins at its network. Its number, 1 to 255.
+    Label(u16),
+    /// JSR: solves the subroutine of a label.
+    Call(Operand),
+    /// RET: ends a subroutine.
+    Return,
+    /// MSTR: a message on Modbus Plus.
+    Mstr {
+        /// The first of the nine registers of its control block.
+        control: Ref,
+        /// The first register of its data area.
+        area: Ref,
+        /// Registers of the data area, 1 to 100.
+        length: u16,
+    },
 }

@@ -86,8 +86,28 @@ impl fmt::Display for PlantFault {
 pub enum Part {
     /// The file as a whole.
     Plant,
-    /// A piece of a network's text: controller, segment, network and cell.
+    /// The table of the network.
+    Net,
+    /// A controller's table.
+    Controller,
+    /// A drop of a controller.
+    Drop,
+    /// A module of a drop.
+    Module,
+    /// A script row of a drop.
+    Script,
+    /// A segment of a controller.
+    Segment,
+    /// A piece of a network's text.
     Cell,
+    /// An order row of a controller.
+    Order,
+    /// A panel reference of a controller.
+    Panel,
+    /// A host's table.
+    Host,
+    /// A request of a host.
+    HostRequest,
 }
 
 /// A place in a plant file: the numbers of its text in order, from 1 in file order, 0 where unused.
@@ -110,13 +130,23 @@ impl fmt::Display for Place {
     ghost output = { λ place. Some (place_text place) };
 
     fn fmt<W: fmt::Write>(&self, f: &mut fmt::Formatter<W>) -> fmt::Result {
-        let [controller, segment, network, cell] = self.at;
+        let [first, second, third, fourth] = self.at;
         match self.part {
             Part::Plant => write!(f, "plant"),
+            Part::Net => write!(f, "net"),
+            Part::Controller => write!(f, "controller {first}"),
+            Part::Drop => write!(f, "controller {first} drop {second}"),
+            Part::Module => write!(f, "controller {first} drop {second} module {third}"),
+            Part::Script => write!(f, "controller {first} drop {second} script {third}"),
+            Part::Segment => write!(f, "controller {first} segment {second}"),
             Part::Cell => {
-                write!(f, "controller {controller} segment {segment}")?;
-                write!(f, " network {network} cell {cell}")
+                write!(f, "controller {first} segment {second}")?;
+                write!(f, " network {third} cell {fourth}")
             }
+            Part::Order => write!(f, "controller {first} order {second}"),
+            Part::Panel => write!(f, "controller {first} panel {second}"),
+            Part::Host => write!(f, "host {first}"),
+            Part::HostRequest => write!(f, "host {first} request {second}"),
         }
     }
 }

@@ -3,10 +3,12 @@
 
 pub mod checks;
 pub mod copied;
+pub mod drops;
 pub mod element;
 pub mod fault;
 pub mod list;
 pub mod map_ram;
+pub mod net;
 pub mod network;
 pub mod plan;
 pub mod power;
@@ -17,12 +19,14 @@ pub mod words;
 
 pub use checks::{checked_plans_find_all, kept_stores_find_all};
 pub use copied::Copied;
+pub use drops::{IoDrop, Module, ModuleKind, ScriptRow};
 pub use element::{Element, MathOp, MatrixOp, MoveOp, Operand, Unit};
 pub use fault::{Part, Place, PlantFault};
 pub use list::List;
 pub use map_ram::{MapRam, discretes_follow, starts_cleared};
+pub use net::{Fate, HostAsk, HostPlan, NetPlan};
 pub use network::{Cell, Network, Segment, Short};
-pub use plan::{ControllerPlan, Plant};
+pub use plan::{ControllerPlan, OrderRow, Plant};
 pub use power::NodePower;
 pub use reference::{Ref, RefKind};
 pub use runs::{load_words, ref_after, store_words};

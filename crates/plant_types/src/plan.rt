@@ -1,7 +1,23 @@
 //! The plan of a plant.
+use crate::drops::IoDrop;
 use crate::list::List;
+use crate::net::{HostPlan, NetPlan};
 use crate::network::Segment;
 use crate::reference::Ref;
+
+/// A row of a controller's order of solve: what one step of its scan reads, solves and writes.
+/// Its form is this project's own.
+#[derive(Clone, Copy, Debug, PartialEq, Eq)]
+pub struct OrderRow {
+    /// The segment that is solved, from 1.
+    pub segment: u16,
+    /// The 0x or 1x reference that has to be on for the segment to be solved.
+    pub control: Option<Ref>,
+    /// The number of the drop whose inputs are read before.
+    pub input: Option<u8>,
+    /// The number of the drop whose outputs are written afterwards.
+    pub output: Option<u8>,
+}
 
 /// One controller: how many references it has, what its panel shows and what it solves.
 #[derive(Drop)]
@@ -18,13 +34,22 @@ pub struct ControllerPlan {
     pub registers: u16,
     /// The references that a panel line shows, in its order.
     pub panel: List<Ref>,
+    /// The order of solve, up to 32 rows.
+    pub orders: List<OrderRow>,
+    /// Its drops of input and output modules, up to 32.
+    pub drops: List<IoDrop>,
+    /// Up to 32 segments; the last one has the subroutines where it has a LAB.
     pub segments: List<Segment>,
 }
 
-/// A plant: its controllers by rising node.
+/// A plant: its controllers and hosts by rising node, and the network that joins them.
 #[derive(Drop)]
 pub struct Plant {
     /// How far the clock goes on at each scan, 1 to 1000 ticks of 10 ms.
     pub scan_time: u32,
+    /// How many networks a scan may begin, 1 to 10,000.
+    pub watchdog: u32,
+    pub net: NetPlan,
     pub controllers: List<ControllerPlan>,
+    pub hosts: List<HostPlan>,
 }
