@@ -10,3 +10,4 @@ pub mod Operands
 pub mod Network
 pub mod Checks
 pub mod Effect
+pub mod Plain
