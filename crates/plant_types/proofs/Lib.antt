@@ -4,3 +4,4 @@ pub mod SizesLemmas
 pub mod ChecksLemmas
 pub mod PartLemmas
 pub mod KeptLemmas
+pub mod DiscretesLemmas

@@ -11,3 +11,4 @@ pub mod Network
 pub mod Checks
 pub mod Effect
 pub mod Plain
+pub mod Discretes
