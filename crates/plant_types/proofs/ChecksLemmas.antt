@@ -8,14 +8,11 @@ use Rattle.plant_types.specs.declared.reference.RefKind.{RefKind}
 use Rattle.plant_types.specs.declared.reference.RefKind.TheVariants as kinds
 use Rattle.plant_types.specs.declared.element.Operand.{Operand}
 use Rattle.plant_types.specs.declared.element.Operand.TheVariants.{Const, At}
-use Rattle.plant_types.specs.declared.element.MathOp.{MathOp}
-use Rattle.plant_types.specs.declared.element.MathOp.TheVariants as math
-use Rattle.plant_types.specs.declared.element.MoveOp.{MoveOp}
-use Rattle.plant_types.specs.declared.element.MoveOp.TheVariants as moves
-use Rattle.plant_types.specs.declared.element.MatrixOp.{MatrixOp}
-use Rattle.plant_types.specs.declared.element.MatrixOp.TheVariants as matrices
 use Rattle.plant_types.specs.declared.element.Element.{Element}
-use Rattle.plant_types.specs.declared.element.Element.TheVariants.{Open, Closed, Rise, Fall, Coil, Latch, Wire, Timer, Counter, Math, Move, Matrix, Skip, Label, Call, Return, Mstr}
+use Rattle.plant_types.specs.declared.slot.Slot.{Slot}
+use Rattle.plant_types.specs.declared.slot.Slot.TheVariants.{Discrete, Driven, Number, Source, Target, Constant}
+use Rattle.plant_types.specs.Slots.{run_count, slots_of}
+use Rattle.plant_types.specs.Elements.{name_of, operands_of, length_of}
 use Rattle.plant_types.specs.declared.network.Cell.{Cell}
 use Rattle.plant_types.specs.declared.network.Network.{Network}
 use Rattle.plant_types.specs.declared.network.Segment.{Segment}
@@ -23,7 +20,7 @@ use Rattle.plant_types.specs.declared.plan.ControllerPlan.{ControllerPlan}
 use Rattle.plant_types.specs.Reference.{ref_from, is_coil, is_discrete, is_register, is_holding}
 use Rattle.plant_types.specs.Store.{HasDiscrete, HasRegisters}
 use Rattle.plant_types.specs.Sizes.{Sizes, count_of, has_reference, has_run, discretes_of, cleared}
-use Rattle.plant_types.specs.Operands.{Kind, OnlyCoil, AnyDiscrete, AnyRegister, OnlyHolding, takes, Named, named_in, math_names, move_names, matrix_names, names_of, has_form, has_values, has_kinds, HasKind, HasNamed, HasOperands, HasDiscreteKind, HasPast}
+use Rattle.plant_types.specs.Operands.{Kind, OnlyCoil, AnyDiscrete, AnyRegister, OnlyHolding, takes, Named, coil, discrete, target, named_in, named_as, named_at, named_by, names_of, has_form, has_values, has_kinds, HasKind, HasNamed, HasOperands, HasDiscreteKind, HasPast}
 use Rattle.plant_types.specs.Network.{has_cell_place}
 use Rattle.plant_types.specs.Checks.{has_room, element_passes, has_shape, cell_passes, cells_pass, shorts_pass, network_passes, segment_passes, sizes_of, is_size, is_discrete_size, numbers_pass, EachOfCells, EachOfNetworks, EachOfSegments, HasPanel, are_driven_once, coils_of, CheckedPlansFindAll}
 use Rattle.plant_types.proofs.SizesLemmas.{contains_key-cleared}
@@ -113,58 +110,34 @@ IsAlone OnlyHolding count = Unit {0}
 abbrev AreAlone : List Named → Type 0
 AreAlone names = AllByRecursion (λ named. IsAlone named.kind named.count) names
 
--- so it is by each element, block by block
-operand_alone : (operand : Operand) (count : ℕ) (rest : List Named) → AreAlone rest → AreAlone (named_in operand count ++ rest)
-operand_alone (Const n) count rest h = h
-operand_alone (At at) count rest h = (tt, h)
+-- so is what an operand names
+as_alone : (name : Ref → Named) → ((at : Ref) → IsAlone (name at).kind (name at).count) → (operand : Operand) (rest : List Named) → AreAlone rest → AreAlone (named_as name operand ++ rest)
+as_alone name alone (Const n) rest h = h
+as_alone name alone (At at) rest h = (alone at, h)
 
-operand_only : (operand : Operand) (count : ℕ) → AreAlone (named_in operand count)
-operand_only (Const n) count = tt
-operand_only (At at) count = (tt, tt)
+-- registers have no other
+register_alone : (operand : Operand) (count : ℕ) (rest : List Named) → AreAlone rest → AreAlone (named_in operand count ++ rest)
+register_alone (Const n) count rest h = h
+register_alone (At at) count rest h = (tt, h)
 
-math_alone : (op : MathOp) (top mid : Operand) (low : Ref) → AreAlone (math_names op top mid low)
-math_alone math.Add top mid low = operand_alone top 1 _ (operand_alone mid 1 _ (tt, tt))
-math_alone math.Sub top mid low = operand_alone top 1 _ (operand_alone mid 1 _ (tt, tt))
-math_alone math.Mul top mid low = operand_alone top 1 _ (operand_alone mid 1 _ (tt, tt))
-math_alone math.Div top mid low = operand_alone top 2 _ (operand_alone mid 1 _ (tt, tt))
+-- so it is in each slot
+slot_alone : (length : ℕ) (slot : Slot) (operand : Operand) (rest : List Named) → AreAlone rest → AreAlone (named_at length slot operand ++ rest)
+slot_alone length Discrete operand rest h = as_alone discrete (λ at. refl) operand rest h
+slot_alone length Driven operand rest h = as_alone coil (λ at. refl) operand rest h
+slot_alone length (Number run) operand rest h = register_alone operand (run_count run length) rest h
+slot_alone length (Source run) operand rest h = register_alone operand (run_count run length) rest h
+slot_alone length (Target run) operand rest h = as_alone (λ at. target at (run_count run length)) (λ at. tt) operand rest h
+slot_alone length (Constant most) operand rest h = h
 
-move_alone : (op : MoveOp) (top mid : Ref) (length : ℕ) → AreAlone (move_names op top mid length)
-move_alone moves.RegToTable top mid length = (tt, (tt, tt))
-move_alone moves.TableToReg top mid length = (tt, (tt, tt))
-move_alone moves.TableToTable top mid length = (tt, (tt, tt))
-move_alone moves.Copy top mid length = (tt, (tt, tt))
-move_alone moves.FirstIn top mid length = (tt, (tt, tt))
-move_alone moves.FirstOut top mid length = (tt, (tt, tt))
-move_alone moves.Search top mid length = (tt, (tt, tt))
+-- and in all of them
+named_alone : (length : ℕ) (slots : List Slot) (operands : List Operand) → AreAlone (named_by length slots operands)
+named_alone length [] operands = tt
+named_alone length (slot ∷ slots) [] = tt
+named_alone length (slot ∷ slots) (operand ∷ operands) = slot_alone length slot operand _ (named_alone length slots operands)
 
-matrix_alone : (op : MatrixOp) (top : Operand) (mid : Ref) (length : ℕ) → AreAlone (matrix_names op top mid length)
-matrix_alone matrices.And top mid length = operand_alone top length _ (tt, tt)
-matrix_alone matrices.Or top mid length = operand_alone top length _ (tt, tt)
-matrix_alone matrices.Xor top mid length = operand_alone top length _ (tt, tt)
-matrix_alone matrices.Comp top mid length = operand_alone top length _ (tt, tt)
-matrix_alone matrices.Brot top mid length = operand_alone top length _ (tt, tt)
-matrix_alone matrices.Cmpr top mid length = operand_alone top length _ (tt, tt)
-matrix_alone matrices.Mbit top mid length = operand_alone top 1 _ (tt, tt)
-matrix_alone matrices.Sens top mid length = operand_alone top 1 _ (tt, tt)
-
+-- so are those that an element names
 names_alone : (element : Element) → AreAlone (names_of element)
-names_alone (Open at) = (refl, tt)
-names_alone (Closed at) = (refl, tt)
-names_alone (Rise at) = (refl, tt)
-names_alone (Fall at) = (refl, tt)
-names_alone (Coil at) = (refl, tt)
-names_alone (Latch at) = (refl, tt)
-names_alone Wire = tt
-names_alone (Timer unit preset acc) = operand_alone preset 1 _ (tt, tt)
-names_alone (Counter up preset acc) = operand_alone preset 1 _ (tt, tt)
-names_alone (Math op top mid low) = math_alone op top mid low
-names_alone (Move op top mid length) = move_alone op top mid length
-names_alone (Matrix op top mid length) = matrix_alone op top mid length
-names_alone (Skip count) = operand_only count 1
-names_alone (Label number) = tt
-names_alone (Call number) = operand_only number 1
-names_alone Return = tt
-names_alone (Mstr control area length) = (tt, (tt, tt))
+names_alone element = named_alone (length_of element) (slots_of (name_of element)) (operands_of element)
 
 -- a discrete that is named alone, with room, is found
 discrete_alone : (sizes : Sizes) (at : Ref) (count : ℕ) → count ≡ 1 → is_discrete at.kind ≡ true → has_run sizes at count ≡ true → HasDiscrete (cleared sizes) at

@@ -6,6 +6,8 @@ pub mod MapRam
 pub mod Power
 pub mod Fault
 pub mod Wire
+pub mod Slots
+pub mod Elements
 pub mod Operands
 pub mod Network
 pub mod Checks

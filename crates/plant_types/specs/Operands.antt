@@ -1,18 +1,16 @@
 -- The operands of the elements: the references that each names, and its constants.
 use Rattle.std.specs.Prelude.{◌≡◌, ℕ, ◌+◌, Bool, true, false, ◌&&◌, nat_le, List, [], ◌∷◌, ◌++◌}
 use Rattle.std.specs.List.{list_all, AllByRecursion}
+use lib.Pointwise.{pointwise}
 use Rattle.plant_types.specs.declared.reference.Ref.{Ref}
 use Rattle.plant_types.specs.declared.reference.RefKind.{RefKind}
 use Rattle.plant_types.specs.declared.element.Operand.{Operand}
 use Rattle.plant_types.specs.declared.element.Operand.TheVariants.{Const, At}
-use Rattle.plant_types.specs.declared.element.MathOp.{MathOp}
-use Rattle.plant_types.specs.declared.element.MathOp.TheVariants as math
-use Rattle.plant_types.specs.declared.element.MoveOp.{MoveOp}
-use Rattle.plant_types.specs.declared.element.MoveOp.TheVariants as moves
-use Rattle.plant_types.specs.declared.element.MatrixOp.{MatrixOp}
-use Rattle.plant_types.specs.declared.element.MatrixOp.TheVariants as matrices
 use Rattle.plant_types.specs.declared.element.Element.{Element}
-use Rattle.plant_types.specs.declared.element.Element.TheVariants.{Open, Closed, Rise, Fall, Coil, Latch, Wire, Timer, Counter, Math, Move, Matrix, Skip, Label, Call, Return, Mstr}
+use Rattle.plant_types.specs.declared.slot.Slot.{Slot}
+use Rattle.plant_types.specs.declared.slot.Slot.TheVariants.{Discrete, Driven, Number, Source, Target, Constant}
+use Rattle.plant_types.specs.Slots.{run_count, slots_of}
+use Rattle.plant_types.specs.Elements.{name_of, operands_of, length_of}
 use Rattle.plant_types.specs.Reference.{is_coil, is_discrete, is_register, is_holding}
 use Rattle.plant_types.specs.Store.{Contents, word_at, HasDiscrete, HasRegisters}
 
@@ -64,65 +62,41 @@ abbrev pub named_in : Operand → ℕ → List Named
 named_in (Const n) count = []
 named_in (At at) count = source at count ∷ []
 
--- What a block of arithmetic names; a product, and a quotient beside what is left over, take two registers. This project's own table of operands.
-abbrev pub math_names : MathOp → Operand → Operand → Ref → List Named
-math_names math.Add top mid low = named_in top 1 ++ (named_in mid 1 ++ target low 1 ∷ [])
-math_names math.Sub top mid low = named_in top 1 ++ (named_in mid 1 ++ target low 1 ∷ [])
-math_names math.Mul top mid low = named_in top 1 ++ (named_in mid 1 ++ target low 2 ∷ [])
-math_names math.Div top mid low = named_in top 2 ++ (named_in mid 1 ++ target low 2 ∷ [])
+-- What an operand names as a reference of this sort: nothing where it is a constant. This project's own table of operands.
+abbrev pub named_as : (Ref → Named) → Operand → List Named
+named_as name (Const n) = []
+named_as name (At at) = name at ∷ []
 
--- What a move names; a pointer stands before its table. This project's own table of operands.
-abbrev pub move_names : MoveOp → Ref → Ref → ℕ → List Named
-move_names moves.RegToTable top mid length = source top 1 ∷ target mid (length + 1) ∷ []
-move_names moves.TableToReg top mid length = source top length ∷ target mid 2 ∷ []
-move_names moves.TableToTable top mid length = source top length ∷ target mid (length + 1) ∷ []
-move_names moves.Copy top mid length = source top length ∷ target mid length ∷ []
-move_names moves.FirstIn top mid length = source top 1 ∷ target mid (length + 1) ∷ []
-move_names moves.FirstOut top mid length = target top (length + 1) ∷ target mid 1 ∷ []
-move_names moves.Search top mid length = source top length ∷ target mid 2 ∷ []
+-- What an operand names in its slot, where the length operand is this. This project's own table of operands.
+abbrev pub named_at : ℕ → Slot → Operand → List Named
+named_at length Discrete operand = named_as discrete operand
+named_at length Driven operand = named_as coil operand
+named_at length (Number run) operand = named_in operand (run_count run length)
+named_at length (Source run) operand = named_in operand (run_count run length)
+named_at length (Target run) operand = named_as (λ at. target at (run_count run length)) operand
+named_at length (Constant most) operand = []
 
--- What a matrix block names; a pointer stands before its matrix. This project's own table of operands.
-abbrev pub matrix_names : MatrixOp → Operand → Ref → ℕ → List Named
-matrix_names matrices.And top mid length = named_in top length ++ target mid length ∷ []
-matrix_names matrices.Or top mid length = named_in top length ++ target mid length ∷ []
-matrix_names matrices.Xor top mid length = named_in top length ++ target mid length ∷ []
-matrix_names matrices.Comp top mid length = named_in top length ++ target mid length ∷ []
-matrix_names matrices.Brot top mid length = named_in top length ++ target mid length ∷ []
-matrix_names matrices.Cmpr top mid length = named_in top length ++ target mid (length + 1) ∷ []
-matrix_names matrices.Mbit top mid length = named_in top 1 ++ target mid length ∷ []
-matrix_names matrices.Sens top mid length = named_in top 1 ++ source mid length ∷ []
+-- What operands name, each in its slot. This project's own table of operands.
+abbrev pub named_by : ℕ → List Slot → List Operand → List Named
+named_by length (slot ∷ slots) (operand ∷ operands) =
+    named_at length slot operand ++ named_by length slots operands
+named_by length _ _ = []
 
 -- The references that an element names. This project's own table of operands.
 abbrev pub names_of : Element → List Named
-names_of (Open at) = discrete at ∷ []
-names_of (Closed at) = discrete at ∷ []
-names_of (Rise at) = discrete at ∷ []
-names_of (Fall at) = discrete at ∷ []
-names_of (Coil at) = coil at ∷ []
-names_of (Latch at) = coil at ∷ []
-names_of Wire = []
-names_of (Timer unit preset acc) = named_in preset 1 ++ target acc 1 ∷ []
-names_of (Counter up preset acc) = named_in preset 1 ++ target acc 1 ∷ []
-names_of (Math op top mid low) = math_names op top mid low
-names_of (Move op top mid length) = move_names op top mid length
-names_of (Matrix op top mid length) = matrix_names op top mid length
-names_of (Skip count) = named_in count 1
-names_of (Label number) = []
-names_of (Call number) = named_in number 1
-names_of Return = []
-names_of (Mstr control area length) = target control 9 ∷ target area length ∷ []
+names_of element = named_by (length_of element) (slots_of (name_of element)) (operands_of element)
 
--- The first operand of a matrix block is a register; MBIT and SENS take a constant too. This project's own table of operands.
-abbrev pub is_matrix_operand : MatrixOp → Operand → Bool
-is_matrix_operand matrices.Mbit _ = true
-is_matrix_operand matrices.Sens _ = true
-is_matrix_operand _ (At at) = true
-is_matrix_operand _ (Const n) = false
+-- An operand has the form of a slot: a constant, or a reference. This project's own table of operands.
+abbrev pub takes_form : Slot → Operand → Bool
+takes_form (Number run) operand = true
+takes_form (Constant most) (Const n) = true
+takes_form (Constant most) (At at) = false
+takes_form slot (Const n) = false
+takes_form slot (At at) = true
 
 -- An element has a constant only where it takes one. This project's own table of operands.
 abbrev pub has_form : Element → Bool
-has_form (Matrix op top mid length) = is_matrix_operand op top
-has_form _ = true
+has_form element = pointwise takes_form (slots_of (name_of element)) (operands_of element)
 
 -- A constant has at most four digits. This project's own table of operands.
 abbrev pub is_constant : Operand → Bool
@@ -133,18 +107,15 @@ is_constant (At at) = true
 abbrev pub is_length : ℕ → ℕ → Bool
 is_length most length = nat_le 1 length && nat_le length most
 
--- The constants of an element are in their ranges: a table has up to 255 registers, a matrix up to 100. This project's own table of operands.
+-- A constant is in the range of a slot. This project's own table of operands.
+abbrev pub takes_value : Slot → Operand → Bool
+takes_value (Constant most) (Const n) = is_length most n
+takes_value (Constant most) (At at) = true
+takes_value slot operand = is_constant operand
+
+-- The constants of an element are in their ranges. This project's own table of operands.
 abbrev pub has_values : Element → Bool
-has_values (Timer unit preset acc) = is_constant preset
-has_values (Counter up preset acc) = is_constant preset
-has_values (Math op top mid low) = is_constant top && is_constant mid
-has_values (Move op top mid length) = is_length 255 length
-has_values (Matrix op top mid length) = is_constant top && is_length 100 length
-has_values (Skip count) = is_constant count
-has_values (Label number) = is_length 255 number
-has_values (Call number) = is_constant number
-has_values (Mstr control area length) = is_length 100 length
-has_values _ = true
+has_values element = pointwise takes_value (slots_of (name_of element)) (operands_of element)
 
 -- An element's references are of the kinds that it takes. This project's own table of operands.
 abbrev pub has_kinds : Element → Bool
