@@ -13,11 +13,14 @@ use Rattle.plant_types.specs.declared.element.Operand.{Operand}
 use Rattle.plant_types.specs.declared.element.Operand.TheVariants.{Const, At}
 use Rattle.plant_types.specs.declared.element.Element.{Element}
 use Rattle.plant_types.specs.Network.{is_row, is_column}
-use Rattle.plant_types.specs.Operands.{has_form, has_values, has_kinds, is_length}
-use Rattle.cell_text.specs.declared.names.Name.{Name}
-use Rattle.cell_text.specs.declared.names.Name.TheVariants as names
-use Rattle.cell_text.specs.declared.slots.Slot.{Slot}
-use Rattle.cell_text.specs.declared.slots.Slot.TheVariants.{Discrete, Driven, Number, Source, Target, Length}
+use Rattle.plant_types.specs.Operands.{fits_form, fits_value, has_form, has_values, has_kinds, is_length}
+use Rattle.plant_types.specs.declared.name.ElementName.{ElementName}
+use Rattle.plant_types.specs.declared.slot.Slot.{Slot}
+use Rattle.plant_types.specs.declared.slot.Slot.TheVariants.{Discrete, Driven, Number, Source, Target, Constant}
+use Rattle.plant_types.specs.Slots.{slots_of}
+use Rattle.plant_types.specs.Elements.{operands_of, element_of}
+use Rattle.cell_text.specs.declared.names.PieceName.{PieceName}
+use Rattle.cell_text.specs.declared.names.PieceName.TheVariants as names
 use Rattle.cell_text.specs.declared.piece.Piece.{Piece}
 use Rattle.cell_text.specs.declared.piece.Piece.TheVariants as pieces
 use Rattle.cell_text.specs.declared.piece.CellFault.{CellFault}
@@ -25,12 +28,11 @@ use Rattle.cell_text.specs.declared.piece.CellFault.TheVariants.{BadCell, BadVal
 use Rattle.cell_text.specs.Steps.{◌>>=◌, or_fault, unless}
 use Rattle.cell_text.specs.Numbers.{is_digit, value_of, is_number, number_of, numbered, position_of, kind_of, is_reference_word, reference_of}
 use Rattle.cell_text.specs.Names.{name_of}
-use Rattle.cell_text.specs.Slots.{slots_of, takes_form, takes_value, takes_kind, taken_reference, operand_in, operands_in, read_operands}
-use Rattle.cell_text.specs.Elements.{operands_of, element_of}
-use Rattle.cell_text.specs.Pieces.{short_at, piece_at, piece_of}
-use Rattle.cell_text.specs.Texts.{has_number, has_numbers, has_text}
+use Rattle.cell_text.specs.Slots.{slots_of_piece, takes_form, takes_value, takes_kind, taken_reference, operand_in, operands_in, read_operands}
+use Rattle.cell_text.specs.Pieces.{short_at, piece_at, piece_of, named_by}
+use Rattle.cell_text.specs.Texts.{has_number, has_numbers, has_text, piece_name}
 use Rattle.cell_text.proofs.StepLemmas.{step-ok, or_fault-ok, unless-ok, some-step, some-map, some-guard, or_fault-some}
-use Rattle.cell_text.proofs.FitLemmas.{fits_form, fits_value, fits, pointwise-fits}
+use Rattle.cell_text.proofs.FitLemmas.{fits, pointwise-fits}
 use Rattle.cell_text.proofs.ElementLemmas.{element_of-made}
 
 -- two tests that hold are one that holds
@@ -113,10 +115,10 @@ number_of-le word n h =
 form_of_kind : (slot : Slot) (at : Ref) → takes_kind slot at.kind ≡ true → fits_form slot (At at) && fits_value slot (At at) ≡ true
 form_of_kind Discrete at h = refl
 form_of_kind Driven at h = refl
-form_of_kind Number at h = refl
-form_of_kind Source at h = refl
-form_of_kind Target at h = refl
-form_of_kind (Length most) at h = cc
+form_of_kind (Number run) at h = refl
+form_of_kind (Source run) at h = refl
+form_of_kind (Target run) at h = refl
+form_of_kind (Constant most) at h = cc
 
 -- a reference that is taken fits
 reference-fits : (slot : Slot) (found : Option Ref) (operand : Operand) → ((at : Ref) → found ≡ Some at → has_number at ≡ true) → option_and_then (taken_reference slot) found ≡ Some operand → fits slot operand ≡ true
@@ -130,19 +132,19 @@ reference-fits slot (Some at) operand has h =
 constant_form : (slot : Slot) (word : List ℕ) (n : ℕ) → is_reference_word word ≡ false → takes_form slot word ≡ true → fits_form slot (Const n) ≡ true
 constant_form Discrete word n five form = cc
 constant_form Driven word n five form = cc
-constant_form Number word n five form = refl
-constant_form Source word n five form = cc
-constant_form Target word n five form = cc
-constant_form (Length most) word n five form = refl
+constant_form (Number run) word n five form = refl
+constant_form (Source run) word n five form = cc
+constant_form (Target run) word n five form = cc
+constant_form (Constant most) word n five form = refl
 
 -- a constant that passes the tests of a slot is in its range
 constant_value : (slot : Slot) (word : List ℕ) (n : ℕ) → number_of word ≡ Some n → takes_value slot word ≡ true → fits_value slot (Const n) ≡ true
 constant_value Discrete word n h value = number_of-le word n h
 constant_value Driven word n h value = number_of-le word n h
-constant_value Number word n h value = number_of-le word n h
-constant_value Source word n h value = number_of-le word n h
-constant_value Target word n h value = number_of-le word n h
-constant_value (Length most) word n h value = sym (ap (λ (o : Option ℕ). option_map_or (is_length most) o false) h) ∙ value
+constant_value (Number run) word n h value = number_of-le word n h
+constant_value (Source run) word n h value = number_of-le word n h
+constant_value (Target run) word n h value = number_of-le word n h
+constant_value (Constant most) word n h value = sym (ap (λ (o : Option ℕ). option_map_or (is_length most) o false) h) ∙ value
 
 -- a constant that passes the tests of a slot fits it
 constant-fits : (slot : Slot) (word : List ℕ) (operand : Operand) → is_reference_word word ≡ false → takes_form slot word ≡ true → takes_value slot word ≡ true → option_map Const (number_of word) ≡ Some operand → fits slot operand ≡ true
@@ -183,13 +185,13 @@ read_operands-fit slots words operands h =
     words-fit slots words operands form.0 value.0 (or_fault-some BadRef (operands_in slots words) operands value.1)
 
 -- an element of operands that fit is one that has a text
-element-has : (name : Name) (operands : List Operand) (element : Element) → pointwise fits (slots_of name) operands ≡ true → element_of name operands ≡ Some element → has_form element && has_values element && has_kinds element && has_numbers element ≡ true
+element-has : (name : ElementName) (operands : List Operand) (element : Element) → pointwise fits (slots_of name) operands ≡ true → element_of name operands ≡ Some element → has_form element && has_values element && has_kinds element && has_numbers element ≡ true
 element-has name operands element h e =
     let made = element_of-made name operands element e in
     sym (pointwise-fits element) ∙ ap (λ n. pointwise fits (slots_of n) (operands_of element)) made.names ∙ ap (λ o. pointwise fits (slots_of name) o) made.takes ∙ h
 
 -- a cell of operands that fit has a text
-cell-has : (row column : ℕ) (name : Name) (operands : List Operand) (piece : Piece) → is_row row ≡ true → is_column column ≡ true → pointwise fits (slots_of name) operands ≡ true
+cell-has : (row column : ℕ) (name : ElementName) (operands : List Operand) (piece : Piece) → is_row row ≡ true → is_column column ≡ true → pointwise fits (slots_of name) operands ≡ true
     → option_map (λ element. pieces.Cell (record { row = row; column = column; element = element })) (element_of name operands) ≡ Some piece → has_text piece ≡ true
 cell-has row column name operands piece r k fit h =
     let found = some-map (λ element. pieces.Cell (record { row = row; column = column; element = element })) (element_of name operands) piece h in
@@ -205,9 +207,9 @@ short-has row column piece r k h =
     rw (← same) (and_both _ _ (and_both _ _ above.0 low) k)
 
 -- a piece of operands that fit has a text
-piece_at-has : (row column : ℕ) (name : Name) (operands : List Operand) (piece : Piece) → is_row row ≡ true → is_column column ≡ true → pointwise fits (slots_of name) operands ≡ true → piece_at row column name operands ≡ Some piece → has_text piece ≡ true
+piece_at-has : (row column : ℕ) (name : PieceName) (operands : List Operand) (piece : Piece) → is_row row ≡ true → is_column column ≡ true → pointwise fits (slots_of_piece name) operands ≡ true → piece_at row column name operands ≡ Some piece → has_text piece ≡ true
 piece_at-has row column names.Short operands piece r k fit h = short-has row column piece r k h
-piece_at-has row column name operands piece r k fit h = cell-has row column name operands piece r k fit h
+piece_at-has row column (names.Element name) operands piece r k fit h = cell-has row column name operands piece r k fit h
 
 -- a piece that reads has a text
 pub piece_of-has : (words : List (List ℕ)) (piece : Piece) → piece_of words ≡ Ok piece → has_text piece ≡ true
@@ -215,13 +217,37 @@ unfolding piece_of
 piece_of-has [] piece h = cc
 piece_of-has (position ∷ []) piece h = cc
 piece_of-has (position ∷ word ∷ words) piece h =
-    let place = or_fault-ok BadCell (position_of position) (λ place. or_fault BadCell (name_of word) >>= λ name. read_operands (slots_of name) words >>= λ operands. or_fault BadCell (piece_at place.0 place.1 name operands)) piece h in
-    let name = or_fault-ok BadCell (name_of word) (λ name. read_operands (slots_of name) words >>= λ operands. or_fault BadCell (piece_at place.0.0 place.0.1 name operands)) piece place.1.1 in
-    let operands = step-ok (read_operands (slots_of name.0) words) (λ operands. or_fault BadCell (piece_at place.0.0 place.0.1 name.0 operands)) piece name.1.1 in
+    let place = or_fault-ok BadCell (position_of position) (λ place. or_fault BadCell (name_of word) >>= λ name. read_operands (slots_of_piece name) words >>= λ operands. or_fault BadCell (piece_at place.0 place.1 name operands)) piece h in
+    let name = or_fault-ok BadCell (name_of word) (λ name. read_operands (slots_of_piece name) words >>= λ operands. or_fault BadCell (piece_at place.0.0 place.0.1 name operands)) piece place.1.1 in
+    let operands = step-ok (read_operands (slots_of_piece name.0) words) (λ operands. or_fault BadCell (piece_at place.0.0 place.0.1 name.0 operands)) piece name.1.1 in
     let within = position_of-has position place.0 place.1.0 in
-    piece_at-has place.0.0 place.0.1 name.0 operands.0 piece within.0 within.1 (read_operands-fit (slots_of name.0) words operands.0 operands.1.0) (or_fault-some BadCell (piece_at place.0.0 place.0.1 name.0 operands.0) piece operands.1.1)
+    piece_at-has place.0.0 place.0.1 name.0 operands.0 piece within.0 within.1 (read_operands-fit (slots_of_piece name.0) words operands.0 operands.1.0) (or_fault-some BadCell (piece_at place.0.0 place.0.1 name.0 operands.0) piece operands.1.1)
 
 -- so it is with what reading answered
 pub gives-has_text : (words : List (List ℕ)) (r : Result Piece CellFault) → r ≡ piece_of words → IfOk r (λ piece. has_text piece ≡ true)
 gives-has_text words (Ok piece) e = piece_of-has words piece (sym e)
 gives-has_text words (Err fault) e = tt
+
+-- a piece has the name that it was read by
+piece_at-named : (row column : ℕ) (name : PieceName) (operands : List Operand) (piece : Piece) → piece_at row column name operands ≡ Some piece → name ≡ piece_name piece
+piece_at-named row column names.Short operands piece h =
+    let (low, some) = some-guard (nat_le row 6) (Some (pieces.Short (record { row = row; column = column }))) piece h in
+    let same : pieces.Short (record { row = row; column = column }) ≡ piece = some_value _ _ some in
+    rw (← same) refl
+piece_at-named row column (names.Element name) operands piece h =
+    let found = some-map (λ element. pieces.Cell (record { row = row; column = column; element = element })) (element_of name operands) piece h in
+    let same : pieces.Cell (record { row = row; column = column; element = found.0 }) ≡ piece = found.1.1 in
+    let made = element_of-made name operands found.0 found.1.0 in
+    rw (← same) (ap names.Element (sym made.names))
+
+-- the second word of a piece that reads names it
+pub piece_of-named : (words : List (List ℕ)) (piece : Piece) → piece_of words ≡ Ok piece → named_by words ≡ Some (piece_name piece)
+unfolding piece_of
+piece_of-named [] piece h = cc
+piece_of-named (position ∷ []) piece h = cc
+piece_of-named (position ∷ word ∷ words) piece h =
+    let place = or_fault-ok BadCell (position_of position) (λ place. or_fault BadCell (name_of word) >>= λ name. read_operands (slots_of_piece name) words >>= λ operands. or_fault BadCell (piece_at place.0 place.1 name operands)) piece h in
+    let name = or_fault-ok BadCell (name_of word) (λ name. read_operands (slots_of_piece name) words >>= λ operands. or_fault BadCell (piece_at place.0.0 place.0.1 name operands)) piece place.1.1 in
+    let operands = step-ok (read_operands (slots_of_piece name.0) words) (λ operands. or_fault BadCell (piece_at place.0.0 place.0.1 name.0 operands)) piece name.1.1 in
+    let same = piece_at-named place.0.0 place.0.1 name.0 operands.0 piece (or_fault-some BadCell (piece_at place.0.0 place.0.1 name.0 operands.0) piece operands.1.1) in
+    name.1.0 ∙ ap Some same

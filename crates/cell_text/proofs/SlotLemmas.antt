@@ -3,8 +3,8 @@ use Rattle.std.proofs.Common.{◌≡◌, ℕ, ◌+◌, ◌<◌, List, [], ◌∷
 use Rattle.std.specs.Prelude.{option_map, option_and_then}
 use Rattle.std.proofs.lemmas.List.{drop_more}
 use Rattle.plant_types.specs.declared.element.Operand.{Operand}
-use Rattle.cell_text.specs.declared.slots.Slot.{Slot}
-use Rattle.cell_text.specs.declared.slots.Slot.TheVariants.{Discrete}
+use Rattle.plant_types.specs.declared.slot.Slot.{Slot}
+use Rattle.plant_types.specs.declared.slot.Slot.TheVariants.{Discrete}
 use Rattle.cell_text.specs.Slots.{operand_in, operands_in}
 
 -- operands behind others, where there are some

@@ -19,12 +19,16 @@ use Rattle.plant_types.specs.declared.element.MatrixOp.TheVariants.{And, Or, Xor
 use Rattle.plant_types.specs.declared.element.Element.{Element}
 use Rattle.plant_types.specs.declared.element.Element.TheVariants as elements
 use Rattle.plant_types.specs.Network.{is_row, is_column, has_cell_place}
-use Rattle.plant_types.specs.Operands.{has_form, has_values, has_kinds, is_length}
+use Rattle.plant_types.specs.Operands.{fits_form, fits_value, has_form, has_values, has_kinds, is_length}
 use Rattle.plant_types.specs.Reference.{reference_text}
-use Rattle.cell_text.specs.declared.names.Name.{Name}
-use Rattle.cell_text.specs.declared.names.Name.TheVariants as names
-use Rattle.cell_text.specs.declared.slots.Slot.{Slot}
-use Rattle.cell_text.specs.declared.slots.Slot.TheVariants.{Discrete, Driven, Number, Source, Target, Length}
+use Rattle.plant_types.specs.declared.name.ElementName.{ElementName}
+use Rattle.plant_types.specs.declared.name.ElementName.TheVariants as names
+use Rattle.plant_types.specs.declared.slot.Slot.{Slot}
+use Rattle.plant_types.specs.declared.slot.Slot.TheVariants.{Discrete, Driven, Number, Source, Target, Constant}
+use Rattle.plant_types.specs.Slots.{slots_of}
+use Rattle.plant_types.specs.Elements.{name_of as element_name, operands_of}
+use Rattle.cell_text.specs.declared.names.PieceName.{PieceName}
+use Rattle.cell_text.specs.declared.names.PieceName.TheVariants as piece_names
 use Rattle.cell_text.specs.declared.piece.Piece.{Piece}
 use Rattle.cell_text.specs.declared.piece.Piece.TheVariants as pieces
 use Rattle.cell_text.specs.declared.piece.CellFault.{CellFault}
@@ -32,55 +36,64 @@ use Rattle.cell_text.specs.declared.piece.CellFault.TheVariants.{BadCell}
 use Rattle.cell_text.specs.Steps.{◌>>=◌, or_fault}
 use Rattle.cell_text.specs.Words.{words_of}
 use Rattle.cell_text.specs.Numbers.{number_of, is_number, is_reference_word, reference_of}
-use Rattle.cell_text.specs.Names.{name_text, all_names, name_of}
-use Rattle.cell_text.specs.Slots.{slots_of, takes_form, takes_value, takes_kind, taken_reference, operand_in, operands_in, read_operands}
-use Rattle.cell_text.specs.Elements.{element_name, operands_of, element_of}
+use Rattle.cell_text.specs.Names.{element_text, name_text, all_names, name_of}
+use Rattle.cell_text.specs.Slots.{slots_of_piece, takes_form, takes_value, takes_kind, taken_reference, operand_in, operands_in, read_operands}
 use Rattle.cell_text.specs.Pieces.{piece_at, piece_of}
 use Rattle.cell_text.specs.Texts.{has_number, has_numbers, has_text, operand_text, piece_place, piece_name, piece_operands, piece_words, piece_text}
 use Rattle.cell_text.proofs.JoinLemmas.{is_word, words_of-join}
 use Rattle.cell_text.proofs.NumberLemmas.{is_number-decimal, number_of-decimal, position_of-text, position_word, decimal_word, decimal_no_reference, reference_word, reference_of-text, reference_text_word}
-use Rattle.cell_text.proofs.FitLemmas.{fits_form, fits_value, fits, pointwise-fits}
+use Rattle.cell_text.proofs.FitLemmas.{fits, pointwise-fits}
 
 -- the letters of each name are a word that names it
-record Named (name : Name) : Type 0 where
+record Named (name : PieceName) : Type 0 where
   word : is_word (name_text name) ≡ true
   found : name_of (name_text name) ≡ Some name
 
--- so it is with each name
-named : (name : Name) → Named name
-unfolding name_text all_names name_of
-named names.Open = record { word = refl; found = refl }
-named names.Closed = record { word = refl; found = refl }
-named names.Rise = record { word = refl; found = refl }
-named names.Fall = record { word = refl; found = refl }
-named names.Coil = record { word = refl; found = refl }
-named names.Latch = record { word = refl; found = refl }
-named names.Wire = record { word = refl; found = refl }
-named names.Short = record { word = refl; found = refl }
-named (names.Timer Second) = record { word = refl; found = refl }
-named (names.Timer Tenth) = record { word = refl; found = refl }
-named (names.Timer Hundredth) = record { word = refl; found = refl }
-named (names.Counter true) = record { word = refl; found = refl }
-named (names.Counter false) = record { word = refl; found = refl }
-named (names.Math Add) = record { word = refl; found = refl }
-named (names.Math Sub) = record { word = refl; found = refl }
-named (names.Math Mul) = record { word = refl; found = refl }
-named (names.Math Div) = record { word = refl; found = refl }
-named (names.Move RegToTable) = record { word = refl; found = refl }
-named (names.Move TableToReg) = record { word = refl; found = refl }
-named (names.Move TableToTable) = record { word = refl; found = refl }
-named (names.Move Copy) = record { word = refl; found = refl }
-named (names.Move FirstIn) = record { word = refl; found = refl }
-named (names.Move FirstOut) = record { word = refl; found = refl }
-named (names.Move Search) = record { word = refl; found = refl }
-named (names.Matrix And) = record { word = refl; found = refl }
-named (names.Matrix Or) = record { word = refl; found = refl }
-named (names.Matrix Xor) = record { word = refl; found = refl }
-named (names.Matrix Comp) = record { word = refl; found = refl }
-named (names.Matrix Brot) = record { word = refl; found = refl }
-named (names.Matrix Cmpr) = record { word = refl; found = refl }
-named (names.Matrix Mbit) = record { word = refl; found = refl }
-named (names.Matrix Sens) = record { word = refl; found = refl }
+-- so it is with each name of an element
+named_element : (name : ElementName) → Named (piece_names.Element name)
+unfolding element_text name_text all_names name_of
+named_element names.Open = record { word = refl; found = refl }
+named_element names.Closed = record { word = refl; found = refl }
+named_element names.Rise = record { word = refl; found = refl }
+named_element names.Fall = record { word = refl; found = refl }
+named_element names.Coil = record { word = refl; found = refl }
+named_element names.Latch = record { word = refl; found = refl }
+named_element names.Wire = record { word = refl; found = refl }
+named_element (names.Timer Second) = record { word = refl; found = refl }
+named_element (names.Timer Tenth) = record { word = refl; found = refl }
+named_element (names.Timer Hundredth) = record { word = refl; found = refl }
+named_element (names.Counter true) = record { word = refl; found = refl }
+named_element (names.Counter false) = record { word = refl; found = refl }
+named_element (names.Math Add) = record { word = refl; found = refl }
+named_element (names.Math Sub) = record { word = refl; found = refl }
+named_element (names.Math Mul) = record { word = refl; found = refl }
+named_element (names.Math Div) = record { word = refl; found = refl }
+named_element (names.Move RegToTable) = record { word = refl; found = refl }
+named_element (names.Move TableToReg) = record { word = refl; found = refl }
+named_element (names.Move TableToTable) = record { word = refl; found = refl }
+named_element (names.Move Copy) = record { word = refl; found = refl }
+named_element (names.Move FirstIn) = record { word = refl; found = refl }
+named_element (names.Move FirstOut) = record { word = refl; found = refl }
+named_element (names.Move Search) = record { word = refl; found = refl }
+named_element (names.Matrix And) = record { word = refl; found = refl }
+named_element (names.Matrix Or) = record { word = refl; found = refl }
+named_element (names.Matrix Xor) = record { word = refl; found = refl }
+named_element (names.Matrix Comp) = record { word = refl; found = refl }
+named_element (names.Matrix Brot) = record { word = refl; found = refl }
+named_element (names.Matrix Cmpr) = record { word = refl; found = refl }
+named_element (names.Matrix Mbit) = record { word = refl; found = refl }
+named_element (names.Matrix Sens) = record { word = refl; found = refl }
+named_element names.Skip = record { word = refl; found = refl }
+named_element names.Label = record { word = refl; found = refl }
+named_element names.Call = record { word = refl; found = refl }
+named_element names.Return = record { word = refl; found = refl }
+named_element names.Mstr = record { word = refl; found = refl }
+
+-- and with each name
+named : (name : PieceName) → Named name
+unfolding element_text name_text all_names name_of
+named (piece_names.Element name) = named_element name
+named piece_names.Short = record { word = refl; found = refl }
 
 -- the text of an operand is a word that passes the tests of a slot, and stands for the operand
 record Reads (slot : Slot) (operand : Operand) : Type 0 where
@@ -98,10 +111,10 @@ or_true false = refl
 reference_form : (slot : Slot) (at : Ref) → fits_form slot (At at) ≡ true → is_reference_word (reference_text at) ≡ true → (takes_form slot (reference_text at) ≡ true) × (takes_value slot (reference_text at) ≡ true)
 reference_form Discrete at fit five = (five, refl)
 reference_form Driven at fit five = (five, refl)
-reference_form Number at fit five = (ap (λ b. is_number (reference_text at) || b) five ∙ or_true (is_number (reference_text at)), refl)
-reference_form Source at fit five = (five, refl)
-reference_form Target at fit five = (five, refl)
-reference_form (Length most) at fit five = cc
+reference_form (Number run) at fit five = (ap (λ b. is_number (reference_text at) || b) five ∙ or_true (is_number (reference_text at)), refl)
+reference_form (Source run) at fit five = (five, refl)
+reference_form (Target run) at fit five = (five, refl)
+reference_form (Constant most) at fit five = cc
 
 -- the text of a reference that fits reads as the reference
 reference_reads : (slot : Slot) (at : Ref) → fits slot (At at) ≡ true → Reads slot (At at)
@@ -120,7 +133,7 @@ reference_reads slot at h =
 
 -- the largest length of a slot is a constant
 abbrev is_small : Slot → Bool
-is_small (Length most) = nat_le most 9999
+is_small (Constant most) = nat_le most 9999
 is_small slot = true
 
 -- a constant is below 10,000, as a test
@@ -135,19 +148,19 @@ length_le most n small h = let (low, high) = and_parts (nat_le 1 n) (nat_le n mo
 fits-le : (slot : Slot) (n : ℕ) → is_small slot ≡ true → fits_value slot (Const n) ≡ true → n ≤ 9999
 fits-le Discrete n small h = constant_le n h
 fits-le Driven n small h = constant_le n h
-fits-le Number n small h = constant_le n h
-fits-le Source n small h = constant_le n h
-fits-le Target n small h = constant_le n h
-fits-le (Length most) n small h = length_le most n small h
+fits-le (Number run) n small h = constant_le n h
+fits-le (Source run) n small h = constant_le n h
+fits-le (Target run) n small h = constant_le n h
+fits-le (Constant most) n small h = length_le most n small h
 
 -- the text of a constant passes the tests of a slot that takes it
 constant_form : (slot : Slot) (n : ℕ) → fits_form slot (Const n) ≡ true → fits_value slot (Const n) ≡ true → n ≤ 9999 → (takes_form slot (decimal n) ≡ true) × (takes_value slot (decimal n) ≡ true)
 constant_form Discrete n form value few = cc
 constant_form Driven n form value few = cc
-constant_form Number n form value few = (ap (λ b. b || is_reference_word (decimal n)) (is_number-decimal n few), refl)
-constant_form Source n form value few = cc
-constant_form Target n form value few = cc
-constant_form (Length most) n form value few = (is_number-decimal n few, ap (λ (o : Option ℕ). option_map_or (is_length most) o false) (number_of-decimal n few) ∙ value)
+constant_form (Number run) n form value few = (ap (λ b. b || is_reference_word (decimal n)) (is_number-decimal n few), refl)
+constant_form (Source run) n form value few = cc
+constant_form (Target run) n form value few = cc
+constant_form (Constant most) n form value few = (is_number-decimal n few, ap (λ (o : Option ℕ). option_map_or (is_length most) o false) (number_of-decimal n few) ∙ value)
 
 -- the text of a constant that fits reads as the constant
 constant_reads : (slot : Slot) (n : ℕ) → is_small slot ≡ true → fits slot (Const n) ≡ true → Reads slot (Const n)
@@ -193,15 +206,33 @@ all_read (slot ∷ slots) (operand ∷ operands) small h =
       words = rw (first.word, rest.words) refl;
     }
 
--- the lengths of all slots are constants
-small_slots : (name : Name) → list_all is_small (slots_of name) ≡ true
-unfolding slots_of
+-- the largest constants of all slots are constants
+small_slots : (name : ElementName) → list_all is_small (slots_of name) ≡ true
+small_slots (names.Math Add) = refl
+small_slots (names.Math Sub) = refl
+small_slots (names.Math Mul) = refl
+small_slots (names.Math Div) = refl
+small_slots (names.Move RegToTable) = refl
+small_slots (names.Move TableToReg) = refl
+small_slots (names.Move TableToTable) = refl
+small_slots (names.Move Copy) = refl
+small_slots (names.Move FirstIn) = refl
 small_slots (names.Move FirstOut) = refl
-small_slots (names.Move op) = refl
+small_slots (names.Move Search) = refl
+small_slots (names.Matrix And) = refl
+small_slots (names.Matrix Or) = refl
+small_slots (names.Matrix Xor) = refl
+small_slots (names.Matrix Comp) = refl
+small_slots (names.Matrix Cmpr) = refl
 small_slots (names.Matrix Mbit) = refl
 small_slots (names.Matrix Sens) = refl
-small_slots (names.Matrix op) = refl
+small_slots (names.Matrix Brot) = refl
 small_slots name = refl
+
+-- so are those of a piece
+small_piece : (name : PieceName) → list_all is_small (slots_of_piece name) ≡ true
+small_piece (piece_names.Element name) = small_slots name
+small_piece piece_names.Short = refl
 
 -- operands whose texts read are read back
 read_operands-back : (slots : List Slot) (operands : List Operand) → AllRead slots operands → read_operands slots (map operand_text operands) ≡ Ok operands
@@ -209,8 +240,7 @@ unfolding read_operands
 read_operands-back slots operands all = rw (all.forms, all.values, all.back) refl
 
 -- the name and the operands of an element make the element
-cell_back : (row column : ℕ) (element : Element) → piece_at row column (element_name element) (operands_of element) ≡ Some (pieces.Cell (record { row = row; column = column; element = element }))
-unfolding element_of
+cell_back : (row column : ℕ) (element : Element) → piece_at row column (piece_names.Element (element_name element)) (operands_of element) ≡ Some (pieces.Cell (record { row = row; column = column; element = element }))
 cell_back row column (elements.Open at) = refl
 cell_back row column (elements.Closed at) = refl
 cell_back row column (elements.Rise at) = refl
@@ -223,6 +253,11 @@ cell_back row column (elements.Counter up preset acc) = refl
 cell_back row column (elements.Math op top mid low) = refl
 cell_back row column (elements.Move op top mid length) = refl
 cell_back row column (elements.Matrix op top mid length) = refl
+cell_back row column (elements.Skip number) = refl
+cell_back row column (elements.Label number) = refl
+cell_back row column (elements.Call number) = refl
+cell_back row column elements.Return = refl
+cell_back row column (elements.Mstr control area length) = refl
 
 -- the place, the name and the operands of a piece make the piece
 piece_at-back : (piece : Piece) → has_text piece ≡ true → piece_at (piece_place piece).0 (piece_place piece).1 (piece_name piece) (piece_operands piece) ≡ Some piece
@@ -236,7 +271,7 @@ piece_at-back (pieces.Short short) h =
 record Fitting (piece : Piece) : Type 0 where
   row : is_row (piece_place piece).0 ≡ true
   column : is_column (piece_place piece).1 ≡ true
-  operands : pointwise fits (slots_of (piece_name piece)) (piece_operands piece) ≡ true
+  operands : pointwise fits (slots_of_piece (piece_name piece)) (piece_operands piece) ≡ true
 
 -- one of the first six rows is a row
 six_rows : (row : ℕ) → nat_le 1 row && nat_le row 6 ≡ true → is_row row ≡ true
@@ -244,11 +279,6 @@ six_rows row h =
     let (low, high) = and_parts (nat_le 1 row) (nat_le row 6) h in
     let seven : nat_le row 7 ≡ true = grind (arith, nat_tests) in
     rw (low, seven) refl
-
--- a short has no slots
-no_slots : pointwise fits (slots_of names.Short) [] ≡ true
-unfolding slots_of
-no_slots = refl
 
 -- so it is with each piece that has a text
 fitting : (piece : Piece) → has_text piece ≡ true → Fitting piece
@@ -258,11 +288,11 @@ fitting (pieces.Cell cell) h =
     record { row = row; column = column; operands = pointwise-fits cell.element ∙ operands }
 fitting (pieces.Short short) h =
     let (rows, column) = and_parts (nat_le 1 short.row && nat_le short.row 6) (is_column short.column) h in
-    record { row = six_rows short.row rows; column = column; operands = no_slots }
+    record { row = six_rows short.row rows; column = column; operands = refl }
 
 -- the texts of the operands of a piece read
-piece_all_read : (piece : Piece) → Fitting piece → AllRead (slots_of (piece_name piece)) (piece_operands piece)
-piece_all_read piece f = all_read (slots_of (piece_name piece)) (piece_operands piece) (small_slots (piece_name piece)) f.operands
+piece_all_read : (piece : Piece) → Fitting piece → AllRead (slots_of_piece (piece_name piece)) (piece_operands piece)
+piece_all_read piece f = all_read (slots_of_piece (piece_name piece)) (piece_operands piece) (small_piece (piece_name piece)) f.operands
 
 -- the words of a piece are words, and read as the piece
 piece_words-are : (piece : Piece) → has_text piece ≡ true → list_all is_word (piece_words piece) ≡ true
@@ -278,9 +308,9 @@ piece_of-words piece h =
     let words = map operand_text (piece_operands piece) in
     let place = position_of-text (piece_place piece) f.row f.column in
     let name = (named (piece_name piece)).found in
-    let operands = read_operands-back (slots_of (piece_name piece)) (piece_operands piece) (piece_all_read piece f) in
-    ap (λ (o : Option (ℕ × ℕ)). or_fault {E = CellFault} BadCell o >>= λ at. or_fault BadCell (name_of (name_text (piece_name piece))) >>= λ name. read_operands (slots_of name) words >>= λ operands. or_fault BadCell (piece_at at.0 at.1 name operands)) place
-    ∙ ap (λ (o : Option Name). or_fault {E = CellFault} BadCell o >>= λ name. read_operands (slots_of name) words >>= λ operands. or_fault BadCell (piece_at (piece_place piece).0 (piece_place piece).1 name operands)) name
+    let operands = read_operands-back (slots_of_piece (piece_name piece)) (piece_operands piece) (piece_all_read piece f) in
+    ap (λ (o : Option (ℕ × ℕ)). or_fault {E = CellFault} BadCell o >>= λ at. or_fault BadCell (name_of (name_text (piece_name piece))) >>= λ name. read_operands (slots_of_piece name) words >>= λ operands. or_fault BadCell (piece_at at.0 at.1 name operands)) place
+    ∙ ap (λ (o : Option PieceName). or_fault {E = CellFault} BadCell o >>= λ name. read_operands (slots_of_piece name) words >>= λ operands. or_fault BadCell (piece_at (piece_place piece).0 (piece_place piece).1 name operands)) name
     ∙ ap (λ (r : Result (List Operand) CellFault). r >>= λ operands. or_fault BadCell (piece_at (piece_place piece).0 (piece_place piece).1 (piece_name piece) operands)) operands
     ∙ ap (λ (o : Option Piece). or_fault {E = CellFault} BadCell o) (piece_at-back piece h)
 

@@ -3,6 +3,5 @@ pub mod Words
 pub mod Numbers
 pub mod Names
 pub mod Slots
-pub mod Elements
 pub mod Pieces
 pub mod Texts

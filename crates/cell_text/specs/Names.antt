@@ -1,66 +1,75 @@
--- The names of elements.
-use Rattle.std.specs.Prelude.{codes, ℕ, Bool, true, false, List, [], ◌∷◌, Option}
-use Rattle.std.specs.List.{list_any, find}
+-- The names of pieces.
+use Rattle.std.specs.Prelude.{codes, ℕ, true, false, List, [], ◌∷◌, Option}
+use Rattle.std.specs.List.{find}
 use Rattle.std.specs.Str.{bytes_eq}
 use Rattle.plant_types.specs.declared.element.Unit.TheVariants.{Second, Tenth, Hundredth}
 use Rattle.plant_types.specs.declared.element.MathOp.TheVariants.{Add, Sub, Mul, Div}
-use Rattle.plant_types.specs.declared.element.MoveOp.TheVariants.{RegToTable, TableToReg, TableToTable, Copy, FirstIn, FirstOut, Search}
+use Rattle.plant_types.specs.declared.element.MoveOp.TheVariants as moves
 use Rattle.plant_types.specs.declared.element.MatrixOp.TheVariants.{And, Or, Xor, Comp, Cmpr, Mbit, Sens, Brot}
-use Rattle.cell_text.specs.declared.names.Name.{Name}
-use Rattle.cell_text.specs.declared.names.Name.TheVariants.{Open, Closed, Rise, Fall, Coil, Latch, Wire, Short, Timer, Counter, Math, Move, Matrix}
+use Rattle.plant_types.specs.declared.name.ElementName.{ElementName}
+use Rattle.plant_types.specs.declared.name.ElementName.TheVariants.{Open, Closed, Rise, Fall, Coil, Latch, Wire, Timer, Counter, Math, Move, Matrix, Skip, Label, Call, Return, Mstr}
+use Rattle.cell_text.specs.declared.names.PieceName.{PieceName}
+use Rattle.cell_text.specs.declared.names.PieceName.TheVariants.{Element, Short}
 
--- The letters of a name. Modicon Ladder Logic Block Library User Guide for what is named; the letters are this project's own.
-unfoldable pub name_text : Name → List ℕ
-name_text Open = codes "NO"
-name_text Closed = codes "NC"
-name_text Rise = codes "PT"
-name_text Fall = codes "NT"
-name_text Coil = codes "CO"
-name_text Latch = codes "CL"
-name_text Wire = codes "H"
+-- The letters of an element's name. Modicon Ladder Logic Block Library User Guide for what is named; the letters are this project's own.
+unfoldable pub element_text : ElementName → List ℕ
+element_text Open = codes "NO"
+element_text Closed = codes "NC"
+element_text Rise = codes "PT"
+element_text Fall = codes "NT"
+element_text Coil = codes "CO"
+element_text Latch = codes "CL"
+element_text Wire = codes "H"
+element_text (Timer Second) = codes "T1.0"
+element_text (Timer Tenth) = codes "T0.1"
+element_text (Timer Hundredth) = codes "T.01"
+element_text (Counter true) = codes "UCTR"
+element_text (Counter false) = codes "DCTR"
+element_text (Math Add) = codes "ADD"
+element_text (Math Sub) = codes "SUB"
+element_text (Math Mul) = codes "MUL"
+element_text (Math Div) = codes "DIV"
+element_text (Move moves.RegToTable) = codes "R>T"
+element_text (Move moves.TableToReg) = codes "T>R"
+element_text (Move moves.TableToTable) = codes "T>T"
+element_text (Move moves.Copy) = codes "BLKM"
+element_text (Move moves.FirstIn) = codes "FIN"
+element_text (Move moves.FirstOut) = codes "FOUT"
+element_text (Move moves.Search) = codes "SRCH"
+element_text (Matrix And) = codes "AND"
+element_text (Matrix Or) = codes "OR"
+element_text (Matrix Xor) = codes "XOR"
+element_text (Matrix Comp) = codes "COMP"
+element_text (Matrix Brot) = codes "BROT"
+element_text (Matrix Cmpr) = codes "CMPR"
+element_text (Matrix Mbit) = codes "MBIT"
+element_text (Matrix Sens) = codes "SENS"
+element_text Skip = codes "SKP"
+element_text Label = codes "LAB"
+element_text Call = codes "JSR"
+element_text Return = codes "RET"
+element_text Mstr = codes "MSTR"
+
+-- The letters of a piece's name. Modicon Ladder Logic Block Library User Guide for what is named; the letters are this project's own.
+unfoldable pub name_text : PieceName → List ℕ
+name_text (Element name) = element_text name
 name_text Short = codes "V"
-name_text (Timer Second) = codes "T1.0"
-name_text (Timer Tenth) = codes "T0.1"
-name_text (Timer Hundredth) = codes "T.01"
-name_text (Counter true) = codes "UCTR"
-name_text (Counter false) = codes "DCTR"
-name_text (Math Add) = codes "ADD"
-name_text (Math Sub) = codes "SUB"
-name_text (Math Mul) = codes "MUL"
-name_text (Math Div) = codes "DIV"
-name_text (Move RegToTable) = codes "R>T"
-name_text (Move TableToReg) = codes "T>R"
-name_text (Move TableToTable) = codes "T>T"
-name_text (Move Copy) = codes "BLKM"
-name_text (Move FirstIn) = codes "FIN"
-name_text (Move FirstOut) = codes "FOUT"
-name_text (Move Search) = codes "SRCH"
-name_text (Matrix And) = codes "AND"
-name_text (Matrix Or) = codes "OR"
-name_text (Matrix Xor) = codes "XOR"
-name_text (Matrix Comp) = codes "COMP"
-name_text (Matrix Brot) = codes "BROT"
-name_text (Matrix Cmpr) = codes "CMPR"
-name_text (Matrix Mbit) = codes "MBIT"
-name_text (Matrix Sens) = codes "SENS"
 
 -- All names. Modicon Ladder Logic Block Library User Guide.
-unfoldable pub all_names : List Name
+unfoldable pub all_names : List PieceName
 all_names =
-    Open ∷ Closed ∷ Rise ∷ Fall ∷ Coil ∷ Latch ∷ Wire ∷ Short
-    ∷ Timer Second ∷ Timer Tenth ∷ Timer Hundredth ∷ Counter true ∷ Counter false
-    ∷ Math Add ∷ Math Sub ∷ Math Mul ∷ Math Div
-    ∷ Move RegToTable ∷ Move TableToReg ∷ Move TableToTable ∷ Move Copy ∷ Move FirstIn ∷ Move FirstOut ∷ Move Search
-    ∷ Matrix And ∷ Matrix Or ∷ Matrix Xor ∷ Matrix Comp ∷ Matrix Brot ∷ Matrix Cmpr ∷ Matrix Mbit ∷ Matrix Sens ∷ []
+    Short ∷ Element Open ∷ Element Closed ∷ Element Rise ∷ Element Fall ∷ Element Coil
+    ∷ Element Latch ∷ Element Wire ∷ Element (Timer Second) ∷ Element (Timer Tenth)
+    ∷ Element (Timer Hundredth) ∷ Element (Counter true) ∷ Element (Counter false)
+    ∷ Element (Math Add) ∷ Element (Math Sub) ∷ Element (Math Mul) ∷ Element (Math Div)
+    ∷ Element (Move moves.RegToTable) ∷ Element (Move moves.TableToReg)
+    ∷ Element (Move moves.TableToTable) ∷ Element (Move moves.Copy)
+    ∷ Element (Move moves.FirstIn) ∷ Element (Move moves.FirstOut) ∷ Element (Move moves.Search)
+    ∷ Element (Matrix And) ∷ Element (Matrix Or) ∷ Element (Matrix Xor) ∷ Element (Matrix Comp)
+    ∷ Element (Matrix Brot) ∷ Element (Matrix Cmpr) ∷ Element (Matrix Mbit)
+    ∷ Element (Matrix Sens) ∷ Element Skip ∷ Element Label ∷ Element Call ∷ Element Return
+    ∷ Element Mstr ∷ []
 
 -- What a word names: the name whose letters it has. This project's own.
-unfoldable pub name_of : List ℕ → Option Name
+unfoldable pub name_of : List ℕ → Option PieceName
 name_of word = find (λ name. bytes_eq word (name_text name)) all_names
-
--- The names of elements that a later version of the program takes. Modicon Ladder Logic Block Library User Guide; the letters are this project's own.
-unfoldable pub later_names : List (List ℕ)
-later_names = codes "SKP" ∷ codes "LAB" ∷ codes "JSR" ∷ codes "RET" ∷ codes "MSTR" ∷ []
-
--- A word is one of these names. This project's own.
-abbrev pub is_later_name : List ℕ → Bool
-is_later_name word = list_any (λ name. bytes_eq word name) later_names

@@ -37,8 +37,12 @@ kind_of digit =
     if digit == 48 then Some Coil else if digit == 49 then Some Input else if digit == 51 then Some InputRegister else if digit == 52 then Some Register else None
 
 -- A reference has a number from 1 to 9984. This project's own.
+abbrev pub is_reference_number : ℕ → Bool
+is_reference_number number = nat_le 1 number && nat_le number 9984
+
+-- A reference of a kind and such a number. This project's own.
 abbrev pub numbered : RefKind → ℕ → Option Ref
-numbered kind number = if nat_le 1 number && nat_le number 9984 then Some (record { kind = kind; number = number }) else None
+numbered kind number = if is_reference_number number then Some (record { kind = kind; number = number }) else None
 
 -- The reference that a word stands for: the digit of its kind, then the four of its number. Modicon Ladder Logic Block Library User Guide.
 abbrev pub reference_of : List ℕ → Option Ref

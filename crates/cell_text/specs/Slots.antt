@@ -6,14 +6,13 @@ use Rattle.plant_types.specs.declared.reference.RefKind.{RefKind}
 use Rattle.plant_types.specs.declared.reference.Ref.{Ref}
 use Rattle.plant_types.specs.declared.element.Operand.{Operand}
 use Rattle.plant_types.specs.declared.element.Operand.TheVariants.{Const, At}
-use Rattle.plant_types.specs.declared.element.MoveOp.TheVariants.{FirstOut}
-use Rattle.plant_types.specs.declared.element.MatrixOp.TheVariants.{Mbit, Sens}
+use Rattle.plant_types.specs.declared.slot.Slot.{Slot}
+use Rattle.plant_types.specs.declared.slot.Slot.TheVariants.{Discrete, Driven, Number, Source, Target, Constant}
+use Rattle.plant_types.specs.Slots.{slots_of}
 use Rattle.plant_types.specs.Reference.{is_coil, is_discrete, is_register, is_holding}
 use Rattle.plant_types.specs.Operands.{is_length}
-use Rattle.cell_text.specs.declared.names.Name.{Name}
-use Rattle.cell_text.specs.declared.names.Name.TheVariants.{Open, Closed, Rise, Fall, Coil, Latch, Wire, Short, Timer, Counter, Math, Move, Matrix}
-use Rattle.cell_text.specs.declared.slots.Slot.{Slot}
-use Rattle.cell_text.specs.declared.slots.Slot.TheVariants.{Discrete, Driven, Number, Source, Target, Length}
+use Rattle.cell_text.specs.declared.names.PieceName.{PieceName}
+use Rattle.cell_text.specs.declared.names.PieceName.TheVariants.{Element, Short}
 use Rattle.cell_text.specs.declared.slots.WordTest.{WordTest}
 use Rattle.cell_text.specs.declared.slots.WordTest.TheVariants.{Form, Value}
 use Rattle.cell_text.specs.declared.piece.CellFault.{CellFault}
@@ -21,34 +20,20 @@ use Rattle.cell_text.specs.declared.piece.CellFault.TheVariants.{BadCell, BadVal
 use Rattle.cell_text.specs.Steps.{◌>>=◌, or_fault, unless}
 use Rattle.cell_text.specs.Numbers.{is_number, number_of, is_reference_word, reference_of}
 
--- The operands that a name takes, in their order. This project's own table of operands.
-unfoldable pub slots_of : Name → List Slot
-slots_of Open = Discrete ∷ []
-slots_of Closed = Discrete ∷ []
-slots_of Rise = Discrete ∷ []
-slots_of Fall = Discrete ∷ []
-slots_of Coil = Driven ∷ []
-slots_of Latch = Driven ∷ []
-slots_of Wire = []
-slots_of Short = []
-slots_of (Timer unit) = Number ∷ Target ∷ []
-slots_of (Counter up) = Number ∷ Target ∷ []
-slots_of (Math op) = Number ∷ Number ∷ Target ∷ []
-slots_of (Move FirstOut) = Target ∷ Target ∷ Length 255 ∷ []
-slots_of (Move op) = Source ∷ Target ∷ Length 255 ∷ []
-slots_of (Matrix Mbit) = Number ∷ Target ∷ Length 100 ∷ []
-slots_of (Matrix Sens) = Number ∷ Source ∷ Length 100 ∷ []
-slots_of (Matrix op) = Source ∷ Target ∷ Length 100 ∷ []
+-- The operands that a piece of a name takes, in their order; a short takes none. This project's own.
+abbrev pub slots_of_piece : PieceName → List Slot
+slots_of_piece (Element name) = slots_of name
+slots_of_piece Short = []
 
 -- The forms that an operand can have: five digits are a reference, one to four a constant. This project's own.
 abbrev pub takes_form : Slot → List ℕ → Bool
-takes_form Number word = is_number word || is_reference_word word
-takes_form (Length most) word = is_number word
+takes_form (Number run) word = is_number word || is_reference_word word
+takes_form (Constant most) word = is_number word
 takes_form _ word = is_reference_word word
 
--- A length is from 1 to the largest. This project's own.
+-- A constant of a limited range is from 1 to the largest. This project's own.
 abbrev pub takes_value : Slot → List ℕ → Bool
-takes_value (Length most) word = option_map_or (is_length most) (number_of word) false
+takes_value (Constant most) word = option_map_or (is_length most) (number_of word) false
 takes_value _ word = true
 
 -- A word passes a test of an operand. This project's own.
@@ -60,10 +45,10 @@ passes Value slot word = takes_value slot word
 abbrev pub takes_kind : Slot → RefKind → Bool
 takes_kind Discrete kind = is_discrete kind
 takes_kind Driven kind = is_coil kind
-takes_kind Number kind = is_register kind
-takes_kind Source kind = is_register kind
-takes_kind Target kind = is_holding kind
-takes_kind (Length most) kind = false
+takes_kind (Number run) kind = is_register kind
+takes_kind (Source run) kind = is_register kind
+takes_kind (Target run) kind = is_holding kind
+takes_kind (Constant most) kind = false
 
 -- A reference as an operand, where it is of a kind that is taken. This project's own.
 abbrev pub taken_reference : Slot → Ref → Option Operand

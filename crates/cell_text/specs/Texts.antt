@@ -1,5 +1,5 @@
 -- What a piece is that has a text, and its text.
-use Rattle.std.specs.Prelude.{codes, ℕ, Bool, ◌&&◌, nat_le, List, [], ◌∷◌, ◌++◌, map}
+use Rattle.std.specs.Prelude.{codes, ℕ, Bool, ◌&&◌, List, [], ◌∷◌, ◌++◌, map}
 use Rattle.std.specs.Fmt.{decimal}
 use Rattle.std.specs.List.{list_all, join_with_byte}
 use Rattle.plant_types.specs.declared.reference.Ref.{Ref}
@@ -8,17 +8,18 @@ use Rattle.plant_types.specs.declared.element.Operand.TheVariants.{Const, At}
 use Rattle.plant_types.specs.declared.element.Element.{Element}
 use Rattle.plant_types.specs.Reference.{reference_text}
 use Rattle.plant_types.specs.Network.{has_cell_place, has_short_place}
+use Rattle.plant_types.specs.Elements.{name_of, operands_of}
 use Rattle.plant_types.specs.Operands.{names_of, has_form, has_values, has_kinds}
-use Rattle.cell_text.specs.declared.names.Name.{Name}
-use Rattle.cell_text.specs.declared.names.Name.TheVariants as names
+use Rattle.cell_text.specs.declared.names.PieceName.{PieceName}
+use Rattle.cell_text.specs.declared.names.PieceName.TheVariants as names
 use Rattle.cell_text.specs.declared.piece.Piece.{Piece}
 use Rattle.cell_text.specs.declared.piece.Piece.TheVariants.{Cell, Short}
+use Rattle.cell_text.specs.Numbers.{is_reference_number}
 use Rattle.cell_text.specs.Names.{name_text}
-use Rattle.cell_text.specs.Elements.{element_name, operands_of}
 
--- A reference has a number from 1 to 9984. This project's own.
+-- A reference has a number such as a reference has. This project's own.
 abbrev pub has_number : Ref → Bool
-has_number at = nat_le 1 at.number && nat_le at.number 9984
+has_number at = is_reference_number at.number
 
 -- All references that an element names have such numbers. This project's own.
 abbrev pub has_numbers : Element → Bool
@@ -45,8 +46,8 @@ piece_place (Cell cell) = (cell.row, cell.column)
 piece_place (Short short) = (short.row, short.column)
 
 -- The name of a piece. Modicon Ladder Logic Block Library User Guide.
-abbrev pub piece_name : Piece → Name
-piece_name (Cell cell) = element_name cell.element
+abbrev pub piece_name : Piece → PieceName
+piece_name (Cell cell) = names.Element (name_of cell.element)
 piece_name (Short short) = names.Short
 
 -- The operands of a piece. This project's own table of operands.

@@ -5,6 +5,14 @@ ghost use Rattle.cell_text.specs.Numbers.{is_digit, value_of, is_number, number_
 
 use plant_types::{Ref, RefKind};
 
+/// The rows of a network, and its columns.
+pub const ROWS: u16 = 7;
+
+const COLUMNS: u16 = 11;
+
+/// The highest number of a reference.
+const REFERENCE_LIMIT: u16 = 9984;
+
 fn is_digit(byte: u8) -> bool
     ensures { result ≡ is_digit byte }
 {
@@ -77,7 +85,7 @@ pub fn position_of(word: &[u8]) -> Option<(u8, u8)>
     let Some(column) = number_of(column) else {
         return None;
     };
-    if 1 <= row && row <= 7 && 1 <= column && column <= 11 {
+    if 1 <= row && row <= ROWS && 1 <= column && column <= COLUMNS {
         Some((row as u8, column as u8))
     } else {
         None
@@ -112,7 +120,7 @@ pub fn reference_of(word: &[u8]) -> Option<Ref>
     }
     let kind = kind_of(word[0])?;
     let number = value_of(&word[1..]);
-    if 1 <= number && number <= 9984 {
+    if 1 <= number && number <= REFERENCE_LIMIT {
         Some(Ref { kind, number })
     } else {
         None

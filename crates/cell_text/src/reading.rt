@@ -2,33 +2,32 @@
 ghost use Rattle.std.specs.Prelude.{◌≡◌, true, IfOk};
 ghost use Rattle.cell_text.specs.Words.{words_of};
 ghost use Rattle.cell_text.specs.Texts.{has_text};
-ghost use Rattle.cell_text.specs.Pieces.{short_at, piece_at, piece_of, has_later_name};
+ghost use Rattle.cell_text.specs.Pieces.{short_at, piece_at, piece_of, named_by};
 
-use crate::elements::element_of;
-use crate::names::{Name, is_later_name, name_of};
-use crate::numbers::position_of;
+use crate::names::{PieceName, name_of};
+use crate::numbers::{ROWS, position_of};
 use crate::piece::{CellFault, Piece};
-use crate::slots::{read_operands, slots_of};
+use crate::slots::read_operands;
 use crate::words::next_word;
-use plant_types::{Cell, Operand, Short};
+use plant_types::{Cell, Operand, Short, element_of};
 
-/// A short joins one of the first six rows to the next.
+/// A short joins a row to the next one.
 fn short_at(row: u8, column: u8) -> Option<Piece>
     ensures { result ≡ short_at row column }
 {
-    if row <= 6 {
+    if u16::from(row) < ROWS {
         Some(Piece::Short(Short { row, column }))
     } else {
         None
     }
 }
 
-fn piece_at(row: u8, column: u8, name: Name, operands: &[Operand]) -> Option<Piece>
+fn piece_at(row: u8, column: u8, name: PieceName, operands: &[Operand]) -> Option<Piece>
     ensures { result ≡ piece_at row column name operands.now }
 {
-    if let Name::Short = name {
+    let PieceName::Element(name) = name else {
         return short_at(row, column);
-    }
+    };
     let element = element_of(name, operands)?;
     Some(Piece::Cell(Cell {
         row,
@@ -49,7 +48,7 @@ fn read_piece(text: &[u8]) -> Result<Piece, CellFault>
     };
     let (row, column) = position_of(position).ok_or(CellFault::BadCell)?;
     let name = name_of(name).ok_or(CellFault::BadCell)?;
-    let operands = read_operands(slots_of(name), words)?;
+    let operands = read_operands(name.slots(), words)?;
     piece_at(row, column, name, operands.as_slice()).ok_or(CellFault::BadCell)
 }
 
@@ -62,15 +61,11 @@ pub fn read_cell(text: &str) -> Result<Piece, CellFault>
     read_piece(text.as_bytes())
 }
 
-/// Whether a piece has the name of an element that a later version takes.
-pub fn has_later_name(text: &[u8]) -> bool
-    ensures { result ≡ has_later_name (words_of text.now) }
+/// What the second word of a piece names.
+pub fn named_by(text: &[u8]) -> Option<PieceName>
+    ensures { result ≡ named_by (words_of text.now) }
 {
-    match next_word(text) {
-        Some((_, rest)) => match next_word(rest) {
-            Some((name, _)) => is_later_name(name),
-            None => false,
-        },
-        None => false,
-    }
+    let (_, rest) = next_word(text)?;
+    let (name, _) = next_word(rest)?;
+    name_of(name)
 }

@@ -3,49 +3,24 @@ ghost use Rattle.std.specs.Prelude.{◌≡◌, ◌≤◌, length};
 ghost use lib.Pointwise.{pointwise};
 ghost use Rattle.cell_text.specs.Words.{words_of};
 ghost use Rattle.plant_types.specs.Operands.{is_length};
-ghost use Rattle.cell_text.specs.Slots.{slots_of, takes_form, takes_value, passes, takes_kind, taken_reference, operand_in, operands_in, read_operands};
+ghost use Rattle.cell_text.specs.Slots.{slots_of_piece, takes_form, takes_value, passes, takes_kind, taken_reference, operand_in, operands_in, read_operands};
 
-use crate::names::Name;
+use crate::names::PieceName;
 use crate::numbers::{is_number, is_reference_word, number_of, reference_of};
-use crate::operands::{OPERAND_LIMIT, Operands};
 use crate::piece::CellFault;
 use crate::words::next_word;
-use plant_types::{MatrixOp, MoveOp, Operand, Ref, RefKind};
+use plant_types::{OPERAND_LIMIT, Operand, Operands, Ref, RefKind, Slot, slots_of};
 
-/// What an operand of a piece has to be.
-#[derive(Clone, Copy, Debug, PartialEq, Eq)]
-pub enum Slot {
-    /// A coil or an input.
-    Discrete,
-    /// A coil, which the element drives.
-    Driven,
-    /// A constant, or a register that is read.
-    Number,
-    /// A register that is read.
-    Source,
-    /// A register that is stored in.
-    Target,
-    /// A constant from 1 to a largest.
-    Length(u16),
-}
-
-/// The operands that a name takes, in their order.
-#[tactic(auto, unfolding(crate::specs::Slots::slots_of))]
-pub fn slots_of(name: Name) -> &'static [Slot]
-    ensures slots { result.now ≡ slots_of name }
-    ensures few { length result.now ≤ OPERAND_LIMIT }
-{
-    match name {
-        Name::Open | Name::Closed | Name::Rise | Name::Fall => &[Slot::Discrete],
-        Name::Coil | Name::Latch => &[Slot::Driven],
-        Name::Wire | Name::Short => &[],
-        Name::Timer(_) | Name::Counter { .. } => &[Slot::Number, Slot::Target],
-        Name::Math(_) => &[Slot::Number, Slot::Number, Slot::Target],
-        Name::Move(MoveOp::FirstOut) => &[Slot::Target, Slot::Target, Slot::Length(255)],
-        Name::Move(_) => &[Slot::Source, Slot::Target, Slot::Length(255)],
-        Name::Matrix(MatrixOp::Mbit) => &[Slot::Number, Slot::Target, Slot::Length(100)],
-        Name::Matrix(MatrixOp::Sens) => &[Slot::Number, Slot::Source, Slot::Length(100)],
-        Name::Matrix(_) => &[Slot::Source, Slot::Target, Slot::Length(100)],
+impl PieceName {
+    /// The operands that a piece of this name takes, in their order.
+    pub fn slots(self) -> &'static [Slot]
+        ensures slots { result.now ≡ slots_of_piece self }
+        ensures few { length result.now ≤ OPERAND_LIMIT }
+    {
+        match self {
+            PieceName::Element(name) => slots_of(name),
+            PieceName::Short => &[],
+        }
     }
 }
 
@@ -62,67 +37,67 @@ fn is_length(most: u16, length: u16) -> bool
     1 <= length && length <= most
 }
 
-impl Slot {
-    fn takes_form(self, word: &[u8]) -> bool
-        ensures { result ≡ takes_form self word.now }
-    {
-        match self {
-            Slot::Number => is_number(word) || is_reference_word(word),
-            Slot::Length(_) => is_number(word),
-            Slot::Discrete | Slot::Driven | Slot::Source | Slot::Target => is_reference_word(word),
-        }
+fn takes_form(slot: Slot, word: &[u8]) -> bool
+    ensures { result ≡ takes_form slot word.now }
+{
+    match slot {
+        Slot::Number(_) => is_number(word) || is_reference_word(word),
+        Slot::Constant(_) => is_number(word),
+        Slot::Discrete | Slot::Driven | Slot::Source(_) | Slot::Target(_) => is_reference_word(
+            word,
+        ),
     }
+}
 
-    fn takes_value(self, word: &[u8]) -> bool
-        ensures { result ≡ takes_value self word.now }
-    {
-        match self {
-            Slot::Length(most) => number_of(word).is_some_and(|length| is_length(most, length)),
-            _ => true,
-        }
+fn takes_value(slot: Slot, word: &[u8]) -> bool
+    ensures { result ≡ takes_value slot word.now }
+{
+    match slot {
+        Slot::Constant(most) => number_of(word).is_some_and(|number| is_length(most, number)),
+        _ => true,
     }
+}
 
-    fn passes(self, test: WordTest, word: &[u8]) -> bool
-        ensures { result ≡ passes test self word.now }
-    {
-        match test {
-            WordTest::Form => self.takes_form(word),
-            WordTest::Value => self.takes_value(word),
-        }
+fn passes(test: WordTest, slot: Slot, word: &[u8]) -> bool
+    ensures { result ≡ passes test slot word.now }
+{
+    match test {
+        WordTest::Form => takes_form(slot, word),
+        WordTest::Value => takes_value(slot, word),
     }
+}
 
-    fn takes_kind(self, kind: RefKind) -> bool
-        ensures { result ≡ takes_kind self kind }
-    {
-        match self {
-            Slot::Discrete => matches!(kind, RefKind::Coil | RefKind::Input),
-            Slot::Driven => matches!(kind, RefKind::Coil),
-            Slot::Number | Slot::Source => {
-                matches!(kind, RefKind::InputRegister | RefKind::Register)
-            }
-            Slot::Target => matches!(kind, RefKind::Register),
-            Slot::Length(_) => false,
+fn takes_kind(slot: Slot, kind: RefKind) -> bool
+    ensures { result ≡ takes_kind slot kind }
+{
+    match slot {
+        Slot::Discrete => matches!(kind, RefKind::Coil | RefKind::Input),
+        Slot::Driven => matches!(kind, RefKind::Coil),
+        Slot::Number(_) | Slot::Source(_) => {
+            matches!(kind, RefKind::InputRegister | RefKind::Register)
         }
+        Slot::Target(_) => matches!(kind, RefKind::Register),
+        Slot::Constant(_) => false,
     }
+}
 
-    fn taken_reference(self, at: Ref) -> Option<Operand>
-        ensures { result ≡ taken_reference self at }
-    {
-        if self.takes_kind(at.kind) {
-            Some(Operand::At(at))
-        } else {
-            None
-        }
+fn taken_reference(slot: Slot, at: Ref) -> Option<Operand>
+    ensures { result ≡ taken_reference slot at }
+{
+    if takes_kind(slot, at.kind) {
+        Some(Operand::At(at))
+    } else {
+        None
     }
+}
 
-    fn operand_in(self, word: &[u8]) -> Option<Operand>
-        ensures { result ≡ operand_in self word.now }
-    {
-        if is_reference_word(word) {
-            return self.taken_reference(reference_of(word)?);
-        }
-        number_of(word).map(Operand::Const)
+fn operand_in(slot: Slot, word: &[u8]) -> Option<Operand>
+    ensures { result ≡ operand_in slot word.now }
+{
+    if is_reference_word(word) {
+        return taken_reference(slot, reference_of(word)?);
     }
+    number_of(word).map(Operand::Const)
 }
 
 fn all_pass(test: WordTest, slots: &[Slot], text: &[u8]) -> bool
@@ -133,7 +108,7 @@ fn all_pass(test: WordTest, slots: &[Slot], text: &[u8]) -> bool
         let Some((word, behind)) = next_word(rest) else {
             return false;
         };
-        if !slot.passes(test, word) {
+        if !passes(test, *slot, word) {
             return false;
         }
         rest = behind;
@@ -150,7 +125,7 @@ fn operands_in(slots: &[Slot], text: &[u8]) -> Option<Operands>
     let mut rest = text;
     for slot in slots {
         let (word, behind) = next_word(rest)?;
-        operands.push(slot.operand_in(word)?);
+        operands.push(operand_in(*slot, word)?);
         rest = behind;
     }
     if next_word(rest).is_some() {

@@ -1,5 +1,7 @@
 use super::*;
-use plant_types::{Cell, Element, MathOp, MatrixOp, MoveOp, Operand, Ref, RefKind, Short, Unit};
+use plant_types::{
+    Cell, Element, ElementName, MathOp, MatrixOp, MoveOp, Operand, Ref, RefKind, Short, Unit,
+};
 use std::test::Fail;
 
 fn at(kind: RefKind, number: u16) -> Ref {
@@ -110,6 +112,29 @@ fn blocks() -> [(&'static str, Piece); 5] {
     ]
 }
 
+// Control flow and a message, as those above.
+fn calls() -> [(&'static str, Piece); 5] {
+    let message = Element::Mstr {
+        control: register(1),
+        area: register(11),
+        length: 100,
+    };
+    [
+        (
+            "1,1 SKP 30001",
+            cell(
+                1,
+                1,
+                Element::Skip(Operand::At(at(RefKind::InputRegister, 1))),
+            ),
+        ),
+        ("1,1 LAB 255", cell(1, 1, Element::Label(255))),
+        ("6,11 JSR 7", cell(6, 11, Element::Call(Operand::Const(7)))),
+        ("7,2 RET", cell(7, 2, Element::Return)),
+        ("1,2 MSTR 40001 40011 100", cell(1, 2, message)),
+    ]
+}
+
 #[test]
 fn pieces_stand_for_cells_and_shorts(rt: HostRuntime) {
     for (text, piece) in relays() {
@@ -121,6 +146,9 @@ fn pieces_stand_for_cells_and_shorts(rt: HostRuntime) {
     for (text, piece) in blocks() {
         assert_eq!(rt; read_cell(text), Ok(piece), "{text}");
     }
+    for (text, piece) in calls() {
+        assert_eq!(rt; read_cell(text), Ok(piece), "{text}");
+    }
     assert_eq!(rt;
         read_cell("\t 1,2\tNO   00001 "),
         Ok(cell(1, 2, Element::Open(coil(1))))
@@ -128,7 +156,7 @@ fn pieces_stand_for_cells_and_shorts(rt: HostRuntime) {
 }
 
 // Each name at least once, with the ends of the ranges.
-fn texts() -> [&'static str; 35] {
+fn texts() -> [&'static str; 41] {
     [
         "1,1 NO 10001",
         "1,1 NC 00001",
@@ -165,6 +193,12 @@ fn texts() -> [&'static str; 35] {
         "1,1 MBIT 1600 40002 100",
         "1,1 SENS 40001 40002 6",
         "1,1 SENS 1 30001 100",
+        "1,1 SKP 0",
+        "1,1 LAB 1",
+        "1,1 JSR 40001",
+        "1,1 JSR 9999",
+        "1,1 RET",
+        "1,1 MSTR 40001 40011 1",
     ]
 }
 
@@ -184,7 +218,7 @@ fn canonical_texts_are_written_back(rt: HostRuntime) -> Result<(), Fail> {
 }
 
 // Pieces that do not read: position, name, number of operands, their forms.
-const UNREAD: [&str; 34] = [
+const UNREAD: [&str; 37] = [
     "",
     "1,1",
     "0,1 H",
@@ -200,8 +234,11 @@ const UNREAD: [&str; 34] = [
     "1,1 H\u{a0}",
     "1,1 add 1 1 40001",
     "1,1 T01 7 40001",
-    "1,1 MSTR 40001 40011 1",
-    "1,1 SKP 1",
+    "1,1 MSTR 1 40011 1",
+    "1,1 SKP",
+    "1,1 LAB 00001",
+    "1,1 JSR 1 2",
+    "1,1 RET 1",
     "1,1 V 00001",
     "1,1 CO",
     "1,1 T1.0 7",
@@ -222,7 +259,7 @@ const UNREAD: [&str; 34] = [
 ];
 
 // Pieces with a constant outside its range, some with a reference that is none besides.
-const OUT_OF_RANGE: [&str; 8] = [
+const OUT_OF_RANGE: [&str; 11] = [
     "1,1 R>T 20001 40001 0",
     "1,1 T>T 30001 30002 0",
     "1,1 FIN 40001 40002 256",
@@ -231,10 +268,13 @@ const OUT_OF_RANGE: [&str; 8] = [
     "1,1 MBIT 5 30001 101",
     "1,1 SENS 5 30001 0",
     "1,1 CMPR 00001 49985 0",
+    "1,1 LAB 0",
+    "1,1 LAB 256",
+    "1,1 MSTR 30001 40011 101",
 ];
 
 // Pieces with five digits that are no reference, or one of a kind that is not taken.
-const NO_REFERENCE: [&str; 22] = [
+const NO_REFERENCE: [&str; 26] = [
     "1,1 NO 50001",
     "1,1 NO 00000",
     "1,1 NO 30001",
@@ -257,6 +297,10 @@ const NO_REFERENCE: [&str; 22] = [
     "1,1 MBIT 1 30001 100",
     "1,1 MBIT 10001 40001 1",
     "1,1 SENS 1 00001 1",
+    "1,1 SKP 10000",
+    "1,1 JSR 00001",
+    "1,1 MSTR 30001 40011 1",
+    "1,1 MSTR 40001 30011 1",
 ];
 
 #[test]
@@ -274,14 +318,11 @@ fn other_pieces_have_faults(rt: HostRuntime) {
 
 #[test]
 fn words_are_told_apart(rt: HostRuntime) {
-    assert!(rt; has_later_name(b"9,9 MSTR"));
-    assert!(rt; has_later_name(b"1,1 SKP 1"));
-    assert!(rt; has_later_name(b"1,1 LAB"));
-    assert!(rt; has_later_name(b"1,1 JSR 1"));
-    assert!(rt; has_later_name(b"1,1 RET"));
-    assert!(rt; !has_later_name(b"1,1 MST"));
-    assert!(rt; !has_later_name(b"1,1 SENS 1 30001 100"));
-    assert!(rt; !has_later_name(b"MSTR"));
+    let message = PieceName::Element(ElementName::Mstr);
+    assert_eq!(rt; named_by(b"9,9 MSTR"), Some(message));
+    assert_eq!(rt; named_by(b"1,1 V 7"), Some(PieceName::Short));
+    assert_eq!(rt; named_by(b"1,1 MST"), None);
+    assert_eq!(rt; named_by(b"MSTR"), None);
     assert!(rt; has_words(b" 1 - ", &["1", "-"]));
     assert!(rt; !has_words(b"1 - -", &["1", "-"]));
     assert_eq!(rt; only_word(b"\t00001 "), Some(b"00001".as_slice()));

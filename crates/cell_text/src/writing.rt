@@ -4,11 +4,9 @@ ghost use Rattle.cell_text.specs.Words.{words_of};
 ghost use Rattle.cell_text.specs.Pieces.{piece_of};
 ghost use Rattle.cell_text.specs.Texts.{operand_text, piece_name, piece_operands, piece_place, has_text, piece_text};
 
-use crate::elements::{element_name, operands_of};
-use crate::names::Name;
-use crate::operands::Operands;
+use crate::names::PieceName;
 use crate::piece::Piece;
-use plant_types::Operand;
+use plant_types::{Operand, Operands};
 use std::alloc::{AllocError, Global};
 use std::fmt;
 
@@ -38,12 +36,12 @@ impl Piece {
         }
     }
 
-    fn name(&self) -> Name
+    fn name(&self) -> PieceName
         ensures { result ≡ piece_name self.now }
     {
         match self {
-            Piece::Cell(cell) => element_name(&cell.element),
-            Piece::Short(_) => Name::Short,
+            Piece::Cell(cell) => PieceName::Element(cell.element.name()),
+            Piece::Short(_) => PieceName::Short,
         }
     }
 
@@ -51,7 +49,7 @@ impl Piece {
         ensures { result ≡ piece_operands self.now }
     {
         match self {
-            Piece::Cell(cell) => operands_of(&cell.element),
+            Piece::Cell(cell) => cell.element.operands(),
             Piece::Short(_) => Operands::new(),
         }
     }

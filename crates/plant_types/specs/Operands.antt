@@ -87,16 +87,16 @@ abbrev pub names_of : Element → List Named
 names_of element = named_by (length_of element) (slots_of (name_of element)) (operands_of element)
 
 -- An operand has the form of a slot: a constant, or a reference. This project's own table of operands.
-abbrev pub takes_form : Slot → Operand → Bool
-takes_form (Number run) operand = true
-takes_form (Constant most) (Const n) = true
-takes_form (Constant most) (At at) = false
-takes_form slot (Const n) = false
-takes_form slot (At at) = true
+abbrev pub fits_form : Slot → Operand → Bool
+fits_form (Number run) operand = true
+fits_form (Constant most) (Const n) = true
+fits_form (Constant most) (At at) = false
+fits_form slot (Const n) = false
+fits_form slot (At at) = true
 
 -- An element has a constant only where it takes one. This project's own table of operands.
 abbrev pub has_form : Element → Bool
-has_form element = pointwise takes_form (slots_of (name_of element)) (operands_of element)
+has_form element = pointwise fits_form (slots_of (name_of element)) (operands_of element)
 
 -- A constant has at most four digits. This project's own table of operands.
 abbrev pub is_constant : Operand → Bool
@@ -108,14 +108,14 @@ abbrev pub is_length : ℕ → ℕ → Bool
 is_length most length = nat_le 1 length && nat_le length most
 
 -- A constant is in the range of a slot. This project's own table of operands.
-abbrev pub takes_value : Slot → Operand → Bool
-takes_value (Constant most) (Const n) = is_length most n
-takes_value (Constant most) (At at) = true
-takes_value slot operand = is_constant operand
+abbrev pub fits_value : Slot → Operand → Bool
+fits_value (Constant most) (Const n) = is_length most n
+fits_value (Constant most) (At at) = true
+fits_value slot operand = is_constant operand
 
 -- The constants of an element are in their ranges. This project's own table of operands.
 abbrev pub has_values : Element → Bool
-has_values element = pointwise takes_value (slots_of (name_of element)) (operands_of element)
+has_values element = pointwise fits_value (slots_of (name_of element)) (operands_of element)
 
 -- An element's references are of the kinds that it takes. This project's own table of operands.
 abbrev pub has_kinds : Element → Bool

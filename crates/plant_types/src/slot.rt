@@ -1,10 +1,11 @@
 //! The table of operands: what each element takes.
-ghost use Rattle.std.specs.Prelude.{◌≡◌};
+ghost use Rattle.std.specs.Prelude.{◌≡◌, ◌≤◌, length};
 ghost use Rattle.plant_types.specs.Elements.{length_of};
 ghost use Rattle.plant_types.specs.Slots.{run_count, math_slots, move_slots, matrix_slots, slots_of};
 
 use crate::element::{Element, MathOp, MatrixOp, MoveOp};
 use crate::name::ElementName;
+use crate::operands::OPERAND_LIMIT;
 
 /// How many references an operand uses from its own on.
 #[derive(Clone, Copy, Debug, PartialEq, Eq)]
@@ -64,7 +65,8 @@ const ONE: Run = Run::Fixed(1);
 const TWO: Run = Run::Fixed(2);
 
 fn math_slots(op: MathOp) -> &'static [Slot]
-    ensures { result.now ≡ math_slots op }
+    ensures slots { result.now ≡ math_slots op }
+    ensures few { length result.now ≤ OPERAND_LIMIT }
 {
     match op {
         MathOp::Add | MathOp::Sub => &[Slot::Number(ONE), Slot::Number(ONE), Slot::Target(ONE)],
@@ -74,7 +76,8 @@ fn math_slots(op: MathOp) -> &'static [Slot]
 }
 
 fn move_slots(op: MoveOp) -> &'static [Slot]
-    ensures { result.now ≡ move_slots op }
+    ensures slots { result.now ≡ move_slots op }
+    ensures few { length result.now ≤ OPERAND_LIMIT }
 {
     match op {
         MoveOp::RegToTable | MoveOp::FirstIn => &[
@@ -106,7 +109,8 @@ fn move_slots(op: MoveOp) -> &'static [Slot]
 }
 
 fn matrix_slots(op: MatrixOp) -> &'static [Slot]
-    ensures { result.now ≡ matrix_slots op }
+    ensures slots { result.now ≡ matrix_slots op }
+    ensures few { length result.now ≤ OPERAND_LIMIT }
 {
     match op {
         MatrixOp::And | MatrixOp::Or | MatrixOp::Xor | MatrixOp::Comp | MatrixOp::Brot => &[
@@ -134,7 +138,8 @@ fn matrix_slots(op: MatrixOp) -> &'static [Slot]
 
 /// The operands that an element of a name takes, in their order.
 pub fn slots_of(name: ElementName) -> &'static [Slot]
-    ensures { result.now ≡ slots_of name }
+    ensures slots { result.now ≡ slots_of name }
+    ensures few { length result.now ≤ OPERAND_LIMIT }
 {
     match name {
         ElementName::Open | ElementName::Closed | ElementName::Rise | ElementName::Fall => {
