@@ -71,7 +71,5 @@ pub kept-find_all : KeptStoresFindAll
 kept-find_all = record {
   operands = λ m n segments keeps. EachOfSegments-follow (HasOperands m) (HasOperands n) (λ element. HasOperands-kept m n element keeps) segments;
   past = λ m n segments keeps. EachOfSegments-follow (HasPast m) (HasPast n) (λ element. HasPast-kept m n element keeps) segments;
-  network_operands = λ m n networks keeps. EachOfNetworks-follow (HasOperands m) (HasOperands n) (λ element. HasOperands-kept m n element keeps) networks;
-  network_past = λ m n networks keeps. EachOfNetworks-follow (HasPast m) (HasPast n) (λ element. HasPast-kept m n element keeps) networks;
   panel = HasPanel-kept;
 }

@@ -107,16 +107,6 @@ get-with_words_at m at (x ∷ xs) (suc i) d h =
     ap (get (with_words (insert m at x) (ref_from at 1) xs)) (sym (one_and at i))
     ∙ get-with_words_at (insert m at x) (ref_from at 1) xs i d (omega arith)
 
--- the words that a run has after they were stored
-pub words_from-with_words : (m : Contents) (at : Ref) (xs : List ℕ) → words_from (with_words m at xs) at (length xs) ≡ xs
-words_from-with_words m at xs =
-    sym (words_from-by_place (with_words m at xs) at (length xs) xs refl
-    (λ k l. sym (ap (λ o. unwrap_or o 0) (get-with_words_at m at xs k 0 l))))
-
--- what stood before still stands after two steps
-pub Keeps-then : (a b c : Contents) → Keeps a b → Keeps b c → Keeps a c
-Keeps-then a b c first second at h = second at (first at h)
-
 kept_by_test : (b : Bool) (v : ℕ) (o : Option ℕ) → is_some o ≡ true → is_some (cond b (Some v) o) ≡ true
 kept_by_test true v o h = refl
 kept_by_test false v o h = h

@@ -28,7 +28,8 @@ name_of (Call number) = names.Call
 name_of Return = names.Return
 name_of (Mstr control area length) = names.Mstr
 
--- The operands of an element, in the order in which they are written. This project's own table of operands.
+-- The operands of an element, in the order in which they are written. This project's own table
+-- of operands.
 abbrev pub operands_of : Element → List Operand
 operands_of (Open at) = At at ∷ []
 operands_of (Closed at) = At at ∷ []
@@ -48,7 +49,8 @@ operands_of (Call number) = number ∷ []
 operands_of Return = []
 operands_of (Mstr control area length) = At control ∷ At area ∷ Const length ∷ []
 
--- The length operand of a block on a table, 0 where there is none. This project's own table of operands.
+-- The length operand of a block on a table, 0 where there is none. This project's own table of
+-- operands.
 abbrev pub length_of : Element → ℕ
 length_of (Move op top mid length) = length
 length_of (Matrix op top mid length) = length
@@ -85,12 +87,14 @@ abbrev pub preset_and_acc : List Operand → Option (Operand × Ref)
 preset_and_acc (preset ∷ acc ∷ []) = option_map (λ acc. (preset, acc)) (reference_in acc)
 preset_and_acc _ = None
 
--- The two numbers of a block of arithmetic, and where it stores. This project's own table of operands.
+-- The two numbers of a block of arithmetic, and where it stores. This project's own table of
+-- operands.
 abbrev pub numbers_and_low : List Operand → Option (Operand × Operand × Ref)
 numbers_and_low (top ∷ mid ∷ low ∷ []) = option_map (λ low. (top, mid, low)) (reference_in low)
 numbers_and_low _ = None
 
--- The operands of a block on a table: its top, its middle and its length. This project's own table of operands.
+-- The operands of a block on a table: its top, its middle and its length. This project's own
+-- table of operands.
 abbrev pub table_operands : List Operand → Option (Operand × Ref × ℕ)
 table_operands (top ∷ mid ∷ length ∷ []) =
     option_and_then (λ mid. option_map (λ length. (top, mid, length)) (constant_in length)) (reference_in mid)
@@ -106,14 +110,19 @@ element_of names.Coil operands = option_map Coil (one_reference operands)
 element_of names.Latch operands = option_map Latch (one_reference operands)
 element_of names.Wire operands = without_operands Wire operands
 element_of names.Return operands = without_operands Return operands
-element_of (names.Timer unit) operands = option_map (λ o. Timer unit o.0 o.1) (preset_and_acc operands)
-element_of (names.Counter up) operands = option_map (λ o. Counter up o.0 o.1) (preset_and_acc operands)
-element_of (names.Math op) operands = option_map (λ o. Math op o.0 o.1 o.2) (numbers_and_low operands)
+element_of (names.Timer unit) operands =
+    option_map (λ o. Timer unit o.0 o.1) (preset_and_acc operands)
+element_of (names.Counter up) operands =
+    option_map (λ o. Counter up o.0 o.1) (preset_and_acc operands)
+element_of (names.Math op) operands =
+    option_map (λ o. Math op o.0 o.1 o.2) (numbers_and_low operands)
 element_of (names.Move op) operands =
     option_and_then (λ o. option_map (λ top. Move op top o.1 o.2) (reference_in o.0)) (table_operands operands)
-element_of (names.Matrix op) operands = option_map (λ o. Matrix op o.0 o.1 o.2) (table_operands operands)
+element_of (names.Matrix op) operands =
+    option_map (λ o. Matrix op o.0 o.1 o.2) (table_operands operands)
 element_of names.Skip operands = option_map Skip (one_operand operands)
 element_of names.Call operands = option_map Call (one_operand operands)
-element_of names.Label operands = option_map Label (option_and_then constant_in (one_operand operands))
+element_of names.Label operands =
+    option_map Label (option_and_then constant_in (one_operand operands))
 element_of names.Mstr operands =
     option_and_then (λ o. option_map (λ control. Mstr control o.1 o.2) (reference_in o.0)) (table_operands operands)

@@ -57,7 +57,8 @@ text_of parts.Script i j k m =
     codes "controller " ++ decimal i ++ codes " drop " ++ decimal j ++ codes " script " ++ decimal k
 text_of parts.Segment i j k m = codes "controller " ++ decimal i ++ codes " segment " ++ decimal j
 text_of parts.Cell i j k m =
-    (codes "controller " ++ decimal i ++ codes " segment " ++ decimal j) ++ (codes " network " ++ decimal k ++ codes " cell " ++ decimal m)
+    (codes "controller " ++ decimal i ++ codes " segment " ++ decimal j)
+    ++ (codes " network " ++ decimal k ++ codes " cell " ++ decimal m)
 text_of parts.Order i j k m = codes "controller " ++ decimal i ++ codes " order " ++ decimal j
 text_of parts.Panel i j k m = codes "controller " ++ decimal i ++ codes " panel " ++ decimal j
 text_of parts.Host i j k m = codes "host " ++ decimal i

@@ -30,7 +30,8 @@ ref_again at i = record { kind = kind_again at.kind i; number = at.number }
 
 -- References as pairs of numbers. This project's own.
 abbrev pub coded_ref : Coded Ref
-coded_ref = code_by (ℕ × ℕ) (coded× coded_ℕ coded_ℕ) (λ r. (rank_of r.kind, r.number)) (λ p. record { kind = kind_at p.0; number = p.1 }) ref_again
+coded_ref =
+    code_by (ℕ × ℕ) (coded× coded_ℕ coded_ℕ) (λ r. (rank_of r.kind, r.number)) (λ p. record { kind = kind_at p.0; number = p.1 }) ref_again
 
 -- Contents as lists of numbers. This project's own.
 abbrev pub coded_contents : Coded Contents
@@ -38,4 +39,5 @@ coded_contents = code coded_ref coded_ℕ
 
 -- The map gains the references of a kind from 1 to a number, each 0. This project's own.
 abbrev pub AddsZeros : RefKind → ℕ → BTreeMap Ref ℕ → BTreeMap Ref ℕ → Type 0
-AddsZeros kind count old new = from_entries {R = ref_cmp} new.entries ≡ from_entries (zeros kind count ++ old.entries)
+AddsZeros kind count old new =
+    from_entries {R = ref_cmp} new.entries ≡ from_entries (zeros kind count ++ old.entries)

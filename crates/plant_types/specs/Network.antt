@@ -6,7 +6,8 @@ use Rattle.plant_types.specs.declared.element.Element.TheVariants.{Open, Closed,
 use Rattle.plant_types.specs.declared.network.Cell.{Cell}
 use Rattle.plant_types.specs.declared.network.Short.{Short}
 
--- How many nodes an element has, one row each, from its place down. Modicon Ladder Logic Block Library User Guide.
+-- How many nodes an element has, one row each, from its place down. Modicon Ladder Logic Block
+-- Library User Guide.
 abbrev pub node_count : Element → ℕ
 node_count (Open at) = 1
 node_count (Closed at) = 1
@@ -36,7 +37,8 @@ driven_by _ = None
 abbrev pub ends_row : Element → Bool
 ends_row element = is_some (driven_by element)
 
--- A row of a network, and a column. Modicon Ladder Logic Block Library User Guide: 7 rows and 11 columns.
+-- A row of a network, and a column. Modicon Ladder Logic Block Library User Guide: 7 rows and
+-- 11 columns.
 abbrev pub is_row : ℕ → Bool
 is_row row = nat_le 1 row && nat_le row 7
 
@@ -61,11 +63,14 @@ is_within cell = nat_le (cell.row + node_count cell.element) 8
 -- Two cells have nodes on one place. Modicon Ladder Logic Block Library User Guide.
 abbrev pub overlaps : Cell → Cell → Bool
 overlaps one other =
-    (one.column == other.column) && (nat_lt one.row (other.row + node_count other.element) && nat_lt other.row (one.row + node_count one.element))
+    (one.column == other.column)
+    && (nat_lt one.row (other.row + node_count other.element) && nat_lt other.row (one.row + node_count one.element))
 
--- A node of a cell stands to the right of a coil in its row. Modicon Ladder Logic Block Library User Guide.
+-- A node of a cell stands to the right of a coil in its row. Modicon Ladder Logic Block Library
+-- User Guide.
 abbrev pub is_right_of_coil : Cell → Cell → Bool
-is_right_of_coil cell coil = ends_row coil.element && (nat_lt coil.column cell.column && covers cell coil.row)
+is_right_of_coil cell coil =
+    ends_row coil.element && (nat_lt coil.column cell.column && covers cell coil.row)
 
 -- Two cells that can't stand in one network. Modicon Ladder Logic Block Library User Guide.
 abbrev pub clashes : Cell → Cell → Bool

@@ -38,13 +38,15 @@ takes AnyDiscrete kind = is_discrete kind
 takes AnyRegister kind = is_register kind
 takes OnlyHolding kind = is_holding kind
 
--- A reference that an element names: what it has to be, and how many references from it on the element uses. This project's own.
+-- A reference that an element names: what it has to be, and how many references from it on the
+-- element uses. This project's own.
 pub record Named : Type 0 where
   pub at : Ref
   pub kind : Kind
   pub count : ℕ
 
--- One coil, one discrete, registers that are read, registers that are stored in. This project's own.
+-- One coil, one discrete, registers that are read, registers that are stored in. This project's
+-- own.
 abbrev pub coil : Ref → Named
 coil at = record { at = at; kind = OnlyCoil; count = 1 }
 
@@ -62,12 +64,14 @@ abbrev pub named_in : Operand → ℕ → List Named
 named_in (Const n) count = []
 named_in (At at) count = source at count ∷ []
 
--- What an operand names as a reference of this sort: nothing where it is a constant. This project's own table of operands.
+-- What an operand names as a reference of this sort: nothing where it is a constant. This
+-- project's own table of operands.
 abbrev pub named_as : (Ref → Named) → Operand → List Named
 named_as name (Const n) = []
 named_as name (At at) = name at ∷ []
 
--- What an operand names in its slot, where the length operand is this. This project's own table of operands.
+-- What an operand names in its slot, where the length operand is this. This project's own table
+-- of operands.
 abbrev pub named_at : ℕ → Slot → Operand → List Named
 named_at length Discrete operand = named_as discrete operand
 named_at length Driven operand = named_as coil operand
@@ -86,7 +90,8 @@ named_by length _ _ = []
 abbrev pub names_of : Element → List Named
 names_of element = named_by (length_of element) (slots_of (name_of element)) (operands_of element)
 
--- An operand has the form of a slot: a constant, or a reference. This project's own table of operands.
+-- An operand has the form of a slot: a constant, or a reference. This project's own table of
+-- operands.
 abbrev pub fits_form : Slot → Operand → Bool
 fits_form (Number run) operand = true
 fits_form (Constant most) (Const n) = true
@@ -132,19 +137,23 @@ HasKind m at count OnlyHolding = HasRegisters m at count
 abbrev pub HasNamed : Contents → Named → Type 0
 HasNamed m named = HasKind m named.at named.count named.kind
 
--- What solving an element asks of a store: its constants are such as it takes, and all its references stand. This project's own.
+-- What solving an element asks of a store: its constants are such as it takes, and all its
+-- references stand. This project's own.
 pub record HasOperands (m : Contents) (element : Element) : Type 0 where
   pub form : has_form element ≡ true
   pub values : has_values element ≡ true
   pub references : AllByRecursion (HasNamed m) (names_of element)
 
--- A store of discretes has what a named reference asks of it: nothing for a register. This project's own.
+-- A store of discretes has what a named reference asks of it: nothing for a register. This
+-- project's own.
 abbrev pub HasDiscreteKind : Contents → Ref → Kind → Type 0
 HasDiscreteKind m at OnlyCoil = HasDiscrete m at
 HasDiscreteKind m at AnyDiscrete = HasDiscrete m at
 HasDiscreteKind m at AnyRegister = Unit {0}
 HasDiscreteKind m at OnlyHolding = Unit {0}
 
--- What solving an element asks of the discretes as the scan before ended: those that it names. This project's own.
+-- What solving an element asks of the discretes as the scan before ended: those that it names.
+-- This project's own.
 abbrev pub HasPast : Contents → Element → Type 0
-HasPast m element = AllByRecursion (λ named. HasDiscreteKind m named.at named.kind) (names_of element)
+HasPast m element =
+    AllByRecursion (λ named. HasDiscreteKind m named.at named.kind) (names_of element)

@@ -4,7 +4,8 @@ use Rattle.plant_types.specs.declared.power.NodePower.{NodePower}
 
 -- Bit 0 is the top node, bit 1 the second, bit 2 the third. This project's own.
 abbrev pub nodes_of : ℕ → NodePower
-nodes_of bits = record { top = bits % 2 == 1; middle = bits / 2 % 2 == 1; bottom = bits / 4 % 2 == 1 }
+nodes_of bits =
+    record { top = bits % 2 == 1; middle = bits / 2 % 2 == 1; bottom = bits / 4 % 2 == 1 }
 
 -- One for on, nothing for off. This project's own.
 abbrev pub bit_of : Bool → ℕ

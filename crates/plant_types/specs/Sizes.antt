@@ -26,7 +26,8 @@ has_reference sizes at = nat_le 1 at.number && nat_le at.number (count_of sizes 
 
 -- So many references from one on are in a map of these sizes. This project's own.
 abbrev pub has_run : Sizes → Ref → ℕ → Bool
-has_run sizes at count = nat_le 1 at.number && nat_le (at.number + count) (count_of sizes at.kind + 1)
+has_run sizes at count =
+    nat_le 1 at.number && nat_le (at.number + count) (count_of sizes at.kind + 1)
 
 -- The same with no registers. This project's own.
 abbrev pub discretes_of : Sizes → Sizes
@@ -42,17 +43,27 @@ abbrev pub cleared : Sizes → Contents
 cleared sizes =
     from_entries (zeros Coil sizes.coils ++ (zeros Input sizes.inputs ++ (zeros InputRegister sizes.input_registers ++ zeros Register sizes.registers)))
 
--- A store when it starts has the references of its sizes, each 0, and no others. This project's own.
+-- A store when it starts has the references of its sizes, each 0, and no others. This project's
+-- own.
 abbrev pub StartsCleared : Type 0
-StartsCleared = (sizes : Sizes) (at : Ref) → get (cleared sizes) at ≡ (if has_reference sizes at then Some 0 else None)
+StartsCleared =
+    (sizes : Sizes) (at : Ref) → get (cleared sizes) at
+    ≡ (if has_reference sizes at then Some 0 else None)
 
--- The coils and inputs of a map of these sizes, with the numbers that a store has there. This project's own.
+-- The coils and inputs of a map of these sizes, with the numbers that a store has there. This
+-- project's own.
 abbrev pub discretes : Sizes → Contents → Contents
 discretes sizes m = retain_keys m (has_reference (discretes_of sizes))
 
--- What holds of the discretes of stores that have all references of their sizes: those of a fresh store are a fresh store of discretes; a copy that takes its numbers from another such store becomes that store's, and can always be taken. This project's own.
+-- What holds of the discretes of stores that have all references of their sizes: those of a
+-- fresh store are a fresh store of discretes; a copy that takes its numbers from another such
+-- store becomes that store's, and can always be taken. This project's own.
 pub record DiscretesFollow : Type 0 where
   pub fresh : (sizes : Sizes) → discretes sizes (cleared sizes) ≡ cleared (discretes_of sizes)
-  pub copied : (sizes : Sizes) (m n : Contents) → Keeps (cleared sizes) m → part_at (discretes sizes m) n ≡ discretes sizes n
-  pub held : (sizes : Sizes) (m n : Contents) → Keeps (cleared sizes) n → Keeps (discretes sizes m) n
-  pub kept : (sizes : Sizes) (m : Contents) → Keeps (cleared sizes) m → Keeps (cleared (discretes_of sizes)) (discretes sizes m)
+  pub copied :
+      (sizes : Sizes) (m n : Contents) → Keeps (cleared sizes) m → part_at (discretes sizes m) n
+      ≡ discretes sizes n
+  pub held :
+      (sizes : Sizes) (m n : Contents) → Keeps (cleared sizes) n → Keeps (discretes sizes m) n
+  pub kept : (sizes : Sizes) (m : Contents) → Keeps (cleared sizes) m
+      → Keeps (cleared (discretes_of sizes)) (discretes sizes m)

@@ -13,13 +13,15 @@ use Rattle.plant_types.specs.declared.slot.Run.TheVariants.{Fixed, Table, Pointe
 use Rattle.plant_types.specs.declared.slot.Slot.{Slot}
 use Rattle.plant_types.specs.declared.slot.Slot.TheVariants.{Discrete, Driven, Number, Source, Target, Constant}
 
--- How many registers a run is, where the length operand is this; a pointer stands before its table.
+-- How many registers a run is, where the length operand is this; a pointer stands before its
+-- table.
 abbrev pub run_count : Run → ℕ → ℕ
 run_count (Fixed n) length = n
 run_count Table length = length
 run_count PointerAndTable length = length + 1
 
--- The largest length of a table, of a matrix or the data area of a message, the largest label, and the registers of a control block.
+-- The largest length of a table, of a matrix or the data area of a message, the largest label,
+-- and the registers of a control block.
 abbrev pub table_limit : ℕ
 table_limit = 255
 

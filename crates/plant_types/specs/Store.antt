@@ -2,7 +2,7 @@
 use Rattle.std.specs.Prelude.{◌≡◌, ℕ, zero, suc, ◌+◌, ◌≤◌, ◌<◌, Bool, true, false, nat_lt, unwrap_or, if◌then◌else◌, List, [], ◌∷◌}
 use Rattle.std.specs.FinMap.{FinMap, get, insert, contains_key, retain_keys}
 use Rattle.plant_types.specs.declared.reference.Ref.{Ref}
-use Rattle.plant_types.specs.Reference.{ref_cmp, is_discrete, ref_from}
+use Rattle.plant_types.specs.Reference.{ref_cmp, is_discrete, ref_from, most_references}
 
 -- Each reference that is there, with its number. This project's own.
 abbrev pub Contents : Type 0
@@ -20,7 +20,8 @@ is_on m at = nat_lt 0 (word_at m at)
 abbrev pub with_bit : Contents → Ref → Bool → Contents
 with_bit m at on = insert m at (if on then 1 else 0)
 
--- The value that a panel shows: 0 or 1 for a discrete, the number of a register. This project's own.
+-- The value that a panel shows: 0 or 1 for a discrete, the number of a register. This project's
+-- own.
 abbrev pub value_at : Contents → Ref → ℕ
 value_at m at = if is_discrete at.kind then (if is_on m at then 1 else 0) else word_at m at
 
@@ -36,10 +37,10 @@ Keeps old new = (at : Ref) → contains_key old at ≡ true → contains_key new
 abbrev pub part_at : Contents → Contents → Contents
 part_at other m = retain_keys m (contains_key other)
 
--- So many registers from one on are there, with numbers that a reference can have. This project's own.
+-- So many registers from one on are there, within the most that a kind has. This project's own.
 pub record HasRegisters (m : Contents) (at : Ref) (count : ℕ) : Type 0 where
   pub kind : is_discrete at.kind ≡ false
-  pub range : at.number + count ≤ 9985
+  pub range : at.number + count ≤ most_references + 1
   pub held : (i : ℕ) → i < count → contains_key m (ref_from at i) ≡ true
 
 -- The numbers of so many registers from one on. This project's own.

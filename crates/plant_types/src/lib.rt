@@ -1,24 +1,24 @@
 //! The plan of a plant, the references of its controllers, and the stores that hold them.
 #![tactic(auto)]
 
-pub mod checks;
-pub mod copied;
-pub mod drops;
-pub mod element;
-pub mod fault;
-pub mod list;
-pub mod map_ram;
-pub mod name;
-pub mod net;
-pub mod network;
-pub mod operands;
-pub mod plan;
-pub mod power;
-pub mod reference;
-pub mod runs;
-pub mod slot;
-pub mod store;
-pub mod words;
+mod checks;
+mod copied;
+mod drops;
+mod element;
+mod fault;
+mod list;
+mod map_ram;
+mod name;
+mod net;
+mod network;
+mod operands;
+mod plan;
+mod power;
+mod reference;
+mod runs;
+mod slot;
+mod store;
+mod words;
 
 pub use checks::{checked_plans_find_all, kept_stores_find_all};
 pub use copied::Copied;

@@ -8,6 +8,8 @@ use crate::{
 };
 use std::alloc::{AllocError, Global};
 
+mod copies;
+
 const COIL_16: Ref = Ref {
     kind: RefKind::Coil,
     number: 16,

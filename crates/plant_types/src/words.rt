@@ -1,6 +1,6 @@
 //! Words of registers, and the bytes of a request or a reply.
-ghost use Rattle.std.specs.Prelude.{◌≡◌, ◌≤◌, length, IfOk};
-ghost use Rattle.plant_types.specs.Words.{pdu_of};
+ghost use Rattle.std.specs.Prelude.{◌≡◌, IfOk};
+ghost use Rattle.plant_types.specs.Words.{IsPduLength, FitsBlock, pdu_of};
 
 use std::alloc::{AllocError, Global};
 use std::marker::Model;
@@ -38,7 +38,7 @@ impl Words {
 }
 
 /// The most bytes of a PDU.
-pub const PDU_LIMIT: usize = 253;
+const PDU_LIMIT: usize = 253;
 
 /// A protocol data unit: the function code and its data, 1 to 253 bytes
 /// (*Modicon Modbus Protocol Reference Guide*; the bounds are this project's own).
@@ -82,40 +82,40 @@ impl Pdu {
     /// Its bytes, the function first.
     pub fn bytes(&self) -> &[u8]
         ensures bytes { result.now ≡ self.now }
-        ensures some { 1 ≤ length self.now }
-        ensures fits { length self.now ≤ PDU_LIMIT }
+        ensures fits { IsPduLength self.now }
     {
         self.items.as_slice()
     }
 }
 
 /// The most words of a `Block`.
-pub const BLOCK_LIMIT: usize = 100;
+const BLOCK_LIMIT: usize = 100;
 
 /// At most 100 words in a fixed array. This project's own.
 #[derive(Drop)]
 pub struct Block {
-    items: [u16; 100],
+    items: [u16; BLOCK_LIMIT],
     count: usize,
 }
 
 impl Model for Block {
     ghost use Rattle.std.specs.Prelude.{ℕ, List, ◌≤◌, take};
+    ghost use Rattle.plant_types.specs.Words.{most_block_words};
 
     ghost Value = { List ℕ };
 
     ghost view = { λ b. take b.count b.items };
 
-    ghost invariant = { λ b. b.count ≤ 100 };
+    ghost invariant = { λ b. b.count ≤ most_block_words };
 }
 
 impl Block {
     /// Takes no memory.
     pub fn of(words: &[u16]) -> Block
-        requires { length words.now ≤ BLOCK_LIMIT }
+        requires { FitsBlock words.now }
         ensures { result ≡ words.now }
     {
-        let mut items = [0; 100];
+        let mut items = [0; BLOCK_LIMIT];
         items[..words.len()].copy_from_slice(words);
         Block {
             items,
@@ -126,7 +126,7 @@ impl Block {
     /// Its words, the first one first.
     pub fn words(&self) -> &[u16]
         ensures words { result.now ≡ self.now }
-        ensures fits { length self.now ≤ BLOCK_LIMIT }
+        ensures fits { FitsBlock self.now }
     {
         &self.items[..self.count]
     }
