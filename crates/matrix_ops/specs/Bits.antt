@@ -13,7 +13,8 @@ bits_high_first (suc count) n = (bit_at n count == 1) ∷ bits_high_first count 
 abbrev pub word_bits : ℕ → List Bool
 word_bits word = bits_high_first 16 word
 
--- The bits of a matrix: those of its registers, one after another. Modicon Ladder Logic Block Library User Guide.
+-- The bits of a matrix: those of its registers, one after another. Modicon Ladder Logic Block
+-- Library User Guide.
 unfoldable pub matrix_bits : List ℕ → List Bool
 matrix_bits [] = []
 matrix_bits (word ∷ words) = word_bits word ++ matrix_bits words
@@ -28,4 +29,5 @@ number_of_bits bits = fold (λ n on. 2 * n + bit_of on) 0 bits
 
 -- The registers that have these bits, 16 in each. Modicon Ladder Logic Block Library User Guide.
 unfoldable pub matrix_words : List Bool → List ℕ
-matrix_words bits = map (λ place. number_of_bits (take 16 (drop (16 * place) bits))) (range_with_len 0 (length bits / 16))
+matrix_words bits =
+    map (λ place. number_of_bits (take 16 (drop (16 * place) bits))) (range_with_len 0 (length bits / 16))

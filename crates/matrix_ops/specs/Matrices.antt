@@ -17,14 +17,16 @@ use Rattle.matrix_ops.specs.Bits.{word_bits, matrix_bits, bit_number, number_of_
 abbrev pub word_by_word : (ℕ → ℕ → ℕ) → List ℕ → List ℕ → List ℕ
 word_by_word rule words others = map (λ pair. rule pair.0 pair.1) (zip words others)
 
--- AND, OR and XOR: a matrix becomes what a rule makes of it and of another, word by word. Modicon Ladder Logic Block Library User Guide; the exact outputs are this project's own.
+-- AND, OR and XOR: a matrix becomes what a rule makes of it and of another, word by word.
+-- Modicon Ladder Logic Block Library User Guide; the exact outputs are this project's own.
 abbrev pub combine_effect : (ℕ → ℕ → ℕ) → Ref → Ref → ℕ → NodePower → Contents → Effect
 combine_effect rule top mid length inputs m = record {
   outputs = record { top = inputs.top; middle = false; bottom = false };
   stored = if inputs.top then with_words m mid (word_by_word rule (words_from m mid length) (words_from m top length)) else m;
 }
 
--- COMP: a matrix becomes the inverse of another. Modicon Ladder Logic Block Library User Guide; the exact outputs are this project's own.
+-- COMP: a matrix becomes the inverse of another. Modicon Ladder Logic Block Library User Guide;
+-- the exact outputs are this project's own.
 abbrev pub comp_effect : Ref → Ref → ℕ → NodePower → Contents → Effect
 comp_effect top mid length inputs m = record {
   outputs = record { top = inputs.top; middle = false; bottom = false };
@@ -35,11 +37,15 @@ comp_effect top mid length inputs m = record {
 abbrev pub is_apart : Bool × Bool → Bool
 is_apart pair = if pair.0 then not pair.1 else pair.1
 
--- The number, from 1, of the first bit behind so many bits in which two matrices differ. Modicon Ladder Logic Block Library User Guide.
+-- The number, from 1, of the first bit behind so many bits in which two matrices differ.
+-- Modicon Ladder Logic Block Library User Guide.
 abbrev pub first_difference : ℕ → List Bool → List Bool → Option ℕ
-first_difference behind bits others = position_from is_apart (behind + 1) (drop behind (zip bits others))
+first_difference behind bits others =
+    position_from is_apart (behind + 1) (drop behind (zip bits others))
 
--- CMPR: the pointer is left at the first bit behind it that differs from the matrix behind the pointer, or at 0. Modicon Ladder Logic Block Library User Guide; the exact inputs and outputs are this project's own.
+-- CMPR: the pointer is left at the first bit behind it that differs from the matrix behind the
+-- pointer, or at 0. Modicon Ladder Logic Block Library User Guide; the exact inputs and outputs
+-- are this project's own.
 abbrev pub cmpr_effect : Ref → Ref → ℕ → NodePower → Contents → Effect
 cmpr_effect top mid length inputs m =
     let bits = matrix_bits (words_from m top length) in
@@ -54,15 +60,18 @@ cmpr_effect top mid length inputs m =
       stored = if inputs.top then insert m mid (unwrap_or found 0) else m;
     }
 
--- BROT to the left: each bit takes the place before it. Modicon Ladder Logic Block Library User Guide.
+-- BROT to the left: each bit takes the place before it. Modicon Ladder Logic Block Library User
+-- Guide.
 abbrev pub left_turned : List Bool → Bool → List Bool
 left_turned bits bit_in = drop 1 bits ++ bit_in ∷ []
 
--- BROT to the right: each bit takes the place behind it, and the last one of so many goes out. Modicon Ladder Logic Block Library User Guide.
+-- BROT to the right: each bit takes the place behind it, and the last one of so many goes out.
+-- Modicon Ladder Logic Block Library User Guide.
 abbrev pub right_turned : ℕ → List Bool → Bool → List Bool
 right_turned count bits bit_in = bit_in ∷ take (count - 1) bits
 
--- BROT: a matrix turned by one bit, which comes in again or not. Modicon Ladder Logic Block Library User Guide; the exact inputs and outputs are this project's own.
+-- BROT: a matrix turned by one bit, which comes in again or not. Modicon Ladder Logic Block
+-- Library User Guide; the exact inputs and outputs are this project's own.
 abbrev pub brot_effect : Ref → Ref → ℕ → NodePower → Contents → Effect
 brot_effect top mid length inputs m =
     let bits = matrix_bits (words_from m top length) in
@@ -84,23 +93,29 @@ abbrev pub with_pointer : Contents → Operand → ℕ → Contents
 with_pointer m (Const n) value = m
 with_pointer m (At at) value = if is_holding at.kind then insert m at value else m
 
--- A number that a bit of a matrix of so many registers has. Modicon Ladder Logic Block Library User Guide.
+-- A number that a bit of a matrix of so many registers has. Modicon Ladder Logic Block Library
+-- User Guide.
 abbrev pub is_bit_of : ℕ → ℕ → Bool
 is_bit_of length k = nat_le 1 k && nat_le k (16 * length)
 
--- The contents after one bit of a matrix is set on or off, in the register that holds it. Modicon Ladder Logic Block Library User Guide.
+-- The contents after one bit of a matrix is set on or off, in the register that holds it.
+-- Modicon Ladder Logic Block Library User Guide.
 abbrev pub with_matrix_bit : Contents → Ref → ℕ → Bool → Contents
 with_matrix_bit m matrix k on =
     let at = ref_from matrix ((k - 1) / 16) in
     insert m at (number_of_bits (slice_set (word_bits (word_at m at)) ((k - 1) % 16) on))
 
--- To set one bit of a matrix changes it in the list of all bits, and no other. Modicon Ladder Logic Block Library User Guide.
+-- To set one bit of a matrix changes it in the list of all bits, and no other. Modicon Ladder
+-- Logic Block Library User Guide.
 abbrev pub SetsOneBit : Type 0
 SetsOneBit =
     (m : Contents) (matrix : Ref) (length k : ℕ) (on : Bool) → 1 ≤ k → k ≤ 16 * length
-    → matrix_bits (words_from (with_matrix_bit m matrix k on) matrix length) ≡ slice_set (matrix_bits (words_from m matrix length)) (k - 1) on
+    → matrix_bits (words_from (with_matrix_bit m matrix k on) matrix length)
+    ≡ slice_set (matrix_bits (words_from m matrix length)) (k - 1) on
 
--- MBIT: a bit of a matrix becomes the power of the middle node, and a pointer to it can move on. Modicon Ladder Logic Block Library User Guide; the exact inputs and outputs are this project's own.
+-- MBIT: a bit of a matrix becomes the power of the middle node, and a pointer to it can move
+-- on. Modicon Ladder Logic Block Library User Guide; the exact inputs and outputs are this
+-- project's own.
 abbrev pub mbit_effect : Operand → Ref → ℕ → NodePower → Contents → Effect
 mbit_effect top mid length inputs m =
     let k = number_of m top in
@@ -112,18 +127,21 @@ mbit_effect top mid length inputs m =
         bottom = inputs.top && not (is_bit_of length k);
       };
       stored =
-          if inputs.top && is_bit_of length k then (if inputs.bottom then with_pointer changed top (k + 1) else changed)
+          if inputs.top && is_bit_of length k
+              then (if inputs.bottom then with_pointer changed top (k + 1) else changed)
           else m;
     }
 
--- SENS: a bit of a matrix is told, and a pointer to it can begin at 1 and move on. Modicon Ladder Logic Block Library User Guide; the exact inputs and outputs are this project's own.
+-- SENS: a bit of a matrix is told, and a pointer to it can begin at 1 and move on. Modicon
+-- Ladder Logic Block Library User Guide; the exact inputs and outputs are this project's own.
 abbrev pub sens_effect : Operand → Ref → ℕ → NodePower → Contents → Effect
 sens_effect top mid length inputs m =
     let k = if inputs.bottom && is_pointer top then 1 else number_of m top in
     record {
       outputs = record {
         top = inputs.top;
-        middle = inputs.top && is_bit_of length k && bit_number (matrix_bits (words_from m mid length)) k;
+        middle = inputs.top && is_bit_of length k
+        && bit_number (matrix_bits (words_from m mid length)) k;
         bottom = inputs.top && not (is_bit_of length k);
       };
       stored =
