@@ -1,8 +1,17 @@
--- What a block of a network does when it is solved.
+-- What a block of a network does when it is solved: this project's own.
+use Rattle.std.specs.Prelude.{◌≡◌, ℕ}
 use Rattle.plant_types.specs.declared.power.NodePower.{NodePower}
-use Rattle.plant_types.specs.Store.{Contents}
+use Rattle.plant_types.specs.Power.{bits_of}
+use Rattle.plant_types.specs.Store.{Contents, Keeps}
 
--- The nodes that a block gives power, and the contents that it leaves. This project's own.
+-- The nodes that a block gives power, and the contents that it leaves.
 pub record Effect : Type 0 where
   pub outputs : NodePower
   pub stored : Contents
+
+-- A call has this effect on a store: it answers the power of the nodes as bits, leaves these
+-- contents, and no reference of the store goes.
+pub record Does (effect : Contents → Effect) (answer : ℕ) (old new : Contents) : Type 0 where
+  pub outputs : answer ≡ bits_of (effect old).outputs
+  pub stored : new ≡ (effect old).stored
+  pub keeps : Keeps old new
