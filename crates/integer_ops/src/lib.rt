@@ -6,8 +6,9 @@
 #![tactic(auto)]
 
 ghost use Rattle.std.specs.Prelude.{◌≡◌};
-ghost use Rattle.plant_types.specs.Power.{nodes_of, bits_of};
-ghost use Rattle.plant_types.specs.Store.{HasRegisters, Keeps};
+ghost use Rattle.plant_types.specs.Effect.{Does};
+ghost use Rattle.plant_types.specs.Power.{nodes_of};
+ghost use Rattle.plant_types.specs.Store.{HasRegisters};
 ghost use Rattle.integer_ops.specs.Arithmetic.{add_effect, sub_effect, mul_effect, div_effect};
 
 use plant_types::{NodePower, Ref, RefStore, store_words};
@@ -43,9 +44,8 @@ const BOTTOM: NodePower = NodePower {
 #[tactic(auto, unfolding(crate::specs::Arithmetic::add_effect))]
 pub fn add<R: RefStore>(a: u16, b: u16, low: Ref, inputs: u8, ram: &mut R) -> u8
     requires { HasRegisters (R.contents ram.old) low 1 }
-    ensures outputs { result ≡ bits_of (add_effect a b low (nodes_of inputs) (R.contents ram.old)).outputs }
-    ensures stored { R.contents ram.new ≡ (add_effect a b low (nodes_of inputs) (R.contents ram.old)).stored }
-    ensures keeps { Keeps (R.contents ram.old) (R.contents ram.new) }
+    ensures { Does (add_effect a b low (nodes_of inputs)) result
+        (R.contents ram.old) (R.contents ram.new) }
 {
     if !NodePower::of_bits(inputs).top {
         return NodePower::OFF.bits();
@@ -66,9 +66,8 @@ pub fn add<R: RefStore>(a: u16, b: u16, low: Ref, inputs: u8, ram: &mut R) -> u8
 #[tactic(auto, unfolding(crate::specs::Arithmetic::sub_effect))]
 pub fn sub<R: RefStore>(a: u16, b: u16, low: Ref, inputs: u8, ram: &mut R) -> u8
     requires { HasRegisters (R.contents ram.old) low 1 }
-    ensures outputs { result ≡ bits_of (sub_effect a b low (nodes_of inputs) (R.contents ram.old)).outputs }
-    ensures stored { R.contents ram.new ≡ (sub_effect a b low (nodes_of inputs) (R.contents ram.old)).stored }
-    ensures keeps { Keeps (R.contents ram.old) (R.contents ram.new) }
+    ensures { Does (sub_effect a b low (nodes_of inputs)) result
+        (R.contents ram.old) (R.contents ram.new) }
 {
     if !NodePower::of_bits(inputs).top {
         return NodePower::OFF.bits();
@@ -89,9 +88,8 @@ pub fn sub<R: RefStore>(a: u16, b: u16, low: Ref, inputs: u8, ram: &mut R) -> u8
 #[tactic(auto, unfolding(crate::specs::Arithmetic::mul_effect))]
 pub fn mul<R: RefStore>(a: u16, b: u16, low: Ref, inputs: u8, ram: &mut R) -> u8
     requires { HasRegisters (R.contents ram.old) low 2 }
-    ensures outputs { result ≡ bits_of (mul_effect a b low (nodes_of inputs) (R.contents ram.old)).outputs }
-    ensures stored { R.contents ram.new ≡ (mul_effect a b low (nodes_of inputs) (R.contents ram.old)).stored }
-    ensures keeps { Keeps (R.contents ram.old) (R.contents ram.new) }
+    ensures { Does (mul_effect a b low (nodes_of inputs)) result
+        (R.contents ram.old) (R.contents ram.new) }
 {
     if !NodePower::of_bits(inputs).top || a > LARGEST || b > LARGEST {
         return NodePower::OFF.bits();
@@ -108,16 +106,15 @@ pub fn mul<R: RefStore>(a: u16, b: u16, low: Ref, inputs: u8, ram: &mut R) -> u8
 /// Divides a number of eight digits by one of four: the quotient goes to `low`, and to the next
 /// register the remainder, or its four decimal places while the middle input is on.
 ///
-/// `high` and `units` are the upper and the lower four digits of the dividend; `high` is 0 where the
-/// dividend is a constant. The top output is on after a division, the middle one where the quotient
-/// is above 9999, the bottom one where the divisor is 0; without a division nothing changes. Where
-/// `high`, `units` or `by` is above 9999 nothing changes and no output is on.
+/// `high` and `units` are the upper and the lower four digits of the dividend; `high` is 0 where
+/// the dividend is a constant. The top output is on after a division, the middle one where the
+/// quotient is above 9999, the bottom one where the divisor is 0; without a division nothing
+/// changes. Where `high`, `units` or `by` is above 9999 nothing changes and no output is on.
 #[tactic(auto, unfolding(crate::specs::Arithmetic::div_effect))]
 pub fn div<R: RefStore>(high: u16, units: u16, by: u16, low: Ref, inputs: u8, ram: &mut R) -> u8
     requires { HasRegisters (R.contents ram.old) low 2 }
-    ensures outputs { result ≡ bits_of (div_effect high units by low (nodes_of inputs) (R.contents ram.old)).outputs }
-    ensures stored { R.contents ram.new ≡ (div_effect high units by low (nodes_of inputs) (R.contents ram.old)).stored }
-    ensures keeps { Keeps (R.contents ram.old) (R.contents ram.new) }
+    ensures { Does (div_effect high units by low (nodes_of inputs)) result
+        (R.contents ram.old) (R.contents ram.new) }
 {
     let inputs = NodePower::of_bits(inputs);
     if !inputs.top || high > LARGEST || units > LARGEST || by > LARGEST {
