@@ -1,7 +1,9 @@
--- What a caller sees of a source and a sink in memory. Each count stands still at its type's end.
+-- What a caller sees of a source and a sink in memory: this project's own. Each count stands
+-- still at its type's end.
 use Rattle.std.specs.Prelude.{ℕ, List}
 
--- The bytes left, the most that a read gives, the numbers of the calls that fail, the calls made and those that failed. This project's own.
+-- The bytes left, the most that a read gives, the numbers of the calls that fail, the calls made,
+-- and how many of them failed.
 pub record Input : Type 0 where
   pub left : List ℕ
   pub piece : ℕ
@@ -9,7 +11,8 @@ pub record Input : Type 0 where
   pub calls : ℕ
   pub faults : ℕ
 
--- The bytes taken, how many fit without new memory, the most that a write takes, the numbers of the calls that fail, the calls made and those that failed. This project's own.
+-- The bytes taken, how many fit without new memory, the most that a write takes, the numbers of
+-- the calls that fail, the calls made, and how many of them failed.
 pub record Output : Type 0 where
   pub taken : List ℕ
   pub room : ℕ

@@ -1,5 +1,6 @@
 -- What a source gives and what a sink takes, where they tell it.
-use Rattle.std.specs.Prelude.{◌≡◌, ℕ, ◌+◌, ◌<◌, ◌≤◌, List, [], ◌++◌, length, take, drop, Option, Some, None}
+use Rattle.std.specs.Prelude.{◌≡◌, ℕ, ◌+◌, ◌<◌, ◌≤◌, List, [], ◌++◌, length, take, drop}
+use Rattle.std.specs.Prelude.{Option, Some, None}
 
 -- These bytes went from the front of what was left. This project's own.
 abbrev pub Gave : Option (List ℕ) → Option (List ℕ) → List ℕ → Type 0

@@ -1,5 +1,6 @@
 // A source and a sink in memory, which fail at the calls that they are told.
-ghost use Rattle.std.specs.Prelude.{◌≡◌, ◌<◌, ◌+◌, ◌≤◌, ◌↔◌, ◌++◌, ◌⊎◌, [], ℕ, min, drop, take, length, Some, Contains, IsErr, IfOk, OnErr};
+ghost use Rattle.std.specs.Prelude.{◌≡◌, ◌<◌, ◌+◌, ◌≤◌, ◌↔◌, ◌++◌, ◌⊎◌, [], min, drop, take};
+ghost use Rattle.std.specs.Prelude.{length, Some, Contains, IsErr, IfOk, OnErr};
 ghost use Rattle.plant_io.specs.Causes.{HasCause, counted};
 ghost use Rattle.plant_io.specs.Streams.{Gave, Took};
 
@@ -35,7 +36,8 @@ impl Model for MemSource {
 }
 
 impl MemSource {
-    /// At most `piece` bytes come at a read. The calls whose numbers, from 1, stand in `fails` fail.
+    /// At most `piece` bytes come at a read. The calls whose numbers, from 1, stand in `fails`
+    /// fail.
     pub fn new(bytes: Vec<u8>, piece: usize, fails: Vec<u64>) -> MemSource
         requires { 0 < piece }
         ensures left { result.left ≡ bytes.items }
@@ -64,10 +66,16 @@ impl Source for MemSource {
 
         // Exactly the calls of the list fail, and each other one gives all that it can.
         ensures fails { IsErr result ↔ Contains self.old.fails (self.old.calls + 1) }
-        ensures count { IfOk result (λ count. count ≡ min self.old.piece (min (length buf.old) (length self.old.left))) }
-        ensures ok { IfOk result (λ count. self.new ≡ record self.old { left = drop count self.old.left; calls = counted self.old.calls }) }
-        ensures err { OnErr result (self.new ≡ record self.old { calls = counted self.old.calls; faults = counted self.old.faults }) }
-        ensures filled { IfOk result (λ count. buf.new ≡ take count self.old.left ++ drop count buf.old) }
+        ensures count { IfOk result (λ count. count ≡
+            min self.old.piece (min (length buf.old) (length self.old.left))) }
+        ensures ok { IfOk result (λ count. self.new ≡
+            record self.old { left = drop count self.old.left; calls = counted self.old.calls }) }
+        ensures err { OnErr result (self.new ≡ record self.old {
+          calls = counted self.old.calls;
+          faults = counted self.old.faults;
+        }) }
+        ensures filled { IfOk result (λ count. buf.new ≡
+            take count self.old.left ++ drop count buf.old) }
         ensures untouched { OnErr result (buf.new ≡ buf.old) }
     {
         if self.calls.fails_next() {
@@ -108,7 +116,8 @@ impl Model for MemSink {
 }
 
 impl MemSink {
-    /// At most `piece` bytes go at a write. The calls whose numbers, from 1, stand in `fails` fail, and so does one that gets no memory.
+    /// At most `piece` bytes go at a write. The calls whose numbers, from 1, stand in `fails`
+    /// fail, and so does one that gets no memory.
     pub fn new(alloc: Global, piece: usize, fails: Vec<u64>) -> MemSink
         requires { 0 < piece }
         ensures taken { result.taken ≡ [] }
@@ -146,10 +155,16 @@ impl Sink for MemSink {
         ensures full { IsErr result → Contains self.old.fails (self.old.calls + 1) ⊎
             (self.old.room < length self.old.taken + min self.old.piece (length piece.now)) }
         ensures count { IfOk result (λ count. count ≡ min self.old.piece (length piece.now)) }
-        ensures ok { IfOk result (λ count. self.new ≡
-            record self.old { taken = self.old.taken ++ take count piece.now; calls = counted self.old.calls; room = self.new.room }) }
-        ensures err { OnErr result (self.new ≡
-            record self.old { calls = counted self.old.calls; faults = counted self.old.faults; room = self.new.room }) }
+        ensures ok { IfOk result (λ count. self.new ≡ record self.old {
+          taken = self.old.taken ++ take count piece.now;
+          calls = counted self.old.calls;
+          room = self.new.room;
+        }) }
+        ensures err { OnErr result (self.new ≡ record self.old {
+          calls = counted self.old.calls;
+          faults = counted self.old.faults;
+          room = self.new.room;
+        }) }
         ensures room { self.old.room ≤ self.new.room }
     {
         let fails = self.calls.fails_next();

@@ -1,4 +1,5 @@
-ghost use Rattle.std.specs.Prelude.{◌≡◌, ◌+◌, ◌<◌, ◌≤◌, ◌↔◌, ℕ, List, [], length, take, Option, IfOk, IsOk, IfSome, OnErr, ◌^◌, ◌⊎◌};
+ghost use Rattle.std.specs.Prelude.{◌≡◌, ◌+◌, ◌<◌, ◌≤◌, ◌↔◌, ℕ, List, [], length, take, Option};
+ghost use Rattle.std.specs.Prelude.{IfOk, IsOk, IfSome, OnErr, ◌⊎◌};
 ghost use Rattle.plant_io.specs.Causes.{HasCause, Rose};
 ghost use Rattle.plant_io.specs.Streams.{Gave, GaveFront, IsWhole, IsTooLong};
 ghost use Rattle.plant_io.specs.declared.reading.ReadEnd.TheVariants.{Fault, NoMemory};
@@ -20,8 +21,10 @@ pub trait Source {
     fn read(&mut self, buf: &mut [u8]) -> Result<usize, Failed>
         requires { 0 < length buf.old }
         ensures within { IfOk result (λ count. count ≤ length buf.new) }
-        ensures gave { IfOk result (λ count. Gave (left self.old) (left self.new) (take count buf.new)) }
-        ensures end { IfOk result (λ count. IfSome (left self.old) (λ bytes. (count ≡ 0) ↔ (bytes ≡ []))) }
+        ensures gave { IfOk result (λ count.
+            Gave (left self.old) (left self.new) (take count buf.new)) }
+        ensures end { IfOk result (λ count.
+            IfSome (left self.old) (λ bytes. (count ≡ 0) ↔ (bytes ≡ []))) }
         ensures kept { OnErr result (left self.new ≡ left self.old) }
         ensures cause { HasCause (faults self.old) (faults self.new) result };
 }
@@ -72,29 +75,34 @@ const PIECE: usize = 65_536;
 
 /// Reads all bytes up to the end of input. Of a longer input it reads the limit and one byte.
 pub fn read_all<S: Source>(alloc: Global, source: &mut S, limit: usize) -> Result<Vec<u8>, ReadEnd>
-    requires { limit < 2 ^ 32 }
-    ensures whole { IfOk result (λ bytes. IsWhole (S.left source.old) (S.left source.new) bytes.items) }
+    ensures whole { IfOk result (λ bytes.
+        IsWhole (S.left source.old) (S.left source.new) bytes.items) }
     ensures within { IfOk result (λ bytes. length bytes.items ≤ limit) }
 
     // Each early end has its cause, and the source is where the reading ended.
-    ensures too_long { result ≡ Err ReadEnd.TooLong → IsTooLong (S.left source.old) (S.left source.new) limit }
-    ensures fault { result ≡ Err ReadEnd.Fault → Rose (S.faults source.old) (S.faults source.new) }
-    ensures fault_front { result ≡ Err ReadEnd.Fault → GaveFront (S.left source.old) (S.left source.new) limit }
-    ensures memory_front { result ≡ Err ReadEnd.NoMemory → GaveFront (S.left source.old) (S.left source.new) (limit + 1) }
+    ensures too_long { result ≡ Err ReadEnd.TooLong →
+        IsTooLong (S.left source.old) (S.left source.new) limit }
+    ensures fault { result ≡ Err ReadEnd.Fault →
+        Rose (S.faults source.old) (S.faults source.new) }
+    ensures fault_front { result ≡ Err ReadEnd.Fault →
+        GaveFront (S.left source.old) (S.left source.new) limit }
+    ensures memory_front { result ≡ Err ReadEnd.NoMemory →
+        GaveFront (S.left source.old) (S.left source.new) (limit + 1) }
     ensures later { S.faults source.old ≤ S.faults source.new }
 
     // Where nothing fails, the length of the input alone decides.
     ensures short { (input : List ℕ) → S.left source.old ≡ Some input → length input ≤ limit →
-        ¬ (Rose (S.faults source.old) (S.faults source.new)) → IsOk result ⊎ (result ≡ Err ReadEnd.NoMemory) }
+        ¬ (Rose (S.faults source.old) (S.faults source.new)) →
+        IsOk result ⊎ (result ≡ Err ReadEnd.NoMemory) }
     ensures long { (input : List ℕ) → S.left source.old ≡ Some input → limit < length input →
         ¬ (Rose (S.faults source.old) (S.faults source.new)) →
         (result ≡ Err ReadEnd.TooLong) ⊎ (result ≡ Err ReadEnd.NoMemory) }
 {
     let mut bytes = Vec::new(alloc);
-    let mut buffer = vec![in alloc; 0u8; PIECE.min(limit + 1)]?;
+    let mut buffer = vec![in alloc; 0u8; PIECE.min(limit.saturating_add(1))]?;
     let piece = buffer.as_mut_slice();
     while bytes.len() <= limit {
-        let room = piece.len().min(limit + 1 - bytes.len());
+        let room = piece.len().min((limit - bytes.len()).saturating_add(1));
         let count = source.read(&mut piece[..room])?;
         if count == 0 {
             return Ok(bytes);

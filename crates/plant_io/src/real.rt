@@ -7,7 +7,7 @@ ghost use Rattle.plant_io.specs.Real.{reader_of, failed_reads, writer_of, failed
 use crate::{Failed, Sink, Source};
 use std::io::{Read, Write};
 
-/// Any reader of std. Each `Err` of a read is a fault.
+/// Any reader of std. A read that fails is a fault.
 #[derive(Debug, Drop)]
 pub struct StdSource<R> {
     reader: R,
@@ -33,9 +33,13 @@ impl<R: Read> Source for StdSource<R> {
         ensures within { IfOk result (λ count. count ≤ length buf.new) }
         ensures cause { HasCause (failed_reads self.old) (failed_reads self.new) result }
 
-        // The bytes are the reader's, where it tells them, and each of its errors is counted.
-        ensures bytes { ReadConsumes (R.remaining (reader_of self.old)) (R.remaining (reader_of self.new)) result buf.new }
-        ensures faults { failed_reads self.new ≡ (if is_err result then counted (failed_reads self.old) else failed_reads self.old) }
+        // The bytes are the reader's, where it tells them.
+        ensures bytes { ReadConsumes (R.remaining (reader_of self.old))
+            (R.remaining (reader_of self.new)) result buf.new }
+
+        // A call that fails counts one, and no other does.
+        ensures faults { failed_reads self.new ≡
+            (if is_err result then counted (failed_reads self.old) else failed_reads self.old) }
     {
         match self.reader.read(buf) {
             Ok(count) => Ok(count),
@@ -47,7 +51,7 @@ impl<R: Read> Source for StdSource<R> {
     }
 }
 
-/// Any writer of std. Each `Err` of a write is a fault, and so is a write that takes nothing.
+/// Any writer of std. A write that fails is a fault, and so is one that takes nothing.
 #[derive(Debug, Drop)]
 pub struct StdSink<W> {
     writer: W,
@@ -74,9 +78,13 @@ impl<W: Write> Sink for StdSink<W> {
         ensures within { IfOk result (λ count. count ≤ length piece.now) }
         ensures cause { HasCause (failed_writes self.old) (failed_writes self.new) result }
 
-        // The bytes go to the writer, where it tells them, and each failed write is counted.
-        ensures bytes { WriteAppends (W.contents (writer_of self.old)) (W.contents (writer_of self.new)) result piece.now }
-        ensures faults { failed_writes self.new ≡ (if is_err result then counted (failed_writes self.old) else failed_writes self.old) }
+        // The bytes go to the writer, where it tells them.
+        ensures bytes { WriteAppends (W.contents (writer_of self.old))
+            (W.contents (writer_of self.new)) result piece.now }
+
+        // A call that fails counts one, and no other does.
+        ensures faults { failed_writes self.new ≡
+            (if is_err result then counted (failed_writes self.old) else failed_writes self.old) }
     {
         match self.writer.write(piece) {
             Ok(count) if count > 0 => Ok(count),

@@ -2,18 +2,18 @@ use super::*;
 use std::io;
 use std::test::Fail;
 
-// A reading: the input, the most bytes a read, the failing calls and the limit; what comes of it, and of a
-// second reading of the rest.
+// A reading: the input, the most bytes a read, the failing calls and the limit; what comes of it,
+// and of a second reading of the rest.
 type Reading = (
     &'static str,
     u8,
     &'static [u64],
-    u8,
+    usize,
     Result<&'static str, ReadEnd>,
     Result<&'static str, ReadEnd>,
 );
 
-const READINGS: [Reading; 16] = [
+const READINGS: [Reading; 17] = [
     ("", 3, &[], 0, Ok(""), Ok("")),
     ("", 3, &[], 5, Ok(""), Ok("")),
     ("", 3, &[1], 5, Err(ReadEnd::Fault), Ok("")),
@@ -23,6 +23,7 @@ const READINGS: [Reading; 16] = [
     ("abcdef", 9, &[], 5, Err(ReadEnd::TooLong), Ok("")),
     ("abcdefgh", 4, &[], 5, Err(ReadEnd::TooLong), Ok("gh")),
     ("ab", 2, &[], 0, Err(ReadEnd::TooLong), Ok("b")),
+    ("abcde", 2, &[], usize::MAX, Ok("abcde"), Ok("")),
     ("abcdef", 2, &[1], 9, Err(ReadEnd::Fault), Ok("abcdef")),
     ("abcdef", 2, &[2], 9, Err(ReadEnd::Fault), Ok("cdef")),
     ("abcdef", 2, &[3], 9, Err(ReadEnd::Fault), Ok("ef")),
@@ -63,7 +64,7 @@ fn reads_to_the_end_or_the_limit(rt: HostRuntime) -> Result<(), Fail> {
         let input = Vec::from_slice(alloc, input.as_bytes())?;
         let fails = Vec::from_slice(alloc, fails)?;
         let mut source = MemSource::new(input, usize::from(piece), fails);
-        let read = read_all(alloc, &mut source, usize::from(limit));
+        let read = read_all(alloc, &mut source, limit);
         assert!(rt; came(&read, want), "{read:?} in place of {want:?}");
         let read = read_all(alloc, &mut source, 100);
         assert!(rt;
@@ -76,7 +77,8 @@ fn reads_to_the_end_or_the_limit(rt: HostRuntime) -> Result<(), Fail> {
 
 const LETTERS: &[u8] = b"abcdefghijklmnopqrstuvwxyz";
 
-// A writing of the letters: the most bytes a write, the failing calls, whether all were written, and how many.
+// A writing of the letters: the most bytes a write, the failing calls, whether all were written,
+// and how many.
 const WRITINGS: [(u8, &[u64], bool, usize); 8] = [
     (1, &[], true, 26),
     (1, &[1], false, 0),
@@ -170,5 +172,76 @@ fn a_writer_of_std_is_written(rt: HostRuntime) -> Result<(), Fail> {
     assert_eq!(rt; write_all(&mut sink, b"ghi"), Err(Failed));
     let _ = sink;
     assert_eq!(rt; room.as_slice(), b"abcdefgh".as_slice());
+    Ok(())
+}
+
+// Tells how often it was called: a read gives the number of its call, and a write takes so many
+// bytes. Every third call fails, and the fifth write takes nothing.
+#[derive(Drop)]
+struct Telling {
+    calls: u8,
+}
+
+impl Telling {
+    fn tell(&mut self) -> io::Result<u8> {
+        self.calls = self.calls.saturating_add(1);
+        if self.calls % 3 == 0 {
+            return Err(io::Error::from(io::ErrorKind::Other));
+        }
+        Ok(self.calls)
+    }
+}
+
+impl io::Read for Telling {
+    fn read(&mut self, buf: &mut [u8]) -> io::Result<usize> {
+        let number = self.tell()?;
+        let Some(first) = buf.first_mut() else {
+            return Ok(0);
+        };
+        *first = number;
+        Ok(1)
+    }
+}
+
+impl io::Write for Telling {
+    fn write(&mut self, buf: &[u8]) -> io::Result<usize> {
+        let number = self.tell()?;
+        let count = if number == 5 { 0 } else { usize::from(number) };
+        Ok(count.min(buf.len()))
+    }
+
+    fn flush(&mut self) -> io::Result<()> {
+        Ok(())
+    }
+}
+
+#[test]
+fn a_read_calls_once_and_fails_only_where_the_reader_did(rt: HostRuntime) -> Result<(), Fail> {
+    let mut source = StdSource::new(Telling { calls: 0 });
+    for call in [1u8, 2, 3, 4, 5, 6, 7] {
+        let mut buffer = [0u8; 2];
+        let read = source.read(&mut buffer);
+        let fails = call % 3 == 0;
+        assert_eq!(rt; read, if fails { Err(Failed) } else { Ok(1) });
+        assert_eq!(rt; buffer[0], if fails { 0 } else { call });
+    }
+    Ok(())
+}
+
+#[test]
+fn a_write_calls_once_and_fails_only_where_the_writer_did(rt: HostRuntime) -> Result<(), Fail> {
+    let mut sink = StdSink::new(Telling { calls: 0 });
+    let taken = [
+        Ok(1),
+        Ok(2),
+        Err(Failed),
+        Ok(4),
+        Err(Failed),
+        Err(Failed),
+        Ok(7),
+    ];
+    for wanted in taken {
+        assert_eq!(rt; sink.write(b"abcdefgh"), wanted);
+    }
     Ok(())
 }

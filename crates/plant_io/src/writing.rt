@@ -1,4 +1,5 @@
-ghost use Rattle.std.specs.Prelude.{◌≡◌, ◌<◌, ◌≤◌, ℕ, List, [], length, take, Option, IfOk, IsOk, OnOk, OnErr};
+ghost use Rattle.std.specs.Prelude.{◌≡◌, ◌<◌, ◌≤◌, ℕ, List, [], length, take, Option};
+ghost use Rattle.std.specs.Prelude.{IfOk, IsOk, OnOk, OnErr};
 ghost use Rattle.plant_io.specs.Causes.{HasCause};
 ghost use Rattle.plant_io.specs.Streams.{Took, TookFront};
 
@@ -17,7 +18,8 @@ pub trait Sink {
         requires { 0 < length piece.now }
         ensures some { IfOk result (λ count. 0 < count) }
         ensures within { IfOk result (λ count. count ≤ length piece.now) }
-        ensures took { IfOk result (λ count. Took (taken self.old) (taken self.new) (take count piece.now)) }
+        ensures took { IfOk result (λ count.
+            Took (taken self.old) (taken self.new) (take count piece.now)) }
         ensures kept { OnErr result (taken self.new ≡ taken self.old) }
         ensures cause { HasCause (faults self.old) (faults self.new) result };
 }
