@@ -1,13 +1,14 @@
-//! Timers and counters of ladder logic (*Modicon Ladder Logic Block Library User Guide*); their exact
-//! inputs, outputs and limits are this project's own.
+//! Timers and counters of ladder logic (*Modicon Ladder Logic Block Library User Guide*); their
+//! exact inputs, outputs and limits are this project's own.
 //!
-//! Each is a block of two nodes, the upper one and the lower one. In the bits of a block's power the
-//! upper node is bit 0 and the lower one bit 1.
+//! Each is a block of two nodes, the upper one and the lower one. In the bits of a block's power
+//! the upper node is bit 0 and the lower one bit 1.
 #![tactic(auto)]
 
 ghost use Rattle.std.specs.Prelude.{◌≡◌, ◌+◌, ◌<◌, min};
-ghost use Rattle.plant_types.specs.Power.{nodes_of, bits_of};
-ghost use Rattle.plant_types.specs.Store.{HasRegisters, Keeps};
+ghost use Rattle.plant_types.specs.Effect.{Does};
+ghost use Rattle.plant_types.specs.Power.{nodes_of};
+ghost use Rattle.plant_types.specs.Store.{HasRegisters};
 ghost use Rattle.timer_ops.specs.Timer.{ticks_in, units_passed, timer_effect};
 ghost use Rattle.timer_ops.specs.Counter.{is_edge, up_count_effect, down_count_effect};
 
@@ -67,9 +68,8 @@ pub fn timer<R: RefStore>(
     ram: &mut R,
 ) -> u8
     requires { HasRegisters (R.contents ram.old) acc 1 }
-    ensures outputs { result ≡ bits_of (timer_effect unit preset acc (nodes_of inputs) clock (R.contents ram.old)).outputs }
-    ensures stored { R.contents ram.new ≡ (timer_effect unit preset acc (nodes_of inputs) clock (R.contents ram.old)).stored }
-    ensures keeps { Keeps (R.contents ram.old) (R.contents ram.new) }
+    ensures { Does (timer_effect unit preset acc (nodes_of inputs) clock) result
+        (R.contents ram.old) (R.contents ram.new) }
 {
     let inputs = NodePower::of_bits(inputs);
     let gained = if inputs.top { passed(unit, clock) } else { 0 };
@@ -99,15 +99,15 @@ fn rises(inputs: NodePower, edge: &mut bool) -> bool
 
 /// Counts up to the preset, by one each time that its upper input goes on.
 ///
-/// The lower input enables the counter: while it is off the accumulator is 0. The upper output is on
-/// where the preset is reached, the lower one before. `edge` is the upper input of the solve before.
+/// The lower input enables the counter: while it is off the accumulator is 0. The upper output is
+/// on where the preset is reached, the lower one before. `edge` is the upper input of the solve
+/// before.
 #[tactic(auto, unfolding(crate::specs::Counter::up_count_effect))]
 pub fn up_count<R: RefStore>(preset: u16, acc: Ref, inputs: u8, edge: &mut bool, ram: &mut R) -> u8
     requires { HasRegisters (R.contents ram.old) acc 1 }
-    ensures outputs { result ≡ bits_of (up_count_effect preset acc (nodes_of inputs) edge.old (R.contents ram.old)).outputs }
-    ensures stored { R.contents ram.new ≡ (up_count_effect preset acc (nodes_of inputs) edge.old (R.contents ram.old)).stored }
+    ensures does { Does (up_count_effect preset acc (nodes_of inputs) edge.old) result
+        (R.contents ram.old) (R.contents ram.new) }
     ensures edge { edge.new ≡ (nodes_of inputs).top }
-    ensures keeps { Keeps (R.contents ram.old) (R.contents ram.new) }
 {
     let inputs = NodePower::of_bits(inputs);
     let rises = rises(inputs, edge);
@@ -141,10 +141,9 @@ pub fn down_count<R: RefStore>(
     ram: &mut R,
 ) -> u8
     requires { HasRegisters (R.contents ram.old) acc 1 }
-    ensures outputs { result ≡ bits_of (down_count_effect preset acc (nodes_of inputs) edge.old (R.contents ram.old)).outputs }
-    ensures stored { R.contents ram.new ≡ (down_count_effect preset acc (nodes_of inputs) edge.old (R.contents ram.old)).stored }
+    ensures does { Does (down_count_effect preset acc (nodes_of inputs) edge.old) result
+        (R.contents ram.old) (R.contents ram.new) }
     ensures edge { edge.new ≡ (nodes_of inputs).top }
-    ensures keeps { Keeps (R.contents ram.old) (R.contents ram.new) }
 {
     let inputs = NodePower::of_bits(inputs);
     let rises = rises(inputs, edge);

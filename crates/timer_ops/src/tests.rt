@@ -55,7 +55,8 @@ fn two_seconds(rt: HostRuntime) -> Result<(), Fail> {
 #[test]
 fn timers(rt: HostRuntime) -> Result<(), Fail> {
     let last = u64::MAX;
-    // Unit, preset, accumulator, inputs, clock before and now; then the accumulator and the outputs.
+    // Unit, preset, accumulator, inputs, clock before and now; then the accumulator and the
+    // outputs.
     let cases = [
         // Every combination of the inputs; the third second ends.
         (Unit::Second, 5, 3, 0, 299, 300, 0, 2),
