@@ -91,7 +91,7 @@ first_in_effect top mid length inputs m =
       outputs = queue_outputs inputs length next;
       stored =
           if takes
-              then insert (insert (moved m (behind mid) (ref_from (behind mid) 1) count) (behind mid) (word_at m top)) mid next
+          then insert (insert (moved m (behind mid) (ref_from (behind mid) 1) count) (behind mid) (word_at m top)) mid next
           else m;
     }
 

@@ -2,9 +2,12 @@
 ghost use Rattle.std.specs.Prelude.{◌≡◌, ◌≤◌, ◌<◌, ◌+◌, ◌^◌, false, ◌||◌, nat_le, if◌then◌else◌};
 ghost use Rattle.std.specs.FinMap.{insert};
 ghost use Rattle.plant_types.specs.Reference.{ref_from};
+ghost use Rattle.plant_types.specs.Effect.{Does};
 ghost use Rattle.plant_types.specs.Power.{nodes_of, bits_of};
 ghost use Rattle.plant_types.specs.Store.{HasRegisters, Keeps, word_at};
-ghost use Rattle.table_ops.specs.Tables.{moved, behind, start_place, goes_on, next_place, reg_to_table_effect, table_to_reg_effect, table_to_table_effect, block_move_effect};
+ghost use Rattle.table_ops.specs.Tables.{moved, behind, start_place, goes_on, next_place};
+ghost use Rattle.table_ops.specs.Tables.{reg_to_table_effect, table_to_reg_effect};
+ghost use Rattle.table_ops.specs.Tables.{table_to_table_effect, block_move_effect};
 
 use plant_types::{NodePower, Ref, RefStore, load_words, ref_after, store_words};
 
@@ -55,8 +58,11 @@ fn place_at_start<R: RefStore>(nodes: NodePower, pointer: Ref, ram: &R) -> u16
 /// Stores the pointer of a move that began at a place, and answers the outputs.
 fn end_move<R: RefStore>(nodes: NodePower, pointer: Ref, length: u16, place: u16, ram: &mut R) -> u8
     requires { HasRegisters (R.contents ram.old) pointer 1 }
-    ensures outputs { result ≡ bits_of
-        (record { top = nodes.top; middle = nat_le length (next_place nodes length place); bottom = false }) }
+    ensures outputs { result ≡ bits_of (record {
+      top = nodes.top;
+      middle = nat_le length (next_place nodes length place);
+      bottom = false;
+    }) }
     ensures stored { R.contents ram.new ≡ (if goes_on nodes length place || nodes.bottom
         then insert (R.contents ram.old) pointer (next_place nodes length place)
         else R.contents ram.old) }
@@ -87,11 +93,8 @@ fn end_move<R: RefStore>(nodes: NodePower, pointer: Ref, length: u16, place: u16
 pub fn reg_to_table<R: RefStore>(top: Ref, mid: Ref, length: u16, inputs: u8, ram: &mut R) -> u8
     requires source { HasRegisters (R.contents ram.old) top 1 }
     requires table { HasRegisters (R.contents ram.old) mid (length + 1) }
-    ensures outputs { result ≡ bits_of
-        (reg_to_table_effect top mid length (nodes_of inputs) (R.contents ram.old)).outputs }
-    ensures stored { R.contents ram.new ≡
-        (reg_to_table_effect top mid length (nodes_of inputs) (R.contents ram.old)).stored }
-    ensures keeps { Keeps (R.contents ram.old) (R.contents ram.new) }
+    ensures { Does (reg_to_table_effect top mid length (nodes_of inputs)) result
+        (R.contents ram.old) (R.contents ram.new) }
 {
     let nodes = NodePower::of_bits(inputs);
     let place = place_at_start(nodes, mid, ram);
@@ -107,11 +110,8 @@ pub fn reg_to_table<R: RefStore>(top: Ref, mid: Ref, length: u16, inputs: u8, ra
 pub fn table_to_reg<R: RefStore>(top: Ref, mid: Ref, length: u16, inputs: u8, ram: &mut R) -> u8
     requires source { HasRegisters (R.contents ram.old) top length }
     requires pointer { HasRegisters (R.contents ram.old) mid 2 }
-    ensures outputs { result ≡ bits_of
-        (table_to_reg_effect top mid length (nodes_of inputs) (R.contents ram.old)).outputs }
-    ensures stored { R.contents ram.new ≡
-        (table_to_reg_effect top mid length (nodes_of inputs) (R.contents ram.old)).stored }
-    ensures keeps { Keeps (R.contents ram.old) (R.contents ram.new) }
+    ensures { Does (table_to_reg_effect top mid length (nodes_of inputs)) result
+        (R.contents ram.old) (R.contents ram.new) }
 {
     let nodes = NodePower::of_bits(inputs);
     let place = place_at_start(nodes, mid, ram);
@@ -127,11 +127,8 @@ pub fn table_to_reg<R: RefStore>(top: Ref, mid: Ref, length: u16, inputs: u8, ra
 pub fn table_to_table<R: RefStore>(top: Ref, mid: Ref, length: u16, inputs: u8, ram: &mut R) -> u8
     requires source { HasRegisters (R.contents ram.old) top length }
     requires table { HasRegisters (R.contents ram.old) mid (length + 1) }
-    ensures outputs { result ≡ bits_of
-        (table_to_table_effect top mid length (nodes_of inputs) (R.contents ram.old)).outputs }
-    ensures stored { R.contents ram.new ≡
-        (table_to_table_effect top mid length (nodes_of inputs) (R.contents ram.old)).stored }
-    ensures keeps { Keeps (R.contents ram.old) (R.contents ram.new) }
+    ensures { Does (table_to_table_effect top mid length (nodes_of inputs)) result
+        (R.contents ram.old) (R.contents ram.new) }
 {
     let nodes = NodePower::of_bits(inputs);
     let place = place_at_start(nodes, mid, ram);
@@ -148,11 +145,8 @@ pub fn block_move<R: RefStore>(top: Ref, mid: Ref, length: u16, inputs: u8, ram:
     requires length { length ≤ TABLE_LIMIT }
     requires source { HasRegisters (R.contents ram.old) top length }
     requires target { HasRegisters (R.contents ram.old) mid length }
-    ensures outputs { result ≡ bits_of
-        (block_move_effect top mid length (nodes_of inputs) (R.contents ram.old)).outputs }
-    ensures stored { R.contents ram.new ≡
-        (block_move_effect top mid length (nodes_of inputs) (R.contents ram.old)).stored }
-    ensures keeps { Keeps (R.contents ram.old) (R.contents ram.new) }
+    ensures { Does (block_move_effect top mid length (nodes_of inputs)) result
+        (R.contents ram.old) (R.contents ram.new) }
 {
     let power = NodePower::of_bits(inputs).top;
     if power {

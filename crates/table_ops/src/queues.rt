@@ -1,8 +1,9 @@
 //! FIN and FOUT: a queue is a table whose pointer counts the words in it, the newest in the first
 //! place.
 ghost use Rattle.std.specs.Prelude.{◌≡◌, ◌≤◌, ◌+◌};
+ghost use Rattle.plant_types.specs.Effect.{Does};
 ghost use Rattle.plant_types.specs.Power.{nodes_of, bits_of};
-ghost use Rattle.plant_types.specs.Store.{HasRegisters, Keeps};
+ghost use Rattle.plant_types.specs.Store.{HasRegisters};
 ghost use Rattle.table_ops.specs.Tables.{queue_outputs, first_in_effect, first_out_effect};
 
 use crate::moves::{TABLE_LIMIT, move_word, move_words};
@@ -30,11 +31,8 @@ pub fn first_in<R: RefStore>(top: Ref, mid: Ref, length: u16, inputs: u8, ram: &
     requires length { length ≤ TABLE_LIMIT }
     requires source { HasRegisters (R.contents ram.old) top 1 }
     requires queue { HasRegisters (R.contents ram.old) mid (length + 1) }
-    ensures outputs { result ≡ bits_of
-        (first_in_effect top mid length (nodes_of inputs) (R.contents ram.old)).outputs }
-    ensures stored { R.contents ram.new ≡
-        (first_in_effect top mid length (nodes_of inputs) (R.contents ram.old)).stored }
-    ensures keeps { Keeps (R.contents ram.old) (R.contents ram.new) }
+    ensures { Does (first_in_effect top mid length (nodes_of inputs)) result
+        (R.contents ram.old) (R.contents ram.new) }
 {
     let nodes = NodePower::of_bits(inputs);
     let count = ram.word(mid);
@@ -57,11 +55,8 @@ pub fn first_in<R: RefStore>(top: Ref, mid: Ref, length: u16, inputs: u8, ram: &
 pub fn first_out<R: RefStore>(top: Ref, mid: Ref, length: u16, inputs: u8, ram: &mut R) -> u8
     requires queue { HasRegisters (R.contents ram.old) top (length + 1) }
     requires target { HasRegisters (R.contents ram.old) mid 1 }
-    ensures outputs { result ≡ bits_of
-        (first_out_effect top mid length (nodes_of inputs) (R.contents ram.old)).outputs }
-    ensures stored { R.contents ram.new ≡
-        (first_out_effect top mid length (nodes_of inputs) (R.contents ram.old)).stored }
-    ensures keeps { Keeps (R.contents ram.old) (R.contents ram.new) }
+    ensures { Does (first_out_effect top mid length (nodes_of inputs)) result
+        (R.contents ram.old) (R.contents ram.new) }
 {
     let nodes = NodePower::of_bits(inputs);
     let count = ram.word(top);

@@ -1,7 +1,8 @@
 //! SRCH.
 ghost use Rattle.std.specs.Prelude.{◌≡◌, ◌<◌, IfSome};
-ghost use Rattle.plant_types.specs.Power.{nodes_of, bits_of};
-ghost use Rattle.plant_types.specs.Store.{HasRegisters, Keeps, words_from};
+ghost use Rattle.plant_types.specs.Effect.{Does};
+ghost use Rattle.plant_types.specs.Power.{nodes_of};
+ghost use Rattle.plant_types.specs.Store.{HasRegisters, words_from};
 ghost use Rattle.table_ops.specs.Tables.{first_place, search_effect};
 
 use plant_types::{NodePower, Ref, RefStore, ref_after};
@@ -9,7 +10,8 @@ use plant_types::{NodePower, Ref, RefStore, ref_after};
 /// The first place of a table, from one on, that holds a number.
 fn place_of<R: RefStore>(value: u16, table: Ref, start: u16, length: u16, ram: &R) -> Option<u16>
     requires { HasRegisters (R.contents ram.now) table length }
-    ensures found { result ≡ first_place start value (words_from (R.contents ram.now) table length) }
+    ensures found { result ≡
+        first_place start value (words_from (R.contents ram.now) table length) }
     ensures within { IfSome result (λ place. place < length) }
 {
     for place in start..length {
@@ -29,11 +31,8 @@ fn place_of<R: RefStore>(value: u16, table: Ref, start: u16, length: u16, ram: &
 pub fn search<R: RefStore>(top: Ref, mid: Ref, length: u16, inputs: u8, ram: &mut R) -> u8
     requires table { HasRegisters (R.contents ram.old) top length }
     requires pointer { HasRegisters (R.contents ram.old) mid 2 }
-    ensures outputs { result ≡ bits_of
-        (search_effect top mid length (nodes_of inputs) (R.contents ram.old)).outputs }
-    ensures stored { R.contents ram.new ≡
-        (search_effect top mid length (nodes_of inputs) (R.contents ram.old)).stored }
-    ensures keeps { Keeps (R.contents ram.old) (R.contents ram.new) }
+    ensures { Does (search_effect top mid length (nodes_of inputs)) result
+        (R.contents ram.old) (R.contents ram.new) }
 {
     let nodes = NodePower::of_bits(inputs);
     if !nodes.top {
