@@ -5,7 +5,9 @@ use Rattle.plant_types.specs.Store.{Contents, is_on}
 use Rattle.relay_ops.specs.declared.ContactKind.{ContactKind}
 use Rattle.relay_ops.specs.declared.ContactKind.TheVariants.{Open, Closed, Rise, Fall}
 
--- Whether a contact passes power, by the store and by what it was when the last scan ended. Modicon Ladder Logic Block Library User Guide; with what a transitional contact compares is this project's own.
+-- Whether a contact passes power, by the store and by what it was when the last scan ended.
+-- Modicon Ladder Logic Block Library User Guide; with what a transitional contact compares is
+-- this project's own.
 abbrev pub passes : ContactKind → Ref → Contents → Contents → Bool
 passes Open at m past = is_on m at
 passes Closed at m past = not (is_on m at)

@@ -1,4 +1,5 @@
-//! Contacts and coils, the relays of ladder logic (*Modicon Ladder Logic Block Library User Guide*).
+//! Contacts and coils, the relays of ladder logic (*Modicon Ladder Logic Block Library User
+//! Guide*).
 #![tactic(auto)]
 
 ghost use Rattle.std.specs.Prelude.{◌≡◌};
