@@ -15,9 +15,9 @@ Refusal = PlantFault × Place
 abbrev pub plant_place : Place
 plant_place = record { part = parts.Plant; at = 0 ∷ 0 ∷ 0 ∷ 0 ∷ [] }
 
--- A piece of a network of the first segment of the first controller; all numbers count from 1. This project's own.
-abbrev pub cell_place : ℕ → ℕ → Place
-cell_place network cell = record { part = parts.Cell; at = 1 ∷ 1 ∷ network ∷ cell ∷ [] }
+-- A piece of a network of a segment of the first controller; all numbers count from 1. This project's own.
+abbrev pub cell_place : ℕ → ℕ → ℕ → Place
+cell_place segment network cell = record { part = parts.Cell; at = 1 ∷ segment ∷ network ∷ cell ∷ [] }
 
 -- The bytes are no document. This project's own.
 abbrev pub bad_toml : Refusal
