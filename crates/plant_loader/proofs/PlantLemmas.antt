@@ -2,7 +2,7 @@
 use Rattle.std.proofs.Common.{◌≡◌, ℕ, suc, ◌≤◌, true, ◌&&◌, List, [], ◌∷◌, length, Option, Some, None, Result, Ok, Err, refl, ap, ◌∙◌, arith}
 use Rattle.std.specs.Prelude.{codes, ℤ, pos, negsuc, nat_le, ◌%◌, ◌==◌, option_and_then, if◌then◌else◌}
 use Rattle.std.specs.List.{list_all, AllByRecursion}
-use Rattle.std.proofs.lemmas.Bool.{and_parts, leb-true}
+use Rattle.std.proofs.lemmas.Bool.{and_parts, leb-true, eqb-true}
 use Rattle.toml.specs.Data.{Data, integer, Items, no_items, item, Members, get_member, as_array, as_str}
 use Rattle.plant_types.specs.declared.reference.Ref.{Ref}
 use Rattle.plant_types.specs.declared.network.Segment.{Segment}
@@ -19,9 +19,9 @@ use Rattle.std.specs.Result.{IfOk}
 use Rattle.plant_loader.specs.declared.refusal.LoadEnd.{LoadEnd}
 use Rattle.plant_loader.specs.Refusals.{Gives, bad_toml, not_built}
 use Rattle.plant_loader.specs.Keys.{has_only, only_table, number_from, number_of, number_at, number_or, number_at_or, size_at, in_sixteens, discrete_size_at, item_count, items_up_to}
-use Rattle.plant_loader.specs.Controller.{sizes_at, in_map, panel_item, panel_items, panel_in, panel_at}
+use Rattle.plant_loader.specs.Controller.{sizes_from, sizes_at, in_map, panel_item, panel_items, panel_in, panel_at}
 use Rattle.plant_loader.specs.Texts.{segment_texts}
-use Rattle.plant_loader.specs.Orders.{is_segment, solving, solving_one_of, no_parts, row_of, order_row, order_rows, orders_at, SolvesSegment, HasOrders, is_solved}
+use Rattle.plant_loader.specs.Orders.{is_segment, solving, solving_one_of, no_parts, row_of, order_row, order_rows, orders_at, SolvesSegment, HasOrders, is_one_below, is_solved}
 use Rattle.plant_loader.specs.Pieces.{segments_of}
 use Rattle.plant_loader.specs.Program.{ReadProgram, nothing_read, with_segments}
 use Rattle.plant_loader.proofs.InOrderLemmas.{segments_of-read}
@@ -165,10 +165,6 @@ orders_at-solve count ms rows h =
     let all = order_rows-solve count items.0 rows items.1.1 in
     (all.0, omega (arith, all.1, items_up_to-le 32 orders.0 items.0 items.1.0))
 
--- sizes from four numbers
-abbrev sizes_from : ℕ → ℕ → ℕ → ℕ → Sizes
-sizes_from coils inputs input_registers registers = record { coils = coils; inputs = inputs; input_registers = input_registers; registers = registers }
-
 -- the sizes that a table gives pass
 sizes_at-pass : (ms : Members) (sizes : Sizes) → sizes_at ms ≡ Ok sizes → SizesPass sizes
 unfolding sizes_at
@@ -189,12 +185,24 @@ sizes_at-pass ms sizes h =
     } in
     rw (← same) passes
 
+-- one segment below a watchdog is one
+one_below-one : (watchdog : ℕ) (segments : List (List (List ℕ))) → is_one_below watchdog segments ≡ true → length segments ≡ 1
+one_below-one watchdog [] h = cc
+one_below-one watchdog (networks ∷ []) h = refl
+one_below-one watchdog (networks ∷ other ∷ segments) h = cc
+
+-- what this version solves is one order of one segment
+is_solved-one : (watchdog orders : ℕ) (segments : List (List (List ℕ))) → is_solved watchdog orders segments ≡ true → (orders ≡ 1) × (length segments ≡ 1)
+is_solved-one watchdog orders segments h =
+    let parts = and_parts (orders == 1) (is_one_below watchdog segments) h in
+    (eqb-true orders 1 parts.0, one_below-one watchdog segments parts.1)
+
 -- the plan that a table gives can be solved
-controller_of-solvable : (ms : Members) (plan : ControllerPlan) → controller_of ms ≡ Ok plan → IsSolvable plan
+controller_of-solvable : (watchdog : ℕ) (ms : Members) (plan : ControllerPlan) → controller_of watchdog ms ≡ Ok plan → IsSolvable plan
 unfolding controller_of
-controller_of-solvable ms plan h =
+controller_of-solvable watchdog ms plan h =
     let last = λ (node : ℕ) (sizes : Sizes) (panel : List Ref) (texts : List (List (List ℕ))) (orders : List OrderRow). segments_of sizes texts >>= λ segments. Ok (plan_of node sizes panel orders segments) in
-    let fifth = λ (node : ℕ) (sizes : Sizes) (panel : List Ref) (texts : List (List (List ℕ))) (orders : List OrderRow). unless (is_solved (length orders) (length texts)) not_built >>= λ solved. last node sizes panel texts orders in
+    let fifth = λ (node : ℕ) (sizes : Sizes) (panel : List Ref) (texts : List (List (List ℕ))) (orders : List OrderRow). unless (is_solved watchdog (length orders) texts) not_built >>= λ solved. last node sizes panel texts orders in
     let fourth = λ (node : ℕ) (sizes : Sizes) (panel : List Ref) (texts : List (List (List ℕ))). orders_at (length texts) ms >>= fifth node sizes panel texts in
     let third = λ (node : ℕ) (sizes : Sizes) (panel : List Ref). segment_texts ms >>= fourth node sizes panel in
     let second = λ (node : ℕ) (sizes : Sizes). panel_at sizes ms >>= third node sizes in
@@ -205,12 +213,13 @@ controller_of-solvable ms plan h =
     let panel = step-ok (panel_at sizes.0 ms) (third node.0 sizes.0) plan sizes.1.1 in
     let texts = step-ok (segment_texts ms) (fourth node.0 sizes.0 panel.0) plan panel.1.1 in
     let orders = step-ok (orders_at (length texts.0) ms) (fifth node.0 sizes.0 panel.0 texts.0) plan texts.1.1 in
-    let solved = unless-ok (is_solved (length orders.0) (length texts.0)) not_built (λ solved. last node.0 sizes.0 panel.0 texts.0 orders.0) plan orders.1.1 in
+    let solved = unless-ok (is_solved watchdog (length orders.0) texts.0) not_built (λ solved. last node.0 sizes.0 panel.0 texts.0 orders.0) plan orders.1.1 in
     let segments = step-ok (segments_of sizes.0 texts.0) (λ segments. Ok (plan_of node.0 sizes.0 panel.0 orders.0 segments)) plan solved.1 in
     let same : plan_of node.0 sizes.0 panel.0 orders.0 segments.0 ≡ plan = ok_value (plan_of node.0 sizes.0 panel.0 orders.0 segments.0) plan segments.1.1 in
     let value = some-step (number_of 1 64) (get_member (codes "node") ms) node.0 node.1.0 in
     let read = segments_of-pass sizes.0 texts.0 segments.0 segments.1.0 in
     let rows = orders_at-solve (length texts.0) ms orders.0 orders.1.0 in
+    let one = is_solved-one watchdog (length orders.0) texts.0 solved.0 in
     let parts : Parts sizes.0 node.0 panel.0 segments.0 = record {
       node_passes = number_of-within 1 64 value.0 node.0 value.1.1;
       panel_passes = panel_in-held sizes.0 (get_member (codes "panel") ms) panel.0 panel.1.0;
@@ -220,7 +229,8 @@ controller_of-solvable ms plan h =
       passes = plan_of-passes node.0 sizes.0 panel.0 orders.0 segments.0 (sizes_at-pass ms sizes.0 sizes.1.0) parts;
       orders = record { few = rows.1; rows = rw read.1 rows.0 };
       plain = read.0.plain;
-      one = rw read.1 solved.0;
+      one_order = one.0;
+      one_segment = read.1 ∙ one.1;
     } in
     rw (← same) solvable
 
@@ -231,13 +241,13 @@ record IsReadFrom (plant : Plant) : Type 0 where
   table : Members
   scan_time_within : nat_le 1 scan_time && nat_le scan_time 1000 ≡ true
   watchdog_within : nat_le 1 watchdog && nat_le watchdog 10000 ≡ true
-  whole : (controller_of table >>= λ controller. Ok (plant_of_one scan_time watchdog controller)) ≡ Ok plant
+  whole : (controller_of watchdog table >>= λ controller. Ok (plant_of_one scan_time watchdog controller)) ≡ Ok plant
 
 -- a plant in a document is read from these
 plant_in-read : (top : Members) (plant : Plant) → plant_in top ≡ Ok plant → IsReadFrom plant
 unfolding plant_in
 plant_in-read top plant h =
-    let last = λ (scan_time : ℕ) (watchdog : ℕ) (table : Members). controller_of table >>= λ controller. Ok (plant_of_one scan_time watchdog controller) in
+    let last = λ (scan_time : ℕ) (watchdog : ℕ) (table : Members). controller_of watchdog table >>= λ controller. Ok (plant_of_one scan_time watchdog controller) in
     let fifth = λ (scan_time : ℕ) (watchdog : ℕ) (controllers : Data). or_fault not_built (only_table controllers) >>= last scan_time watchdog in
     let fourth = λ (scan_time : ℕ) (watchdog : ℕ). or_fault not_built (get_member (codes "controller") top) >>= fifth scan_time watchdog in
     let third = λ (scan_time : ℕ). or_fault not_built (number_at_or (codes "watchdog") 500 1 10000 top) >>= fourth scan_time in
@@ -268,14 +278,14 @@ plant_of-runnable bytes plant h =
     let top = or_fault-ok bad_toml (document_of bytes) plant_in plant h in
     let read = plant_in-read top.0 plant top.1.1 in
     let make = plant_of_one read.scan_time read.watchdog in
-    let controller = step-ok (controller_of read.table) (λ controller. Ok (make controller)) plant read.whole in
+    let controller = step-ok (controller_of read.watchdog read.table) (λ controller. Ok (make controller)) plant read.whole in
     let same : make controller.0 ≡ plant = ok_value (make controller.0) plant controller.1.1 in
     let runnable : IsRunnable (make controller.0) = record {
       scan_time = from_tests read.scan_time 1000 read.scan_time_within;
       watchdog = from_tests read.watchdog 10000 read.watchdog_within;
       controller = controller.0;
       only = refl;
-      solvable = controller_of-solvable read.table controller.0 controller.1.0;
+      solvable = controller_of-solvable read.watchdog read.table controller.0 controller.1.0;
     } in
     rw (← same) runnable
 

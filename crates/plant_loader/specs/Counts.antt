@@ -17,10 +17,12 @@ sizes_of counts =
       registers = counts.registers;
     }
 
--- Each of these references stands in a map of these sizes, with all that is used from it on. This project's own.
+-- Each of these references stands in a map of these sizes, with all that is used from it on. This
+-- project's own.
 abbrev pub have_room : Sizes → List Named → Bool
 have_room sizes names = list_all (λ named. has_run sizes named.at named.count) names
 
--- So it is with what an operand names in its slot, where the length operand is this. This project's own.
+-- So it is with what an operand names in its slot, where the length operand is this. This
+-- project's own.
 abbrev pub has_room_at : Sizes → ℕ → Slot × Operand → Bool
 has_room_at sizes length at = have_room sizes (named_at length at.0 at.1)

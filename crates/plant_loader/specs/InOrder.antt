@@ -11,8 +11,10 @@ numbered_from number (x ∷ xs) = (number, x) ∷ numbered_from (number + 1) xs
 abbrev pub numbered : {A : Type 0} → List A → List (ℕ × A)
 numbered xs = numbered_from 1 xs
 
--- Items, each read with what those before it gave: what all of them give, or the first refusal. This project's own.
-unfoldable pub each_behind : {A B E : Type 0} → (List B → A → Result B E) → List B → List A → Result (List B) E
+-- Items, each read with what those before it gave: what all of them give, or the first refusal.
+-- This project's own.
+unfoldable pub each_behind : {A B E : Type 0}
+    → (List B → A → Result B E) → List B → List A → Result (List B) E
 each_behind read earlier [] = Ok earlier
 each_behind read earlier (x ∷ xs) = do
   y ← read earlier x

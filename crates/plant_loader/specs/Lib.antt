@@ -1,4 +1,5 @@
 pub mod Refusals
+pub mod Limits
 pub mod InOrder
 pub mod Counts
 pub mod Keys

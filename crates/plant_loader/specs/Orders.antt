@@ -1,5 +1,5 @@
 -- The order rows of a controller, and which of them are built.
-use Rattle.std.specs.Prelude.{◌≡◌, codes, ℕ, ◌≤◌, ◌&&◌, Bool, ◌==◌, nat_le, if◌then◌else◌, List, [], ◌∷◌, length, Option, Some, None, option_and_then, Result, Ok}
+use Rattle.std.specs.Prelude.{◌≡◌, codes, ℕ, ◌≤◌, ◌&&◌, Bool, false, ◌==◌, nat_le, nat_lt, if◌then◌else◌, List, [], ◌∷◌, length, Option, Some, None, option_and_then, Result, Ok}
 use Rattle.toml.specs.Data.{Data, Items, no_items, item, Members, get_member, as_str}
 use Rattle.std.specs.List.{AllByRecursion}
 use Rattle.plant_types.specs.declared.plan.OrderRow.{OrderRow}
@@ -8,6 +8,7 @@ use Rattle.cell_text.specs.Steps.{◌>>=◌, or_fault}
 use Rattle.cell_text.specs.Words.{words_of, are_words}
 use Rattle.cell_text.specs.Numbers.{number_of}
 use Rattle.plant_loader.specs.Refusals.{Refusal, not_built}
+use Rattle.plant_loader.specs.Limits.{order_limit}
 use Rattle.plant_loader.specs.Keys.{items_up_to}
 
 -- A segment of so many, which count from 1. This project's own.
@@ -26,11 +27,14 @@ solving_one_of count segment = if is_segment count segment then Some (solving se
 abbrev pub no_parts : List (List ℕ)
 no_parts = codes "-" ∷ codes "-" ∷ codes "-" ∷ []
 
--- The row of the words of an order: a segment, and then no control and no drops. This project's own.
+-- The row of the words of an order: a segment, and then no control and no drops. This project's
+-- own.
 abbrev pub row_of : ℕ → List (List ℕ) → Option OrderRow
 row_of count [] = None
 row_of count (segment ∷ parts) =
-    if are_words parts no_parts then option_and_then (solving_one_of count) (number_of segment) else None
+    if are_words parts no_parts
+    then option_and_then (solving_one_of count) (number_of segment)
+    else None
 
 -- The row of an item of the orders. This project's own.
 unfoldable pub order_row : ℕ → Data → Result OrderRow Refusal
@@ -50,7 +54,7 @@ order_rows count (item d ds) = do
 unfoldable pub orders_at : ℕ → Members → Result (List OrderRow) Refusal
 orders_at count ms = do
   orders ← or_fault not_built (get_member (codes "orders") ms)
-  items ← or_fault not_built (items_up_to 32 orders)
+  items ← or_fault not_built (items_up_to order_limit orders)
   order_rows count items
 
 -- A row solves a segment of so many, with no control and no drops. This project's own.
@@ -63,9 +67,15 @@ pub record SolvesSegment (count : ℕ) (row : OrderRow) : Type 0 where
 
 -- The orders of a plan are at most 32, and each solves a segment that it has. This project's own.
 pub record HasOrders (plan : ControllerPlan) : Type 0 where
-  pub few : length plan.orders ≤ 32
+  pub few : length plan.orders ≤ order_limit
   pub rows : AllByRecursion (SolvesSegment (length plan.segments)) plan.orders
 
--- This version of the program solves one segment by one order. This project's own.
-abbrev pub is_solved : ℕ → ℕ → Bool
-is_solved orders segments = (orders == 1) && (segments == 1)
+-- One segment, with fewer networks than a watchdog. This project's own.
+abbrev pub is_one_below : ℕ → List (List (List ℕ)) → Bool
+is_one_below watchdog (networks ∷ []) = nat_lt (length networks) watchdog
+is_one_below watchdog _ = false
+
+-- This version of the program solves one segment by one order, where no scan reaches the watchdog.
+-- This project's own.
+abbrev pub is_solved : ℕ → ℕ → List (List (List ℕ)) → Bool
+is_solved watchdog orders segments = (orders == 1) && is_one_below watchdog segments

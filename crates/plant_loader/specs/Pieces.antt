@@ -49,31 +49,42 @@ short_in (Short short) = Some short
 
 -- The network of these pieces. This project's own.
 abbrev pub network_of : List Piece → Network
-network_of pieces = record { cells = filter_map cell_in pieces; shorts = filter_map short_in pieces }
+network_of pieces =
+    record { cells = filter_map cell_in pieces; shorts = filter_map short_in pieces }
 
--- What stands before the pieces of a network: the map of their controller, and its networks before theirs. This project's own.
+-- What stands before the pieces of a network: the map of their controller, and its networks
+-- before theirs. This project's own.
 pub record Before : Type 0 where
   pub sizes : Sizes
   pub networks : List Network
 
--- The coils that the cells before a piece drive, in all networks of the controller. Modicon Ladder Logic Block Library User Guide.
+-- The coils that the cells before a piece drive, in all networks of the controller. Modicon
+-- Ladder Logic Block Library User Guide.
 abbrev pub coils_before : List Network → Network → List Ref
 coils_before networks network = flat_map coils_of_network networks ++ coils_of_network network
 
--- An element drives a coil that a cell drives already. Modicon Ladder Logic Block Library User Guide.
+-- An element drives a coil that a cell drives already. Modicon Ladder Logic Block Library User
+-- Guide.
 abbrev pub is_driven : List Ref → Option Ref → Bool
 is_driven coils None = false
 is_driven coils (Some coil) = list_any (is_same coil) coils
 
--- A cell is tested behind the pieces of its network so far: its references, its shape, its coil. This project's own.
+-- A cell drives a coil that one before it drives. Modicon Ladder Logic Block Library User Guide.
+abbrev pub drives_again : Before → Network → plain_cells.Cell → Bool
+drives_again before network cell =
+    is_driven (coils_before before.networks network) (driven_by cell.element)
+
+-- A cell is tested behind the pieces of its network so far: its references, its shape, its coil.
+-- This project's own.
 unfoldable pub cell_behind : Before → Network → plain_cells.Cell → Result Piece PlantFault
 cell_behind before network cell = do
   room ← unless (has_room before.sizes cell.element) faults.BadRef
   shape ← unless (has_shape network.cells cell) faults.BadShape
-  coil ← unless (not (is_driven (coils_before before.networks network) (driven_by cell.element))) faults.CoilTwice
+  coil ← unless (not (drives_again before network cell)) faults.CoilTwice
   Ok (Cell cell)
 
--- A short is tested behind those of its network so far, of which none is the same. This project's own.
+-- A short is tested behind those of its network so far, of which none is the same. This project's
+-- own.
 unfoldable pub short_behind : Network → plain_shorts.Short → Result Piece PlantFault
 short_behind network short = do
   shape ← unless (not (list_any (same_short short) network.shorts)) faults.BadShape
@@ -105,7 +116,8 @@ abbrev pub has_later_name : Option PieceName → Bool
 has_later_name (Some (names.Element name)) = is_later name
 has_later_name _ = false
 
--- A piece behind those of its network so far; one with the name of a later version is not built, whatever else is wrong with it. This project's own.
+-- A piece behind those of its network so far; one with the name of a later version is not built,
+-- whatever else is wrong with it. This project's own.
 unfoldable pub piece_behind : Before → Network → List ℕ → Result Piece PlantFault
 piece_behind before network text =
     if has_later_name (named_by (words_of text))
@@ -117,7 +129,8 @@ abbrev pub placed_behind : ℕ → ℕ → Before → List Piece → ℕ × List
 placed_behind segment network before pieces text =
     at_place (cell_place segment network text.0) (piece_behind before (network_of pieces) text.1)
 
--- The network of a text, or its first piece that fails; a piece's number is its position in the text. This project's own.
+-- The network of a text, or its first piece that fails; a piece's number is its position in the
+-- text. This project's own.
 unfoldable pub network_behind : ℕ → Before → ℕ × List ℕ → Result Network Refusal
 network_behind segment before text = do
   pieces ← each_behind (placed_behind segment text.0 before) [] (numbered (pieces_of text.1))
@@ -127,14 +140,22 @@ network_behind segment before text = do
 abbrev pub networks_in : List Segment → List Network
 networks_in segments = flat_map (λ segment. segment.networks) segments
 
--- What stands before the next network, behind segments and the earlier networks of its own. This project's own.
+-- What stands before the next network, behind segments and the earlier networks of its own. This
+-- project's own.
 abbrev pub before_in : Sizes → List Segment → List Network → Before
-before_in sizes segments networks = record { sizes = sizes; networks = networks_in segments ++ networks }
+before_in sizes segments networks =
+    record { sizes = sizes; networks = networks_in segments ++ networks }
+
+-- The network of a text in the segment of a number, behind segments and the earlier networks of
+-- its own. This project's own.
+abbrev pub next_network : Sizes → List Segment → ℕ → List Network → ℕ × List ℕ → Result Network Refusal
+next_network sizes segments number earlier text =
+    network_behind number (before_in sizes segments earlier) text
 
 -- The segment of texts, or its first piece that fails. This project's own.
 unfoldable pub segment_behind : Sizes → List Segment → ℕ × List (List ℕ) → Result Segment Refusal
 segment_behind sizes segments texts = do
-  networks ← each_behind (λ earlier. network_behind texts.0 (before_in sizes segments earlier)) [] (numbered texts.1)
+  networks ← each_behind (next_network sizes segments texts.0) [] (numbered texts.1)
   Ok (record { networks = networks })
 
 -- The segments of a controller, or its first piece that fails. This project's own.

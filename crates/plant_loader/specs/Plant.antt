@@ -46,16 +46,17 @@ plan_of node sizes panel orders segments = record {
   segments = segments;
 }
 
--- The plan of a controller: its table apart from the pieces, then the pieces in their order. This project's own.
-unfoldable pub controller_of : Members → Result ControllerPlan Refusal
-controller_of ms = do
+-- The plan of a controller: its table apart from the pieces, then the pieces in their order. This
+-- project's own.
+unfoldable pub controller_of : ℕ → Members → Result ControllerPlan Refusal
+controller_of watchdog ms = do
   keys ← unless (has_only controller_keys ms) not_built
   node ← or_fault not_built (number_at (codes "node") 1 64 ms)
   sizes ← sizes_at ms
   panel ← panel_at sizes ms
   texts ← segment_texts ms
   orders ← orders_at (length texts) ms
-  solved ← unless (is_solved (length orders) (length texts)) not_built
+  solved ← unless (is_solved watchdog (length orders) texts) not_built
   segments ← segments_of sizes texts
   Ok (plan_of node sizes panel orders segments)
 
@@ -84,7 +85,8 @@ plant_of_one scan_time watchdog controller = record {
   hosts = [];
 }
 
--- The plant of a document: version 1, a scan time of 1 to 1000 ticks or the default of 10, a watchdog of 1 to 10,000 networks or the default of 500, and one controller. This project's own.
+-- The plant of a document: version 1, a scan time of 1 to 1000 ticks or the default of 10, a
+-- watchdog of 1 to 10,000 networks or the default of 500, and one controller. This project's own.
 unfoldable pub plant_in : Members → Result Plant Refusal
 plant_in top = do
   keys ← unless (has_only plant_keys top) not_built
@@ -93,25 +95,28 @@ plant_in top = do
   watchdog ← or_fault not_built (number_at_or (codes "watchdog") 500 1 10000 top)
   controllers ← or_fault not_built (get_member (codes "controller") top)
   table ← or_fault not_built (only_table controllers)
-  controller ← controller_of table
+  controller ← controller_of watchdog table
   Ok (plant_of_one scan_time watchdog controller)
 
 -- The plant of the bytes of a plant file, or the first fault with its place. This project's own.
 unfoldable pub plant_of : List ℕ → Result Plant Refusal
 plant_of bytes = or_fault bad_toml (document_of bytes) >>= plant_in
 
--- A plan of which each part can be solved and shown: it passes its tests, its orders name segments that it has, and no element of it is for a later version. This project's own.
+-- A plan of which each part can be solved and shown: it passes its tests, its orders name
+-- segments that it has, and no element of it is for a later version. This project's own.
 pub record IsSolvable (plan : ControllerPlan) : Type 0 where
   pub passes : passes_check plan ≡ true
   pub orders : HasOrders plan
   pub plain : ArePlain plan.segments
-  pub one : is_solved (length plan.orders) (length plan.segments) ≡ true
+  pub one_order : length plan.orders ≡ 1
+  pub one_segment : length plan.segments ≡ 1
 
 -- No element of these plans is for a later version. This project's own.
 abbrev pub ArePlainPlans : List ControllerPlan → Type 0
 ArePlainPlans plans = AllByRecursion (λ plan. ArePlain plan.segments) plans
 
--- A plant can be run: a scan takes 1 to 1000 ticks and begins 1 to 10,000 networks, and its one controller can be solved. This project's own.
+-- A plant can be run: a scan takes 1 to 1000 ticks and begins 1 to 10,000 networks, and its one
+-- controller can be solved. This project's own.
 pub record IsRunnable (plant : Plant) : Type 0 where
   pub scan_time : (1 ≤ plant.scan_time) × (plant.scan_time ≤ 1000)
   pub watchdog : (1 ≤ plant.watchdog) × (plant.watchdog ≤ 10000)

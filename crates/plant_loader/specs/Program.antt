@@ -1,4 +1,5 @@
--- What was read of a controller's segments so far, and one more piece, network or segment behind it.
+-- What was read of a controller's segments so far, and one more piece, network or segment behind
+-- it.
 use Rattle.std.specs.Prelude.{◌≡◌, ℕ, ◌+◌, List, [], ◌∷◌, ◌++◌, length, Result, Ok}
 use Rattle.plant_types.specs.declared.reference.Ref.{Ref}
 use Rattle.plant_types.specs.declared.network.Cell as plain_cells
@@ -14,7 +15,8 @@ use Rattle.cell_text.specs.Steps.{◌>>=◌}
 use Rattle.plant_loader.specs.Refusals.{Refusal, cell_place, at_place}
 use Rattle.plant_loader.specs.Pieces.{Before, before_in, networks_in, coils_before, piece_behind, pieces_of}
 
--- The segments that are whole, the networks that are whole of the next one, and the cells and shorts so far of the network that is being read. This project's own.
+-- The segments that are whole, the networks that are whole of the next one, and the cells and
+-- shorts so far of the network that is being read. This project's own.
 pub record ReadProgram : Type 0 where
   pub segments : List Segment
   pub networks : List Network
@@ -48,7 +50,8 @@ with_tested read tested = tested >>= λ piece. Ok (added read piece)
 
 -- One more piece. This project's own.
 abbrev pub with_piece : Sizes → ReadProgram → List ℕ → Result ReadProgram PlantFault
-with_piece sizes read piece = with_tested read (piece_behind (before_open sizes read) (open_network read) piece)
+with_piece sizes read piece =
+    with_tested read (piece_behind (before_open sizes read) (open_network read) piece)
 
 -- How many pieces of the network that is being read were read. This project's own.
 abbrev pub piece_count : ReadProgram → ℕ
@@ -56,7 +59,8 @@ piece_count read = length read.cells + length read.shorts
 
 -- The place of the piece that comes next. This project's own.
 abbrev pub next_place : ReadProgram → Place
-next_place read = cell_place (length read.segments + 1) (length read.networks + 1) (piece_count read + 1)
+next_place read =
+    cell_place (length read.segments + 1) (length read.networks + 1) (piece_count read + 1)
 
 -- Pieces, each behind those before it. This project's own.
 unfoldable pub with_pieces : Sizes → ReadProgram → List (List ℕ) → Result ReadProgram Refusal
@@ -67,11 +71,13 @@ with_pieces sizes read (piece ∷ pieces) = do
 
 -- The network that was being read is whole. This project's own.
 abbrev pub with_network : ReadProgram → ReadProgram
-with_network read = record read { networks = read.networks ++ open_network read ∷ []; cells = []; shorts = [] }
+with_network read =
+    record read { networks = read.networks ++ open_network read ∷ []; cells = []; shorts = [] }
 
 -- The segment whose networks were being read is whole. This project's own.
 abbrev pub with_segment : ReadProgram → ReadProgram
-with_segment read = record read { segments = read.segments ++ record { networks = read.networks } ∷ []; networks = [] }
+with_segment read =
+    record read { segments = read.segments ++ record { networks = read.networks } ∷ []; networks = [] }
 
 -- One more network. This project's own.
 unfoldable pub with_text : Sizes → ReadProgram → List ℕ → Result ReadProgram Refusal

@@ -3,10 +3,11 @@ ghost use Rattle.std.specs.Prelude.{◌≡◌, ◌≢◌, Err};
 ghost use Rattle.cell_text.specs.Words.{words_of};
 ghost use Rattle.toml.specs.View.{view, items_view, table_view};
 ghost use Rattle.plant_loader.specs.Refusals.{Gives};
-ghost use Rattle.plant_loader.specs.Orders.{is_segment, solving_one_of, row_of, order_row, order_rows, orders_at, is_solved};
+ghost use Rattle.plant_loader.specs.Orders.{is_segment, solving_one_of, row_of, order_row, order_rows, orders_at, is_one_below, is_solved};
 
 use crate::keys::{items_up_to, value_at};
 use crate::refusal::{LoadEnd, not_built};
+use crate::texts::NetworkTexts;
 use cell_text::{has_words, next_word, number_of};
 use plant_types::{List, OrderRow};
 use std::alloc::Global;
@@ -80,9 +81,19 @@ pub fn orders_at(alloc: Global, count: usize, table: &Table) -> Result<List<Orde
     }
 }
 
-/// Whether this version of the program solves so many orders of so many segments.
-pub fn is_solved(orders: usize, segments: usize) -> bool
-    ensures { result ≡ is_solved orders segments }
+fn is_one_below(watchdog: u16, segments: &[NetworkTexts]) -> bool
+    ensures { result ≡ is_one_below watchdog segments.now }
 {
-    orders == 1 && segments == 1
+    match segments {
+        [only] => only.as_slice().len() < usize::from(watchdog),
+        _ => false,
+    }
+}
+
+/// Whether this version of the program solves so many orders of these segments: one, and no scan
+/// reaches the watchdog.
+pub fn is_solved(watchdog: u16, orders: usize, segments: &[NetworkTexts]) -> bool
+    ensures { result ≡ is_solved watchdog orders segments.now }
+{
+    orders == 1 && is_one_below(watchdog, segments)
 }

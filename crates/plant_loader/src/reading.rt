@@ -51,8 +51,8 @@ fn document(alloc: Global, bytes: &[u8]) -> Result<Table, LoadEnd>
 }
 
 #[tactic(auto, unfolding(crate::specs::Plant::controller_of))]
-fn controller_of(alloc: Global, table: &Table) -> Result<ControllerPlan, LoadEnd>
-    ensures { Gives (λ plan. plan) result (controller_of (table_view table.now)) }
+fn controller_of(alloc: Global, watchdog: u16, table: &Table) -> Result<ControllerPlan, LoadEnd>
+    ensures { Gives (λ plan. plan) result (controller_of watchdog (table_view table.now)) }
 {
     if !has_only(table, &CONTROLLER_KEYS) {
         return Err(not_built());
@@ -64,7 +64,7 @@ fn controller_of(alloc: Global, table: &Table) -> Result<ControllerPlan, LoadEnd
     let panel = panel_at(alloc, counts, table)?;
     let texts = segment_texts(alloc, table)?;
     let orders = orders_at(alloc, texts.len(), table)?;
-    if !is_solved(orders.as_slice().len(), texts.len()) {
+    if !is_solved(watchdog, orders.as_slice().len(), &texts) {
         return Err(not_built());
     }
     let segments = segments_of(alloc, counts, &texts)?;
@@ -138,7 +138,10 @@ fn plant_in(alloc: Global, top: &Table) -> Result<Plant, LoadEnd>
         return Err(not_built());
     };
     match only_table(controllers) {
-        Some(table) => plant_of_one(alloc, scan_time, watchdog, controller_of(alloc, table)?),
+        Some(table) => {
+            let controller = controller_of(alloc, watchdog, table)?;
+            plant_of_one(alloc, scan_time, watchdog, controller)
+        }
         None => Err(not_built()),
     }
 }

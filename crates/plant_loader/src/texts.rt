@@ -19,12 +19,13 @@ pub struct NetworkTexts<'a> {
 
 impl<'a> Model for NetworkTexts<'a> {
     ghost use Rattle.std.specs.Prelude.{ℕ, List, ◌≤◌, length, map};
+    ghost use Rattle.plant_loader.specs.Limits.{network_limit};
 
     ghost Value = { List (List ℕ) };
 
     ghost view = { λ t. map (λ text. text.now) t.texts.items };
 
-    ghost invariant = { λ t. length t.texts.items ≤ 1000 };
+    ghost invariant = { λ t. length t.texts.items ≤ network_limit };
 }
 
 impl<'a> NetworkTexts<'a> {
