@@ -25,7 +25,8 @@ has_number at = is_reference_number at.number
 abbrev pub has_numbers : Element → Bool
 has_numbers element = list_all (λ named. has_number named.at) (names_of element)
 
--- A piece has a text: its position and its operands are such as its name takes. This project's own.
+-- A piece has a text: its position and its operands are such as its name takes. This project's
+-- own.
 abbrev pub has_text : Piece → Bool
 has_text (Cell cell) =
     has_cell_place cell

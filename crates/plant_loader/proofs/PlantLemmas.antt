@@ -220,6 +220,7 @@ controller_of-solvable watchdog ms plan h =
     let read = segments_of-pass sizes.0 texts.0 segments.0 segments.1.0 in
     let rows = orders_at-solve (length texts.0) ms orders.0 orders.1.0 in
     let one = is_solved-one watchdog (length orders.0) texts.0 solved.0 in
+    let one_segment : length segments.0 ≡ 1 = rw read.1 one.1 in
     let parts : Parts sizes.0 node.0 panel.0 segments.0 = record {
       node_passes = number_of-within 1 64 value.0 node.0 value.1.1;
       panel_passes = panel_in-held sizes.0 (get_member (codes "panel") ms) panel.0 panel.1.0;
@@ -230,7 +231,7 @@ controller_of-solvable watchdog ms plan h =
       orders = record { few = rows.1; rows = rw read.1 rows.0 };
       plain = read.0.plain;
       one_order = one.0;
-      one_segment = read.1 ∙ one.1;
+      one_segment = one_segment;
     } in
     rw (← same) solvable
 

@@ -148,7 +148,8 @@ before_in sizes segments networks =
 
 -- The network of a text in the segment of a number, behind segments and the earlier networks of
 -- its own. This project's own.
-abbrev pub next_network : Sizes → List Segment → ℕ → List Network → ℕ × List ℕ → Result Network Refusal
+abbrev pub next_network : Sizes → List Segment → ℕ → List Network → ℕ × List ℕ
+→ Result Network Refusal
 next_network sizes segments number earlier text =
     network_behind number (before_in sizes segments earlier) text
 

@@ -99,7 +99,8 @@ with_segment_texts sizes read texts = do
   Ok (with_segment next)
 
 -- Segments, each behind those before it. This project's own.
-unfoldable pub with_segments : Sizes → ReadProgram → List (List (List ℕ)) → Result ReadProgram Refusal
+unfoldable pub with_segments : Sizes → ReadProgram → List (List (List ℕ))
+→ Result ReadProgram Refusal
 with_segments sizes read [] = Ok read
 with_segments sizes read (texts ∷ segments) = do
   next ← with_segment_texts sizes read texts
