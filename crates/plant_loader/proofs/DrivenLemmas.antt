@@ -8,8 +8,6 @@ use Rattle.std.proofs.lemmas.Bool.Decides.{nat_tests}
 use Rattle.std.proofs.lemmas.List.Folds.{list_any-append}
 use Rattle.plant_types.specs.declared.reference.Ref.{Ref}
 use Rattle.plant_types.specs.declared.network.Cell.{Cell}
-use Rattle.plant_types.specs.declared.network.Short.{Short}
-use Rattle.plant_types.specs.declared.network.Network.{Network}
 use Rattle.plant_types.specs.contracts.reference.RefOrd.TheImpl as derived
 use Rattle.plant_types.specs.Reference.{ref_cmp, rank_of}
 use Rattle.plant_types.specs.Network.{driven_by}

@@ -16,7 +16,7 @@ use Rattle.plant_loader.specs.declared.refusal.LoadEnd.TheVariants as ends
 use Rattle.plant_loader.specs.Refusals.{Refusal, Stops, cell_place, at_place}
 use Rattle.plant_loader.specs.InOrder.{numbered_from, each_behind}
 use Rattle.plant_loader.specs.Pieces.{cell_in, short_in, network_of, before_in, piece_behind, placed_behind, pieces_of, network_behind, segment_behind, segments_of}
-use Rattle.plant_loader.specs.Program.{ReadProgram, nothing_read, open_network, added, with_tested, piece_count, next_place, with_piece, with_pieces, with_network, with_text, with_texts, with_segment, with_segment_texts, with_segments}
+use Rattle.plant_loader.specs.Program.{ReadProgram, nothing_read, added, with_tested, next_place, with_piece, with_pieces, with_network, with_text, with_texts, with_segment, with_segment_texts, with_segments}
 
 -- one item more
 length-more : {B : Type 0} (bs : List B) (b : B) → length (bs ++ b ∷ []) + 1 ≡ (length bs + 1) + 1

@@ -1,5 +1,5 @@
 -- The pieces of the texts of networks, and the segments that they make.
-use Rattle.std.specs.Prelude.{ℕ, Bool, true, false, not, ◌==◌, if◌then◌else◌, List, [], ◌∷◌, ◌++◌, filter, length, Option, Some, None, Result, Ok, Err}
+use Rattle.std.specs.Prelude.{ℕ, Bool, true, false, not, ◌==◌, if◌then◌else◌, List, [], ◌++◌, filter, length, Option, Some, None, Result, Ok, Err}
 use Rattle.std.specs.List.{slice_split, flat_map, filter_map, list_any}
 use Rattle.std.specs.Str.Lines.{lines}
 use Rattle.plant_types.specs.declared.reference.Ref.{Ref}
@@ -149,7 +149,7 @@ before_in sizes segments networks =
 -- The network of a text in the segment of a number, behind segments and the earlier networks of
 -- its own. This project's own.
 abbrev pub next_network : Sizes → List Segment → ℕ → List Network → ℕ × List ℕ
-→ Result Network Refusal
+    → Result Network Refusal
 next_network sizes segments number earlier text =
     network_behind number (before_in sizes segments earlier) text
 

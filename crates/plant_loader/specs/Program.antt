@@ -100,7 +100,7 @@ with_segment_texts sizes read texts = do
 
 -- Segments, each behind those before it. This project's own.
 unfoldable pub with_segments : Sizes → ReadProgram → List (List (List ℕ))
-→ Result ReadProgram Refusal
+    → Result ReadProgram Refusal
 with_segments sizes read [] = Ok read
 with_segments sizes read (texts ∷ segments) = do
   next ← with_segment_texts sizes read texts

@@ -1,6 +1,4 @@
-use Rattle.std.specs.Result.{IfOk}
 use Rattle.toml.specs.View.{table_view}
-use Rattle.plant_loader.specs.Plant.{IsRunnable}
 use Rattle.plant_loader.proofs.PlantLemmas.{plant_of-document, gives-runnable, runnable-one, runnable-checked, runnable-plain, runnable-orders}
 use Rattle.plant_loader.proofs.reading.load.Goals as goal
 

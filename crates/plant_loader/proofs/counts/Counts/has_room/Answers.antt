@@ -1,4 +1,3 @@
-use Rattle.std.proofs.Common.{◌∙◌}
 use Rattle.plant_types.specs.Sizes.{has_run}
 use Rattle.plant_types.specs.Slots.{slots_of}
 use Rattle.plant_types.specs.Elements.{name_of, operands_of, length_of}
