@@ -11,7 +11,8 @@ use Rattle.plant_types.specs.declared.name.ElementName.TheVariants.{Open, Closed
 use Rattle.cell_text.specs.declared.names.PieceName.{PieceName}
 use Rattle.cell_text.specs.declared.names.PieceName.TheVariants.{Element, Short}
 
--- The letters of an element's name. Modicon Ladder Logic Block Library User Guide for what is named; the letters are this project's own.
+-- The letters of an element's name. Modicon Ladder Logic Block Library User Guide for what is
+-- named; the letters are this project's own.
 unfoldable pub element_text : ElementName → List ℕ
 element_text Open = codes "NO"
 element_text Closed = codes "NC"
@@ -50,7 +51,8 @@ element_text Call = codes "JSR"
 element_text Return = codes "RET"
 element_text Mstr = codes "MSTR"
 
--- The letters of a piece's name. Modicon Ladder Logic Block Library User Guide for what is named; the letters are this project's own.
+-- The letters of a piece's name. Modicon Ladder Logic Block Library User Guide for what is named;
+-- the letters are this project's own.
 unfoldable pub name_text : PieceName → List ℕ
 name_text (Element name) = element_text name
 name_text Short = codes "V"

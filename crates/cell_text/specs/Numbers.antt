@@ -14,27 +14,52 @@ is_digit byte = nat_le 48 byte && nat_le byte 57
 abbrev pub value_of : List ℕ → ℕ
 value_of digits = fold (λ value digit. value * 10 + (digit - 48)) 0 digits
 
+-- A word of one to four bytes. This project's own.
+abbrev pub has_few : List ℕ → Bool
+has_few word = nat_le 1 (length word) && nat_le (length word) 4
+
+-- A word that does not begin with 0, unless it is 0 alone. This project's own.
+abbrev pub has_no_leading_zero : List ℕ → Bool
+has_no_leading_zero word = (length word == 1) || not (slice_index word 0 == 48)
+
 -- One to four digits without a sign, and without a leading zero. This project's own.
 abbrev pub is_number : List ℕ → Bool
-is_number word = list_all is_digit word && ((nat_le 1 (length word) && nat_le (length word) 4) && ((length word == 1) || not (slice_index word 0 == 48)))
+is_number word = list_all is_digit word && (has_few word && has_no_leading_zero word)
 
 -- The number that a word stands for. This project's own.
 abbrev pub number_of : List ℕ → Option ℕ
 number_of word = if is_number word then Some (value_of word) else None
 
+-- A row and a column, where they stand in the grid. This project's own.
+abbrev pub in_grid : ℕ → ℕ → Option (ℕ × ℕ)
+in_grid row column = if is_row row && is_column column then Some (row, column) else None
+
+-- What stands before the first comma of a word, and what stands behind it. This project's own.
+abbrev pub row_word : List ℕ → List ℕ
+row_word word = before_first (λ byte. byte == 44) word
+
+abbrev pub column_word : List ℕ → List ℕ
+column_word word = after_first (λ byte. byte == 44) word
+
 -- The row and the column that a word stands for, parted by a comma. This project's own.
 abbrev pub position_of : List ℕ → Option (ℕ × ℕ)
 position_of word =
-    option_and_then (λ row. option_and_then (λ column. if is_row row && is_column column then Some (row, column) else None) (number_of (after_first (λ byte. byte == 44) word))) (number_of (before_first (λ byte. byte == 44) word))
+    option_and_then (λ row. option_and_then (in_grid row) (number_of (column_word word)))
+    (number_of (row_word word))
 
 -- Five digits are a reference, or the fault of one. This project's own.
 abbrev pub is_reference_word : List ℕ → Bool
 is_reference_word word = list_all is_digit word && (length word == 5)
 
--- The kind that the first digit of a reference tells. Modicon Ladder Logic Block Library User Guide.
+-- The kind that the first digit of a reference tells. Modicon Ladder Logic Block Library User
+-- Guide.
 abbrev pub kind_of : ℕ → Option RefKind
 kind_of digit =
-    if digit == 48 then Some Coil else if digit == 49 then Some Input else if digit == 51 then Some InputRegister else if digit == 52 then Some Register else None
+    if digit == 48 then Some Coil
+    else if digit == 49 then Some Input
+    else if digit == 51 then Some InputRegister
+    else if digit == 52 then Some Register
+    else None
 
 -- A reference has a number from 1 to 9984. This project's own.
 abbrev pub is_reference_number : ℕ → Bool
@@ -42,9 +67,13 @@ is_reference_number number = nat_le 1 number && nat_le number 9984
 
 -- A reference of a kind and such a number. This project's own.
 abbrev pub numbered : RefKind → ℕ → Option Ref
-numbered kind number = if is_reference_number number then Some (record { kind = kind; number = number }) else None
+numbered kind number =
+    if is_reference_number number then Some (record { kind = kind; number = number }) else None
 
--- The reference that a word stands for: the digit of its kind, then the four of its number. Modicon Ladder Logic Block Library User Guide.
+-- The reference that a word stands for: the digit of its kind, then the four of its number.
+-- Modicon Ladder Logic Block Library User Guide.
 abbrev pub reference_of : List ℕ → Option Ref
 reference_of word =
-    if is_reference_word word then option_and_then (λ kind. numbered kind (value_of (drop 1 word))) (kind_of (slice_index word 0)) else None
+    if is_reference_word word
+    then option_and_then (λ kind. numbered kind (value_of (drop 1 word))) (kind_of (slice_index word 0))
+    else None

@@ -13,17 +13,21 @@ use Rattle.cell_text.specs.Numbers.{position_of}
 use Rattle.cell_text.specs.Names.{name_of}
 use Rattle.cell_text.specs.Slots.{slots_of_piece, read_operands}
 
--- The short of a row and the one below it at a column; row 7 has none below it. This project's own.
+-- The short of a row and the one below it at a column; row 7 has none below it. This project's
+-- own.
 abbrev pub short_at : ℕ → ℕ → Option Piece
-short_at row column = if nat_le row 6 then Some (Short (record { row = row; column = column })) else None
+short_at row column =
+    if nat_le row 6 then Some (Short (record { row = row; column = column })) else None
 
 -- What a name and its operands stand for at a row and a column. This project's own.
 abbrev pub piece_at : ℕ → ℕ → PieceName → List Operand → Option Piece
 piece_at row column names.Short operands = short_at row column
 piece_at row column (names.Element name) operands =
-    option_map (λ element. Cell (record { row = row; column = column; element = element })) (element_of name operands)
+    option_map (λ element. Cell (record { row = row; column = column; element = element }))
+    (element_of name operands)
 
--- What the words of a piece stand for: its position, its name and its operands. This project's own.
+-- What the words of a piece stand for: its position, its name and its operands. This project's
+-- own.
 unfoldable pub piece_of : List (List ℕ) → Result Piece CellFault
 piece_of (position ∷ name ∷ words) = do
   place ← or_fault BadCell (position_of position)

@@ -20,12 +20,14 @@ use Rattle.cell_text.specs.declared.piece.CellFault.TheVariants.{BadCell, BadVal
 use Rattle.cell_text.specs.Steps.{◌>>=◌, or_fault, unless}
 use Rattle.cell_text.specs.Numbers.{is_number, number_of, is_reference_word, reference_of}
 
--- The operands that a piece of a name takes, in their order; a short takes none. This project's own.
+-- The operands that a piece of a name takes, in their order; a short takes none. This project's
+-- own.
 abbrev pub slots_of_piece : PieceName → List Slot
 slots_of_piece (Element name) = slots_of name
 slots_of_piece Short = []
 
--- The forms that an operand can have: five digits are a reference, one to four a constant. This project's own.
+-- The forms that an operand can have: five digits are a reference, one to four a constant. This
+-- project's own.
 abbrev pub takes_form : Slot → List ℕ → Bool
 takes_form (Number run) word = is_number word || is_reference_word word
 takes_form (Constant most) word = is_number word
@@ -57,16 +59,20 @@ taken_reference slot at = if takes_kind slot at.kind then Some (At at) else None
 -- The operand that a word stands for. This project's own.
 abbrev pub operand_in : Slot → List ℕ → Option Operand
 operand_in slot word =
-    if is_reference_word word then option_and_then (taken_reference slot) (reference_of word) else option_map Const (number_of word)
+    if is_reference_word word
+    then option_and_then (taken_reference slot) (reference_of word)
+    else option_map Const (number_of word)
 
 -- The operands that words stand for, one for each slot. This project's own.
 unfoldable pub operands_in : List Slot → List (List ℕ) → Option (List Operand)
 operands_in [] [] = Some []
 operands_in (slot ∷ slots) (word ∷ words) =
-    option_and_then (λ operand. option_map (λ operands. operand ∷ operands) (operands_in slots words)) (operand_in slot word)
+    option_and_then (λ operand. option_map (λ operands. operand ∷ operands) (operands_in slots words))
+    (operand_in slot word)
 operands_in _ _ = None
 
--- The operands of a piece: each test is made of all of them before the next test. This project's own.
+-- The operands of a piece: each test is made of all of them before the next test. This project's
+-- own.
 unfoldable pub read_operands : List Slot → List (List ℕ) → Result (List Operand) CellFault
 read_operands slots words = do
   forms ← unless (pointwise takes_form slots words) BadCell

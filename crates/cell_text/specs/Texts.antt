@@ -25,17 +25,20 @@ has_number at = is_reference_number at.number
 abbrev pub has_numbers : Element → Bool
 has_numbers element = list_all (λ named. has_number named.at) (names_of element)
 
--- A piece has a text: its position and its operands are such as its name takes. This project's own.
+-- A piece has a text: its position and its operands are such as its name takes. This project's
+-- own.
 abbrev pub has_text : Piece → Bool
 has_text (Cell cell) =
-    has_cell_place cell && (has_form cell.element && has_values cell.element && has_kinds cell.element && has_numbers cell.element)
+    has_cell_place cell
+    && (has_form cell.element && has_values cell.element && has_kinds cell.element && has_numbers cell.element)
 has_text (Short short) = has_short_place short
 
 -- The text of a position: row and column, parted by a comma. This project's own.
 abbrev pub position_text : ℕ × ℕ → List ℕ
 position_text place = decimal place.0 ++ codes "," ++ decimal place.1
 
--- The text of an operand: a constant in decimal, or the five digits of a reference. Modicon Ladder Logic Block Library User Guide.
+-- The text of an operand: a constant in decimal, or the five digits of a reference. Modicon
+-- Ladder Logic Block Library User Guide.
 abbrev pub operand_text : Operand → List ℕ
 operand_text (Const n) = decimal n
 operand_text (At at) = reference_text at
@@ -58,7 +61,8 @@ piece_operands (Short short) = []
 -- The words of a piece: its position, its name and its operands. This project's own.
 abbrev pub piece_words : Piece → List (List ℕ)
 piece_words piece =
-    position_text (piece_place piece) ∷ name_text (piece_name piece) ∷ map operand_text (piece_operands piece)
+    position_text (piece_place piece) ∷ name_text (piece_name piece)
+    ∷ map operand_text (piece_operands piece)
 
 -- The text of a piece: its words, parted by single blanks. This project's own.
 abbrev pub piece_text : Piece → List ℕ

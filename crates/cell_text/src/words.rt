@@ -34,7 +34,8 @@ fn word_end(text: &[u8]) -> usize
 
 /// The first word of a text, and what stands behind it.
 pub fn next_word(text: &[u8]) -> Option<(&[u8], &[u8])>
-    ensures { MatchOption result (words_of text.now ≡ []) (λ w. words_of text.now ≡ w.0.now ∷ words_of w.1.now) }
+    ensures { MatchOption result (words_of text.now ≡ [])
+        (λ w. words_of text.now ≡ w.0.now ∷ words_of w.1.now) }
 {
     let Some(start) = word_start(text) else {
         return None;

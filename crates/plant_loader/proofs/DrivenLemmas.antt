@@ -8,16 +8,16 @@ use Rattle.std.proofs.lemmas.Bool.Decides.{nat_tests}
 use Rattle.std.proofs.lemmas.List.Folds.{list_any-append}
 use Rattle.plant_types.specs.declared.reference.Ref.{Ref}
 use Rattle.plant_types.specs.declared.network.Cell.{Cell}
-use Rattle.plant_types.specs.declared.network.Short.{Short}
-use Rattle.plant_types.specs.declared.network.Network.{Network}
 use Rattle.plant_types.specs.contracts.reference.RefOrd.TheImpl as derived
 use Rattle.plant_types.specs.Reference.{ref_cmp, rank_of}
 use Rattle.plant_types.specs.Network.{driven_by}
 use Rattle.plant_types.specs.Checks.{is_same, coils_of_network}
 use Rattle.plant_types.proofs.Contents.{found_by_code}
 use Rattle.plant_loader.specs.Driven.{HoldsJust}
-use Rattle.plant_loader.specs.Program.{driven_coils}
-use Rattle.plant_loader.proofs.Checked.{coils-push, driven_coils-with_network}
+use Rattle.cell_text.specs.declared.piece.Piece.TheVariants as pieces
+use Rattle.plant_loader.specs.Pieces.{networks_in}
+use Rattle.plant_loader.specs.Program.{ReadProgram, open_network, driven_coils, added, with_network, with_segment}
+use Rattle.plant_loader.proofs.Checked.{coils-push, driven_coils-with_network, driven_coils-with_segment}
 use Rattle.plant_loader.proofs.GridLemmas.{same_symm}
 
 -- two references are one where their kinds and their numbers are
@@ -60,21 +60,21 @@ HoldsJust-gain old new drives coil e put = λ at.
     ∙ sym (list_any-append (is_same at) old (coil ∷ [])) ∙ ap (λ (o : Option Ref). list_any (is_same at) (old ++ cons_option o [])) e
 
 -- the keys hold the coils of one more cell
-pub HoldsJust-cell : (old new : List Ref) (networks : List Network) (cells more : List Cell) (shorts : List Short) (cell : Cell) (drives : Option Ref) → drives ≡ driven_by cell.element
-    → HoldsJust old (driven_coils (record { networks = networks; cells = cells; shorts = shorts })) → HoldsJust new (old ++ cons_option drives []) → more ≡ cells ++ cell ∷ []
-    → HoldsJust new (driven_coils (record { networks = networks; cells = more; shorts = shorts }))
-HoldsJust-cell old new networks cells more shorts cell drives d held gained e = λ at.
-    let coils = driven_coils (record { networks = networks; cells = cells; shorts = shorts }) in
-    let added = cons_option (driven_by cell.element) [] in
-    let same : coils ++ added ≡ driven_coils (record { networks = networks; cells = more; shorts = shorts }) = rw e (append_assoc (flat_map coils_of_network networks) (coils_of_network (record { cells = cells; shorts = shorts })) added ∙ ap (λ xs. flat_map coils_of_network networks ++ xs) (sym (coils-push cells shorts cell))) in
-    gained at ∙ ap (λ (o : Option Ref). list_any (is_same at) (old ++ cons_option o [])) d ∙ list_any-append (is_same at) old added ∙ rw (held at) (sym (list_any-append (is_same at) coils added)) ∙ ap (list_any (is_same at)) same
+pub HoldsJust-cell : (old new : List Ref) (read : ReadProgram) (cell : Cell) (drives : Option Ref) → drives ≡ driven_by cell.element
+    → HoldsJust old (driven_coils read) → HoldsJust new (old ++ cons_option drives []) → HoldsJust new (driven_coils (added read (pieces.Cell cell)))
+HoldsJust-cell old new read cell drives d held gained = λ at.
+    let before = flat_map coils_of_network (networks_in read.segments ++ read.networks) in
+    let more = cons_option (driven_by cell.element) [] in
+    let same : driven_coils read ++ more ≡ driven_coils (added read (pieces.Cell cell)) = append_assoc before (coils_of_network (open_network read)) more ∙ ap (λ xs. before ++ xs) (sym (coils-push read.cells read.shorts cell)) in
+    gained at ∙ ap (λ (o : Option Ref). list_any (is_same at) (old ++ cons_option o [])) d ∙ list_any-append (is_same at) old more ∙ rw (held at) (sym (list_any-append (is_same at) (driven_coils read) more)) ∙ ap (list_any (is_same at)) same
 
 -- the keys hold the coils of a network that is whole
-pub HoldsJust-network : (keys : List Ref) (networks more : List Network) (cells : List Cell) (shorts : List Short)
-    → HoldsJust keys (driven_coils (record { networks = networks; cells = cells; shorts = shorts })) → more ≡ networks ++ record { cells = cells; shorts = shorts } ∷ []
-    → HoldsJust keys (driven_coils (record { networks = more; cells = []; shorts = [] }))
-HoldsJust-network keys networks more cells shorts held e = λ at.
-    held at ∙ ap (list_any (is_same at)) (sym (driven_coils-with_network (record { networks = networks; cells = cells; shorts = shorts }))) ∙ rw e refl
+pub HoldsJust-network : (keys : List Ref) (read : ReadProgram) → HoldsJust keys (driven_coils read) → HoldsJust keys (driven_coils (with_network read))
+HoldsJust-network keys read held = λ at. held at ∙ ap (list_any (is_same at)) (sym (driven_coils-with_network read))
+
+-- the keys hold the coils of a segment that is whole
+pub HoldsJust-segment : (keys : List Ref) (read : ReadProgram) → HoldsJust keys (driven_coils read) → HoldsJust keys (driven_coils (with_segment read))
+HoldsJust-segment keys read held = λ at. held at ∙ ap (list_any (is_same at)) (sym (driven_coils-with_segment read))
 
 -- what holds after a call that went well
 pub on_ok : {T E P : Type 0} (r : Result T E) → is_err r ≡ false → OnOk r P → P

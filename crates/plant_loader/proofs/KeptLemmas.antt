@@ -1,5 +1,5 @@
--- Networks while they are read: one more cell, one more short, a network that is whole.
-use Rattle.std.proofs.Common.{◌≡◌, ℕ, ◌+◌, ◌≤◌, true, false, not, ◌&&◌, ◌||◌, ◌==◌, List, [], ◌∷◌, ◌++◌, length, Option, refl, arith}
+-- Segments while they are read: one more cell, one more short, a network or a segment that is whole.
+use Rattle.std.proofs.Common.{◌≡◌, ℕ, ◌+◌, ◌≤◌, ◌<◌, true, false, not, ◌&&◌, ◌||◌, ◌==◌, List, [], ◌∷◌, ◌++◌, length, length-append, Option, refl, arith}
 use Rattle.std.specs.Prelude.{nat_le, nat_lt}
 use Rattle.std.specs.List.{list_any, cons_option, IsDistinct}
 use Rattle.std.proofs.lemmas.Bool.{and_parts, or_parts, not-true}
@@ -7,17 +7,18 @@ use Rattle.std.proofs.lemmas.Bool.Decides.{nat_tests}
 use Rattle.std.proofs.lemmas.List.{map-append, length-map}
 use Rattle.plant_types.specs.declared.reference.Ref.{Ref}
 use Rattle.plant_types.specs.declared.element.Element.{Element}
-use Rattle.plant_types.specs.declared.element.Element.TheVariants.{Timer, Counter, Math, Move, Matrix}
+use Rattle.plant_types.specs.declared.element.Element.TheVariants.{Timer, Counter, Math, Move, Matrix, Call, Mstr}
 use Rattle.plant_types.specs.declared.network.Cell.{Cell}
 use Rattle.plant_types.specs.declared.network.Short.{Short}
-use Rattle.plant_types.specs.declared.network.Network.{Network}
 use Rattle.plant_types.specs.Network.{node_count, driven_by, has_cell_place, has_short_place, is_column, is_within, overlaps, is_right_of_coil, clashes, same_short}
 use Rattle.plant_types.specs.Checks.{has_shape}
 use Rattle.plant_loader.specs.Driven.{HoldsJust}
 use Rattle.plant_loader.specs.Grid.{cell_places, short_places, is_place, same_place}
 use Rattle.plant_loader.specs.Kept.{IsKept}
 use Rattle.plant_loader.proofs.Checked.{and_both}
-use Rattle.plant_loader.proofs.DrivenLemmas.{HoldsJust-cell, HoldsJust-network}
+use Rattle.cell_text.specs.declared.piece.Piece.TheVariants as pieces
+use Rattle.plant_loader.specs.Program.{ReadProgram, nothing_read, open_network, added, with_network, with_segment}
+use Rattle.plant_loader.proofs.DrivenLemmas.{HoldsJust-cell, HoldsJust-network, HoldsJust-segment}
 use Rattle.plant_loader.proofs.GridLemmas.{AreApart-push, AreApart-few}
 
 -- an element has a node
@@ -27,6 +28,8 @@ node_count-some (Counter up preset acc) = omega arith
 node_count-some (Math op top mid low) = omega arith
 node_count-some (Move op top mid length) = omega arith
 node_count-some (Matrix op top mid length) = omega arith
+node_count-some (Call number) = omega arith
+node_count-some (Mstr control area length) = omega arith
 node_count-some _ = omega arith
 
 -- cells whose nodes share no place stand at two places
@@ -59,51 +62,64 @@ short_is_place short h =
     and_both _ _ (and_both _ _ rows.0 low) parts.1
 
 -- one more cell that fits
-pub IsKept-cell : (old new : List Ref) (networks : List Network) (cells more : List Cell) (shorts : List Short) (cell : Cell) (drives : Option Ref) → has_cell_place cell ≡ true → has_shape cells cell ≡ true → drives ≡ driven_by cell.element
-    → IsKept old (record { networks = networks; cells = cells; shorts = shorts }) → HoldsJust new (old ++ cons_option drives []) → more ≡ cells ++ cell ∷ []
-    → IsKept new (record { networks = networks; cells = more; shorts = shorts })
-IsKept-cell old new networks cells more shorts cell drives place shape d kept gained e =
-    let clear = and_parts (is_within cell) (not (list_any (clashes cell) cells)) shape in
+pub IsKept-cell : (old new : List Ref) (read : ReadProgram) (cell : Cell) (drives : Option Ref) → has_cell_place cell ≡ true → has_shape read.cells cell ≡ true → drives ≡ driven_by cell.element
+    → IsKept old read → HoldsJust new (old ++ cons_option drives []) → IsKept new (added read (pieces.Cell cell))
+IsKept-cell old new read cell drives place shape d kept gained =
+    let clear = and_parts (is_within cell) (not (list_any (clashes cell) read.cells)) shape in
     record {
-      driven = HoldsJust-cell old new networks cells more shorts cell drives d kept.driven gained e;
-      cells = rw (e, map-append) (AreApart-push (cell_places cells) (cell.row, cell.column) kept.cells place (free_place cells cell (not-true _ clear.1)));
+      driven = HoldsJust-cell old new read cell drives d kept.driven gained;
+      cells = rw map-append (AreApart-push (cell_places read.cells) (cell.row, cell.column) kept.cells place (free_place read.cells cell (not-true _ clear.1)));
       shorts = kept.shorts;
+      segments = kept.segments;
+      networks = kept.networks;
     }
 
 -- one more short at a free place
-pub IsKept-short : (keys : List Ref) (networks : List Network) (cells : List Cell) (shorts more : List Short) (short : Short) → has_short_place short ≡ true → list_any (same_short short) shorts ≡ false
-    → IsKept keys (record { networks = networks; cells = cells; shorts = shorts }) → more ≡ shorts ++ short ∷ []
-    → IsKept keys (record { networks = networks; cells = cells; shorts = more })
-IsKept-short keys networks cells shorts more short place free kept e =
-    record {
-      driven = kept.driven;
-      cells = kept.cells;
-      shorts = rw (e, map-append) (AreApart-push (short_places shorts) (short.row, short.column) kept.shorts (short_is_place short place) (free_short shorts short free));
-    }
+pub IsKept-short : (keys : List Ref) (read : ReadProgram) (short : Short) → has_short_place short ≡ true → list_any (same_short short) read.shorts ≡ false
+    → IsKept keys read → IsKept keys (added read (pieces.Short short))
+IsKept-short keys read short place free kept = record {
+  driven = kept.driven;
+  cells = kept.cells;
+  shorts = rw map-append (AreApart-push (short_places read.shorts) (short.row, short.column) kept.shorts (short_is_place short place) (free_short read.shorts short free));
+  segments = kept.segments;
+  networks = kept.networks;
+}
 
 -- a network that is whole, and none of the next one yet
-pub IsKept-network : (keys : List Ref) (networks more : List Network) (cells : List Cell) (shorts : List Short)
-    → IsKept keys (record { networks = networks; cells = cells; shorts = shorts }) → more ≡ networks ++ record { cells = cells; shorts = shorts } ∷ []
-    → IsKept keys (record { networks = more; cells = []; shorts = [] })
+pub IsKept-network : (keys : List Ref) (read : ReadProgram) → length read.networks < 1000 → IsKept keys read → IsKept keys (with_network read)
 unfolding IsDistinct
-IsKept-network keys networks more cells shorts kept e = record {
-  driven = HoldsJust-network keys networks more cells shorts kept.driven e;
+IsKept-network keys read few kept = record {
+  driven = HoldsJust-network keys read kept.driven;
   cells = record { within = refl; distinct = tt };
   shorts = record { within = refl; distinct = tt };
+  segments = kept.segments;
+  networks = omega (arith, length-append read.networks (open_network read ∷ []));
+}
+
+-- a segment that is whole, and none of the next one yet
+pub IsKept-segment : (keys : List Ref) (read : ReadProgram) → length read.segments < 32 → IsKept keys read → IsKept keys (with_segment read)
+IsKept-segment keys read few kept = record {
+  driven = HoldsJust-segment keys read kept.driven;
+  cells = kept.cells;
+  shorts = kept.shorts;
+  segments = omega (arith, length-append read.segments (record { networks = read.networks } ∷ []));
+  networks = omega arith;
 }
 
 -- nothing yet
-pub IsKept-none : (keys : List Ref) → keys ≡ [] → IsKept keys (record { networks = []; cells = []; shorts = [] })
+pub IsKept-none : (keys : List Ref) → keys ≡ [] → IsKept keys nothing_read
 unfolding IsDistinct
 IsKept-none keys e = record {
   driven = λ at. rw e refl;
   cells = record { within = refl; distinct = tt };
   shorts = record { within = refl; distinct = tt };
+  segments = omega arith;
+  networks = omega arith;
 }
 
 -- how many cells and shorts there are at most
-pub IsKept-few : (keys : List Ref) (networks : List Network) (cells : List Cell) (shorts : List Short) → IsKept keys (record { networks = networks; cells = cells; shorts = shorts }) → (length cells ≤ 96) × (length shorts ≤ 96)
-IsKept-few keys networks cells shorts kept =
-    let cell_count : length cells ≤ 96 = omega (arith, length-map {B = ℕ × ℕ} cells (λ (cell : Cell). (cell.row, cell.column)), AreApart-few (cell_places cells) kept.cells) in
-    let short_count : length shorts ≤ 96 = omega (arith, length-map {B = ℕ × ℕ} shorts (λ (short : Short). (short.row, short.column)), AreApart-few (short_places shorts) kept.shorts) in
+pub IsKept-few : (keys : List Ref) (read : ReadProgram) → IsKept keys read → (length read.cells ≤ 96) × (length read.shorts ≤ 96)
+IsKept-few keys read kept =
+    let cell_count : length read.cells ≤ 96 = omega (arith, length-map {B = ℕ × ℕ} read.cells (λ (cell : Cell). (cell.row, cell.column)), AreApart-few (cell_places read.cells) kept.cells) in
+    let short_count : length read.shorts ≤ 96 = omega (arith, length-map {B = ℕ × ℕ} read.shorts (λ (short : Short). (short.row, short.column)), AreApart-few (short_places read.shorts) kept.shorts) in
     (cell_count, short_count)

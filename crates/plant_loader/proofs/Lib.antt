@@ -5,3 +5,5 @@ pub mod PlantLemmas
 pub mod PieceSteps
 pub mod GridLemmas
 pub mod KeptLemmas
+pub mod InOrderLemmas
+pub mod RoomLemmas

@@ -1,13 +1,23 @@
 -- What the table of a controller says apart from the pieces of its networks.
-use Rattle.std.specs.Prelude.{codes, ℕ, Bool, false, List, [], ◌∷◌, ◌++◌, Option, Some, None, option_and_then, Result, Ok}
-use Rattle.toml.specs.Data.{Data, Items, no_items, item, Members, get_member, as_array, as_str}
+use Rattle.std.specs.Prelude.{codes, ℕ, List, [], ◌∷◌, Option, Some, None, Result, Ok}
+use Rattle.toml.specs.Data.{Data, Items, no_items, item, Members, get_member, as_str}
 use Rattle.plant_types.specs.declared.reference.Ref.{Ref}
 use Rattle.plant_types.specs.Sizes.{Sizes, has_reference}
 use Rattle.cell_text.specs.Steps.{◌>>=◌, or_fault, unless}
-use Rattle.cell_text.specs.Words.{words_of, only_word, are_words}
+use Rattle.cell_text.specs.Words.{words_of, only_word}
 use Rattle.cell_text.specs.Numbers.{reference_of}
 use Rattle.plant_loader.specs.Refusals.{Refusal, not_built}
-use Rattle.plant_loader.specs.Keys.{has_only, size_at, discrete_size_at, items_up_to, only_item, only_table}
+use Rattle.plant_loader.specs.Limits.{panel_limit}
+use Rattle.plant_loader.specs.Keys.{size_at, discrete_size_at, items_up_to}
+
+-- Sizes from four numbers. This project's own.
+abbrev pub sizes_from : ℕ → ℕ → ℕ → ℕ → Sizes
+sizes_from coils inputs input_registers registers = record {
+  coils = coils;
+  inputs = inputs;
+  input_registers = input_registers;
+  registers = registers;
+}
 
 -- How many references of each kind the controller has. This project's own.
 unfoldable pub sizes_at : Members → Result Sizes Refusal
@@ -16,24 +26,7 @@ sizes_at ms = do
   inputs ← or_fault not_built (discrete_size_at (codes "inputs") ms)
   input_registers ← or_fault not_built (size_at (codes "input_registers") ms)
   registers ← or_fault not_built (size_at (codes "registers") ms)
-  Ok (record { coils = coils; inputs = inputs; input_registers = input_registers; registers = registers })
-
--- The order that solves the first segment in each scan, with no control and no drops. This project's own.
-abbrev pub first_order : List (List ℕ)
-first_order = codes "1" ∷ codes "-" ∷ codes "-" ∷ codes "-" ∷ []
-
--- The text of an array of one text. This project's own.
-abbrev pub only_text : Data → Option (List ℕ)
-only_text d = option_and_then as_str (option_and_then only_item (as_array d))
-
--- The orders are the first order alone. This project's own.
-abbrev pub is_first_order : Option (List ℕ) → Bool
-is_first_order None = false
-is_first_order (Some text) = are_words (words_of text) first_order
-
--- The orders of a table are the first order alone. This project's own.
-abbrev pub has_first_order : Members → Bool
-has_first_order ms = is_first_order (option_and_then only_text (get_member (codes "orders") ms))
+  Ok (sizes_from coils inputs input_registers registers)
 
 -- A reference that stands in the map. This project's own.
 abbrev pub in_map : Sizes → Ref → Result Ref Refusal
@@ -58,30 +51,8 @@ panel_items sizes (item d ds) = do
 -- The references of a panel of at most 64 texts; without one there are none. This project's own.
 abbrev pub panel_in : Sizes → Option Data → Result (List Ref) Refusal
 panel_in sizes None = Ok []
-panel_in sizes (Some d) = or_fault not_built (items_up_to 64 d) >>= panel_items sizes
+panel_in sizes (Some d) = or_fault not_built (items_up_to panel_limit d) >>= panel_items sizes
 
 -- The references of the panel of a table. This project's own.
 abbrev pub panel_at : Sizes → Members → Result (List Ref) Refusal
 panel_at sizes ms = panel_in sizes (get_member (codes "panel") ms)
-
--- Texts, one for each item. This project's own.
-abbrev pub texts_of : Items → Result (List (List ℕ)) Refusal
-texts_of no_items = Ok []
-texts_of (item d ds) = do
-  text ← or_fault not_built (as_str d)
-  more ← texts_of ds
-  Ok (text ∷ more)
-
--- Those that are read, behind those that were read before. This project's own.
-abbrev pub with_front : {A : Type 0} → List A → Result (List A) Refusal → Result (List A) Refusal
-with_front front read = read >>= λ more. Ok (front ++ more)
-
--- The texts of the networks of the one segment. This project's own.
-unfoldable pub network_texts : Members → Result (List (List ℕ)) Refusal
-network_texts ms = do
-  segments ← or_fault not_built (get_member (codes "segment") ms)
-  segment ← or_fault not_built (only_table segments)
-  keys ← unless (has_only (codes "networks" ∷ []) segment) not_built
-  networks ← or_fault not_built (get_member (codes "networks") segment)
-  items ← or_fault not_built (items_up_to 499 networks)
-  texts_of items

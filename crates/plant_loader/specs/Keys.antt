@@ -51,7 +51,8 @@ item_count (item d ds) = suc (item_count ds)
 
 -- The items of an array that has at most so many. This project's own.
 abbrev pub items_up_to : ℕ → Data → Option Items
-items_up_to most d = option_and_then (λ ds. if nat_le (item_count ds) most then Some ds else None) (as_array d)
+items_up_to most d =
+    option_and_then (λ ds. if nat_le (item_count ds) most then Some ds else None) (as_array d)
 
 -- The one item of an array that has one. This project's own.
 abbrev pub only_item : Items → Option Data

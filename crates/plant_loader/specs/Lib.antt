@@ -1,10 +1,14 @@
 pub mod Refusals
+pub mod Limits
+pub mod InOrder
 pub mod Counts
 pub mod Keys
 pub mod Controller
+pub mod Texts
+pub mod Orders
 pub mod Driven
 pub mod Grid
+pub mod Pieces
 pub mod Program
 pub mod Kept
-pub mod Pieces
 pub mod Plant

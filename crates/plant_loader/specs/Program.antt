@@ -1,54 +1,112 @@
--- The networks that were read of a controller, and one more piece of them.
-use Rattle.std.specs.Prelude.{ℕ, ◌+◌, Bool, false, not, List, [], ◌∷◌, ◌++◌, length, Option, Some, None, Result, Ok}
-use Rattle.std.specs.List.{list_any, flat_map}
+-- What was read of a controller's segments so far, and one more piece, network or segment behind
+-- it.
+use Rattle.std.specs.Prelude.{◌≡◌, ℕ, ◌+◌, List, [], ◌∷◌, ◌++◌, length, Result, Ok}
 use Rattle.plant_types.specs.declared.reference.Ref.{Ref}
-use Rattle.plant_types.specs.declared.network.Cell.{Cell}
-use Rattle.plant_types.specs.declared.network.Short.{Short}
+use Rattle.plant_types.specs.declared.network.Cell as plain_cells
+use Rattle.plant_types.specs.declared.network.Short as plain_shorts
 use Rattle.plant_types.specs.declared.network.Network.{Network}
+use Rattle.plant_types.specs.declared.network.Segment.{Segment}
 use Rattle.plant_types.specs.declared.fault.PlantFault.{PlantFault}
-use Rattle.plant_types.specs.declared.fault.PlantFault.TheVariants.{BadRef, BadShape, CoilTwice}
+use Rattle.plant_types.specs.declared.fault.Place.{Place}
 use Rattle.plant_types.specs.Sizes.{Sizes}
-use Rattle.plant_types.specs.Network.{driven_by, same_short}
-use Rattle.plant_types.specs.Checks.{has_room, has_shape, coils_of_network, is_same}
-use Rattle.cell_text.specs.Steps.{◌>>=◌, unless}
+use Rattle.cell_text.specs.declared.piece.Piece.{Piece}
+use Rattle.cell_text.specs.declared.piece.Piece.TheVariants.{Cell, Short}
+use Rattle.cell_text.specs.Steps.{◌>>=◌}
+use Rattle.plant_loader.specs.Refusals.{Refusal, cell_place, at_place}
+use Rattle.plant_loader.specs.Pieces.{Before, before_in, networks_in, coils_before, piece_behind, pieces_of}
 
--- The networks that are whole, and the cells and shorts so far of the one that is being read. This project's own.
-pub record ReadNetworks : Type 0 where
+-- The segments that are whole, the networks that are whole of the next one, and the cells and
+-- shorts so far of the network that is being read. This project's own.
+pub record ReadProgram : Type 0 where
+  pub segments : List Segment
   pub networks : List Network
-  pub cells : List Cell
-  pub shorts : List Short
+  pub cells : List plain_cells.Cell
+  pub shorts : List plain_shorts.Short
+
+-- Nothing was read yet. This project's own.
+abbrev pub nothing_read : ReadProgram
+nothing_read = record { segments = []; networks = []; cells = []; shorts = [] }
 
 -- The network that is being read. This project's own.
-abbrev pub open_network : ReadNetworks → Network
+abbrev pub open_network : ReadProgram → Network
 open_network read = record { cells = read.cells; shorts = read.shorts }
 
+-- What stands before it. This project's own.
+abbrev pub before_open : Sizes → ReadProgram → Before
+before_open sizes read = before_in sizes read.segments read.networks
+
 -- The coils that all cells so far drive. Modicon Ladder Logic Block Library User Guide.
-abbrev pub driven_coils : ReadNetworks → List Ref
-driven_coils read = flat_map coils_of_network read.networks ++ coils_of_network (open_network read)
+abbrev pub driven_coils : ReadProgram → List Ref
+driven_coils read = coils_before (networks_in read.segments ++ read.networks) (open_network read)
 
--- An element drives a coil that a cell drives already. Modicon Ladder Logic Block Library User Guide.
-abbrev pub is_driven : List Ref → Option Ref → Bool
-is_driven coils None = false
-is_driven coils (Some coil) = list_any (is_same coil) coils
+-- One piece more of the network that is being read. This project's own.
+abbrev pub added : ReadProgram → Piece → ReadProgram
+added read (Cell cell) = record read { cells = read.cells ++ cell ∷ [] }
+added read (Short short) = record read { shorts = read.shorts ++ short ∷ [] }
 
--- One more cell, by the tests of a cell in their order: its references, its shape, its coil. This project's own.
-unfoldable pub with_cell : Sizes → ReadNetworks → Cell → Result ReadNetworks PlantFault
-with_cell sizes read cell = do
-  room ← unless (has_room sizes cell.element) BadRef
-  shape ← unless (has_shape read.cells cell) BadShape
-  coil ← unless (not (is_driven (driven_coils read) (driven_by cell.element))) CoilTwice
-  Ok (record read { cells = read.cells ++ cell ∷ [] })
+-- A piece that passed its tests is added. This project's own.
+abbrev pub with_tested : ReadProgram → Result Piece PlantFault → Result ReadProgram PlantFault
+with_tested read tested = tested >>= λ piece. Ok (added read piece)
 
--- One more short, which no earlier one of its network is. This project's own.
-unfoldable pub with_short : ReadNetworks → Short → Result ReadNetworks PlantFault
-with_short read short = do
-  shape ← unless (not (list_any (same_short short) read.shorts)) BadShape
-  Ok (record read { shorts = read.shorts ++ short ∷ [] })
+-- One more piece. This project's own.
+abbrev pub with_piece : Sizes → ReadProgram → List ℕ → Result ReadProgram PlantFault
+with_piece sizes read piece =
+    with_tested read (piece_behind (before_open sizes read) (open_network read) piece)
 
 -- How many pieces of the network that is being read were read. This project's own.
-abbrev pub piece_count : ReadNetworks → ℕ
+abbrev pub piece_count : ReadProgram → ℕ
 piece_count read = length read.cells + length read.shorts
 
+-- The place of the piece that comes next. This project's own.
+abbrev pub next_place : ReadProgram → Place
+next_place read =
+    cell_place (length read.segments + 1) (length read.networks + 1) (piece_count read + 1)
+
+-- Pieces, each behind those before it. This project's own.
+unfoldable pub with_pieces : Sizes → ReadProgram → List (List ℕ) → Result ReadProgram Refusal
+with_pieces sizes read [] = Ok read
+with_pieces sizes read (piece ∷ pieces) = do
+  next ← at_place (next_place read) (with_piece sizes read piece)
+  with_pieces sizes next pieces
+
 -- The network that was being read is whole. This project's own.
-abbrev pub with_network : ReadNetworks → ReadNetworks
-with_network read = record { networks = read.networks ++ open_network read ∷ []; cells = []; shorts = [] }
+abbrev pub with_network : ReadProgram → ReadProgram
+with_network read =
+    record read { networks = read.networks ++ open_network read ∷ []; cells = []; shorts = [] }
+
+-- The segment whose networks were being read is whole. This project's own.
+abbrev pub with_segment : ReadProgram → ReadProgram
+with_segment read =
+    record read { segments = read.segments ++ record { networks = read.networks } ∷ []; networks = [] }
+
+-- One more network. This project's own.
+unfoldable pub with_text : Sizes → ReadProgram → List ℕ → Result ReadProgram Refusal
+with_text sizes read text = do
+  next ← with_pieces sizes read (pieces_of text)
+  Ok (with_network next)
+
+-- Networks, each behind those before it. This project's own.
+unfoldable pub with_texts : Sizes → ReadProgram → List (List ℕ) → Result ReadProgram Refusal
+with_texts sizes read [] = Ok read
+with_texts sizes read (text ∷ texts) = do
+  next ← with_text sizes read text
+  with_texts sizes next texts
+
+-- One more segment. This project's own.
+unfoldable pub with_segment_texts : Sizes → ReadProgram → List (List ℕ) → Result ReadProgram Refusal
+with_segment_texts sizes read texts = do
+  next ← with_texts sizes read texts
+  Ok (with_segment next)
+
+-- Segments, each behind those before it. This project's own.
+unfoldable pub with_segments : Sizes → ReadProgram → List (List (List ℕ))
+    → Result ReadProgram Refusal
+with_segments sizes read [] = Ok read
+with_segments sizes read (texts ∷ segments) = do
+  next ← with_segment_texts sizes read texts
+  with_segments sizes next segments
+
+-- No network of the next segment was read yet. This project's own.
+pub record IsBetweenSegments (read : ReadProgram) : Type 0 where
+  pub networks : read.networks ≡ []
+  pub cells : read.cells ≡ []

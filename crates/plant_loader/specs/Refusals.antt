@@ -15,9 +15,11 @@ Refusal = PlantFault × Place
 abbrev pub plant_place : Place
 plant_place = record { part = parts.Plant; at = 0 ∷ 0 ∷ 0 ∷ 0 ∷ [] }
 
--- A piece of a network of the first segment of the first controller; all numbers count from 1. This project's own.
-abbrev pub cell_place : ℕ → ℕ → Place
-cell_place network cell = record { part = parts.Cell; at = 1 ∷ 1 ∷ network ∷ cell ∷ [] }
+-- A piece of a network of a segment of the first controller; all numbers count from 1. This
+-- project's own.
+abbrev pub cell_place : ℕ → ℕ → ℕ → Place
+cell_place segment network cell =
+    record { part = parts.Cell; at = 1 ∷ segment ∷ network ∷ cell ∷ [] }
 
 -- The bytes are no document. This project's own.
 abbrev pub bad_toml : Refusal
@@ -32,12 +34,14 @@ abbrev pub at_place : {A : Type 0} → Place → Result A PlantFault → Result 
 at_place place (Ok x) = Ok x
 at_place place (Err fault) = Err (fault, place)
 
--- What a call answered is the first fault of what it reads, unless memory was refused. This project's own.
+-- What a call answered is the first fault of what it reads, unless memory was refused. This
+-- project's own.
 abbrev pub Stops : {B : Type 0} → LoadEnd → Result B Refusal → Type 0
 Stops ends.NoMemory read = Unit {0}
 Stops (ends.Refused fault place) read = read ≡ Err (fault, place)
 
--- What a call answered, seen by a view, is what it reads, or the first fault of that, unless memory was refused. This project's own.
+-- What a call answered, seen by a view, is what it reads, or the first fault of that, unless
+-- memory was refused. This project's own.
 abbrev pub Gives : {A B : Type 0} → (A → B) → Result A LoadEnd → Result B Refusal → Type 0
 Gives view (Ok x) read = read ≡ Ok (view x)
 Gives view (Err e) read = Stops e read

@@ -13,8 +13,10 @@ fn node_count(element: Element) -> u16
     match element {
         Element::Open(_) | Element::Closed(_) | Element::Rise(_) | Element::Fall(_) => 1,
         Element::Coil(_) | Element::Latch(_) | Element::Wire => 1,
-        Element::Timer { .. } | Element::Counter { .. } => 2,
+        Element::Skip(_) | Element::Label(_) | Element::Return => 1,
+        Element::Timer { .. } | Element::Counter { .. } | Element::Call(_) => 2,
         Element::Math { .. } | Element::Move { .. } | Element::Matrix { .. } => 3,
+        Element::Mstr { .. } => 3,
     }
 }
 

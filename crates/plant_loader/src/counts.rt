@@ -1,11 +1,12 @@
 //! How many references of each kind a controller has.
 ghost use Rattle.std.specs.Prelude.{◌≡◌};
 ghost use Rattle.plant_types.specs.Sizes.{count_of, has_reference, has_run};
-ghost use Rattle.plant_types.specs.Operands.{named_in, math_names, move_names, matrix_names};
+ghost use Rattle.std.specs.List.{list_all, zip};
+ghost use Rattle.plant_types.specs.Operands.{named_in, named_at};
 ghost use Rattle.plant_types.specs.Checks.{has_room};
-ghost use Rattle.plant_loader.specs.Counts.{sizes_of, have_room};
+ghost use Rattle.plant_loader.specs.Counts.{sizes_of, have_room, has_room_at};
 
-use plant_types::{Element, MathOp, MatrixOp, MoveOp, Operand, Ref, RefKind};
+use plant_types::{Element, Operand, Ref, RefKind, Slot, slots_of};
 
 /// The sizes of a controller's map.
 #[derive(Clone, Copy, Debug, PartialEq, Eq)]
@@ -56,74 +57,36 @@ impl Counts {
         }
     }
 
-    fn has_math(self, op: MathOp, top: Operand, mid: Operand, low: Ref) -> bool
-        ensures { result ≡ have_room (sizes_of self) (math_names op top mid low) }
+    fn has_slot(self, length: u16, slot: Slot, operand: Operand) -> bool
+        ensures { result ≡ have_room (sizes_of self) (named_at length slot operand) }
     {
-        let (dividend, stored) = match op {
-            MathOp::Add | MathOp::Sub => (1, 1),
-            MathOp::Mul => (1, 2),
-            MathOp::Div => (2, 2),
-        };
-        self.has_operand(top, dividend) && self.has_operand(mid, 1) && self.has_run(low, stored)
-    }
-
-    fn has_move(self, op: MoveOp, top: Ref, mid: Ref, length: u16) -> bool
-        ensures { result ≡ have_room (sizes_of self) (move_names op top mid length) }
-    {
-        let table = u32::from(length);
-        match op {
-            MoveOp::RegToTable | MoveOp::FirstIn => {
-                self.has_run(top, 1) && self.has_run(mid, table + 1)
+        match slot {
+            Slot::Discrete | Slot::Driven => self.has_operand(operand, 1),
+            Slot::Number(run) | Slot::Source(run) | Slot::Target(run) => {
+                self.has_operand(operand, run.count(length))
             }
-            MoveOp::TableToReg | MoveOp::Search => {
-                self.has_run(top, table) && self.has_run(mid, 2)
-            }
-            MoveOp::TableToTable => self.has_run(top, table) && self.has_run(mid, table + 1),
-            MoveOp::Copy => self.has_run(top, table) && self.has_run(mid, table),
-            MoveOp::FirstOut => self.has_run(top, table + 1) && self.has_run(mid, 1),
+            Slot::Constant(_) => true,
         }
     }
 
-    fn has_matrix(self, op: MatrixOp, top: Operand, mid: Ref, length: u16) -> bool
-        ensures { result ≡ have_room (sizes_of self) (matrix_names op top mid length) }
+    fn has_slots(self, length: u16, slots: &[Slot], operands: &[Operand]) -> bool
+        ensures { result ≡ list_all (has_room_at (sizes_of self) length) (zip slots.now operands.now) }
     {
-        let matrix = u32::from(length);
-        match op {
-            MatrixOp::And | MatrixOp::Or | MatrixOp::Xor | MatrixOp::Comp | MatrixOp::Brot => {
-                self.has_operand(top, matrix) && self.has_run(mid, matrix)
-            }
-            MatrixOp::Cmpr => self.has_operand(top, matrix) && self.has_run(mid, matrix + 1),
-            MatrixOp::Mbit | MatrixOp::Sens => {
-                self.has_operand(top, 1) && self.has_run(mid, matrix)
-            }
-        }
+        slots
+            .iter()
+            .zip(operands)
+            .all(|(slot, operand)| self.has_slot(length, *slot, *operand))
     }
 
     /// Whether the references of an element stand in the map, with all that it uses from them on.
     pub fn has_room(self, element: Element) -> bool
         ensures { result ≡ has_room (sizes_of self) element }
     {
-        match element {
-            Element::Open(at) | Element::Closed(at) => self.has_run(at, 1),
-            Element::Rise(at) | Element::Fall(at) => self.has_run(at, 1),
-            Element::Coil(at) | Element::Latch(at) => self.has_run(at, 1),
-            Element::Wire => true,
-            Element::Timer { preset, acc, .. } | Element::Counter { preset, acc, .. } => {
-                self.has_operand(preset, 1) && self.has_run(acc, 1)
-            }
-            Element::Math { op, top, mid, low } => self.has_math(op, top, mid, low),
-            Element::Move {
-                op,
-                top,
-                mid,
-                length,
-            } => self.has_move(op, top, mid, length),
-            Element::Matrix {
-                op,
-                top,
-                mid,
-                length,
-            } => self.has_matrix(op, top, mid, length),
-        }
+        let operands = element.operands();
+        self.has_slots(
+            element.length(),
+            slots_of(element.name()),
+            operands.as_slice(),
+        )
     }
 }

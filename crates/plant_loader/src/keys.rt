@@ -75,7 +75,8 @@ fn is_among(key: &str, keys: &[&str]) -> bool
 }
 
 fn all_among(table: &Table, known: &[&str]) -> bool
-    ensures { result ≡ list_all (λ key. list_any (λ k. bytes_eq k.now (string_bytes key)) known.now) (tree.keys table.now) }
+    ensures { result ≡ list_all (λ key. list_any (λ k. bytes_eq k.now (string_bytes key)) known.now)
+        (tree.keys table.now) }
 {
     table.keys().all(|key| is_among(key.as_str(), known))
 }

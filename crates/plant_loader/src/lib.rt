@@ -5,12 +5,14 @@ mod cells;
 mod controller;
 mod counts;
 mod keys;
+mod orders;
 mod pieces;
 mod program;
 mod reading;
 mod refusal;
 #[cfg(test)]
 mod tests;
+mod texts;
 
 pub use reading::load;
 pub use refusal::LoadEnd;

@@ -1,16 +1,16 @@
 //! The pieces of the texts of networks.
-ghost use Rattle.std.specs.Prelude.{◌≡◌, ◌+◌, ◌<◌, ◌≤◌, length, map};
-ghost use Rattle.cell_text.specs.Words.{words_of};
+ghost use Rattle.std.specs.Prelude.{◌≡◌, ◌+◌, ◌<◌, ◌≤◌, [], length, map};
 ghost use Rattle.plant_loader.specs.Counts.{sizes_of};
-ghost use Rattle.plant_loader.specs.Refusals.{Gives, cell_place, at_place};
-ghost use Rattle.plant_loader.specs.Program.{piece_count};
-ghost use Rattle.plant_loader.specs.Pieces.{plant_fault, has_word, pieces_of_line, pieces_of, with_piece, with_pieces, with_text, with_texts, networks_of};
+ghost use Rattle.plant_loader.specs.Refusals.{Gives, at_place};
+ghost use Rattle.plant_loader.specs.Pieces.{is_later, has_later_name, plant_fault, has_word, pieces_of_line, pieces_of, segments_of};
+ghost use Rattle.plant_loader.specs.Program.{next_place, with_piece, with_pieces, with_text, with_texts, with_segment_texts, with_segments, IsBetweenSegments};
 
 use crate::counts::Counts;
-use crate::program::Program;
-use crate::refusal::{LoadEnd, cell_place};
-use cell_text::{CellFault, Piece, has_later_name, next_word, read_cell};
-use plant_types::{List, Network, Place, PlantFault};
+use crate::program::{NETWORK_LIMIT, Program, SEGMENT_LIMIT};
+use crate::refusal::LoadEnd;
+use crate::texts::NetworkTexts;
+use cell_text::{CellFault, Piece, PieceName, named_by, next_word, read_cell};
+use plant_types::{ElementName, List, Place, PlantFault, Segment};
 use std::alloc::Global;
 
 fn plant_fault(fault: CellFault) -> PlantFault
@@ -29,7 +29,30 @@ fn has_word(piece: &str) -> bool
     next_word(piece.as_bytes()).is_some()
 }
 
-#[tactic(auto, unfolding(crate::specs::Pieces::with_piece))]
+/// The names of the elements that a later version of the program solves.
+fn is_later(name: ElementName) -> bool
+    ensures { result ≡ is_later name }
+{
+    matches!(
+        name,
+        ElementName::Skip
+            | ElementName::Label
+            | ElementName::Call
+            | ElementName::Return
+            | ElementName::Mstr
+    )
+}
+
+fn has_later_name(name: Option<PieceName>) -> bool
+    ensures { result ≡ has_later_name name }
+{
+    match name {
+        Some(PieceName::Element(name)) => is_later(name),
+        _ => false,
+    }
+}
+
+#[tactic(auto, unfolding(crate::specs::Pieces::piece_behind))]
 fn with_piece(
     program: Program,
     counts: Counts,
@@ -38,7 +61,7 @@ fn with_piece(
 ) -> Result<Program, LoadEnd>
     ensures { Gives (λ p. p) result (at_place place (with_piece (sizes_of counts) program piece.now)) }
 {
-    if has_later_name(piece.as_bytes()) {
+    if has_later_name(named_by(piece.as_bytes())) {
         return Err(LoadEnd::Refused(PlantFault::NotBuilt, place));
     }
     match read_cell(piece) {
@@ -48,73 +71,56 @@ fn with_piece(
     }
 }
 
-/// One more piece, at its place.
-fn with_next_piece(
-    program: Program,
-    counts: Counts,
-    network: u32,
-    piece: &str,
-) -> Result<Program, LoadEnd>
-    ensures { let place = cell_place network (piece_count program + 1) in
-        Gives (λ p. p) result (at_place place (with_piece (sizes_of counts) program piece.now)) }
+fn with_next_piece(program: Program, counts: Counts, piece: &str) -> Result<Program, LoadEnd>
+    ensures { let read = with_piece (sizes_of counts) program piece.now in
+        Gives (λ p. p) result (at_place (next_place program) read) }
 {
-    let place = cell_place(network, program.piece_number());
+    let place = program.next_place();
     with_piece(program, counts, place, piece)
 }
 
-fn with_line(
-    mut program: Program,
-    counts: Counts,
-    network: u32,
-    line: &str,
-) -> Result<Program, LoadEnd>
-    ensures { Gives (λ p. p) result (with_pieces (sizes_of counts) network program (pieces_of_line line.now)) }
+fn with_line(mut program: Program, counts: Counts, line: &str) -> Result<Program, LoadEnd>
+    ensures { Gives (λ p. p) result (with_pieces (sizes_of counts) program (pieces_of_line line.now)) }
 {
     for piece in line.split(';') {
         if has_word(piece) {
-            program = with_next_piece(program, counts, network, piece)?;
+            program = with_next_piece(program, counts, piece)?;
         }
     }
     Ok(program)
 }
 
-fn with_lines(
-    mut program: Program,
-    counts: Counts,
-    network: u32,
-    text: &str,
-) -> Result<Program, LoadEnd>
-    ensures { Gives (λ p. p) result (with_pieces (sizes_of counts) network program (pieces_of text.now)) }
+fn with_lines(mut program: Program, counts: Counts, text: &str) -> Result<Program, LoadEnd>
+    ensures { Gives (λ p. p) result (with_pieces (sizes_of counts) program (pieces_of text.now)) }
 {
     for line in text.lines() {
-        program = with_line(program, counts, network, line)?;
+        program = with_line(program, counts, line)?;
     }
     Ok(program)
 }
 
-#[tactic(auto, unfolding(crate::specs::Pieces::with_text))]
+#[tactic(auto, unfolding(crate::specs::Program::with_text))]
 fn with_text(
     alloc: Global,
     program: Program,
     counts: Counts,
     text: &str,
 ) -> Result<Program, LoadEnd>
-    requires { length program.networks < 499 }
+    requires { length program.networks < NETWORK_LIMIT }
     ensures { Gives (λ p. p) result (with_text (sizes_of counts) program text.now) }
 {
-    let network = program.network_number();
-    let program = with_lines(program, counts, network, text)?;
+    let program = with_lines(program, counts, text)?;
     program.with_network(alloc)
 }
 
-#[tactic(auto, unfolding(crate::specs::Pieces::with_texts))]
+#[tactic(auto, unfolding(crate::specs::Program::with_texts))]
 fn with_texts(
     alloc: Global,
     mut program: Program,
     counts: Counts,
     texts: &[&str],
 ) -> Result<Program, LoadEnd>
-    requires { length program.networks + length texts.now ≤ 499 }
+    requires { length program.networks + length texts.now ≤ NETWORK_LIMIT }
     ensures { Gives (λ p. p) result (with_texts (sizes_of counts) program (map (λ t. t.now) texts.now)) }
 {
     for text in texts {
@@ -123,12 +129,47 @@ fn with_texts(
     Ok(program)
 }
 
-/// The networks that texts stand for, or the first fault of a piece.
-#[tactic(auto, unfolding(crate::specs::Pieces::networks_of))]
-pub fn networks_of(alloc: Global, counts: Counts, texts: &[&str]) -> Result<List<Network>, LoadEnd>
-    requires { length texts.now ≤ 499 }
-    ensures { Gives (λ networks. networks) result (networks_of (sizes_of counts) (map (λ t. t.now) texts.now)) }
+#[tactic(auto, unfolding(crate::specs::Program::with_segment_texts))]
+fn with_segment_texts(
+    alloc: Global,
+    program: Program,
+    counts: Counts,
+    texts: &NetworkTexts,
+) -> Result<Program, LoadEnd>
+    requires segments { length program.segments < SEGMENT_LIMIT }
+    requires between { IsBetweenSegments program }
+    ensures { Gives (λ p. p) result (with_segment_texts (sizes_of counts) program texts.now) }
 {
-    let program = with_texts(alloc, Program::new(alloc), counts, texts)?;
-    Ok(program.into_networks())
+    let program = with_texts(alloc, program, counts, texts.as_slice())?;
+    program.with_segment(alloc)
+}
+
+#[tactic(auto, unfolding(crate::specs::Program::with_segments))]
+fn with_segments(
+    alloc: Global,
+    mut program: Program,
+    counts: Counts,
+    segments: &[NetworkTexts],
+) -> Result<Program, LoadEnd>
+    requires few { length program.segments + length segments.now ≤ SEGMENT_LIMIT }
+    requires between { IsBetweenSegments program }
+    ensures { Gives (λ p. p) result (with_segments (sizes_of counts) program segments.now) }
+{
+    for texts in segments {
+        program = with_segment_texts(alloc, program, counts, texts)?;
+    }
+    Ok(program)
+}
+
+/// The segments that the texts of their networks stand for, or the first fault of a piece.
+pub fn segments_of(
+    alloc: Global,
+    counts: Counts,
+    segments: &[NetworkTexts],
+) -> Result<List<Segment>, LoadEnd>
+    requires { length segments.now ≤ SEGMENT_LIMIT }
+    ensures { Gives (λ segments. segments) result (segments_of (sizes_of counts) segments.now) }
+{
+    let program = with_segments(alloc, Program::new(alloc), counts, segments)?;
+    Ok(program.into_segments())
 }

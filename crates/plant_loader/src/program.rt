@@ -1,25 +1,33 @@
-//! The networks of a controller while they are read.
-ghost use Rattle.std.specs.Prelude.{◌≡◌, ◌<◌, ◌+◌, ◌∷◌, [], ◌++◌, true, length};
+//! The segments of a controller while they are read.
+ghost use Rattle.std.specs.Prelude.{◌≡◌, ◌<◌, ◌+◌, ◌++◌, ◌∷◌, [], true, length};
 ghost use Rattle.std.specs.List.{cons_option};
-ghost use Rattle.plant_loader.specs.Driven.{HoldsJust};
 ghost use Rattle.plant_types.specs.Network.{driven_by, has_cell_place, has_short_place};
 ghost use Rattle.plant_types.specs.Checks.{has_shape};
 ghost use Rattle.plant_loader.specs.Counts.{sizes_of};
+ghost use Rattle.plant_loader.specs.Driven.{HoldsJust};
 ghost use Rattle.plant_loader.specs.Refusals.{Gives, Makes, at_place};
-ghost use Rattle.plant_loader.specs.Program.{ReadNetworks, driven_coils, is_driven, with_cell, with_short, piece_count, with_network};
+ghost use Rattle.plant_loader.specs.Pieces.{is_driven, cell_behind, short_behind};
+ghost use Rattle.plant_loader.specs.Program.{ReadProgram, nothing_read, open_network, before_open, driven_coils, with_tested, piece_count, next_place, with_network, with_segment};
 
 use crate::cells::{driven_by, has_shape, has_short};
 use crate::counts::Counts;
-use crate::refusal::LoadEnd;
-use plant_types::{Cell, Element, List, Network, Place, PlantFault, Ref, Short};
+use crate::refusal::{LoadEnd, cell_place};
+use plant_types::{Cell, List, Network, Place, PlantFault, Ref, Segment, Short};
 use std::alloc::Global;
 use std::collections::BTreeSet;
 use std::marker::Model;
 
-/// The networks that are whole, the cells and shorts of the one that is being read, and the coils
-/// that all of them drive.
+/// The most networks of a segment.
+pub const NETWORK_LIMIT: usize = 1000;
+
+/// The most segments of a controller.
+pub const SEGMENT_LIMIT: usize = 32;
+
+/// The segments that are whole, the networks of the next one that are whole, the cells and shorts
+/// of the network that is being read, and the coils that all of them drive.
 #[derive(Drop)]
 pub struct Program {
+    segments: List<Segment>,
     networks: List<Network>,
     cells: List<Cell>,
     shorts: List<Short>,
@@ -27,14 +35,14 @@ pub struct Program {
 }
 
 impl Model for Program {
-    ghost use Rattle.plant_loader.specs.Program.{ReadNetworks};
+    ghost use Rattle.plant_loader.specs.Program.{ReadProgram};
     ghost use Rattle.plant_loader.specs.Kept.{IsKept};
 
-    ghost Value = { ReadNetworks };
+    ghost Value = { ReadProgram };
 
-    ghost view = { λ p. record { networks = p.networks; cells = p.cells; shorts = p.shorts } };
+    ghost view = { λ p. record { segments = p.segments; networks = p.networks; cells = p.cells; shorts = p.shorts } };
 
-    ghost invariant = { λ p. IsKept p.driven.keys (record { networks = p.networks; cells = p.cells; shorts = p.shorts }) };
+    ghost invariant = { λ p. IsKept p.driven.keys (record { segments = p.segments; networks = p.networks; cells = p.cells; shorts = p.shorts }) };
 }
 
 /// The references of a set, and one more, if there is one.
@@ -53,9 +61,10 @@ fn with_coil(mut driven: BTreeSet<Ref>, coil: Option<Ref>) -> Result<BTreeSet<Re
 impl Program {
     /// No network yet.
     pub fn new(alloc: Global) -> Program
-        ensures { result ≡ record { networks = []; cells = []; shorts = [] } }
+        ensures { result ≡ nothing_read }
     {
         Program {
+            segments: List::new(alloc),
             networks: List::new(alloc),
             cells: List::new(alloc),
             shorts: List::new(alloc),
@@ -78,16 +87,16 @@ impl Program {
         ensures { Makes result (λ program. program ≡ record self { cells = self.cells ++ cell ∷ [] }) }
     {
         let Program {
+            segments,
             networks,
             mut cells,
             shorts,
             driven,
         } = self;
         let driven = with_coil(driven, driven_by(cell.element))?;
-        if cells.push(cell).is_err() {
-            return Err(LoadEnd::NoMemory);
-        }
+        cells.push(cell)?;
         Ok(Program {
+            segments,
             networks,
             cells,
             shorts,
@@ -96,10 +105,11 @@ impl Program {
     }
 
     /// One more cell of the network that is being read, or the first of its faults.
-    #[tactic(auto, unfolding(crate::specs::Program::with_cell))]
+    #[tactic(auto, unfolding(crate::specs::Pieces::cell_behind))]
     pub fn with_cell(self, counts: Counts, place: Place, cell: Cell) -> Result<Program, LoadEnd>
         requires { has_cell_place cell ≡ true }
-        ensures { Gives (λ program. program) result (at_place place (with_cell (sizes_of counts) self cell)) }
+        ensures { let tested = cell_behind (before_open (sizes_of counts) self) (open_network self) cell in
+            Gives (λ program. program) result (at_place place (with_tested self tested)) }
     {
         if !counts.has_room(cell.element) {
             return Err(LoadEnd::Refused(PlantFault::BadRef, place));
@@ -114,24 +124,25 @@ impl Program {
     }
 
     /// One more short of the network that is being read.
-    #[tactic(auto, unfolding(crate::specs::Program::with_short))]
+    #[tactic(auto, unfolding(crate::specs::Pieces::short_behind))]
     pub fn with_short(self, place: Place, short: Short) -> Result<Program, LoadEnd>
         requires { has_short_place short ≡ true }
-        ensures { Gives (λ program. program) result (at_place place (with_short self short)) }
+        ensures { let tested = short_behind (open_network self) short in
+            Gives (λ program. program) result (at_place place (with_tested self tested)) }
     {
         if has_short(self.shorts.as_slice(), short) {
             return Err(LoadEnd::Refused(PlantFault::BadShape, place));
         }
         let Program {
+            segments,
             networks,
             cells,
             mut shorts,
             driven,
         } = self;
-        if shorts.push(short).is_err() {
-            return Err(LoadEnd::NoMemory);
-        }
+        shorts.push(short)?;
         Ok(Program {
+            segments,
             networks,
             cells,
             shorts,
@@ -139,36 +150,51 @@ impl Program {
         })
     }
 
-    /// The number of the network that is being read.
-    pub fn network_number(&self) -> u32
-        requires { length self.now.networks < 499 }
+    fn segment_number(&self) -> u32
+        ensures { result ≡ length self.now.segments + 1 }
+    {
+        self.segments.as_slice().len() as u32 + 1
+    }
+
+    fn network_number(&self) -> u32
         ensures { result ≡ length self.now.networks + 1 }
     {
         self.networks.as_slice().len() as u32 + 1
     }
 
-    /// The number of the piece that comes next.
-    pub fn piece_number(&self) -> u32
+    fn piece_number(&self) -> u32
         ensures { result ≡ piece_count self.now + 1 }
     {
         let count = self.cells.as_slice().len() + self.shorts.as_slice().len();
         count as u32 + 1
     }
 
+    /// The place of the piece that comes next.
+    pub fn next_place(&self) -> Place
+        ensures { result ≡ next_place self.now }
+    {
+        cell_place(
+            self.segment_number(),
+            self.network_number(),
+            self.piece_number(),
+        )
+    }
+
     /// The network that was being read is whole.
     pub fn with_network(self, alloc: Global) -> Result<Program, LoadEnd>
+        requires { length self.networks < NETWORK_LIMIT }
         ensures { Makes result (λ program. program ≡ with_network self) }
     {
         let Program {
+            segments,
             mut networks,
             cells,
             shorts,
             driven,
         } = self;
-        if networks.push(Network { cells, shorts }).is_err() {
-            return Err(LoadEnd::NoMemory);
-        }
+        networks.push(Network { cells, shorts })?;
         Ok(Program {
+            segments,
             networks,
             cells: List::new(alloc),
             shorts: List::new(alloc),
@@ -176,11 +202,33 @@ impl Program {
         })
     }
 
-    /// The networks that are whole, in their order.
-    pub fn into_networks(self) -> List<Network>
-        ensures { result ≡ self.networks }
+    /// The segment whose networks were being read is whole.
+    pub fn with_segment(self, alloc: Global) -> Result<Program, LoadEnd>
+        requires { length self.segments < SEGMENT_LIMIT }
+        ensures { Makes result (λ program. program ≡ with_segment self) }
     {
-        let Program { networks, .. } = self;
-        networks
+        let Program {
+            mut segments,
+            networks,
+            cells,
+            shorts,
+            driven,
+        } = self;
+        segments.push(Segment { networks })?;
+        Ok(Program {
+            segments,
+            networks: List::new(alloc),
+            cells,
+            shorts,
+            driven,
+        })
+    }
+
+    /// The segments that are whole, in their order.
+    pub fn into_segments(self) -> List<Segment>
+        ensures { result ≡ self.segments }
+    {
+        let Program { segments, .. } = self;
+        segments
     }
 }

@@ -1,22 +1,25 @@
 //! The whole file.
 ghost use Rattle.std.specs.Prelude.{◌≡◌, true, [], ◌∷◌, length, IfOk};
-ghost use Rattle.std.specs.List.{list_all};
+ghost use Rattle.std.specs.List.{list_all, AllByRecursion};
 ghost use Rattle.toml.specs.View.{table_view};
 ghost use Rattle.plant_types.specs.Checks.{passes_check};
 ghost use Rattle.cell_text.specs.Steps.{or_fault};
 ghost use Rattle.plant_loader.specs.Refusals.{Gives, Makes, bad_toml};
-ghost use Rattle.plant_loader.specs.Plant.{document_of, controller_of, plant_in, plant_of, IsRunnable};
+ghost use Rattle.plant_loader.specs.Orders.{HasOrders};
+ghost use Rattle.plant_loader.specs.Plant.{document_of, controller_of, network_of_one, plant_of_one, plant_in, plant_of, ArePlainPlans, IsRunnable};
 
-use crate::controller::{counts_at, has_first_order, network_texts, panel_at};
+use crate::controller::{counts_at, panel_at};
 use crate::keys::{has_only, number_at, number_at_or, only_table, value_at};
-use crate::pieces::networks_of;
+use crate::orders::{is_solved, orders_at};
+use crate::pieces::segments_of;
 use crate::refusal::{LoadEnd, bad_toml, not_built};
-use plant_types::{ControllerPlan, List, Network, Plant, Segment};
+use crate::texts::segment_texts;
+use plant_types::{ControllerPlan, Fate, List, NetPlan, Plant};
 use std::alloc::Global;
 use std::str;
 use toml::Table;
 
-const PLANT_KEYS: [&str; 3] = ["version", "scan_time", "controller"];
+const PLANT_KEYS: [&str; 4] = ["version", "scan_time", "watchdog", "controller"];
 
 const CONTROLLER_KEYS: [&str; 8] = [
     "node",
@@ -47,19 +50,9 @@ fn document(alloc: Global, bytes: &[u8]) -> Result<Table, LoadEnd>
     }
 }
 
-fn only_segment(alloc: Global, networks: List<Network>) -> Result<List<Segment>, LoadEnd>
-    ensures { Makes result (λ segments. segments ≡ record { networks = networks } ∷ []) }
-{
-    let mut segments = List::new(alloc);
-    if segments.push(Segment { networks }).is_err() {
-        return Err(LoadEnd::NoMemory);
-    }
-    Ok(segments)
-}
-
 #[tactic(auto, unfolding(crate::specs::Plant::controller_of))]
-fn controller_of(alloc: Global, table: &Table) -> Result<ControllerPlan, LoadEnd>
-    ensures { Gives (λ plan. plan) result (controller_of (table_view table.now)) }
+fn controller_of(alloc: Global, watchdog: u16, table: &Table) -> Result<ControllerPlan, LoadEnd>
+    ensures { Gives (λ plan. plan) result (controller_of watchdog (table_view table.now)) }
 {
     if !has_only(table, &CONTROLLER_KEYS) {
         return Err(not_built());
@@ -68,13 +61,13 @@ fn controller_of(alloc: Global, table: &Table) -> Result<ControllerPlan, LoadEnd
         return Err(not_built());
     };
     let counts = counts_at(table)?;
-    if !has_first_order(table) {
+    let panel = panel_at(alloc, counts, table)?;
+    let texts = segment_texts(alloc, table)?;
+    let orders = orders_at(alloc, texts.len(), table)?;
+    if !is_solved(watchdog, orders.as_slice().len(), &texts) {
         return Err(not_built());
     }
-    let panel = panel_at(alloc, counts, table)?;
-    let texts = network_texts(alloc, table)?;
-    let networks = networks_of(alloc, counts, &texts)?;
-    let segments = only_segment(alloc, networks)?;
+    let segments = segments_of(alloc, counts, &texts)?;
     Ok(ControllerPlan {
         node: node as u8,
         coils: counts.coils,
@@ -82,24 +75,46 @@ fn controller_of(alloc: Global, table: &Table) -> Result<ControllerPlan, LoadEnd
         input_registers: counts.input_registers,
         registers: counts.registers,
         panel,
+        orders,
+        drops: List::new(alloc),
         segments,
     })
 }
 
-fn only_controller(
+fn network_of_one(alloc: Global, node: u8) -> Result<NetPlan, LoadEnd>
+    ensures { Makes result (λ net. net ≡ network_of_one node) }
+{
+    let mut members = List::new(alloc);
+    members.push(node)?;
+    let mut fates = List::new(alloc);
+    fates.push(Fate::D)?;
+    Ok(NetPlan {
+        members,
+        fates,
+        answer: 20,
+        rotations: 4,
+        rounds: 2,
+        holds: 100_000,
+    })
+}
+
+fn plant_of_one(
     alloc: Global,
     scan_time: u16,
+    watchdog: u16,
     controller: ControllerPlan,
 ) -> Result<Plant, LoadEnd>
-    ensures { Makes result (λ plant. plant ≡ record { scan_time = scan_time; controllers = controller ∷ [] }) }
+    ensures { Makes result (λ plant. plant ≡ plant_of_one scan_time watchdog controller) }
 {
+    let net = network_of_one(alloc, controller.node)?;
     let mut controllers = List::new(alloc);
-    if controllers.push(controller).is_err() {
-        return Err(LoadEnd::NoMemory);
-    }
+    controllers.push(controller)?;
     Ok(Plant {
         scan_time: u32::from(scan_time),
+        watchdog: u32::from(watchdog),
+        net,
         controllers,
+        hosts: List::new(alloc),
     })
 }
 
@@ -116,11 +131,17 @@ fn plant_in(alloc: Global, top: &Table) -> Result<Plant, LoadEnd>
     let Some(scan_time) = number_at_or(top, "scan_time", 10, 1, 1000) else {
         return Err(not_built());
     };
+    let Some(watchdog) = number_at_or(top, "watchdog", 500, 1, 10_000) else {
+        return Err(not_built());
+    };
     let Some(controllers) = value_at(top, "controller") else {
         return Err(not_built());
     };
     match only_table(controllers) {
-        Some(table) => only_controller(alloc, scan_time, controller_of(alloc, table)?),
+        Some(table) => {
+            let controller = controller_of(alloc, watchdog, table)?;
+            plant_of_one(alloc, scan_time, watchdog, controller)
+        }
         None => Err(not_built()),
     }
 }
@@ -130,10 +151,12 @@ fn plant_in(alloc: Global, top: &Table) -> Result<Plant, LoadEnd>
 pub fn load(alloc: Global, bytes: &[u8]) -> Result<Plant, LoadEnd>
     ensures plant { Gives (λ plant. plant) result (plant_of bytes.now) }
 
-    // What is loaded can be solved and shown: there is one controller, and its plan passes.
+    // What is loaded can be solved and shown.
     ensures runnable { IfOk result (λ plant. IsRunnable plant) }
     ensures one { IfOk result (λ plant. length plant.controllers ≡ 1) }
     ensures checked { IfOk result (λ plant. list_all passes_check plant.controllers ≡ true) }
+    ensures plain { IfOk result (λ plant. ArePlainPlans plant.controllers) }
+    ensures orders { IfOk result (λ plant. AllByRecursion HasOrders plant.controllers) }
 {
     let top = document(alloc, bytes)?;
     plant_in(alloc, &top)

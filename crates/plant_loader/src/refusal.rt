@@ -1,8 +1,10 @@
 //! How loading ends without a plant.
 ghost use Rattle.std.specs.Prelude.{◌≡◌};
+ghost use Rattle.plant_loader.specs.declared.refusal.LoadEnd.TheVariants.{NoMemory};
 ghost use Rattle.plant_loader.specs.Refusals.{plant_place, cell_place, not_built};
 
 use plant_types::{Part, Place, PlantFault};
+use std::alloc::AllocError;
 
 /// Why there is no plant.
 #[derive(Clone, Copy, Debug, PartialEq, Eq)]
@@ -11,6 +13,14 @@ pub enum LoadEnd {
     Refused(PlantFault, Place),
     /// Memory was refused.
     NoMemory,
+}
+
+impl From<AllocError> for LoadEnd {
+    ghost from_gives = { λ _ end. end ≡ NoMemory };
+
+    fn from(_: AllocError) -> LoadEnd {
+        LoadEnd::NoMemory
+    }
 }
 
 /// The bytes are no document.
@@ -27,12 +37,12 @@ pub fn not_built() -> LoadEnd
     LoadEnd::Refused(PlantFault::NotBuilt, Place::PLANT)
 }
 
-/// The place of a piece of a network of the first segment of the first controller.
-pub fn cell_place(network: u32, cell: u32) -> Place
-    ensures { result ≡ cell_place network cell }
+/// The place of a piece of a network of a segment of the first controller.
+pub fn cell_place(segment: u32, network: u32, cell: u32) -> Place
+    ensures { result ≡ cell_place segment network cell }
 {
     Place {
         part: Part::Cell,
-        at: [1, 1, network, cell],
+        at: [1, segment, network, cell],
     }
 }

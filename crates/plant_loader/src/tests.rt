@@ -1,5 +1,7 @@
 use super::*;
-use plant_types::{Cell, ControllerPlan, Element, MoveOp, Network, Plant, Ref, RefKind, Short};
+use plant_types::{
+    Cell, ControllerPlan, Element, MoveOp, Network, OrderRow, Plant, Ref, RefKind, Short,
+};
 use std::alloc::{AllocError, Global};
 use std::process::Abort;
 use std::test::Fail;
@@ -166,6 +168,15 @@ fn every_name_is_read(rt: HostRuntime) -> Result<(), Fail> {
     assert_eq!(rt; plant.scan_time, 25);
     let plan = only_controller(&plant).ok_or("one controller")?;
     assert_eq!(rt; plan.input_registers, 10);
+    assert_eq!(rt; plant.watchdog, 500);
+    let row = OrderRow {
+        segment: 1,
+        control: None,
+        input: None,
+        output: None,
+    };
+    assert_eq!(rt; plan.orders.as_slice(), [row].as_slice());
+    assert_eq!(rt; plant.net.members.as_slice(), [1].as_slice());
     let networks = networks_of(plan).ok_or("one segment")?;
     let [relays, counts, sums, moves, matrices] = networks else {
         return Err(Fail::from("five networks"));
@@ -372,8 +383,11 @@ fn first_faults_are_answered(rt: HostRuntime) -> Result<(), Fail> {
 }
 
 // What stands between the version and the orders of a plant that is taken.
-const OF_THE_FORM: [&str; 5] = [
+const OF_THE_FORM: [&str; 8] = [
     "[[controller]]\nnode = 64\n",
+    "watchdog = 500\n[[controller]]\nnode = 1\n",
+    "watchdog = 1\n[[controller]]\nnode = 1\n",
+    "watchdog = 10000\n[[controller]]\nnode = 1\n",
     "scan_time = 1\n[[controller]]\nnode = 1\n",
     "scan_time = 1000\n[[controller]]\nnode = 1\n",
     "[[controller]]\nnode = 1\ninput_registers = 9984\npanel = [\"39984\"]\n",
@@ -381,13 +395,14 @@ const OF_THE_FORM: [&str; 5] = [
 ];
 
 // What stands there in plants that are not built.
-const NOT_OF_THE_FORM: [&str; 30] = [
+const NOT_OF_THE_FORM: [&str; 31] = [
     "scan_time = 0\n[[controller]]\nnode = 1\n",
     "scan_time = 1001\n[[controller]]\nnode = 1\n",
     "scan_time = -1\n[[controller]]\nnode = 1\n",
     "scan_time = \"10\"\n[[controller]]\nnode = 1\n",
     "scan_time = 10.0\n[[controller]]\nnode = 1\n",
-    "watchdog = 500\n[[controller]]\nnode = 1\n",
+    "watchdog = 0\n[[controller]]\nnode = 1\n",
+    "watchdog = 10001\n[[controller]]\nnode = 1\n",
     "[[controller]]\n",
     "[[controller]]\nnode = 0\n",
     "[[controller]]\nnode = 65\n",
@@ -528,6 +543,18 @@ fn limits_are_kept(rt: HostRuntime) -> Result<(), Fail> {
         let text = plant_text(alloc, "", networks.as_str())?;
         let answer = answer_to(alloc, text.as_bytes())?;
         assert_eq!(rt; answer.as_str(), want, "{count} networks");
+    }
+    for (count, want) in [(1000, "taken"), (1001, "14 NotBuilt plant")] {
+        let networks = repeated(alloc, "\"\",", count)?;
+        let text = format!(in alloc;
+            "version = 1\nwatchdog = 1002\n[[controller]]\nnode = 1\norders = [\"1 - - -\"]\n[[controller.segment]]\nnetworks = [{networks}]\n"
+        )?;
+        let answer = answer_to(alloc, text.as_bytes())?;
+        assert_eq!(rt;
+            answer.as_str(),
+            want,
+            "{count} networks below the watchdog"
+        );
     }
     for (count, want) in [(64, "taken"), (65, "14 NotBuilt plant")] {
         let panel = repeated(alloc, "\"40100\",", count)?;

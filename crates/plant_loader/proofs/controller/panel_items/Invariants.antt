@@ -1,7 +1,8 @@
 use Rattle.std.proofs.Common.{◌≡◌, drop}
 use Rattle.toml.specs.View.{items_view}
 use Rattle.plant_loader.specs.Counts.{sizes_of}
-use Rattle.plant_loader.specs.Controller.{panel_items, with_front}
+use Rattle.plant_loader.specs.InOrder.{with_front}
+use Rattle.plant_loader.specs.Controller.{panel_items}
 use Rattle.plant_loader.proofs.controller.panel_items.Given as goal
 
 -- the references so far, before those of the items left

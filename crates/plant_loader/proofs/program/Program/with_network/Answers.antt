@@ -1,9 +1,10 @@
-use Rattle.std.proofs.Common.{sym}
-use Rattle.plant_loader.proofs.DrivenLemmas.{on_ok}
+use Rattle.std.proofs.Common.{◌<◌, length, subst, sym}
+use Rattle.plant_loader.specs.Program.{ReadProgram}
 use Rattle.plant_loader.proofs.KeptLemmas.{IsKept-network}
 use Rattle.plant_loader.proofs.program.Program.with_network.Goals as goal
 
 pub invariant_of-result : goal.invariant_of-result
 invariant_of-result c =
-    let more = on_ok c.push.result (sym c.if-is_err.ensures.value) c.push.ensures.ok in
-    rw (c.new.ensures, c.new-2.ensures) (IsKept-network c.self.inside.driven.keys c.self.inside.networks c.push.new.self c.self.inside.cells c.self.inside.shorts c.self.invariant more)
+    let read : ReadProgram = record { segments = c.self.inside.segments; networks = c.self.inside.networks; cells = c.self.inside.cells; shorts = c.self.inside.shorts } in
+    let few = subst (λ (r : ReadProgram). length r.networks < 1000) (sym c.self.view_is) c.requires in
+    rw (c.new.ensures, c.new-2.ensures, c.in_ok-push.ensures.ok) (IsKept-network c.self.inside.driven.keys read few c.self.invariant)

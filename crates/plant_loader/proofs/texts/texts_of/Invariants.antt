@@ -1,7 +1,8 @@
 use Rattle.std.proofs.Common.{◌≡◌, map, drop, length}
 use Rattle.toml.specs.View.{items_view}
-use Rattle.plant_loader.specs.Controller.{texts_of, with_front}
-use Rattle.plant_loader.proofs.controller.texts_of.Given as goal
+use Rattle.plant_loader.specs.InOrder.{with_front}
+use Rattle.plant_loader.specs.Texts.{texts_of}
+use Rattle.plant_loader.proofs.texts.texts_of.Given as goal
 
 -- the texts so far, before those of the items left; one for each item
 abbrev pub invariant-loop-item : goal.invariant-loop-item

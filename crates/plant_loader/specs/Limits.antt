@@ -1,0 +1,16 @@
+-- How many items the tables of a controller have at most. This project's own.
+use Rattle.std.specs.Prelude.{ℕ}
+
+-- Segments, and networks of each.
+abbrev pub segment_limit : ℕ
+segment_limit = 32
+
+abbrev pub network_limit : ℕ
+network_limit = 1000
+
+-- Order rows, and references of a panel.
+abbrev pub order_limit : ℕ
+order_limit = 32
+
+abbrev pub panel_limit : ℕ
+panel_limit = 64
