@@ -14,9 +14,10 @@ use Rattle.plant_types.specs.MapRam.{kind_at, kind_again}
 use Rattle.plant_types.specs.Sizes.{has_reference, cleared, count_of}
 use Rattle.plant_types.specs.Store.{Contents, Keeps, part_at, word_at, words_from, with_words}
 use Rattle.plant_types.proofs.Contents.{exact_refs, refs_total}
+use Rattle.plant_types.proofs.DiscretesLemmas.{length-bits_from, length-bits_high_first, get_or-bits_high_first}
 use Rattle.plant_types.proofs.RunLemmas.{length-words_from, get_or-words_from, get-with_words_at, get-with_words_other}
 use Rattle.state_ram.specs.Bits.{word_bit, IsWithBit}
-use Rattle.state_ram.specs.Group.{bits_high_first, word_bits, bits_from, bit_words, with_bits}
+use Rattle.plant_types.specs.Discretes.{bits_high_first, word_bits, bits_from, bit_words, with_bits}
 use Rattle.state_ram.specs.Packed.{Words, words_at, with_words_at, sizes_of, with_group, bit_in, number_in, number_at, packed, filled, HasPlace, Sets, IsWithin, taken, zero_words}
 use Rattle.state_ram.proofs.Filled.{get-filled, get-filled_there, contains_key-filled, filled-insert, filled-cleared, filled-part, in_sizes}
 
@@ -287,17 +288,6 @@ packed-taken w v m n is other keeps =
     (λ q has. let place = place_of w q has in (has_place v q (places q place), taken_number w v q.kind q.number place))
 
 -- ---- sixteen discretes
-
-pub length-bits_high_first : (n w : ℕ) → length (bits_high_first n w) ≡ n
-unfolding bits_high_first
-length-bits_high_first zero w = refl
-length-bits_high_first (suc n) w = ap suc (length-bits_high_first n w)
-
-get_or-bits_high_first : (n w j k : ℕ) (d : Bool) → j + k + 1 ≡ n → get_or (bits_high_first n w) j d ≡ (bit_at w k == 1)
-unfolding bits_high_first
-get_or-bits_high_first zero w j k d e = absurd (omega arith)
-get_or-bits_high_first (suc n) w zero k d e = let same : n ≡ k = omega arith in ap (λ i. bit_at w i == 1) same
-get_or-bits_high_first (suc n) w (suc j) k d e = get_or-bits_high_first n w j k d (omega arith)
 
 get_or-word_bits : (w j : ℕ) (d : Bool) → j < 16 → get_or (word_bits w) j d ≡ word_bit w j
 get_or-word_bits w j d h = get_or-bits_high_first 16 w j (15 - j) d (omega arith)

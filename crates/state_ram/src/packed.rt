@@ -5,7 +5,7 @@ ghost use Rattle.plant_types.specs.Reference.{is_discrete};
 ghost use Rattle.plant_types.specs.Sizes.{cleared};
 ghost use Rattle.state_ram.specs.Packed.{sizes_from};
 ghost use Rattle.plant_types.specs.Store.{Keeps, part_at};
-ghost use Rattle.state_ram.specs.Group.{word_bits, bits_from, with_bits};
+ghost use Rattle.plant_types.specs.Discretes.{word_bits, bits_from, with_bits};
 
 use crate::banks::Banks;
 use plant_types::{Ref, RefStore};

@@ -1,6 +1,6 @@
 use Rattle.std.proofs.Common.{ap, ◌∙◌}
 use Rattle.state_ram.specs.Banks.{words_of}
-use Rattle.state_ram.specs.Group.{word_bits}
+use Rattle.plant_types.specs.Discretes.{word_bits}
 use Rattle.state_ram.proofs.Banked.{held_place, group_bits}
 use Rattle.state_ram.proofs.packed.PackedRam.group16.Goals as goal
 

@@ -2,7 +2,7 @@ use Rattle.std.proofs.Common.{ap, sym, subst, ◌∙◌}
 use Rattle.plant_types.specs.Store.{Keeps}
 use Rattle.plant_types.proofs.RunLemmas.{Keeps-with_words}
 use Rattle.state_ram.specs.Banks.{words_of}
-use Rattle.state_ram.specs.Group.{word_bits, bit_words}
+use Rattle.plant_types.specs.Discretes.{word_bits, bit_words}
 use Rattle.state_ram.specs.Packed.{packed}
 use Rattle.state_ram.proofs.Banked.{held_place, packed-group}
 use Rattle.state_ram.proofs.packed.PackedRam.set_group16.Goals as goal
