@@ -26,7 +26,8 @@ abbrev pub step_with : Option ℕ → ScanStep → List ScanStep
 step_with None step = []
 step_with (Some drop) step = step ∷ []
 
--- The steps of a row: In where it names an input drop, Solve, and Out where it names an output drop. This project's own.
+-- The steps of a row: In where it names an input drop, Solve, and Out where it names an output
+-- drop. This project's own.
 abbrev pub input_steps : ControllerPlan → ℕ → List ScanStep
 input_steps plan row = step_with (input_of (row_of plan row)) (steps.In row)
 
@@ -41,7 +42,8 @@ unfoldable pub rows_from : ControllerPlan → ℕ → List ScanStep
 rows_from plan row =
     flat_map (row_steps plan) (range_with_len row (suc (length plan.orders) - row)) ++ steps.End ∷ []
 
--- What is due in a scan: Begin, the steps of each row in order, and End; the same in each scan. This project's own.
+-- What is due in a scan: Begin, the steps of each row in order, and End; the same in each scan.
+-- This project's own.
 abbrev pub due : ControllerPlan → ℕ → List ScanStep
 due plan scan = steps.Begin ∷ rows_from plan 1
 
@@ -49,7 +51,8 @@ due plan scan = steps.Begin ∷ rows_from plan 1
 abbrev pub due_after : ControllerPlan → ScanPlace → List ScanStep
 due_after plan places.Start = steps.Begin ∷ rows_from plan 1
 due_after plan places.Began = rows_from plan 1
-due_after plan (places.DidIn row) = steps.Solve row ∷ (output_steps plan row ++ rows_from plan (row + 1))
+due_after plan (places.DidIn row) =
+    steps.Solve row ∷ (output_steps plan row ++ rows_from plan (row + 1))
 due_after plan (places.DidSolve row) = output_steps plan row ++ rows_from plan (row + 1)
 due_after plan (places.DidOut row) = rows_from plan (row + 1)
 

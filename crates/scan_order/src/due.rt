@@ -26,8 +26,8 @@ pub enum ScanStep {
     End,
 }
 
-/// A row of the order of solve.
-fn row_of(plan: &ControllerPlan, row: u16) -> Option<OrderRow>
+/// A row of the order of solve, counted from 1.
+pub fn row_of(plan: &ControllerPlan, row: u16) -> Option<OrderRow>
     requires { 1 ≤ row }
     ensures { result ≡ row_of plan.now row }
 {
@@ -53,7 +53,8 @@ fn first_from(plan: &ControllerPlan, row: u16) -> ScanStep
 fn first_behind(plan: &ControllerPlan, row: u16) -> ScanStep
     requires row { IsPlace plan.now (ScanPlace.DidSolve row) }
     requires rows { length plan.now.orders ≤ 32 }
-    ensures next { due_after plan.now (ScanPlace.DidSolve row) ≡ result ∷ rest_after plan.now result }
+    ensures next { due_after plan.now (ScanPlace.DidSolve row)
+        ≡ result ∷ rest_after plan.now result }
     ensures step { IsStep plan.now result }
 {
     let Some(found) = row_of(plan, row) else {

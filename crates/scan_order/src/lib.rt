@@ -3,7 +3,7 @@
 
 mod due;
 
-pub use due::{ScanPlace, ScanStep, next_due, place_after};
+pub use due::{ScanPlace, ScanStep, next_due, place_after, row_of};
 
 #[cfg(test)]
 mod tests;
