@@ -40,7 +40,8 @@ row_steps plan row = input_steps plan row ++ (steps.Solve row ∷ output_steps p
 -- The steps of all rows from one on, and End. This project's own.
 unfoldable pub rows_from : ControllerPlan → ℕ → List ScanStep
 rows_from plan row =
-    flat_map (row_steps plan) (range_with_len row (suc (length plan.orders) - row)) ++ steps.End ∷ []
+    flat_map (row_steps plan) (range_with_len row (suc (length plan.orders) - row))
+    ++ steps.End ∷ []
 
 -- What is due in a scan: Begin, the steps of each row in order, and End; the same in each scan.
 -- This project's own.

@@ -14,10 +14,10 @@ use Rattle.plant_types.specs.MapRam.{kind_at, kind_again}
 use Rattle.plant_types.specs.Sizes.{has_reference, cleared, count_of}
 use Rattle.plant_types.specs.Store.{Contents, Keeps, part_at, word_at, words_from, with_words}
 use Rattle.plant_types.proofs.Contents.{exact_refs, refs_total}
-use Rattle.plant_types.proofs.DiscretesLemmas.{length-bits_from, length-bits_high_first, get_or-bits_high_first}
+use Rattle.plant_types.proofs.DiscretesLemmas.{length-bits_high_first, get_or-bits_high_first}
 use Rattle.plant_types.proofs.RunLemmas.{length-words_from, get_or-words_from, get-with_words_at, get-with_words_other}
 use Rattle.state_ram.specs.Bits.{word_bit, IsWithBit}
-use Rattle.plant_types.specs.Discretes.{bits_high_first, word_bits, bits_from, bit_words, with_bits}
+use Rattle.plant_types.specs.Discretes.{word_bits, bits_from, bit_words, with_bits}
 use Rattle.state_ram.specs.Packed.{Words, words_at, with_words_at, sizes_of, with_group, bit_in, number_in, number_at, packed, filled, HasPlace, Sets, IsWithin, taken, zero_words}
 use Rattle.state_ram.proofs.Filled.{get-filled, get-filled_there, contains_key-filled, filled-insert, filled-cleared, filled-part, in_sizes}
 

@@ -1,5 +1,5 @@
 -- What a map of given numbers has at a reference, and when one is another with one number set.
-use Rattle.std.proofs.Common.{◌≡◌, ℕ, Bool, true, false, cond, List, [], ◌∷◌, ◌++◌, map, Option, Some, None, is_some, refl, sym, ap, ◌∙◌, ◌≤◌}
+use Rattle.std.proofs.Common.{◌≡◌, ℕ, Bool, true, false, cond, List, [], ◌∷◌, map, Option, Some, None, is_some, refl, sym, ap, ◌∙◌, ◌≤◌}
 use Rattle.std.specs.Prelude.{nat_le}
 use Rattle.std.proofs.lemmas.Bool.{and_parts, leb-true}
 use Rattle.std.specs.Ordering.{is_eq}
@@ -9,9 +9,8 @@ use Rattle.std.specs.BTreeMap.{is_at}
 use Rattle.std.specs.Cmp.{tied_itself}
 use Rattle.std.specs.FinMap.{get, insert, contains_key, same_map}
 use Rattle.plant_types.specs.declared.reference.Ref.{Ref}
-use Rattle.plant_types.specs.declared.reference.RefKind.TheVariants.{Coil, Input, InputRegister, Register}
 use Rattle.plant_types.specs.Reference.{ref_cmp}
-use Rattle.plant_types.specs.Sizes.{Sizes, zeros, has_reference, cleared, count_of}
+use Rattle.plant_types.specs.Sizes.{Sizes, has_reference, cleared, count_of}
 use Rattle.plant_types.specs.Store.{Contents, part_at}
 use Rattle.plant_types.proofs.Contents.{exact_refs, refs_total, found_at, get_ref}
 use Rattle.plant_types.proofs.SizesLemmas.{get-cleared, contains_key-cleared}

@@ -1,15 +1,12 @@
 -- The first drop of a number, found step by step.
-use Rattle.std.proofs.Common.{◌≡◌, ◌≢◌, ◌≤◌, ◌<◌, ◌+◌, ◌-◌, ◌==◌, min, take, replicate, zero, suc, ℕ, Bool, true, false, cond, List, [], ◌∷◌, length, drop, get_or, Option, Some, None, refl, sym, ap, ◌∙◌, arith, eq-eqb}
+use Rattle.std.proofs.Common.{◌≡◌, ◌≢◌, ◌≤◌, ◌<◌, ◌+◌, ◌==◌, ℕ, cond, List, length, drop, get_or, Option, Some, None, sym, ap, ◌∙◌, eq-eqb}
 use Rattle.std.proofs.lemmas.Bool.{ne_eqb}
 use Rattle.std.proofs.lemmas.List.{drop_more, drop_all}
 use Rattle.plant_types.specs.declared.drops.IoDrop.{IoDrop}
-use Rattle.std.specs.Prelude.{slice_get}
 use Rattle.plant_types.specs.declared.drops.Module.{Module}
 use Rattle.plant_types.specs.declared.drops.ScriptRow.{ScriptRow}
-use Rattle.plant_types.specs.declared.drops.ScriptRow.TheVariants.{Row}
 use Rattle.plant_types.specs.Store.{Contents}
-use Rattle.traffic_cop.specs.declared.cop.Health.TheVariants.{Present}
-use Rattle.traffic_cop.specs.Exchange.{exchanged_by, put_all, row_at, input_total}
+use Rattle.traffic_cop.specs.Exchange.{exchanged_by, row_at}
 use Rattle.traffic_cop.specs.Drops.{drop_named, exchanged_in, health_at, health_by, health_in, input_after}
 
 named_at : (drops : List IoDrop) (i : ℕ) (d : IoDrop) (number : ℕ) → i < length drops → d ≡ get_or drops i d

@@ -1,8 +1,7 @@
 -- What a store keeps has each module that it had; a word by its bits.
-use Rattle.std.proofs.Common.{◌≡◌, ◌≤◌, ◌<◌, ℕ, zero, suc, ◌+◌, ◌*◌, ◌-◌, ◌^◌, Bool, true, false, cond, ◌==◌, List, [], ◌∷◌, ◌++◌, length, get_or, take, drop, refl, sym, ap, subst, ◌∙◌, arith, append_assoc}
+use Rattle.std.proofs.Common.{◌≡◌, ◌≤◌, ◌<◌, ℕ, suc, ◌+◌, ◌*◌, ◌-◌, ◌^◌, Bool, true, false, cond, ◌==◌, List, [], ◌∷◌, ◌++◌, length, get_or, take, drop, sym, ap, subst, ◌∙◌, arith, append_assoc}
 use Rattle.std.specs.Int.{bit_at}
-use Rattle.std.specs.List.{fold, flat_map}
-use Rattle.std.specs.FinMap.{contains_key, insert}
+use Rattle.std.specs.FinMap.{insert}
 use Rattle.std.proofs.lemmas.List.{get_or-map, length-take-le, take_more, drop_more, length-drop}
 use Rattle.std.proofs.lemmas.List.Sums.{sum_by-drop_more}
 use Rattle.std.proofs.Math.Seq.{take-append-add}
@@ -18,7 +17,7 @@ use Rattle.plant_types.specs.Store.{Contents, Keeps, with_words}
 use Rattle.plant_types.specs.Discretes.{bit_words, word_bits}
 use Rattle.plant_types.proofs.DiscretesLemmas.{length-bits_high_first, length-bit_words, get_or-bits_high_first}
 use Rattle.plant_types.proofs.RunLemmas.{HasRegisters-kept, with_words-push}
-use Rattle.traffic_cop.specs.Exchange.{HasGroup, HasModuleBy, HasModule, HasModules, module_at, number_of_bits, input_count, output_count, input_total, output_total, put_words, put_all, given, output_words}
+use Rattle.traffic_cop.specs.Exchange.{HasGroup, HasModuleBy, HasModules, module_at, number_of_bits, input_count, output_count, input_total, output_total, put_words, put_all, given, output_words}
 
 pub HasGroup-kept : (m n : Contents) (at : Ref) → Keeps m n → HasGroup m at → HasGroup n at
 HasGroup-kept m n at keeps has =
@@ -119,7 +118,8 @@ take_next m modules i d count got words part h fits many taken total so_far has 
     let sums = sum_by-drop_more output_count modules i d h in
     let front = take count words in
     let long : length front ≡ count = length-take-le count words fits in
-    let both : take (count + got) (front ++ part) ≡ front ++ take got part = ap (λ n. take (n + got) (front ++ part)) (sym long) ∙ take-append-add front part got in
+    let both : take (count + got) (front ++ part) ≡ front ++ take got part = ap (λ n. take (n + got) (front ++ part)) (sym long)
+    ∙ take-append-add front part got in
     let mine : take got part ≡ given m x = ap (λ n. take n part) many ∙ taken in
     record {
       count = omega arith;

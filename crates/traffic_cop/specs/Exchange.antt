@@ -1,5 +1,5 @@
 -- What the field gives a drop at an exchange, and what a drop gives the field.
-use Rattle.std.specs.Prelude.{◌≡◌, ◌≤◌, ◌<◌, ℕ, ◌+◌, ◌*◌, ◌-◌, ◌^◌, Bool, true, false, min, List, [], ◌∷◌, ◌++◌, length, take, drop, replicate, fold, Option, Some, None, slice_get, slice_index}
+use Rattle.std.specs.Prelude.{◌≡◌, ◌≤◌, ◌<◌, ℕ, ◌+◌, ◌*◌, ◌-◌, Bool, true, min, List, [], ◌∷◌, length, take, drop, replicate, fold, Option, Some, None, slice_get, slice_index}
 use Rattle.std.specs.List.{flat_map, sum_by, AllByRecursion}
 use Rattle.std.specs.FinMap.{contains_key}
 use Rattle.plant_types.specs.declared.reference.Ref.{Ref}
@@ -11,7 +11,7 @@ use Rattle.plant_types.specs.declared.drops.Module.{Module}
 use Rattle.plant_types.specs.declared.drops.ScriptRow.{ScriptRow}
 use Rattle.plant_types.specs.declared.drops.ScriptRow.TheVariants.{Silent, Row}
 use Rattle.plant_types.specs.declared.drops.IoDrop.{IoDrop}
-use Rattle.plant_types.specs.Reference.{ref_from, is_discrete}
+use Rattle.plant_types.specs.Reference.{ref_from, is_discrete, most_references}
 use Rattle.plant_types.specs.Power.{bit_of}
 use Rattle.plant_types.specs.Store.{Contents, HasRegisters, words_from, with_words}
 use Rattle.plant_types.specs.Discretes.{bits_from, with_bits, word_bits}
@@ -94,7 +94,7 @@ output_words m modules = flat_map (given m) modules
 -- Sixteen discretes from one on are there. This project's own.
 pub record HasGroup (m : Contents) (at : Ref) : Type 0 where
   pub kind : is_discrete at.kind ≡ true
-  pub range : at.number + 16 ≤ 9985
+  pub range : at.number + 16 ≤ most_references + 1
   pub held : (i : ℕ) → i < 16 → contains_key m (ref_from at i) ≡ true
 
 -- A store has the references of a module. This project's own.

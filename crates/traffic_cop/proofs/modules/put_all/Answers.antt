@@ -1,6 +1,5 @@
-use Rattle.std.proofs.Common.{◌≡◌, ◌<◌, length, take, drop, [], sym, ap, ◌∙◌, arith}
+use Rattle.std.proofs.Common.{◌≡◌, take, drop, [], sym, ap, ◌∙◌, arith}
 use Rattle.std.proofs.lemmas.List.{drop_all}
-use Rattle.plant_types.specs.Store.{Keeps}
 use Rattle.traffic_cop.specs.Exchange.{put_all}
 use Rattle.traffic_cop.proofs.ModuleLemmas.{put_next}
 use Rattle.traffic_cop.proofs.modules.put_all.Goals as goal

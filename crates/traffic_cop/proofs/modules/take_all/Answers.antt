@@ -17,7 +17,8 @@ loop-io_module-preserved g c =
     let fits : count ≤ length words = omega arith in
     let next = take_next m modules i _ count got words part c.loop-io_module-test.true fits
     c.take_words-count.ensures.count c.take_words-count.ensures.taken so_far.count so_far.taken so_far.room in
-    let behind : drop (length words - count) (drop count words) ≡ [] = drop_all (length words - count) (drop count words) (omega (arith, length-drop count words)) in
+    let behind : drop (length words - count) (drop count words) ≡ [] = drop_all (length words - count) (drop count words) (omega
+    (arith, length-drop count words)) in
     let whole : take count words ++ (part ++ drop (length words - count) (drop count words)) ≡ take count words ++ part =
     ap (λ (l : List ℕ). take count words ++ (part ++ l)) behind ∙ ap (λ (l : List ℕ). take count words ++ l) (append-nil part) in
     record {

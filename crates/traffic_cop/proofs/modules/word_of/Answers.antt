@@ -1,9 +1,8 @@
-use Rattle.std.proofs.Common.{◌≡◌, ◌<◌, ℕ, ◌+◌, ◌*◌, Bool, true, false, cond, length, take, get_or, refl, sym, ap, ◌∙◌, arith}
+use Rattle.std.proofs.Common.{◌≡◌, ◌<◌, ℕ, ◌+◌, ◌*◌, Bool, true, false, take, get_or, refl, sym, ap, ◌∙◌, arith}
 use Rattle.std.specs.Prelude.{nat_lt}
 use mir.Val.{bool_byte}
 use Rattle.std.proofs.lemmas.List.{get_or-map, take_all}
 use Rattle.plant_types.specs.Power.{bit_of}
-use Rattle.plant_types.specs.Reference.{ref_from}
 use Rattle.plant_types.specs.Store.{is_on, words_from}
 use Rattle.plant_types.specs.Discretes.{bits_from}
 use Rattle.plant_types.proofs.DiscretesLemmas.{length-bits_from}

@@ -1,4 +1,4 @@
-use Rattle.std.proofs.Common.{◌≡◌, ◌≤◌, ◌-◌, ℕ, List, length, min, take, replicate, Some, None, refl, sym, ap, ◌∙◌, arith}
+use Rattle.std.proofs.Common.{◌≡◌, ◌≤◌, ℕ, List, length, take, replicate, Some, None, refl, sym, ap, ◌∙◌}
 use Rattle.std.specs.Prelude.{slice_get}
 use Rattle.std.proofs.lemmas.Bool.{ltb-true, ltb-false}
 use Rattle.std.proofs.lemmas.List.{take-replicate}
@@ -34,8 +34,10 @@ pub returns-in-Some-Row-clause-health : goal.returns-in-Some-Row-clause-health
 returns-in-Some-Row-clause-health g c =
     let script = c.as_slice-script.result.now in
     let modules = c.as_slice-modules.result.now in
-    let there = slice_get_read script (length script) c.row_place.result c.in-Some-Row.field-0.now refl (ltb-true _ _ (sym c.in-Some-Row.ensures.lookup.0)) c.in-Some-Row.ensures.lookup.1 in
-    let row : row_at script c.args.k ≡ Some (Row c.in-Some-Row.words) = ap (slice_get script) (sym c.row_place.ensures) ∙ there ∙ ap Some c.in-Some-Row.field-0-is in
+    let there = slice_get_read script (length script) c.row_place.result c.in-Some-Row.field-0.now refl (ltb-true _ _
+    (sym c.in-Some-Row.ensures.lookup.0)) c.in-Some-Row.ensures.lookup.1 in
+    let row : row_at script c.args.k ≡ Some (Row c.in-Some-Row.words) = ap (slice_get script) (sym c.row_place.ensures) ∙ there
+    ∙ ap Some c.in-Some-Row.field-0-is in
     let finds : FindsRow c.args.self.now c.args.drop c.args.k modules (Some (Row c.in-Some-Row.words)) = record {
       found = c.drop_of-found.result.now;
       named = c.drop_of-found.ensures;
@@ -49,8 +51,10 @@ returns-in-Some-Row-clause-stored g c =
     let m = g.R.RefStore.contents c.args.ram.now in
     let script = c.as_slice-script.result.now in
     let modules = c.as_slice-modules.result.now in
-    let there = slice_get_read script (length script) c.row_place.result c.in-Some-Row.field-0.now refl (ltb-true _ _ (sym c.in-Some-Row.ensures.lookup.0)) c.in-Some-Row.ensures.lookup.1 in
-    let row : row_at script c.args.k ≡ Some (Row c.in-Some-Row.words) = ap (slice_get script) (sym c.row_place.ensures) ∙ there ∙ ap Some c.in-Some-Row.field-0-is in
+    let there = slice_get_read script (length script) c.row_place.result c.in-Some-Row.field-0.now refl (ltb-true _ _
+    (sym c.in-Some-Row.ensures.lookup.0)) c.in-Some-Row.ensures.lookup.1 in
+    let row : row_at script c.args.k ≡ Some (Row c.in-Some-Row.words) = ap (slice_get script) (sym c.row_place.ensures) ∙ there
+    ∙ ap Some c.in-Some-Row.field-0-is in
     let finds : FindsRow c.args.self.now c.args.drop c.args.k modules (Some (Row c.in-Some-Row.words)) = record {
       found = c.drop_of-found.result.now;
       named = c.drop_of-found.ensures;
