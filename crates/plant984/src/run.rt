@@ -7,9 +7,8 @@ ghost use Rattle.plant984.specs.Panel.{panel};
 
 use crate::panel::{push_line, readings_of};
 use ladder_solver::Ladder;
-use plant_types::{
-    ControllerPlan, MapRam, checked_plans_find_all, discretes_follow, kept_stores_find_all,
-};
+use plant_types::{ControllerPlan, checked_plans_find_all, discretes_follow, kept_stores_find_all};
+use state_ram::PackedRam;
 use std::alloc::{AllocError, Global};
 use timer_ops::Clock;
 
@@ -32,8 +31,8 @@ pub fn panel_of(
     let (coils, inputs) = (controller.coils, controller.inputs);
     let (input_registers, registers) = (controller.input_registers, controller.registers);
     let mut ladder = Ladder::new(alloc, controller)?;
-    let mut ram = MapRam::new(alloc, coils, inputs, input_registers, registers)?;
-    let mut past = MapRam::new(alloc, coils, inputs, 0, 0)?;
+    let mut ram = PackedRam::new(alloc, coils, inputs, input_registers, registers)?;
+    let mut past = PackedRam::new(alloc, coils, inputs, 0, 0)?;
     let mut clock = Clock { before: 0, now: 0 };
     let readings = readings_of(alloc, controller.panel.as_slice())?;
     let mut text = String::new(alloc);

@@ -1,0 +1,65 @@
+//! A scan of three rows: one that names no drop, one that names two, and one with an output alone.
+ghost use Rattle.std.specs.Prelude.{◌≡◌, IfOk};
+
+use crate::{ScanPlace, ScanStep, next_due};
+use plant_types::{ControllerPlan, List, OrderRow};
+use std::alloc::{AllocError, Global};
+
+const ROWS: [OrderRow; 3] = [
+    OrderRow {
+        segment: 1,
+        control: None,
+        input: None,
+        output: None,
+    },
+    OrderRow {
+        segment: 2,
+        control: None,
+        input: Some(3),
+        output: Some(4),
+    },
+    OrderRow {
+        segment: 1,
+        control: None,
+        input: None,
+        output: Some(4),
+    },
+];
+
+fn plan_of(alloc: Global, rows: &[OrderRow]) -> Result<ControllerPlan, AllocError>
+    ensures { IfOk result (λ plan. plan.orders ≡ rows.now) }
+{
+    Ok(ControllerPlan {
+        node: 1,
+        coils: 0,
+        inputs: 0,
+        input_registers: 0,
+        registers: 0,
+        panel: List::new(alloc),
+        orders: List::from_vec(Vec::from_slice(alloc, rows)?),
+        drops: List::new(alloc),
+        segments: List::new(alloc),
+    })
+}
+
+#[test]
+fn a_scan_goes_row_by_row(rt: HostRuntime) -> Result<(), AllocError> {
+    let plan = plan_of(rt.alloc(), &ROWS)?;
+    assert_eq!(rt; next_due(&plan, ScanPlace::Start), ScanStep::Begin);
+    assert_eq!(rt; next_due(&plan, ScanPlace::Began), ScanStep::Solve(1));
+    assert_eq!(rt; next_due(&plan, ScanPlace::DidSolve(1)), ScanStep::In(2));
+    assert_eq!(rt; next_due(&plan, ScanPlace::DidIn(2)), ScanStep::Solve(2));
+    assert_eq!(rt; next_due(&plan, ScanPlace::DidSolve(2)), ScanStep::Out(2));
+    assert_eq!(rt; next_due(&plan, ScanPlace::DidOut(2)), ScanStep::Solve(3));
+    assert_eq!(rt; next_due(&plan, ScanPlace::DidSolve(3)), ScanStep::Out(3));
+    assert_eq!(rt; next_due(&plan, ScanPlace::DidOut(3)), ScanStep::End);
+    Ok(())
+}
+
+#[test]
+fn a_scan_without_rows_begins_and_ends(rt: HostRuntime) -> Result<(), AllocError> {
+    let plan = plan_of(rt.alloc(), &[])?;
+    assert_eq!(rt; next_due(&plan, ScanPlace::Start), ScanStep::Begin);
+    assert_eq!(rt; next_due(&plan, ScanPlace::Began), ScanStep::End);
+    Ok(())
+}

@@ -1,0 +1,123 @@
+-- The map that packed words stand for.
+use Rattle.std.specs.Prelude.{◌≡◌, ◌≤◌, ℕ, ◌-◌, ◌*◌, ◌/◌, ◌%◌, List, ◌++◌, length, take, replicate, map, slice_index_or, slice_set, if◌then◌else◌}
+use Rattle.std.specs.FinMap.{from_entries}
+use Rattle.plant_types.specs.declared.reference.RefKind.{RefKind}
+use Rattle.plant_types.specs.declared.reference.RefKind.TheVariants.{Coil, Input, InputRegister, Register}
+use Rattle.plant_types.specs.declared.reference.Ref.{Ref}
+use Rattle.plant_types.specs.Sizes.{Sizes, count_of, zeros}
+use Rattle.plant_types.specs.Store.{Contents}
+use Rattle.state_ram.specs.Bits.{word_bit}
+
+-- All references of a map of these sizes, each 0. This project's own.
+abbrev pub all_zeros : Sizes → List (Ref × ℕ)
+all_zeros sizes =
+    zeros Coil sizes.coils
+    ++ (zeros Input sizes.inputs
+    ++ (zeros InputRegister sizes.input_registers ++ zeros Register sizes.registers))
+
+-- The same, each with the number that it is given. This project's own.
+unfoldable pub filled : Sizes → (Ref → ℕ) → Contents
+filled sizes number = from_entries (map (λ e. (e.0, number e.0)) (all_zeros sizes))
+
+-- The words of each kind. This project's own.
+pub record Words : Type 0 where
+  pub coils : List ℕ
+  pub inputs : List ℕ
+  pub input_registers : List ℕ
+  pub registers : List ℕ
+
+-- The words of a kind. This project's own.
+abbrev pub words_at : Words → RefKind → List ℕ
+words_at words Coil = words.coils
+words_at words Input = words.inputs
+words_at words InputRegister = words.input_registers
+words_at words Register = words.registers
+
+-- The same with other words of a kind. This project's own.
+abbrev pub with_words_at : Words → RefKind → List ℕ → Words
+with_words_at words Coil other = record words { coils = other }
+with_words_at words Input other = record words { inputs = other }
+with_words_at words InputRegister other = record words { input_registers = other }
+with_words_at words Register other = record words { registers = other }
+
+-- Sixteen discretes to a word, and one register. This project's own.
+abbrev pub sizes_of : Words → Sizes
+sizes_of words = record {
+  coils = 16 * length words.coils;
+  inputs = 16 * length words.inputs;
+  input_registers = length words.input_registers;
+  registers = length words.registers;
+}
+
+-- The sizes of a map. This project's own.
+abbrev pub sizes_from : ℕ → ℕ → ℕ → ℕ → Sizes
+sizes_from coils inputs input_registers registers = record {
+  coils = coils;
+  inputs = inputs;
+  input_registers = input_registers;
+  registers = registers;
+}
+
+-- The bit at a place of many words, as 0 or 1. This project's own.
+unfoldable pub bit_in : List ℕ → ℕ → ℕ
+bit_in words place = if word_bit (slice_index_or words (place / 16) 0) (place % 16) then 1 else 0
+
+-- The number that words of a kind hold at a place. This project's own.
+abbrev pub number_in : RefKind → List ℕ → ℕ → ℕ
+number_in Coil words place = bit_in words place
+number_in Input words place = bit_in words place
+number_in InputRegister words place = slice_index_or words place 0
+number_in Register words place = slice_index_or words place 0
+
+-- The number at a reference. This project's own.
+abbrev pub number_at : Words → Ref → ℕ
+number_at words at = number_in at.kind (words_at words at.kind) (at.number - 1)
+
+-- The word of sixteen discretes that holds one of them. This project's own.
+abbrev pub group_of : Words → Ref → ℕ
+group_of words at = slice_index_or (words_at words at.kind) ((at.number - 1) / 16) 0
+
+-- The same words with that one changed. This project's own.
+abbrev pub with_group : Words → Ref → ℕ → Words
+with_group words at word =
+    with_words_at words at.kind (slice_set (words_at words at.kind) ((at.number - 1) / 16) word)
+
+-- The contents that words stand for. This project's own.
+unfoldable pub packed : Words → Contents
+packed words = filled (sizes_of words) (number_at words)
+
+-- A reference that words have a place for. This project's own.
+pub record HasPlace (words : Words) (at : Ref) : Type 0 where
+  pub from_one : 1 ≤ at.number
+  pub within : at.number ≤ count_of (sizes_of words) at.kind
+
+-- Words that have one number set, and all others as they were. This project's own.
+pub record Sets (old new : Words) (at : Ref) (value : ℕ) : Type 0 where
+  pub sizes : sizes_of new ≡ sizes_of old
+  pub here : number_at new at ≡ value
+  pub others : (q : Ref) → 1 ≤ q.number → (q ≡ at → ⊥) → number_at new q ≡ number_at old q
+
+-- Words of no more places than others. This project's own.
+pub record IsWithin (words other : Words) : Type 0 where
+  pub coils : length words.coils ≤ length other.coils
+  pub inputs : length words.inputs ≤ length other.inputs
+  pub input_registers : length words.input_registers ≤ length other.input_registers
+  pub registers : length words.registers ≤ length other.registers
+
+-- As many words of each kind as there were, taken from others. This project's own.
+abbrev pub taken : Words → Words → Words
+taken words other = record {
+  coils = take (length words.coils) other.coils;
+  inputs = take (length words.inputs) other.inputs;
+  input_registers = take (length words.input_registers) other.input_registers;
+  registers = take (length words.registers) other.registers;
+}
+
+-- Words that are all 0. This project's own.
+abbrev pub zero_words : ℕ → ℕ → ℕ → ℕ → Words
+zero_words coils inputs input_registers registers = record {
+  coils = replicate coils 0;
+  inputs = replicate inputs 0;
+  input_registers = replicate input_registers 0;
+  registers = replicate registers 0;
+}

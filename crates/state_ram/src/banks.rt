@@ -1,0 +1,148 @@
+//! The words of each kind: sixteen discretes to a word, the first in the highest bit.
+ghost use Rattle.std.specs.Prelude.{◌≡◌, ◌≤◌, true, false, length, take, IfOk, if◌then◌else◌};
+ghost use Rattle.plant_types.specs.Reference.{is_discrete};
+ghost use Rattle.plant_types.specs.Sizes.{has_reference};
+ghost use Rattle.state_ram.specs.Packed.{HasPlace, IsWithin, Sets, number_at, sizes_of};
+ghost use Rattle.state_ram.specs.Packed.{group_of, with_group, taken, zero_words};
+
+use crate::bits::{bit_of, with_bit};
+use plant_types::{Ref, RefKind};
+use std::alloc::{AllocError, Global};
+
+#[derive(Drop)]
+pub(crate) struct Banks {
+    pub(crate) coils: Vec<u16>,
+    pub(crate) inputs: Vec<u16>,
+    pub(crate) input_registers: Vec<u16>,
+    pub(crate) registers: Vec<u16>,
+}
+
+/// As many words as there are, taken from others.
+fn copy_words(words: &mut Vec<u16>, other: &Vec<u16>)
+    requires { length words.old.items ≤ length other.now.items }
+    ensures { words.new.items ≡ take (length words.old.items) other.now.items }
+{
+    let count = words.len();
+    words
+        .as_mut_slice()
+        .copy_from_slice(&other.as_slice()[..count]);
+}
+
+impl Banks {
+    ghost use Rattle.state_ram.specs.Banks.{words_of};
+
+    /// So many words of each kind, all 0.
+    pub(crate) fn new(
+        alloc: Global,
+        coils: u16,
+        inputs: u16,
+        input_registers: u16,
+        registers: u16,
+    ) -> Result<Banks, AllocError>
+        ensures { IfOk result (λ banks.
+            words_of banks ≡ zero_words coils inputs input_registers registers) }
+    {
+        Ok(Banks {
+            coils: vec![in alloc; 0; usize::from(coils)]?,
+            inputs: vec![in alloc; 0; usize::from(inputs)]?,
+            input_registers: vec![in alloc; 0; usize::from(input_registers)]?,
+            registers: vec![in alloc; 0; usize::from(registers)]?,
+        })
+    }
+
+    pub(crate) fn has(&self, at: Ref) -> bool
+        ensures { result ≡ has_reference (sizes_of (words_of self.now)) at }
+    {
+        if at.number == 0 {
+            return false;
+        }
+        let place = usize::from(at.number - 1);
+        match at.kind {
+            RefKind::Coil => place / 16 < self.coils.len(),
+            RefKind::Input => place / 16 < self.inputs.len(),
+            RefKind::InputRegister => place < self.input_registers.len(),
+            RefKind::Register => place < self.registers.len(),
+        }
+    }
+
+    /// The word of sixteen discretes that holds one of them.
+    pub(crate) fn group(&self, at: Ref) -> u16
+        requires place { HasPlace (words_of self.now) at }
+        requires kind { is_discrete at.kind ≡ true }
+        ensures { result ≡ group_of (words_of self.now) at }
+    {
+        let place = usize::from((at.number - 1) / 16);
+        if at.kind == RefKind::Coil {
+            self.coils[place]
+        } else {
+            self.inputs[place]
+        }
+    }
+
+    /// Stores the word of sixteen discretes that holds one of them.
+    pub(crate) fn set_group(&mut self, at: Ref, word: u16)
+        requires place { HasPlace (words_of self.old) at }
+        requires kind { is_discrete at.kind ≡ true }
+        ensures { words_of self.new ≡ with_group (words_of self.old) at word }
+    {
+        let place = usize::from((at.number - 1) / 16);
+        match at.kind {
+            RefKind::Coil => self.coils[place] = word,
+            RefKind::Input => self.inputs[place] = word,
+            RefKind::InputRegister | RefKind::Register => unreachable!(),
+        }
+    }
+
+    pub(crate) fn bit(&self, at: Ref) -> bool
+        requires place { HasPlace (words_of self.now) at }
+        requires kind { is_discrete at.kind ≡ true }
+        ensures { (if result then 1 else 0) ≡ number_at (words_of self.now) at }
+    {
+        bit_of(self.group(at), (at.number - 1) % 16)
+    }
+
+    pub(crate) fn set_bit(&mut self, at: Ref, on: bool)
+        requires place { HasPlace (words_of self.old) at }
+        requires kind { is_discrete at.kind ≡ true }
+        ensures { Sets (words_of self.old) (words_of self.new) at (if on then 1 else 0) }
+    {
+        let word = with_bit(self.group(at), (at.number - 1) % 16, on);
+        self.set_group(at, word);
+    }
+
+    pub(crate) fn word(&self, at: Ref) -> u16
+        requires place { HasPlace (words_of self.now) at }
+        requires kind { is_discrete at.kind ≡ false }
+        ensures { result ≡ number_at (words_of self.now) at }
+    {
+        let place = usize::from(at.number - 1);
+        if at.kind == RefKind::Register {
+            self.registers[place]
+        } else {
+            self.input_registers[place]
+        }
+    }
+
+    pub(crate) fn set_word(&mut self, at: Ref, value: u16)
+        requires place { HasPlace (words_of self.old) at }
+        requires kind { is_discrete at.kind ≡ false }
+        ensures { Sets (words_of self.old) (words_of self.new) at value }
+    {
+        let place = usize::from(at.number - 1);
+        match at.kind {
+            RefKind::InputRegister => self.input_registers[place] = value,
+            RefKind::Register => self.registers[place] = value,
+            RefKind::Coil | RefKind::Input => unreachable!(),
+        }
+    }
+
+    pub(crate) fn copy_from(&mut self, other: &Banks)
+        requires { IsWithin (words_of self.old) (words_of other.now) }
+        ensures { words_of self.new ≡ taken (words_of self.old) (words_of other.now) }
+    {
+        copy_words(&mut self.coils, &other.coils);
+        copy_words(&mut self.inputs, &other.inputs);
+        copy_words(&mut self.input_registers, &other.input_registers);
+        copy_words(&mut self.registers, &other.registers);
+    }
+}

@@ -1,0 +1,11 @@
+//! The references of a controller in packed words.
+#![tactic(auto)]
+
+mod banks;
+mod bits;
+mod packed;
+
+pub use packed::PackedRam;
+
+#[cfg(test)]
+mod tests;
