@@ -1,20 +1,22 @@
 -- What each step leaves of the agreement between flags and definitions.
-use Rattle.std.proofs.Common.{◌≡◌, ℕ, ◌+◌, ◌-◌, ◌<◌, ◌≤◌, zero, suc, get_or, set, Bool, true, false, ◌&&◌, ◌||◌, ◌==◌, List, [], ◌∷◌, ◌++◌, refl, ◌∙◌, sym, ap, subst, add-zero, length, take, ◌⊎◌, inl, inr, arith}
-use Rattle.std.specs.Prelude.{if◌then◌else◌}
+use Rattle.std.proofs.Common.{◌≡◌, ◌≢◌, ℕ, ◌+◌, ◌-◌, ◌<◌, ◌≤◌, zero, suc, get_or, set, Bool, true, false, ◌&&◌, ◌||◌, ◌==◌, List, [], ◌∷◌, ◌++◌, refl, ◌∙◌, sym, ap, subst, add-zero, length, ◌⊎◌, inl, inr, arith, get_or-set_same, get_or-set_other}
+use Rattle.std.specs.Prelude.{if◌then◌else◌, bit_or}
 use Rattle.std.proofs.lemmas.Bool.Decides.{nat_tests}
-use Rattle.std.proofs.lemmas.List.{take_more}
 use Rattle.plant_types.specs.declared.element.Element.{Element}
-use Rattle.plant_types.specs.declared.network.Cell.{Cell}
+use Rattle.ladder_solver.specs.declared.layout.Spot.{Spot}
+use Rattle.grid_compile.proofs.MaskLemmas.{row_on-past}
 use Rattle.plant_types.specs.declared.network.Short.{Short}
 use Rattle.plant_types.specs.declared.power.NodePower.{NodePower}
 use Rattle.plant_types.specs.Network.{is_row}
 use Rattle.plant_types.specs.Store.{Contents}
 use Rattle.timer_ops.specs.declared.Clock.{Clock}
 use Rattle.ladder_solver.specs.State.{Places, State, with_place}
-use Rattle.ladder_solver.specs.Network.{Power, Place, Site, is_live, inputs_at, place_in, with_output, with_outputs, element_at}
-use Rattle.ladder_solver.specs.Rows.{flags_at, marks_of, are_linked, reaches, FeedsAll}
-use Rattle.ladder_solver.specs.Agreement.{Agrees, AgreesPower, GivesEffect, SolvesCells, cells_after}
-use Rattle.ladder_solver.proofs.Spread.{are_linked-joined}
+use Rattle.ladder_solver.specs.Network.{Power, Place, Site, is_live, is_fed, inputs_at, place_in, with_output, with_outputs, element_at}
+use Rattle.ladder_solver.specs.Rows.{flag_of, flags_at, marks_of, reaches_of, three_from, fed_rows, reaches, FeedsAll}
+use Rattle.grid_compile.specs.Masks.{are_linked}
+use Rattle.ladder_solver.specs.Agreement.{AgreesPower, AgreesState, GivesEffect, SolvesSpot, is_in_column}
+use Rattle.ladder_solver.specs.Edges.{row_bit}
+use Rattle.ladder_solver.proofs.Spread.{are_linked-joined, marks-small, fed_rows-feeds, fed_rows-small}
 use Rattle.ladder_solver.proofs.States.{edge_at, AgreesState-cell}
 
 -- a column is no other column
@@ -78,62 +80,116 @@ elsewhere shorts on c column row r outputs apart =
     ∙ elsewhere_place shorts top c column (row + 1) r (outputs.middle && is_row (row + 1)) apart
     ∙ elsewhere_place shorts on c column row r (outputs.top && is_row row) apart
 
+-- a row of the seven, or below them
+rows_or : (r : ℕ) → (r ≤ 7) ⊎ (7 < r)
+rows_or r = grind arith
+
+-- by the test of a row
+in_rows : (r : ℕ) → 1 ≤ r → ((r ≤ 7) × (is_row r ≡ true)) ⊎ ((7 < r) × (is_row r ≡ false))
+in_rows r h = elim (rows_or r) [ inl low ↦ inl (low, grind (arith, nat_tests)) | inr past ↦ inr (past, grind (arith, nat_tests)) ]
+
+-- a row is fed as its flag says, none below the seventh
+fed_row : (r : ℕ) (x : Bool) (mask : ℕ) → mask < 128 → 1 ≤ r → (r ≤ 7 → x ≡ flag_of mask r)
+    → is_row r && x ≡ flag_of mask r
+fed_row r x mask small low within =
+    elim (in_rows r low) [
+      | inl (high, here) ↦ rw here (within high)
+      | inr (past, gone) ↦ rw gone (sym (row_on-past mask r small past))
+    ]
+
+-- each row of seven
+all_on : (r : ℕ) → 1 ≤ r → r ≤ 7 → true ≡ flag_of 127 r
+all_on zero low high = absurd (omega arith)
+all_on (suc zero) low high = refl
+all_on (suc (suc zero)) low high = refl
+all_on (suc (suc (suc zero))) low high = refl
+all_on (suc (suc (suc (suc zero)))) low high = refl
+all_on (suc (suc (suc (suc (suc zero))))) low high = refl
+all_on (suc (suc (suc (suc (suc (suc zero)))))) low high = refl
+all_on (suc (suc (suc (suc (suc (suc (suc zero))))))) low high = refl
+all_on (suc (suc (suc (suc (suc (suc (suc (suc r)))))))) low high = absurd (omega arith)
+
+-- two numbers are one, or differ
+same_or_other : (a b : ℕ) → (a ≡ b) ⊎ ((a ≢ b) × ((b == a) ≡ false))
+same_or_other a b = elim (three_ways a b) [
+  | inl e ↦ inl e
+  | inr (inl more) ↦ inr (λ e. omega arith, grind (arith, nat_tests))
+  | inr (inr less) ↦ inr (λ e. omega arith, grind (arith, nat_tests))
+]
+  where
+    three_ways : (k n : ℕ) → (k ≡ n) ⊎ ((n < k) ⊎ (k < n))
+    three_ways k n = grind arith
+
 -- the outputs of a block
-AgreesPower-outputs : (shorts : List Short) (column row : ℕ) (left next after : List Bool) (p : Power) (outputs : NodePower) (s : State)
-    → 1 ≤ column → 1 ≤ row
-    → AgreesPower shorts column left next p → FeedsAll outputs (marks_of shorts column) row next after
-    → AgreesPower shorts column left after (record { state = s; on = with_outputs outputs column row p.on })
-AgreesPower-outputs shorts column row left next after p outputs s first low h feeds = record {
-  fed = λ r a. let apart : (column == (column - 1)) ≡ false = other_column_below column (column - 1) (omega arith) in
-      ap (λ b. is_row r && ((column == 1) || b)) (elsewhere shorts p.on (column - 1) column row r outputs apart) ∙ h.fed r a;
-  live = λ r a b.
-      live_outputs shorts p.on column row r outputs low a b
-      ∙ ap (λ x. reaches outputs.bottom (marks_of shorts column) (row + 2) r || (reaches outputs.middle (marks_of shorts column) (row + 1) r || (reaches outputs.top (marks_of shorts column) row r || x))) (h.live r a b)
-      ∙ sym (feeds r a b);
-  beyond = λ c r above. elsewhere shorts p.on c column row r outputs (other_column column c above) ∙ h.beyond c r above;
+AgreesPower-outputs : (shorts : List Short) (column row : ℕ) (live : List ℕ) (next : ℕ) (p : Power) (outputs : NodePower) (s : State)
+    → 1 ≤ column → column < length live → 1 ≤ row → next < 128
+    → AgreesPower shorts live p → FeedsAll outputs (marks_of shorts column) row (get_or live column 0) next
+    → AgreesPower shorts (set live column next) (record { state = s; on = with_outputs outputs column row p.on })
+AgreesPower-outputs shorts column row live next p outputs s first within low small h feeds = record {
+  start = get_or-set_other live column 0 next 0 (λ e. omega arith) ∙ h.start;
+  small = λ c. elim (same_or_other c column) [
+    | inl e ↦ subst (λ n. n < 128) (sym (ap (λ k. get_or (set live column next) k 0) e ∙ get_or-set_same live column next 0 within)) small
+    | inr other ↦ subst (λ n. n < 128) (sym (get_or-set_other live column c next 0 other.0)) (h.small c)
+  ];
+  live = λ c r one from to. elim (same_or_other c column) [
+    | inl e ↦
+        ap (λ k. is_live shorts (with_outputs outputs column row p.on) k r) e
+        ∙ live_outputs shorts p.on column row r outputs low from to
+        ∙ ap (λ x. reaches outputs.bottom (marks_of shorts column) (row + 2) r || (reaches outputs.middle (marks_of shorts column) (row + 1) r || (reaches outputs.top (marks_of shorts column) row r || x))) (h.live column r first from to)
+        ∙ sym (feeds r from to)
+        ∙ ap (λ n. flag_of n r) (sym (ap (λ k. get_or (set live column next) k 0) e ∙ get_or-set_same live column next 0 within))
+    | inr other ↦
+        elsewhere shorts p.on c column row r outputs other.1 ∙ h.live c r one from to
+        ∙ ap (λ n. flag_of n r) (sym (get_or-set_other live column c next 0 other.0))
+  ];
 }
 
+-- at the left border of column 1 each row is live, at any other border as the mask says
+fed_at : (shorts : List Short) (column r : ℕ) (live : List ℕ) (p : Power) → 1 ≤ column → 1 ≤ r → r ≤ 7 → AgreesPower shorts live p
+    → (column == 1) || is_live shorts p.on (column - 1) r ≡ flag_of (get_or live (column - 1) 0) r
+fed_at shorts column r live p first low high h = elim (same_or_other column 1) [
+  | inl e ↦
+      let yes : (column == 1) ≡ true = grind (arith, nat_tests) in
+      let back : column - 1 ≡ 0 = omega arith in
+      rw yes (all_on r low high ∙ ap (λ n. flag_of n r) (sym (ap (λ k. get_or live k 0) back ∙ h.start)))
+  | inr other ↦
+      let no : (column == 1) ≡ false = grind (arith, nat_tests, other.0) in
+      let more : 1 ≤ column - 1 = one_less column first other.0 in
+      rw no (h.live (column - 1) r more low high)
+]
+  where
+    one_less : (n : ℕ) → 1 ≤ n → n ≢ 1 → 1 ≤ n - 1
+    one_less zero low other = absurd (omega arith)
+    one_less (suc zero) low other = absurd (other refl)
+    one_less (suc (suc n)) low other = omega arith
+
 -- the inputs of a block are the flags of its rows
-inputs_at-flags : (shorts : List Short) (column row : ℕ) (left next : List Bool) (p : Power) → 1 ≤ row
-    → AgreesPower shorts column left next p → inputs_at shorts p.on column row ≡ flags_at left row
-inputs_at-flags shorts column row left next p low h =
-    λ i. record { top = h.fed row low i; middle = h.fed (row + 1) (omega arith) i; bottom = h.fed (row + 2) (omega arith) i }
+inputs_at-flags : (shorts : List Short) (column row : ℕ) (live : List ℕ) (p : Power) → 1 ≤ column → 1 ≤ row
+    → AgreesPower shorts live p → inputs_at shorts p.on column row ≡ flags_at (get_or live (column - 1) 0) row
+inputs_at-flags shorts column row live p first low h =
+    let fed : (r : ℕ) → 1 ≤ r → is_fed shorts p.on column r ≡ flag_of (get_or live (column - 1) 0) r =
+    λ r a. fed_row r _ (get_or live (column - 1) 0) (h.small (column - 1)) a (λ b. fed_at shorts column r live p first a b h) in
+    λ i. record { top = fed row low i; middle = fed (row + 1) (omega arith) i; bottom = fed (row + 2) (omega arith) i }
 
 -- a whole cell
-Agrees-cell : (shorts : List Short) (site : Site) (column row : ℕ) (element : Element) (left next after edges : List Bool) (edge_after : Bool) (start : Places) (old new past : Contents) (clock : Clock) (outputs : NodePower) (p : Power)
-    → 1 ≤ column → 1 ≤ row → row ≤ length edges
-    → GivesEffect element (flags_at left row) clock past (get_or edges (row - 1) false) edge_after old new outputs
-    → FeedsAll outputs (marks_of shorts column) row next after
-    → Agrees shorts site column left next edges start old past clock p
-    → Agrees shorts site column left after (set edges (row - 1) edge_after) start new past clock (element_at shorts site column row element p)
-Agrees-cell shorts site column row element left next after edges edge_after start old new past clock outputs p first low high effect feeds h =
+pub SolvesSpot-done : (spot : Spot) (live : List ℕ) (next : ℕ) (clock : Clock) (past : Contents) (edges : List Bool) (edge_after : Bool) (old new : Contents) (outputs : NodePower)
+    → 1 ≤ spot.column → spot.column < length live → 1 ≤ spot.row → spot.row ≤ 7 → length edges ≡ 7
+    → GivesEffect spot.element (flags_at (get_or live (spot.column - 1) 0) spot.row) clock past (get_or edges (spot.row - 1) false) edge_after old new outputs
+    → next ≡ bit_or (get_or live spot.column 0) (fed_rows outputs spot.reaches)
+    → SolvesSpot spot live (set live spot.column next) clock past edges (set edges (spot.row - 1) edge_after) old new
+SolvesSpot-done spot live next clock past edges edge_after old new outputs first within low high seven effect fed shorts site start p same power state =
+    let column = spot.column in
+    let row = spot.row in
+    let marks = marks_of shorts column in
+    let was = get_or live column 0 in
     let place = place_in site column row in
     let s : State = record p.state { map = new; edges = with_place p.state.edges place edge_after } in
-    let e : element_at shorts site column row element p ≡ record { state = s; on = with_outputs outputs column row p.on } =
-    rw (inputs_at-flags shorts column row left next p low h.power, effect place p.state h.state.map h.state.past h.state.clock (edge_at site column row edges start old past clock p.state low h.state)) refl in
-    rw e record {
-      power = AgreesPower-outputs shorts column row left next after p outputs s first low h.power feeds;
-      state = AgreesState-cell site column row edges start old past clock p.state edge_after new low high h.state;
-    }
-
--- one cell more
-cells_after-more : (shorts : List Short) (site : Site) (column : ℕ) (cells : List Cell) (cell : Cell) (p : Power)
-    → cells_after shorts site column (cells ++ cell ∷ []) p ≡ element_at shorts site column cell.row cell.element (cells_after shorts site column cells p)
-cells_after-more shorts site column [] cell p = refl
-cells_after-more shorts site column (x ∷ cells) cell p = cells_after-more shorts site column cells cell (element_at shorts site column x.row x.element p)
-
--- the same for a column so far
-pub SolvesCells-more : (marks : List Bool) (cells : List Cell) (i : ℕ) (d : Cell) (left next after edges : List Bool) (edge_after : Bool) (edges_start : List Bool) (old now new past : Contents) (clock : Clock) (outputs : NodePower)
-    → i < length cells → 1 ≤ (get_or cells i d).row → (get_or cells i d).row ≤ 7 → length edges ≡ 7
-    → SolvesCells marks (take i cells) left next clock past edges_start edges old now
-    → GivesEffect (get_or cells i d).element (flags_at left (get_or cells i d).row) clock past (get_or edges ((get_or cells i d).row - 1) false) edge_after now new outputs
-    → FeedsAll outputs marks (get_or cells i d).row next after
-    → SolvesCells marks (take (i + 1) cells) left after clock past edges_start (set edges ((get_or cells i d).row - 1) edge_after) old new
-SolvesCells-more marks cells i d left next after edges edge_after edges_start old now new past clock outputs within low high seven so_far effect feeds shorts site column start p first same h =
-    let cell = get_or cells i d in
-    let so_far_done = cells_after shorts site column (take i cells) p in
-    let more : cells_after shorts site column (take (i + 1) cells) p ≡ element_at shorts site column cell.row cell.element so_far_done =
-    ap (λ c. cells_after shorts site column c p) (take_more cells i d within) ∙ cells_after-more shorts site column (take i cells) cell p in
-    rw more
-    (Agrees-cell shorts site column cell.row cell.element left next after edges edge_after start now new past clock outputs so_far_done first low (omega arith) effect (rw same at feeds)
-    (so_far shorts site column start p first same h))
+    let is : next ≡ bit_or was (fed_rows outputs (three_from (reaches_of marks) row)) = fed ∙ ap (λ xs. bit_or was (fed_rows outputs xs)) same in
+    let small : next < 128 = subst (λ n. n < 128) (sym is) (fed_rows-small outputs marks row was (marks-small shorts column) low high (power.small column)) in
+    let feeds : FeedsAll outputs marks row was next = subst (λ n. FeedsAll outputs marks row was n) (sym is) (fed_rows-feeds outputs marks row was (marks-small shorts column) low high) in
+    let e : element_at shorts site column row spot.element p ≡ record { state = s; on = with_outputs outputs column row p.on } =
+    rw (inputs_at-flags shorts column row live p first low power, effect place p.state state.map state.past state.clock (edge_at site column row edges start old past clock p.state low state)) refl in (
+      subst (λ q. AgreesPower shorts (set live column next) q) (sym e) (AgreesPower-outputs shorts column row live next p outputs s first within low small power feeds),
+      subst (λ (q : Power). AgreesState (is_in_column site column) (row_bit (set edges (row - 1) edge_after)) start new past clock q.state) (sym e)
+          (AgreesState-cell site column row edges start old past clock p.state edge_after new low (omega arith) state),
+    )

@@ -1,0 +1,10 @@
+//! Networks laid out by columns, with a mask of shorts for each.
+#![tactic(auto)]
+
+mod grid;
+mod joining;
+#[cfg(test)]
+mod tests;
+
+pub use grid::{Column, Grid, Op, each_column_listed};
+pub use joining::column_join;
