@@ -3,7 +3,8 @@ use Rattle.std.proofs.Common.{◌≡◌, ℕ, ◌+◌, ◌<◌, Bool, List, [], 
 use Rattle.std.specs.Prelude.{if◌then◌else◌, IfOk, IsErrOf, ◌↔◌}
 use Rattle.std.proofs.lemmas.Bool.Decides.{nat_tests}
 use Rattle.modbus_pdu.specs.Spelling.{Spells, SpellsReply, IsReplyTo, IsEchoed, function_of, exception_code}
-use Rattle.modbus_pdu.specs.Decoding.{Finds, IsBits, IsWords, IsWritten, IsStats, IsSame, IsNormal, IsSpelledReply}
+use Rattle.modbus_pdu.specs.Decoding.{IsSpelledReply, IsOnlyReply, HasNoReply}
+use Rattle.modbus_pdu.specs.Steps.{Finds, IsBits, IsWords, IsWritten, IsStats, IsSame, IsNormal}
 use Rattle.modbus_pdu.specs.declared.end.BadReply.{BadReply}
 use Rattle.modbus_pdu.specs.declared.end.BadReply.TheVariants.{Form, NoMemory}
 use Rattle.modbus_pdu.specs.declared.reply.Reply.{Reply}
@@ -215,11 +216,6 @@ same_head head code rest bytes request e small h =
     let is = exception_is request in
     omega arith
 
--- An exception reply is no spelled request.
-spelled_head : (code : ℕ) (bytes : List ℕ) (request again : Request) → Spells bytes again → ¬ IsExceptionOf request bytes code
-spelled_head code [] request again s h = s
-spelled_head code (head ∷ rest) request again s h = let small = function_small again in same_head head code rest (head ∷ rest) request refl (omega (arith, s.code)) h
-
 -- No other reply is spelled by an exception reply.
 pub not_normal : (code : ℕ) (bytes : List ℕ) (request : Request) (reply : Reply) → IsExceptionOf request bytes code → ¬ IsNormal request bytes reply
 not_normal code bytes request (replies.Bits function bits) h n = elim n.1.range.0 [
@@ -233,7 +229,8 @@ not_normal code bytes request (replies.Words function words) h n = elim n.1.rang
     | inr e ↦ same_head function code _ bytes request n.1.form (omega (arith, e)) h
   ]
 ]
-not_normal code bytes request (replies.Same again) h n = spelled_head code bytes request again n.1.form h
+not_normal code bytes request (replies.Same again) h n =
+    same_head (function_of again) code _ bytes request n.1.form (function_small again) h
 not_normal code bytes request (replies.Written function address quantity) h n = elim n.1.range [
   | inl e ↦ same_head function code _ bytes request n.1.form (omega (arith, e)) h
   | inr e ↦ same_head function code _ bytes request n.1.form (omega (arith, e)) h
@@ -280,13 +277,13 @@ normal_found bytes request r none = Finds-same _ _ r to from
 
 -- The only reply that is found is the only one to the request that the bytes spell.
 pub found_only : (bytes : List ℕ) (request : Request) (r : Result Reply BadReply) → Finds (IsSpelledReply request bytes) r
-    → IfOk r (λ reply. (other : Reply) → IsReplyTo request other → SpellsReply bytes other → other ≡ reply)
-found_only bytes request (Ok reply) h = λ other to spelled. h.1 other (to, spelled)
+    → IfOk r (IsOnlyReply request bytes)
+found_only bytes request (Ok reply) h = h.1
 found_only bytes request (Err e) h = tt
 
 -- Form is found exactly where the bytes spell no reply to the request.
 pub found_form : (bytes : List ℕ) (request : Request) (r : Result Reply BadReply) → Finds (IsSpelledReply request bytes) r
-    → IsErrOf r Form ↔ ((reply : Reply) → IsReplyTo request reply → ¬ SpellsReply bytes reply)
-found_form bytes request (Ok reply) h = (λ e. absurd cc, λ none. absurd (none reply h.0.0 h.0.1))
-found_form bytes request (Err Form) h = (λ e reply to spelled. h reply (to, spelled), λ none. refl)
-found_form bytes request (Err NoMemory) h = (λ e. absurd cc, λ none. absurd (none h.0 h.1.0 h.1.1))
+    → IsErrOf r Form ↔ HasNoReply request bytes
+found_form bytes request (Ok reply) h = (λ e. absurd cc, λ none. absurd (none reply h.0))
+found_form bytes request (Err Form) h = (λ e. h, λ none. refl)
+found_form bytes request (Err NoMemory) h = (λ e. absurd cc, λ none. absurd (none h.0 h.1))

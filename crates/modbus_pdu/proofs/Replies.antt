@@ -2,13 +2,14 @@
 use Rattle.std.proofs.Common.{◌≡◌, ◌≢◌, ℕ, zero, suc, ◌+◌, ◌-◌, ◌*◌, ◌^◌, ◌<◌, ◌≤◌, Bool, false, List, [], ◌∷◌, ◌++◌, length, take, drop, replicate, get_or, Ok, Err, refl, ap, subst, sym, ◌∙◌, arith}
 use Rattle.std.specs.Prelude.{◌⊎◌, ◌==◌, if◌then◌else◌}
 use Rattle.std.proofs.lemmas.List.{take_at, drop_at, take-append-drop, length-append, length-take, length-drop, length-replicate, get_or-drop}
-use Rattle.modbus_pdu.specs.Bytes.{word_bytes, words_bytes, packed, unpacked, bytes_for, clear_spare, counted_bits, counted_words}
-use Rattle.modbus_pdu.specs.Spelling.{IsUpTo}
-use Rattle.modbus_pdu.specs.Decoding.{Finds, IsBits, IsWords, IsStats}
+use Rattle.modbus_pdu.specs.Bytes.{word_bytes, words_bytes, words_in, packed, unpacked, bytes_for, clear_spare, counted_bits, counted_words}
+use Rattle.modbus_pdu.specs.Quantities.{IsUpTo}
+use Rattle.modbus_pdu.specs.Spelling.{operation_for}
+use Rattle.modbus_pdu.specs.Steps.{IsClear, Finds, IsBits, IsWords, IsStats}
 use Rattle.modbus_pdu.specs.declared.end.BadReply.TheVariants.{NoMemory}
 use Rattle.modbus_pdu.specs.declared.reply.Reply.{Reply}
 use Rattle.modbus_pdu.specs.declared.reply.Reply.TheVariants as replies
-use Rattle.modbus_pdu.proofs.Bytes.{IsBytes, word_is, length-words_bytes, words_is, paired, words_paired}
+use Rattle.modbus_pdu.proofs.Bytes.{IsBytes, word_is, length-words_bytes, words_is, words_again}
 use Rattle.modbus_pdu.proofs.Packing.{length-packed, length-unpacked, packed-unpacked, unpacked-packed}
 use Rattle.modbus_pdu.proofs.Registers.{counted_is}
 
@@ -50,7 +51,7 @@ words_found f q bytes x words listed e range count is =
 
 -- The words that bytes tell.
 pub words_there : (f q : ℕ) (bytes x : List ℕ) → (f ≡ 3) ⊎ (f ≡ 4) ⊎ (f ≡ 23) → IsBytes bytes → Behind f bytes x → IsUpTo 125 q → length x ≡ 2 * q → Finds (IsWords f q bytes) (Err NoMemory)
-words_there f q bytes x listed fits e range count = (replies.Words f (paired x), (words_found f q bytes x (paired x) listed e range count (words_paired x q (behind_fits f bytes x fits e) count)).0)
+words_there f q bytes x listed fits e range count = (replies.Words f (words_in x), (words_found f q bytes x (words_in x) listed e range count (words_again x q (behind_fits f bytes x fits e) count)).0)
 
 -- Bits stand behind their count.
 bits_behind : (f code : ℕ) (bytes : List ℕ) (bits spare : List Bool) → code ≡ f → bytes ≡ code ∷ counted_bits bits spare → Behind f bytes (packed (bytes_for (length bits)) (bits ++ spare))
@@ -68,10 +69,6 @@ bits_are f q bytes x e code bits h =
     let rest = behind_one f f bytes (packed (bytes_for (length bits)) (bits ++ spare)) x (bits_behind f code bytes bits spare h.0.0 h.1.form) e in
     let full : length (bits ++ spare) ≡ 8 * bytes_for (length bits) = omega (arith, length-append bits spare, length-replicate {A = Bool} (8 * bytes_for (length bits) - length bits) false) in
     sym (unpacked-packed (bytes_for (length bits)) (bits ++ spare) full) ∙ ap unpacked rest
-
--- Whether the bits behind the first so many are 0.
-abbrev pub IsClear : List ℕ → ℕ → Type 0
-IsClear x q = (place : ℕ) → q ≤ place → place < 8 * length x → get_or (unpacked x) place false ≡ false
 
 clear-replicate : (count i : ℕ) → get_or (replicate count false) i false ≡ false
 clear-replicate zero i = refl
@@ -127,26 +124,22 @@ bits_there f q bytes x listed fits e range count clear = (replies.Bits f (take q
 abbrev pub BehindOperation : List ℕ → ℕ → List ℕ → Type 0
 BehindOperation bytes operation rest = bytes ≡ 8 ∷ word_bytes 21 ++ word_bytes operation ++ rest
 
--- The operation for so many words.
-abbrev operation_of : ℕ → ℕ
-operation_of quantity = if quantity == 0 then 4 else 3
-
 -- No statistics are told where no operation stands.
 pub no_stats : (q : ℕ) (bytes : List ℕ) → ((operation : ℕ) (rest : List ℕ) → bytes ≢ 8 ∷ word_bytes 21 ++ word_bytes operation ++ rest) → (reply : Reply) → ¬ IsStats q bytes reply
-no_stats q bytes none (replies.Stats words) h = none (operation_of (length words)) (words_bytes words) h.1.form
+no_stats q bytes none (replies.Stats words) h = none (operation_for (length words)) (words_bytes words) h.1.form
 no_stats q bytes none _ h = absurd h
 
 -- No statistics are told where the operation or the length does not fit.
-pub stats_unfit : (q : ℕ) (bytes : List ℕ) (operation : ℕ) (rest : List ℕ) → BehindOperation bytes operation rest → (operation ≡ operation_of q → length rest ≢ 2 * q) → (reply : Reply) → ¬ IsStats q bytes reply
+pub stats_unfit : (q : ℕ) (bytes : List ℕ) (operation : ℕ) (rest : List ℕ) → BehindOperation bytes operation rest → (operation ≡ operation_for q → length rest ≢ 2 * q) → (reply : Reply) → ¬ IsStats q bytes reply
 stats_unfit q bytes operation rest e unfit (replies.Stats words) h =
-    let both : 8 ∷ word_bytes 21 ++ word_bytes operation ++ rest ≡ 8 ∷ word_bytes 21 ++ word_bytes (operation_of (length words)) ++ words_bytes words = sym e ∙ h.1.form in
-    let tail : word_bytes operation ++ rest ≡ word_bytes (operation_of (length words)) ++ words_bytes words = cc in
-    let one = word_is operation (operation_of (length words)) rest (words_bytes words) tail in
-    unfit (one.0 ∙ ap operation_of h.0) (ap length one.1 ∙ length-words_bytes words ∙ ap (λ (n : ℕ). 2 * n) h.0)
+    let both : 8 ∷ word_bytes 21 ++ word_bytes operation ++ rest ≡ 8 ∷ word_bytes 21 ++ word_bytes (operation_for (length words)) ++ words_bytes words = sym e ∙ h.1.form in
+    let tail : word_bytes operation ++ rest ≡ word_bytes (operation_for (length words)) ++ words_bytes words = cc in
+    let one = word_is operation (operation_for (length words)) rest (words_bytes words) tail in
+    unfit (one.0 ∙ ap operation_for h.0) (ap length one.1 ∙ length-words_bytes words ∙ ap (λ (n : ℕ). 2 * n) h.0)
 stats_unfit q bytes operation rest e unfit _ h = absurd h
 
 -- Statistics that were read from the bytes are the reply.
-pub stats_found : (q : ℕ) (bytes : List ℕ) (operation : ℕ) (rest words : List ℕ) → (q ≡ 0) ⊎ (q ≡ 20) → BehindOperation bytes operation rest → operation ≡ operation_of q → length rest ≡ 2 * q → words_bytes words ≡ rest → Finds (IsStats q bytes) (Ok (replies.Stats words))
+pub stats_found : (q : ℕ) (bytes : List ℕ) (operation : ℕ) (rest words : List ℕ) → (q ≡ 0) ⊎ (q ≡ 20) → BehindOperation bytes operation rest → operation ≡ operation_for q → length rest ≡ 2 * q → words_bytes words ≡ rest → Finds (IsStats q bytes) (Ok (replies.Stats words))
 stats_found q bytes operation rest words listed e op count is =
     let long : length words ≡ q = omega (arith, length-words_bytes words, ap length is) in
     let P : ℕ → Type 0 = λ n. (n ≡ 0) ⊎ (n ≡ 20) in (
@@ -154,7 +147,7 @@ stats_found q bytes operation rest words listed e op count is =
         long,
         record {
           range = subst P (sym long) listed;
-          form = e ∙ ap (λ (n : ℕ). 8 ∷ word_bytes 21 ++ word_bytes n ++ rest) (op ∙ ap operation_of (sym long)) ∙ ap (λ (xs : List ℕ). 8 ∷ word_bytes 21 ++ word_bytes (operation_of (length words)) ++ xs) (sym is);
+          form = e ∙ ap (λ (n : ℕ). 8 ∷ word_bytes 21 ++ word_bytes n ++ rest) (op ∙ ap operation_for (sym long)) ∙ ap (λ (xs : List ℕ). 8 ∷ word_bytes 21 ++ word_bytes (operation_for (length words)) ++ xs) (sym is);
         },
       ),
       only,
@@ -162,14 +155,14 @@ stats_found q bytes operation rest words listed e op count is =
   where
     only : (other : Reply) → IsStats q bytes other → other ≡ replies.Stats words
     only (replies.Stats others) h =
-        let both : 8 ∷ word_bytes 21 ++ word_bytes operation ++ rest ≡ 8 ∷ word_bytes 21 ++ word_bytes (operation_of (length others)) ++ words_bytes others = sym e ∙ h.1.form in
-        let tail : word_bytes operation ++ rest ≡ word_bytes (operation_of (length others)) ++ words_bytes others = cc in
-        let one = word_is operation (operation_of (length others)) rest (words_bytes others) tail in
+        let both : 8 ∷ word_bytes 21 ++ word_bytes operation ++ rest ≡ 8 ∷ word_bytes 21 ++ word_bytes (operation_for (length others)) ++ words_bytes others = sym e ∙ h.1.form in
+        let tail : word_bytes operation ++ rest ≡ word_bytes (operation_for (length others)) ++ words_bytes others = cc in
+        let one = word_is operation (operation_for (length others)) rest (words_bytes others) tail in
         ap (λ (xs : List ℕ). replies.Stats xs) (words_is others words (sym one.1 ∙ sym is))
     only _ h = absurd h
 
 -- The statistics that bytes tell.
-pub stats_there : (q : ℕ) (bytes : List ℕ) (operation : ℕ) (rest : List ℕ) → (q ≡ 0) ⊎ (q ≡ 20) → IsBytes bytes → BehindOperation bytes operation rest → operation ≡ operation_of q → length rest ≡ 2 * q → Finds (IsStats q bytes) (Err NoMemory)
+pub stats_there : (q : ℕ) (bytes : List ℕ) (operation : ℕ) (rest : List ℕ) → (q ≡ 0) ⊎ (q ≡ 20) → IsBytes bytes → BehindOperation bytes operation rest → operation ≡ operation_for q → length rest ≡ 2 * q → Finds (IsStats q bytes) (Err NoMemory)
 stats_there q bytes operation rest listed fits e op count =
     let behind : IsBytes rest = λ i. subst (λ (xs : List ℕ). get_or xs (suc (suc (suc (suc (suc i))))) 0 < 2 ^ 8) e (fits (suc (suc (suc (suc (suc i)))))) in
-    (replies.Stats (paired rest), (stats_found q bytes operation rest (paired rest) listed e op count (words_paired rest q behind count)).0)
+    (replies.Stats (words_in rest), (stats_found q bytes operation rest (words_in rest) listed e op count (words_again rest q behind count)).0)

@@ -69,7 +69,8 @@ impl Draft {
     pub(crate) fn bits(&mut self, bits: &[bool])
         requires room { length self.old + bytes_for (length bits.now) ≤ 253 }
         requires most { length bits.now ≤ 2000 }
-        ensures bytes { self.new ≡ self.old ++ packed (bytes_for (length bits.now)) (bits.now ++ clear_spare (length bits.now)) }
+        ensures bytes { let count = length bits.now in
+            self.new ≡ self.old ++ packed (bytes_for count) (bits.now ++ clear_spare count) }
         ensures length { length self.new ≡ length self.old + bytes_for (length bits.now) }
     {
         for index in 0..bytes_for(bits.len()) {

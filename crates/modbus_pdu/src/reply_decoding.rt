@@ -1,12 +1,19 @@
 //! Replies from bytes.
-ghost use Rattle.std.specs.Prelude.{◌≡◌, ◌≢◌, if◌then◌else◌, ℕ, ◌≤◌, ◌<◌, ◌⊎◌, List, [], ◌∷◌, ◌++◌, length, IsTrue, IfOk, IsErrOf, ◌↔◌, MatchOption};
+ghost use Rattle.std.specs.Prelude.{◌≡◌, ◌≢◌, if◌then◌else◌, ℕ, ◌≤◌, ◌<◌, ◌⊎◌, List, [], ◌∷◌, ◌++◌};
+ghost use Rattle.std.specs.Prelude.{length, IsTrue, IfOk, IsErrOf, ◌↔◌, MatchOption};
 ghost use Rattle.modbus_pdu.specs.Bytes.{word_bytes};
-ghost use Rattle.modbus_pdu.specs.Decoding.{Finds, IsBits, IsWords, IsWritten, IsStats, IsSame, IsNormal, IsSpelledReply};
+ghost use Rattle.modbus_pdu.specs.Decoding.{IsSpelledReply, IsOnlyReply, HasReply, HasNoReply};
+ghost use Rattle.modbus_pdu.specs.Quantities.{statistics_words};
 ghost use Rattle.modbus_pdu.specs.Spelling.{function_of, exception_code, IsReplyTo, SpellsReply};
+ghost use Rattle.modbus_pdu.specs.Steps.{Finds, IsBits, IsWords, IsWritten, IsStats, IsSame};
+ghost use Rattle.modbus_pdu.specs.Steps.{IsNormal, IsWriting};
 
 use crate::bits::{bytes_for, spare_is_clear, unpack};
 use crate::encoding::{exception_code, stats_operation};
 use crate::end::BadReply;
+use crate::limits::{
+    COILS_WRITTEN, DISCRETES_READ, REGISTERS_READ, REGISTERS_WRITTEN, STATISTICS_WORDS,
+};
 use crate::numbers::{counted, three_words, two_words, word_at, words_in};
 use crate::reply::Reply;
 use crate::request::Request;
@@ -43,14 +50,13 @@ fn bits_from(alloc: Global, function: u8, quantity: u16, bytes: &[u8]) -> Result
     let Some(packed) = counted_behind(function, bytes) else {
         return Err(BadReply::Form);
     };
-    let quantity = quantity as usize;
-    if quantity < 1 || quantity > 2000 || packed.len() != bytes_for(quantity) {
+    if quantity < 1 || quantity > DISCRETES_READ || packed.len() != bytes_for(quantity as usize) {
         return Err(BadReply::Form);
     }
-    if !spare_is_clear(packed, quantity) {
+    if !spare_is_clear(packed, quantity as usize) {
         return Err(BadReply::Form);
     }
-    let bits = unpack(alloc, packed, quantity)?;
+    let bits = unpack(alloc, packed, quantity as usize)?;
     Ok(Reply::Bits { function, bits })
 }
 
@@ -61,11 +67,10 @@ fn words_from(alloc: Global, function: u8, quantity: u16, bytes: &[u8]) -> Resul
     let Some(rest) = counted_behind(function, bytes) else {
         return Err(BadReply::Form);
     };
-    let quantity = quantity as usize;
-    if quantity < 1 || quantity > 125 || rest.len() != 2 * quantity {
+    if quantity < 1 || quantity > REGISTERS_READ || rest.len() != 2 * quantity as usize {
         return Err(BadReply::Form);
     }
-    let words = words_in(alloc, rest, quantity)?;
+    let words = words_in(alloc, rest, quantity as usize)?;
     Ok(Reply::Words { function, words })
 }
 
@@ -76,7 +81,7 @@ fn written_from(
     most: u16,
     bytes: &[u8],
 ) -> Result<Reply, BadReply>
-    requires { ((function ≡ 15) × (most ≡ 1968)) ⊎ ((function ≡ 16) × (most ≡ 123)) }
+    requires { IsWriting function most }
     ensures { Finds (IsWritten function address quantity bytes.now) result }
 {
     match two_behind(function, bytes) {
@@ -105,7 +110,7 @@ fn operation_behind(bytes: &[u8]) -> Option<(u16, &[u8])>
 }
 
 fn stats_from(alloc: Global, quantity: usize, bytes: &[u8]) -> Result<Reply, BadReply>
-    requires { (quantity ≡ 0) ⊎ (quantity ≡ 20) }
+    requires { (quantity ≡ 0) ⊎ (quantity ≡ statistics_words) }
     ensures { Finds (IsStats quantity bytes.now) result }
 {
     let Some((operation, rest)) = operation_behind(bytes) else {
@@ -169,10 +174,10 @@ fn mask_from(address: u16, and_mask: u16, or_mask: u16, bytes: &[u8]) -> Result<
 
 /// How many words of statistics are due.
 fn stats_quantity(clear: bool) -> usize
-    ensures due { result ≡ (if clear then 0 else 20) }
-    ensures either { (result ≡ 0) ⊎ (result ≡ 20) }
+    ensures due { result ≡ (if clear then 0 else statistics_words) }
+    ensures either { (result ≡ 0) ⊎ (result ≡ statistics_words) }
 {
-    if clear { 0 } else { 20 }
+    if clear { 0 } else { STATISTICS_WORDS }
 }
 
 fn normal_reply(alloc: Global, request: &Request, bytes: &[u8]) -> Result<Reply, BadReply>
@@ -188,10 +193,10 @@ fn normal_reply(alloc: Global, request: &Request, bytes: &[u8]) -> Result<Reply,
         Request::Echo { word } => echo_from(*word, bytes),
         Request::Stats { clear } => stats_from(alloc, stats_quantity(*clear), bytes),
         Request::WriteCoils { address, bits } => {
-            written_from(15, *address, bits.as_slice().len(), 1968, bytes)
+            written_from(15, *address, bits.as_slice().len(), COILS_WRITTEN, bytes)
         }
         Request::WriteRegisters { address, words } => {
-            written_from(16, *address, words.words().len(), 123, bytes)
+            written_from(16, *address, words.words().len(), REGISTERS_WRITTEN, bytes)
         }
         Request::Mask {
             address,
@@ -246,9 +251,9 @@ fn reply_in(alloc: Global, request: &Request, bytes: &[u8]) -> Result<Reply, Bad
 pub fn decode_reply(alloc: Global, request: &Request, bytes: &[u8]) -> Result<Reply, BadReply>
     ensures reply { IfOk result (IsReplyTo request.now) }
     ensures spelled { IfOk result (SpellsReply bytes.now) }
-    ensures only { IfOk result (λ reply. (other : Reply) → IsReplyTo request.now other → SpellsReply bytes.now other → other ≡ reply) }
-    ensures form { IsErrOf result BadReply.Form ↔ ((reply : Reply) → IsReplyTo request.now reply → ¬ SpellsReply bytes.now reply) }
-    ensures memory { IsErrOf result BadReply.NoMemory → (reply : Reply) × IsReplyTo request.now reply × SpellsReply bytes.now reply }
+    ensures only { IfOk result (IsOnlyReply request.now bytes.now) }
+    ensures form { IsErrOf result BadReply.Form ↔ HasNoReply request.now bytes.now }
+    ensures memory { IsErrOf result BadReply.NoMemory → HasReply request.now bytes.now }
 {
     reply_in(alloc, request, bytes)
 }

@@ -1,6 +1,6 @@
-use Rattle.std.proofs.Common.{refl, arith}
+use Rattle.std.proofs.Common.{refl, ap, sym, arith}
 use Rattle.std.proofs.lemmas.Result.{err_from_is_err_and}
-use Rattle.modbus_pdu.proofs.Coils.{no_coils, coils_read, coils_there}
+use Rattle.modbus_pdu.proofs.Coils.{no_coils, coils_there}
 use Rattle.modbus_pdu.proofs.decoding.write_coils.Goals as goal
 
 pub returns-in_default : goal.returns-in_default
@@ -12,4 +12,5 @@ returns-in_err-bits c =
     rw (p.1, p.2) (_, coils_there c.args.fields.now c.in-Some.address c.in-Some.quantity c.in-Some.packed.now (λ i. omega (arith, c.type_inv.fields i)) c.in-Some.ensures (omega arith, omega arith) (omega arith))
 
 pub returns : goal.returns
-returns c = coils_read c.args.fields.now c.in-Some.address c.in-Some.quantity c.in-Some.packed.now c.in_ok-bits.bits (λ i. omega (arith, c.type_inv.fields i)) c.in-Some.ensures (omega arith, omega arith) (omega arith) c.in_ok-bits.ensures
+returns c =
+    rw c.in_ok-bits.ensures (coils_there c.args.fields.now c.in-Some.address c.in-Some.quantity c.in-Some.packed.now (λ i. omega (arith, c.type_inv.fields i)) c.in-Some.ensures (omega arith, omega arith) (omega arith))

@@ -9,7 +9,7 @@ returns-in_default c = (refl, no_registers c.args.fields.now c.in_default.ensure
 pub returns-in_err-words : goal.returns-in_err-words
 returns-in_err-words c =
     let p = err_from_is_err_and c.from_residual.result c.from_residual.ensures.1 in
-    rw (p.1, p.2) (registers_there c.args.fields.now c.in-Some.address c.in-Some.quantity c.in-Some.rest.now (λ i. omega (arith, c.type_inv.fields i)) c.in-Some.ensures (omega arith, omega arith) (omega arith))
+    rw (p.1, p.2) (_, registers_there c.args.fields.now c.in-Some.address c.in-Some.quantity c.in-Some.rest.now (λ i. omega (arith, c.type_inv.fields i)) c.in-Some.ensures (omega arith, omega arith) (omega arith))
 
 pub returns : goal.returns
 returns c = registers_read c.args.fields.now c.in-Some.address c.in-Some.quantity c.in-Some.rest.now c.in_ok-words.words c.in-Some.ensures (omega arith, omega arith) (omega arith) c.in_ok-words.ensures
