@@ -34,8 +34,8 @@ coils_there fields a q x fits e range count =
     let enough : q ≤ 8 * length x = omega arith in
     let long : length bits ≡ q = omega (arith, length-take q (unpacked x), length-unpacked x) in
     let back : packed (length x) (bits ++ drop q (unpacked x)) ≡ x =
-        ap (packed (length x)) (take-append-drop q (unpacked x))
-        ∙ packed-unpacked x (counted_fits fields a q x fits e) in
+    ap (packed (length x)) (take-append-drop q (unpacked x))
+    ∙ packed-unpacked x (counted_fits fields a q x fits e) in
     record {
       code = refl;
       range = ((omega arith, omega arith), tt);

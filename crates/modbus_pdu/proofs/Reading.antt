@@ -35,9 +35,9 @@ filled_form bytes (WriteCoils address bits) s =
     let count = bytes_for (length bits) in
     let full : length (bits ++ spare) ≡ 8 * count = omega (arith, length-append bits spare, s.form.1) in
     let behind : drop (length bits) (unpacked (drop 6 bytes)) ≡ spare =
-        ap (λ (b : List ℕ). drop (length bits) (unpacked (drop 6 b))) s.form.2
-        ∙ ap (drop (length bits)) (unpacked-packed count (bits ++ spare) full)
-        ∙ drop_at bits spare (length bits) refl in
+    ap (λ (b : List ℕ). drop (length bits) (unpacked (drop 6 b))) s.form.2
+    ∙ ap (drop (length bits)) (unpacked-packed count (bits ++ spare) full)
+    ∙ drop_at bits spare (length bits) refl in
     s.form.2 ∙ ap (λ (others : List Bool). request_bytes others (WriteCoils address bits)) (sym behind)
 filled_form bytes request s = s.form
 
@@ -83,8 +83,8 @@ refilled_again bytes (WriteCoils a bits) s =
     let count = bytes_for (length bits) in
     let full : length (bits ++ spare) ≡ 8 * count = omega (arith, length-append bits spare, s.form.1) in
     let all : take (length bits) (unpacked (packed count (bits ++ spare))) ≡ bits =
-        ap (take (length bits)) (unpacked-packed count (bits ++ spare) full)
-        ∙ take_at bits spare (length bits) refl in
+    ap (take (length bits)) (unpacked-packed count (bits ++ spare) full)
+    ∙ take_at bits spare (length bits) refl in
     ap (refilled (WriteCoils a bits)) s.form.2
     ∙ (λ i. WriteCoils (whole a i) (take (whole (length bits) i) (unpacked (packed count (bits ++ spare)))))
     ∙ ap (λ (b : List Bool). WriteCoils a b) all
@@ -196,9 +196,9 @@ form_of : (bytes : List ℕ) (request : Request) → bytes ≡ request_bytes (sp
 form_of bytes (WriteCoils address bits) e =
     let all = bits ++ drop (length bits) (unpacked (drop 6 bytes)) in
     let size : length (drop 6 bytes) ≡ bytes_for (length bits) =
-        ap (λ (b : List ℕ). length (drop 6 b)) e ∙ length-packed (bytes_for (length bits)) all in
+    ap (λ (b : List ℕ). length (drop 6 b)) e ∙ length-packed (bytes_for (length bits)) all in
     let spare : length (drop (length bits) (unpacked (drop 6 bytes))) ≡ spare_count (length bits) =
-        omega (arith, length-drop (length bits) (unpacked (drop 6 bytes)), length-unpacked (drop 6 bytes), size) in
+    omega (arith, length-drop (length bits) (unpacked (drop 6 bytes)), length-unpacked (drop 6 bytes), size) in
     (drop (length bits) (unpacked (drop 6 bytes)), spare, e)
 form_of bytes request e = e
 
@@ -236,7 +236,6 @@ pub find_passes : {A : Type 0} (test : A → Bool) (xs : List A) (y : A) → fin
 find_passes test [] y e = absurd cc
 find_passes test (x ∷ xs) y e = passes_or test x xs y (test x) refl e (find_passes test xs y)
 
-
 -- The form of a request stands among the forms.
 record Stands (bytes : List ℕ) (request : Request) : Type 0 where
   place : ℕ
@@ -264,7 +263,7 @@ pub request_found : (bytes : List ℕ) (request : Request) → Spells bytes requ
 request_found bytes request s =
     let here = stands bytes request in
     let test : is_spelled bytes (get_or (forms_of bytes) here.place request) ≡ true =
-        ap (is_spelled bytes) (here.form ∙ refilled_again bytes request s) ∙ spelled_test bytes request s in
+    ap (is_spelled bytes) (here.form ∙ refilled_again bytes request s) ∙ spelled_test bytes request s in
     let found = found_at (is_spelled bytes) (forms_of bytes) here.place request here.near test in
     let other = test_spelled bytes found.value found.passes in
     found.found ∙ ap (λ (r : Request). Some r) (one_spelled bytes found.value request other s)

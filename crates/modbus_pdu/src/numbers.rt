@@ -108,7 +108,7 @@ pub(crate) fn written(bytes: &[u8]) -> Option<(u16, u16, &[u8])>
 pub(crate) fn read_written(bytes: &[u8]) -> Option<(u16, u16, u16, u16, &[u8])>
     ensures { MatchOption result
         ((read quantity write count : ℕ) (rest : List ℕ) →
-            ¬ CountsBoth bytes.now read quantity write count rest)
+        ¬ CountsBoth bytes.now read quantity write count rest)
         (λ found. CountsBoth bytes.now found.0 found.1 found.2 found.3 found.4.now) }
 {
     let (read, rest) = word_at(bytes)?;
