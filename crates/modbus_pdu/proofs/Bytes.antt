@@ -10,7 +10,8 @@ abbrev pub IsBytes : List ℕ → Type 0
 IsBytes bytes = (i : ℕ) → get_or bytes i 0 < 2 ^ 8
 
 -- Words that were read from bytes are spelled by these.
-pub words_read : (bytes words : List ℕ) → IsBytes bytes → length bytes ≡ 2 * length words → IsRead big_number 2 bytes words → words_bytes words ≡ bytes
+pub words_read : (bytes words : List ℕ) → IsBytes bytes → length bytes ≡ 2 * length words
+    → IsRead big_number 2 bytes words → words_bytes words ≡ bytes
 words_read [] [] fits long read = refl
 words_read (b ∷ bytes) [] fits long read = absurd (omega arith)
 words_read [] (w ∷ words) fits long read = absurd (omega arith)
@@ -21,7 +22,8 @@ words_read (high ∷ low ∷ rest) (w ∷ words) fits long read =
     let number : w ≡ big_number 2 (high ∷ low ∷ rest) = read 0 (omega arith) in
     let first : w / 256 ≡ high = omega arith in
     let second : w % 256 ≡ low = omega arith in
-    let later : IsRead big_number 2 rest words = λ k lt. let twice : 2 * suc k ≡ suc (suc (2 * k)) = omega arith in rw twice at (read (suc k) (omega arith)) in
+    let later : IsRead big_number 2 rest words =
+    λ k lt. let twice : 2 * suc k ≡ suc (suc (2 * k)) = omega arith in rw twice at (read (suc k) (omega arith)) in
     let rest-is : words_bytes words ≡ rest = words_read rest words (λ i. fits (suc (suc i))) (omega arith) later in
     rw (flat_map-cons word_bytes w words, first, second, rest-is) refl
 
@@ -43,7 +45,8 @@ words_is [] [] e = refl
 words_is [] (y ∷ ys) e = absurd (omega (arith, ap length e, length-words_bytes (y ∷ ys)))
 words_is (x ∷ xs) [] e = absurd (omega (arith, ap length e, length-words_bytes (x ∷ xs)))
 words_is (x ∷ xs) (y ∷ ys) e =
-    let both : word_bytes x ++ words_bytes xs ≡ word_bytes y ++ words_bytes ys = sym (flat_map-cons word_bytes x xs) ∙ e ∙ flat_map-cons word_bytes y ys in
+    let both : word_bytes x ++ words_bytes xs ≡ word_bytes y ++ words_bytes ys =
+    sym (flat_map-cons word_bytes x xs) ∙ e ∙ flat_map-cons word_bytes y ys in
     let one = word_is x y (words_bytes xs) (words_bytes ys) both in
     let rest : xs ≡ ys = words_is xs ys one.1 in
     let first : x ≡ y = one.0 in
@@ -71,4 +74,5 @@ words_again (high ∷ low ∷ rest) (suc count) fits e =
 
 -- What is counted in bytes is bytes.
 pub counted_fits : (fields : List ℕ) (a q : ℕ) (x : List ℕ) → IsBytes fields → Counts fields a q x → IsBytes x
-counted_fits fields a q x fits e i = subst (λ (bytes : List ℕ). get_or bytes (suc (suc (suc (suc (suc i))))) 0 < 2 ^ 8) e (fits (suc (suc (suc (suc (suc i))))))
+counted_fits fields a q x fits e i =
+    subst (λ (bytes : List ℕ). get_or bytes (suc (suc (suc (suc (suc i))))) 0 < 2 ^ 8) e (fits (suc (suc (suc (suc (suc i))))))

@@ -2,6 +2,7 @@
 use Rattle.std.proofs.Common.{◌≡◌, ℕ, ◌+◌, ◌<◌, Bool, List, [], ◌∷◌, length, Result, Ok, Err, refl, ap, subst, sym, ◌∙◌, inl, inr, arith}
 use Rattle.std.specs.Prelude.{if◌then◌else◌, IfOk, IsErrOf, ◌↔◌}
 use Rattle.std.proofs.lemmas.Bool.Decides.{nat_tests}
+use Rattle.modbus_pdu.specs.Quantities.{statistics_words}
 use Rattle.modbus_pdu.specs.Spelling.{Spells, SpellsReply, IsReplyTo, IsEchoed, function_of, exception_code}
 use Rattle.modbus_pdu.specs.Decoding.{IsSpelledReply, IsOnlyReply, HasNoReply}
 use Rattle.modbus_pdu.specs.Steps.{Finds, IsBits, IsWords, IsWritten, IsStats, IsSame, IsNormal}
@@ -10,7 +11,11 @@ use Rattle.modbus_pdu.specs.declared.end.BadReply.TheVariants.{Form, NoMemory}
 use Rattle.modbus_pdu.specs.declared.reply.Reply.{Reply}
 use Rattle.modbus_pdu.specs.declared.reply.Reply.TheVariants as replies
 use Rattle.modbus_pdu.specs.declared.request.Request.{Request}
-use Rattle.modbus_pdu.specs.declared.request.Request.TheVariants.{ReadCoils, ReadInputs, ReadRegisters, ReadInputRegisters, WriteCoil, WriteRegister, Echo, Stats, WriteCoils, WriteRegisters, Mask, ReadWrite}
+use Rattle.modbus_pdu.specs.declared.request.Request.TheVariants.{ReadCoils, ReadInputs}
+use Rattle.modbus_pdu.specs.declared.request.Request.TheVariants.{ReadRegisters, ReadInputRegisters}
+use Rattle.modbus_pdu.specs.declared.request.Request.TheVariants.{WriteCoil, WriteRegister, Echo}
+use Rattle.modbus_pdu.specs.declared.request.Request.TheVariants.{Stats, WriteCoils, WriteRegisters}
+use Rattle.modbus_pdu.specs.declared.request.Request.TheVariants.{Mask, ReadWrite}
 
 -- What is found by one fact is found by another that holds of the same values.
 Finds-same : {A : Type 0} (P Q : A → Type 0) (r : Result A BadReply) → ((x : A) → P x → Q x) → ((x : A) → Q x → P x) → Finds P r → Finds Q r
@@ -23,7 +28,8 @@ same_echoed : (bytes : List ℕ) (again request : Request) → again ≡ request
 same_echoed bytes again request e h = subst IsEchoed e h.range
 
 -- A read of coils is answered by bits.
-pub read_coils_reply : (address quantity : ℕ) (bytes : List ℕ) (r : Result Reply BadReply) → Finds (IsBits 1 quantity bytes) r → Finds (IsNormal (ReadCoils address quantity) bytes) r
+pub read_coils_reply : (address quantity : ℕ) (bytes : List ℕ) (r : Result Reply BadReply)
+    → Finds (IsBits 1 quantity bytes) r → Finds (IsNormal (ReadCoils address quantity) bytes) r
 read_coils_reply address quantity bytes r = Finds-same _ _ r to from
   where
     to : (x : Reply) → IsBits 1 quantity bytes x → IsNormal (ReadCoils address quantity) bytes x
@@ -37,7 +43,9 @@ read_coils_reply address quantity bytes r = Finds-same _ _ r to from
     from _ h = absurd h.0
 
 -- A read of inputs is answered by bits.
-pub read_inputs_reply : (address quantity : ℕ) (bytes : List ℕ) (r : Result Reply BadReply) → Finds (IsBits 2 quantity bytes) r → Finds (IsNormal (ReadInputs address quantity) bytes) r
+pub read_inputs_reply : (address quantity : ℕ) (bytes : List ℕ) (r : Result Reply BadReply)
+    → Finds (IsBits 2 quantity bytes) r
+    → Finds (IsNormal (ReadInputs address quantity) bytes) r
 read_inputs_reply address quantity bytes r = Finds-same _ _ r to from
   where
     to : (x : Reply) → IsBits 2 quantity bytes x → IsNormal (ReadInputs address quantity) bytes x
@@ -51,7 +59,9 @@ read_inputs_reply address quantity bytes r = Finds-same _ _ r to from
     from _ h = absurd h.0
 
 -- A read of registers is answered by words.
-pub read_registers_reply : (address quantity : ℕ) (bytes : List ℕ) (r : Result Reply BadReply) → Finds (IsWords 3 quantity bytes) r → Finds (IsNormal (ReadRegisters address quantity) bytes) r
+pub read_registers_reply : (address quantity : ℕ) (bytes : List ℕ) (r : Result Reply BadReply)
+    → Finds (IsWords 3 quantity bytes) r
+    → Finds (IsNormal (ReadRegisters address quantity) bytes) r
 read_registers_reply address quantity bytes r = Finds-same _ _ r to from
   where
     to : (x : Reply) → IsWords 3 quantity bytes x → IsNormal (ReadRegisters address quantity) bytes x
@@ -65,7 +75,9 @@ read_registers_reply address quantity bytes r = Finds-same _ _ r to from
     from _ h = absurd h.0
 
 -- A read of input registers is answered by words.
-pub read_input_registers_reply : (address quantity : ℕ) (bytes : List ℕ) (r : Result Reply BadReply) → Finds (IsWords 4 quantity bytes) r → Finds (IsNormal (ReadInputRegisters address quantity) bytes) r
+pub read_input_registers_reply : (address quantity : ℕ) (bytes : List ℕ) (r : Result Reply BadReply)
+    → Finds (IsWords 4 quantity bytes) r
+    → Finds (IsNormal (ReadInputRegisters address quantity) bytes) r
 read_input_registers_reply address quantity bytes r = Finds-same _ _ r to from
   where
     to : (x : Reply) → IsWords 4 quantity bytes x → IsNormal (ReadInputRegisters address quantity) bytes x
@@ -79,7 +91,9 @@ read_input_registers_reply address quantity bytes r = Finds-same _ _ r to from
     from _ h = absurd h.0
 
 -- A write and read of registers is answered by words.
-pub read_write_reply : (read quantity write : ℕ) (written : List ℕ) (bytes : List ℕ) (r : Result Reply BadReply) → Finds (IsWords 23 quantity bytes) r → Finds (IsNormal (ReadWrite read quantity write written) bytes) r
+pub read_write_reply : (read quantity write : ℕ) (written : List ℕ) (bytes : List ℕ) (r : Result Reply BadReply)
+    → Finds (IsWords 23 quantity bytes) r
+    → Finds (IsNormal (ReadWrite read quantity write written) bytes) r
 read_write_reply read quantity write written bytes r = Finds-same _ _ r to from
   where
     to : (x : Reply) → IsWords 23 quantity bytes x → IsNormal (ReadWrite read quantity write written) bytes x
@@ -93,7 +107,9 @@ read_write_reply read quantity write written bytes r = Finds-same _ _ r to from
     from _ h = absurd h.0
 
 -- A write of coils is answered by how many.
-pub write_coils_reply : (address : ℕ) (bits : List Bool) (bytes : List ℕ) (r : Result Reply BadReply) → Finds (IsWritten 15 address (length bits) bytes) r → Finds (IsNormal (WriteCoils address bits) bytes) r
+pub write_coils_reply : (address : ℕ) (bits : List Bool) (bytes : List ℕ) (r : Result Reply BadReply)
+    → Finds (IsWritten 15 address (length bits) bytes) r
+    → Finds (IsNormal (WriteCoils address bits) bytes) r
 write_coils_reply address bits bytes r = Finds-same _ _ r to from
   where
     to : (x : Reply) → IsWritten 15 address (length bits) bytes x → IsNormal (WriteCoils address bits) bytes x
@@ -107,7 +123,9 @@ write_coils_reply address bits bytes r = Finds-same _ _ r to from
     from _ h = absurd h.0
 
 -- A write of registers is answered by how many.
-pub write_registers_reply : (address : ℕ) (words : List ℕ) (bytes : List ℕ) (r : Result Reply BadReply) → Finds (IsWritten 16 address (length words) bytes) r → Finds (IsNormal (WriteRegisters address words) bytes) r
+pub write_registers_reply : (address : ℕ) (words : List ℕ) (bytes : List ℕ) (r : Result Reply BadReply)
+    → Finds (IsWritten 16 address (length words) bytes) r
+    → Finds (IsNormal (WriteRegisters address words) bytes) r
 write_registers_reply address words bytes r = Finds-same _ _ r to from
   where
     to : (x : Reply) → IsWritten 16 address (length words) bytes x → IsNormal (WriteRegisters address words) bytes x
@@ -121,21 +139,25 @@ write_registers_reply address words bytes r = Finds-same _ _ r to from
     from _ h = absurd h.0
 
 -- A statistics request is answered by twenty words, or none after a clear.
-pub stats_reply : (clear : Bool) (bytes : List ℕ) (r : Result Reply BadReply) → Finds (IsStats (if clear then 0 else 20) bytes) r → Finds (IsNormal (Stats clear) bytes) r
+pub stats_reply : (clear : Bool) (bytes : List ℕ) (r : Result Reply BadReply)
+    → Finds (IsStats (if clear then 0 else statistics_words) bytes) r
+    → Finds (IsNormal (Stats clear) bytes) r
 stats_reply clear bytes r = Finds-same _ _ r to from
   where
-    to : (x : Reply) → IsStats (if clear then 0 else 20) bytes x → IsNormal (Stats clear) bytes x
+    to : (x : Reply) → IsStats (if clear then 0 else statistics_words) bytes x → IsNormal (Stats clear) bytes x
     to (replies.Stats words) h = h
     to _ h = absurd h
 
-    from : (x : Reply) → IsNormal (Stats clear) bytes x → IsStats (if clear then 0 else 20) bytes x
+    from : (x : Reply) → IsNormal (Stats clear) bytes x → IsStats (if clear then 0 else statistics_words) bytes x
     from (replies.Stats words) h = h
     from (replies.Same again) h = absurd (same_echoed bytes again (Stats clear) h.0 h.1)
     from (replies.Exception function code) h = absurd h
     from _ h = absurd h.0
 
 -- A write of a coil is answered by the request.
-pub write_coil_reply : (address : ℕ) (on : Bool) (bytes : List ℕ) (r : Result Reply BadReply) → Finds (IsSame (WriteCoil address on) bytes) r → Finds (IsNormal (WriteCoil address on) bytes) r
+pub write_coil_reply : (address : ℕ) (on : Bool) (bytes : List ℕ) (r : Result Reply BadReply)
+    → Finds (IsSame (WriteCoil address on) bytes) r
+    → Finds (IsNormal (WriteCoil address on) bytes) r
 write_coil_reply address on bytes r = Finds-same _ _ r to from
   where
     to : (x : Reply) → IsSame (WriteCoil address on) bytes x → IsNormal (WriteCoil address on) bytes x
@@ -148,7 +170,9 @@ write_coil_reply address on bytes r = Finds-same _ _ r to from
     from _ h = absurd h.0
 
 -- A write of a register is answered by the request.
-pub write_register_reply : (address value : ℕ) (bytes : List ℕ) (r : Result Reply BadReply) → Finds (IsSame (WriteRegister address value) bytes) r → Finds (IsNormal (WriteRegister address value) bytes) r
+pub write_register_reply : (address value : ℕ) (bytes : List ℕ) (r : Result Reply BadReply)
+    → Finds (IsSame (WriteRegister address value) bytes) r
+    → Finds (IsNormal (WriteRegister address value) bytes) r
 write_register_reply address value bytes r = Finds-same _ _ r to from
   where
     to : (x : Reply) → IsSame (WriteRegister address value) bytes x → IsNormal (WriteRegister address value) bytes x
@@ -174,7 +198,9 @@ echo_reply word bytes r = Finds-same _ _ r to from
     from _ h = absurd h.0
 
 -- A write by masks is answered by the request.
-pub mask_reply : (address and_mask or_mask : ℕ) (bytes : List ℕ) (r : Result Reply BadReply) → Finds (IsSame (Mask address and_mask or_mask) bytes) r → Finds (IsNormal (Mask address and_mask or_mask) bytes) r
+pub mask_reply : (address and_mask or_mask : ℕ) (bytes : List ℕ) (r : Result Reply BadReply)
+    → Finds (IsSame (Mask address and_mask or_mask) bytes) r
+    → Finds (IsNormal (Mask address and_mask or_mask) bytes) r
 mask_reply address and_mask or_mask bytes r = Finds-same _ _ r to from
   where
     to : (x : Reply) → IsSame (Mask address and_mask or_mask) bytes x → IsNormal (Mask address and_mask or_mask) bytes x
@@ -239,7 +265,9 @@ not_normal code bytes request (replies.Stats words) h n = same_head 8 code _ byt
 not_normal code bytes request (replies.Exception function other) h n = n
 
 -- An exception reply of the request is the one reply that the bytes spell.
-pub exception_found : (code : ℕ) (bytes : List ℕ) (request : Request) → IsExceptionOf request bytes code → Finds (IsSpelledReply request bytes) (Ok (replies.Exception (function_of request) code))
+pub exception_found : (code : ℕ) (bytes : List ℕ) (request : Request)
+    → IsExceptionOf request bytes code
+    → Finds (IsSpelledReply request bytes) (Ok (replies.Exception (function_of request) code))
 exception_found code bytes request e = ((refl, record { range = tt; form = e }), only)
   where
     only : (other : Reply) → IsSpelledReply request bytes other → other ≡ replies.Exception (function_of request) code
@@ -256,7 +284,9 @@ exception_found code bytes request e = ((refl, record { range = tt; form = e }),
     only (replies.Stats words) h = absurd (not_normal code bytes request (replies.Stats words) e h)
 
 -- Where the bytes are no exception reply of the request, a normal reply is all that they may spell.
-pub normal_found : (bytes : List ℕ) (request : Request) (r : Result Reply BadReply) → ((code : ℕ) → ¬ IsExceptionOf request bytes code) → Finds (IsNormal request bytes) r → Finds (IsSpelledReply request bytes) r
+pub normal_found : (bytes : List ℕ) (request : Request) (r : Result Reply BadReply)
+    → ((code : ℕ) → ¬ IsExceptionOf request bytes code) → Finds (IsNormal request bytes) r
+    → Finds (IsSpelledReply request bytes) r
 normal_found bytes request r none = Finds-same _ _ r to from
   where
     to : (x : Reply) → IsNormal request bytes x → IsSpelledReply request bytes x

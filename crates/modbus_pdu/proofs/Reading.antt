@@ -227,7 +227,9 @@ found_at test [] i d lt e = absurd (omega arith)
 found_at test (x ∷ xs) zero d lt e = first_or test x xs (test x) refl (λ other. absurd cc)
 found_at test (x ∷ xs) (suc i) d lt e = first_or test x xs (test x) refl (λ other. found_at test xs i d (omega arith) e)
 
-passes_or : {A : Type 0} (test : A → Bool) (x : A) (xs : List A) (y : A) (b : Bool) → test x ≡ b → find test (x ∷ xs) ≡ Some y → (find test xs ≡ Some y → test y ≡ true) → test y ≡ true
+passes_or : {A : Type 0} (test : A → Bool) (x : A) (xs : List A) (y : A) (b : Bool)
+    → test x ≡ b → find test (x ∷ xs) ≡ Some y → (find test xs ≡ Some y → test y ≡ true)
+    → test y ≡ true
 passes_or test x xs y true is e rest = let same : x ≡ y = let here : Some x ≡ Some y = rw is at e in cc in rw (← same) is
 passes_or test x xs y false is e rest = rest (rw is at e)
 

@@ -8,7 +8,8 @@ use Rattle.modbus_pdu.specs.Spelling.{quantities_of, request_bytes}
 use Rattle.modbus_pdu.specs.declared.request.Request.{Request}
 use Rattle.modbus_pdu.specs.declared.request.Request.TheVariants as requests
 
--- Each form of request, its fields taken from their places. Modicon Modbus Protocol Reference Guide.
+-- Each form of a request, its fields taken from their places.
+-- Modicon Modbus Protocol Reference Guide.
 abbrev pub forms_of : List ℕ → List Request
 forms_of bytes =
     let first = word_in bytes 1 in

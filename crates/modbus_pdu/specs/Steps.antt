@@ -1,5 +1,6 @@
 -- What the steps of the decoding answer. No public clause cites any of it. This project's own.
-use Rattle.std.specs.Prelude.{◌≡◌, ◌≤◌, ◌<◌, ◌*◌, false, slice_index_or, ℕ, List, [], ◌∷◌, ◌++◌, length, Bool, Result, Ok, Err, ◌⊎◌}
+use Rattle.std.specs.Prelude.{◌≡◌, ◌≤◌, ◌<◌, ◌*◌, false, slice_index_or, ℕ, List, [], ◌∷◌, ◌++◌}
+use Rattle.std.specs.Prelude.{length, Bool, Result, Ok, Err, ◌⊎◌}
 use Rattle.plant_types.specs.declared.reference.RefKind.{RefKind}
 use Rattle.plant_types.specs.declared.reference.RefKind.TheVariants.{Coil, Input}
 use Rattle.plant_types.specs.declared.reference.RefKind.TheVariants.{InputRegister, Register}
@@ -40,6 +41,10 @@ CountsBoth fields read quantity write count rest =
     ++ word_bytes write
     ++ word_bytes count
     ++ (length rest ∷ rest)
+
+-- An operation on statistics, and what stands behind it.
+abbrev pub IsOperation : List ℕ → ℕ → List ℕ → Type 0
+IsOperation bytes operation rest = bytes ≡ 8 ∷ word_bytes 21 ++ word_bytes operation ++ rest
 
 -- The form of a request, behind the function code.
 abbrev pub HasFields : List ℕ → Request → Type 0

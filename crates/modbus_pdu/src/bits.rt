@@ -1,5 +1,7 @@
 //! Bits packed into bytes, the first in the lowest place.
-ghost use Rattle.std.specs.Prelude.{◌≡◌, ◌↔◌, ℕ, IsTrue, ◌^◌, ◌*◌, ◌<◌, ◌≤◌, false, length, take, drop, slice_index_or, IfOk};
+ghost use Rattle.std.specs.Prelude.{◌≡◌, ◌↔◌, ℕ, IsTrue, ◌^◌, ◌*◌, ◌<◌, ◌≤◌, false, length, take};
+ghost use Rattle.std.specs.Prelude.{drop, slice_index_or, IfOk};
+ghost use Rattle.modbus_pdu.specs.Quantities.{most_discretes_read};
 ghost use Rattle.modbus_pdu.specs.Bytes.{bytes_for, bits_number, unpacked};
 ghost use Rattle.modbus_pdu.specs.Steps.{IsClear};
 
@@ -8,7 +10,7 @@ use std::alloc::{AllocError, Global};
 
 /// How many bytes so many bits take.
 pub(crate) fn bytes_for(quantity: usize) -> usize
-    requires { quantity ≤ 2000 }
+    requires { quantity ≤ most_discretes_read }
     ensures { result ≡ bytes_for quantity }
 {
     quantity.div_ceil(8)

@@ -1,6 +1,7 @@
 //! Requests from bytes.
 ghost use Rattle.std.specs.Prelude.{◌≡◌, ◌≤◌, ◌↔◌, true, length, IfOk, IfErr, IsErrOf};
-ghost use Rattle.modbus_pdu.specs.Decoding.{IsUnlisted, IsMisformed, IsSpelled, IsOnlyRequest, IsDecodeEnd};
+ghost use Rattle.modbus_pdu.specs.Decoding.{IsUnlisted, IsMisformed, IsSpelled, IsOnlyRequest};
+ghost use Rattle.modbus_pdu.specs.Decoding.{IsDecodeEnd};
 ghost use Rattle.modbus_pdu.specs.Exceptions.{illegal_function, illegal_value};
 ghost use Rattle.modbus_pdu.specs.Spelling.{Spells, is_listed};
 ghost use Rattle.modbus_pdu.specs.Steps.{Decodes, reading_function, read_request, most_read};
@@ -174,8 +175,10 @@ pub fn decode(alloc: Global, bytes: &[u8]) -> Result<Request, DecodeEnd>
     requires { 1 ≤ length bytes.now }
     ensures spelled { IfOk result (Spells bytes.now) }
     ensures only { IfOk result (IsOnlyRequest bytes.now) }
-    ensures unlisted { IsErrOf result (DecodeEnd.Exception illegal_function) ↔ IsUnlisted bytes.now }
-    ensures misformed { IsErrOf result (DecodeEnd.Exception illegal_value) ↔ IsMisformed bytes.now }
+    ensures unlisted { IsErrOf result (DecodeEnd.Exception illegal_function)
+        ↔ IsUnlisted bytes.now }
+    ensures misformed { IsErrOf result (DecodeEnd.Exception illegal_value)
+        ↔ IsMisformed bytes.now }
     ensures ends { IfErr result IsDecodeEnd }
     ensures memory { IsErrOf result DecodeEnd.NoMemory → IsSpelled bytes.now }
 {

@@ -1,5 +1,6 @@
 //! A PDU in the making.
 ghost use Rattle.std.specs.Prelude.{◌≡◌, ◌+◌, ◌*◌, ◌<◌, ◌≤◌, [], ◌∷◌, ◌++◌, length, IfOk};
+ghost use Rattle.modbus_pdu.specs.Quantities.{most_discretes_read};
 ghost use Rattle.modbus_pdu.specs.Bytes.{word_bytes, words_bytes, packed, bytes_for, clear_spare};
 
 use crate::bits::{byte_at, bytes_for};
@@ -68,7 +69,7 @@ impl Draft {
     /// The bits, and zeros that fill the last byte.
     pub(crate) fn bits(&mut self, bits: &[bool])
         requires room { length self.old + bytes_for (length bits.now) ≤ 253 }
-        requires most { length bits.now ≤ 2000 }
+        requires most { length bits.now ≤ most_discretes_read }
         ensures bytes { let count = length bits.now in
             self.new ≡ self.old ++ packed (bytes_for count) (bits.now ++ clear_spare count) }
         ensures length { length self.new ≡ length self.old + bytes_for (length bits.now) }

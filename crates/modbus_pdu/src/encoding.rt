@@ -1,9 +1,14 @@
 //! Requests and replies as bytes.
 ghost use Rattle.std.specs.Prelude.{◌≡◌, ◌≤◌, ◌==◌, if◌then◌else◌, [], ◌∷◌, ◌++◌, length, IfOk};
-ghost use Rattle.modbus_pdu.specs.Bytes.{word_bytes, words_bytes, counted_words, counted_bits, clear_spare};
-ghost use Rattle.modbus_pdu.specs.Quantities.{most_coils_written, most_registers_written, most_registers_exchanged};
-ghost use Rattle.modbus_pdu.specs.Quantities.{most_discretes_read, most_registers_read, statistics_words};
-ghost use Rattle.modbus_pdu.specs.Spelling.{IsInRange, Spells, spelling_of, IsReplyInRange, SpellsReply, reply_bytes, exception_code, operation_for};
+ghost use Rattle.modbus_pdu.specs.Bytes.{word_bytes, words_bytes, counted_words, counted_bits};
+ghost use Rattle.modbus_pdu.specs.Bytes.{clear_spare};
+ghost use Rattle.modbus_pdu.specs.Quantities.{most_coils_written, most_registers_written};
+ghost use Rattle.modbus_pdu.specs.Quantities.{most_registers_exchanged};
+ghost use Rattle.modbus_pdu.specs.Quantities.{most_discretes_read, most_registers_read};
+ghost use Rattle.modbus_pdu.specs.Quantities.{statistics_words};
+ghost use Rattle.modbus_pdu.specs.Spelling.{IsInRange, Spells, spelling_of, IsReplyInRange};
+ghost use Rattle.modbus_pdu.specs.Spelling.{SpellsReply, reply_bytes, exception_code};
+ghost use Rattle.modbus_pdu.specs.Spelling.{operation_for};
 
 use crate::bits::bytes_for;
 use crate::draft::Draft;
@@ -74,7 +79,8 @@ fn read_write(
     words: &[u16],
 ) -> Result<Pdu, AllocError>
     requires { length words.now ≤ most_registers_exchanged }
-    ensures { IfOk result (λ pdu. pdu ≡ spelling_of (Request.ReadWrite read quantity write words.now)) }
+    ensures { IfOk result (λ pdu. pdu ≡
+        spelling_of (Request.ReadWrite read quantity write words.now)) }
 {
     let mut draft = Draft::new();
     draft.byte(23);

@@ -1,5 +1,6 @@
 //! Two-byte numbers.
-ghost use Rattle.std.specs.Prelude.{◌≡◌, ◌≢◌, ℕ, List, ◌∷◌, ◌++◌, ◌<◌, ◌*◌, ◌≤◌, length, MatchOption, IfOk};
+ghost use Rattle.std.specs.Prelude.{◌≡◌, ◌≢◌, ℕ, List, ◌∷◌, ◌++◌, ◌<◌, ◌*◌, ◌≤◌, length};
+ghost use Rattle.std.specs.Prelude.{MatchOption, IfOk};
 ghost use Rattle.modbus_pdu.specs.Bytes.{word_bytes, words_bytes};
 ghost use Rattle.modbus_pdu.specs.Quantities.{IsUpTo, most_registers_read};
 ghost use Rattle.modbus_pdu.specs.Steps.{AreTwoWords, AreThreeWords, Counts, CountsBoth};

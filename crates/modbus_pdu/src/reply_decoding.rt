@@ -6,7 +6,7 @@ ghost use Rattle.modbus_pdu.specs.Decoding.{IsSpelledReply, IsOnlyReply, HasRepl
 ghost use Rattle.modbus_pdu.specs.Quantities.{statistics_words};
 ghost use Rattle.modbus_pdu.specs.Spelling.{function_of, exception_code, IsReplyTo, SpellsReply};
 ghost use Rattle.modbus_pdu.specs.Steps.{Finds, IsBits, IsWords, IsWritten, IsStats, IsSame};
-ghost use Rattle.modbus_pdu.specs.Steps.{IsNormal, IsWriting};
+ghost use Rattle.modbus_pdu.specs.Steps.{IsNormal, IsOperation, IsWriting};
 
 use crate::bits::{bytes_for, spare_is_clear, unpack};
 use crate::encoding::{exception_code, stats_operation};
@@ -100,8 +100,8 @@ fn written_from(
 /// The operation behind function 8 and sub-function 21, and what follows it.
 fn operation_behind(bytes: &[u8]) -> Option<(u16, &[u8])>
     ensures { MatchOption result
-        ((operation : ℕ) (rest : List ℕ) → bytes.now ≢ 8 ∷ word_bytes 21 ++ word_bytes operation ++ rest)
-        (λ found. bytes.now ≡ 8 ∷ word_bytes 21 ++ word_bytes found.0 ++ found.1.now) }
+        ((operation : ℕ) (rest : List ℕ) → ¬ IsOperation bytes.now operation rest)
+        (λ found. IsOperation bytes.now found.0 found.1.now) }
 {
     match bytes {
         [8, 0, 21, rest @ ..] => word_at(rest),

@@ -8,7 +8,8 @@ pub returns : goal.returns
 returns c =
     let bytes = c.args.bytes.now in
     let listed : is_listed (slice_index bytes 0) ≡ true = search rules in
-    let fields : take (length bytes - 1) (drop 1 bytes) ≡ drop 1 bytes = take_all (length bytes - 1) (drop 1 bytes) (omega (arith, length-drop 1 bytes)) in
+    let fields : take (length bytes - 1) (drop 1 bytes) ≡ drop 1 bytes =
+    take_all (length bytes - 1) (drop 1 bytes) (omega (arith, length-drop 1 bytes)) in
     let all = decoded bytes c.decode_listed.result c.requires (rw fields at c.decode_listed.ensures) in
     record {
       spelled = all.spelled;

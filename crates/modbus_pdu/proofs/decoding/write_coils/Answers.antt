@@ -13,4 +13,5 @@ returns-in_err-bits c =
 
 pub returns : goal.returns
 returns c =
-    rw c.in_ok-bits.ensures (coils_there c.args.fields.now c.in-Some.address c.in-Some.quantity c.in-Some.packed.now (λ i. omega (arith, c.type_inv.fields i)) c.in-Some.ensures (omega arith, omega arith) (omega arith))
+    rw c.in_ok-bits.ensures
+    (coils_there c.args.fields.now c.in-Some.address c.in-Some.quantity c.in-Some.packed.now (λ i. omega (arith, c.type_inv.fields i)) c.in-Some.ensures (omega arith, omega arith) (omega arith))

@@ -12,4 +12,6 @@ returns-in_err-words c =
     rw (p.1, p.2) (_, registers_there c.args.fields.now c.in-Some.address c.in-Some.quantity c.in-Some.rest.now (λ i. omega (arith, c.type_inv.fields i)) c.in-Some.ensures (omega arith, omega arith) (omega arith))
 
 pub returns : goal.returns
-returns c = registers_read c.args.fields.now c.in-Some.address c.in-Some.quantity c.in-Some.rest.now c.in_ok-words.words c.in-Some.ensures (omega arith, omega arith) (omega arith) c.in_ok-words.ensures
+returns c =
+    registers_read c.args.fields.now c.in-Some.address c.in-Some.quantity c.in-Some.rest.now c.in_ok-words.words c.in-Some.ensures
+    (omega arith, omega arith) (omega arith) c.in_ok-words.ensures

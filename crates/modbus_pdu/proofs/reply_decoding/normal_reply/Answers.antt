@@ -1,4 +1,8 @@
-use Rattle.modbus_pdu.proofs.Matching.{read_coils_reply, read_inputs_reply, read_registers_reply, read_input_registers_reply, write_coil_reply, write_register_reply, echo_reply, stats_reply, write_coils_reply, write_registers_reply, mask_reply, read_write_reply}
+use Rattle.modbus_pdu.proofs.Matching.{read_coils_reply, read_inputs_reply, read_registers_reply}
+use Rattle.modbus_pdu.proofs.Matching.{read_input_registers_reply, write_coil_reply}
+use Rattle.modbus_pdu.proofs.Matching.{write_register_reply, echo_reply, stats_reply}
+use Rattle.modbus_pdu.proofs.Matching.{write_coils_reply, write_registers_reply, mask_reply}
+use Rattle.modbus_pdu.proofs.Matching.{read_write_reply}
 use Rattle.modbus_pdu.proofs.reply_decoding.normal_reply.Goals as goal
 
 pub returns-in-ReadCoils : goal.returns-in-ReadCoils
@@ -32,7 +36,8 @@ pub returns-in-WriteCoils : goal.returns-in-WriteCoils
 returns-in-WriteCoils c = rw c.in-WriteCoils.is (write_coils_reply _ _ _ _ (rw c.as_slice.ensures at c.written_from.ensures))
 
 pub returns-in-WriteRegisters : goal.returns-in-WriteRegisters
-returns-in-WriteRegisters c = rw c.in-WriteRegisters.is (write_registers_reply _ _ _ _ (rw c.words.ensures at c.written_from-in-WriteRegisters.ensures))
+returns-in-WriteRegisters c =
+    rw c.in-WriteRegisters.is (write_registers_reply _ _ _ _ (rw c.words.ensures at c.written_from-in-WriteRegisters.ensures))
 
 pub returns-in-Stats : goal.returns-in-Stats
 returns-in-Stats c = rw c.in-Stats.is (stats_reply _ _ _ (rw c.stats_quantity.ensures.due at c.stats_from.ensures))

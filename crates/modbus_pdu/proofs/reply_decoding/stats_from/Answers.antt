@@ -2,7 +2,8 @@ use Rattle.std.proofs.Common.{sym, ◌∙◌, arith}
 use Rattle.std.proofs.lemmas.Result.{err_from_is_err_and}
 use Rattle.modbus_pdu.proofs.Replies.{no_stats, stats_unfit, stats_found, stats_there}
 use Rattle.modbus_pdu.proofs.reply_decoding.stats_from.Goals as goal
-use Rattle.modbus_pdu.proofs.reply_decoding.stats_from.Goals.{then-operation-stats_operation-via-then-operation-stats_operation, then-operation-stats_operation-via-else-operation-stats_operation+then-rest-quantity}
+use Rattle.modbus_pdu.proofs.reply_decoding.stats_from.Goals.{then-operation-stats_operation-via-then-operation-stats_operation}
+use Rattle.modbus_pdu.proofs.reply_decoding.stats_from.Goals.{then-operation-stats_operation-via-else-operation-stats_operation+then-rest-quantity}
 
 pub returns-in_default : goal.returns-in_default
 returns-in_default c = no_stats c.args.quantity c.args.bytes.now c.in_default.ensures
@@ -13,11 +14,15 @@ returns-in_err-words c =
     rw (p.1, p.2) (stats_there c.args.quantity c.args.bytes.now c.in-Some.operation c.in-Some.rest.now c.requires (λ i. omega (arith, c.type_inv.bytes i)) c.in-Some.ensures (c.if-operation-stats_operation.false ∙ c.stats_operation.ensures) (omega arith))
 
 pub returns : goal.returns
-returns c = stats_found c.args.quantity c.args.bytes.now c.in-Some.operation c.in-Some.rest.now c.in_ok-words.words c.requires c.in-Some.ensures (c.if-operation-stats_operation.false ∙ c.stats_operation.ensures) (omega arith) c.in_ok-words.ensures
+returns c =
+    stats_found c.args.quantity c.args.bytes.now c.in-Some.operation c.in-Some.rest.now c.in_ok-words.words c.requires c.in-Some.ensures
+    (c.if-operation-stats_operation.false ∙ c.stats_operation.ensures) (omega arith) c.in_ok-words.ensures
 
 pub returns-then-operation-stats_operation : goal.returns-then-operation-stats_operation
 returns-then-operation-stats_operation c =
-    stats_unfit c.args.quantity c.args.bytes.now c.in-Some.operation c.in-Some.rest.now c.in-Some.ensures (λ operation count. elim c.then-operation-stats_operation.branch [
-      | then-operation-stats_operation-via-then-operation-stats_operation w ↦ w.if-operation-stats_operation.true (operation ∙ sym c.stats_operation.ensures)
+    stats_unfit c.args.quantity c.args.bytes.now c.in-Some.operation c.in-Some.rest.now c.in-Some.ensures
+    (λ operation count. elim c.then-operation-stats_operation.branch [
+      | then-operation-stats_operation-via-then-operation-stats_operation w ↦ w.if-operation-stats_operation.true
+          (operation ∙ sym c.stats_operation.ensures)
       | then-operation-stats_operation-via-else-operation-stats_operation+then-rest-quantity w ↦ w.if-rest-quantity.true count
     ])

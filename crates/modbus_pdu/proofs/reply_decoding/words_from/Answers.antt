@@ -12,4 +12,6 @@ returns-in_err-words c =
     rw (p.1, p.2) (words_there c.args.function c.args.quantity c.args.bytes.now c.in-Some.rest.now c.requires (λ i. omega (arith, c.type_inv.bytes i)) c.in-Some.ensures (omega arith, omega arith) (omega arith))
 
 pub returns : goal.returns
-returns c = words_found c.args.function c.args.quantity c.args.bytes.now c.in-Some.rest.now c.in_ok-words.words c.requires c.in-Some.ensures (omega arith, omega arith) (omega arith) c.in_ok-words.ensures
+returns c =
+    words_found c.args.function c.args.quantity c.args.bytes.now c.in-Some.rest.now c.in_ok-words.words c.requires c.in-Some.ensures
+    (omega arith, omega arith) (omega arith) c.in_ok-words.ensures
