@@ -16,7 +16,7 @@ use Rattle.modbus_pdu.specs.declared.reply.Reply.TheVariants as replies
 use Rattle.modbus_exec.specs.declared.end.ExecEnd.{ExecEnd}
 use Rattle.modbus_exec.specs.declared.end.ExecEnd.TheVariants.{Exception, NoMemory}
 use Rattle.modbus_exec.specs.Runs.{reference_at, is_in_map, are_in_map, bits_from, bit_words, with_bits}
-use Rattle.modbus_exec.specs.Answer.{Outcome, answer_of, has_references, masked, IsOneOf, Writes}
+use Rattle.modbus_exec.specs.Answer.{Outcome, outcome_of, has_references, masked, IsOneOf, Writes}
 use Rattle.modbus_exec.specs.Executing.{Executes}
 use Rattle.modbus_exec.proofs.RunLemmas.{length-bits_from, length-bit_words}
 use Rattle.modbus_exec.proofs.Outcomes.{chosen}
@@ -32,7 +32,7 @@ pub record Fits (request : Request) (outcome : Outcome) : Type 0 where
   pub reply : IsReplyTo request outcome.reply
 
 -- The reply of every answer fits the request.
-pub answer_fits : (request : Request) (m : Contents) (outcome : Outcome) → IsInRange request → answer_of request m ≡ Ok outcome → Fits request outcome
+pub answer_fits : (request : Request) (m : Contents) (outcome : Outcome) → IsInRange request → outcome_of request m ≡ Ok outcome → Fits request outcome
 answer_fits (ReadCoils address quantity) m outcome range e =
     let at = reference_at kinds.Coil address in
     let long = length-bits_from m at quantity in
@@ -53,8 +53,8 @@ answer_fits (WriteCoil address on) m outcome range e = of_test (Fits (WriteCoil 
 answer_fits (WriteRegister address value) m outcome range e = of_test (Fits (WriteRegister address value)) (is_in_map m (reference_at kinds.Register address)) _ outcome e (record { range = tt; reply = refl })
 answer_fits (Echo word) m outcome range e = of_test (Fits (Echo word)) true _ outcome e (record { range = tt; reply = refl })
 answer_fits (Stats clear) m outcome range e = absurd cc
-answer_fits (WriteCoils address bits) m outcome range e = of_test (Fits (WriteCoils address bits)) (are_in_map m (reference_at kinds.Coil address) (length bits)) _ outcome e (record { range = inl (refl, range); reply = (refl, refl, refl) })
-answer_fits (WriteRegisters address words) m outcome range e = of_test (Fits (WriteRegisters address words)) (are_in_map m (reference_at kinds.Register address) (length words)) _ outcome e (record { range = inr (refl, range); reply = (refl, refl, refl) })
+answer_fits (WriteCoils address bits) m outcome range e = of_test (Fits (WriteCoils address bits)) (are_in_map m (reference_at kinds.Coil address) (length bits)) _ outcome e (record { range = inl (refl, range.0); reply = (refl, refl, refl) })
+answer_fits (WriteRegisters address words) m outcome range e = of_test (Fits (WriteRegisters address words)) (are_in_map m (reference_at kinds.Register address) (length words)) _ outcome e (record { range = inr (refl, range.0); reply = (refl, refl, refl) })
 answer_fits (Mask address and_mask or_mask) m outcome range e = of_test (Fits (Mask address and_mask or_mask)) (is_in_map m (reference_at kinds.Register address)) _ outcome e (record { range = tt; reply = refl })
 answer_fits (ReadWrite read quantity write words) m outcome range e =
     let from = reference_at kinds.Register read in
@@ -82,7 +82,7 @@ abbrev SameAt : Contents → Ref → Outcome → Type 0
 SameAt m at outcome = get outcome.stored at ≡ get m at
 
 -- Every reference that a request does not write stays.
-pub answer_others : (request : Request) (m : Contents) (at : Ref) (outcome : Outcome) → ¬ Writes request at → answer_of request m ≡ Ok outcome → get outcome.stored at ≡ get m at
+pub answer_others : (request : Request) (m : Contents) (at : Ref) (outcome : Outcome) → ¬ Writes request at → outcome_of request m ≡ Ok outcome → get outcome.stored at ≡ get m at
 answer_others (ReadCoils address quantity) m at outcome other e = of_test (SameAt m at) (are_in_map m (reference_at kinds.Coil address) quantity) _ outcome e refl
 answer_others (ReadInputs address quantity) m at outcome other e = of_test (SameAt m at) (are_in_map m (reference_at kinds.Input address) quantity) _ outcome e refl
 answer_others (ReadRegisters address quantity) m at outcome other e = of_test (SameAt m at) (are_in_map m (reference_at kinds.Register address) quantity) _ outcome e refl
@@ -116,7 +116,7 @@ same_kept : (m : Contents) → Keeps m m
 same_kept m at h = h
 
 -- No reference of the map is lost.
-pub answer_keeps : (request : Request) (m : Contents) (outcome : Outcome) → answer_of request m ≡ Ok outcome → Keeps m outcome.stored
+pub answer_keeps : (request : Request) (m : Contents) (outcome : Outcome) → outcome_of request m ≡ Ok outcome → Keeps m outcome.stored
 answer_keeps (ReadCoils address quantity) m outcome e = of_test (KeptBy m) (are_in_map m (reference_at kinds.Coil address) quantity) _ outcome e (same_kept m)
 answer_keeps (ReadInputs address quantity) m outcome e = of_test (KeptBy m) (are_in_map m (reference_at kinds.Input address) quantity) _ outcome e (same_kept m)
 answer_keeps (ReadRegisters address quantity) m outcome e = of_test (KeptBy m) (are_in_map m (reference_at kinds.Register address) quantity) _ outcome e (same_kept m)
@@ -157,7 +157,7 @@ holding true outcome found e = refl
 holding false outcome found e = absurd cc
 
 -- Where there is an outcome, the map has the references.
-pub answered_has : (request : Request) (m : Contents) (outcome : Outcome) → answer_of request m ≡ Ok outcome → has_references m request ≡ true
+pub answered_has : (request : Request) (m : Contents) (outcome : Outcome) → outcome_of request m ≡ Ok outcome → has_references m request ≡ true
 answered_has (ReadCoils address quantity) m outcome e = holding _ _ outcome e
 answered_has (ReadInputs address quantity) m outcome e = holding _ _ outcome e
 answered_has (ReadRegisters address quantity) m outcome e = holding _ _ outcome e
