@@ -15,10 +15,11 @@ use Rattle.modbus_pdu.specs.declared.reply.Reply.{Reply}
 use Rattle.modbus_pdu.specs.declared.reply.Reply.TheVariants as replies
 use Rattle.modbus_exec.specs.declared.end.ExecEnd.{ExecEnd}
 use Rattle.modbus_exec.specs.declared.end.ExecEnd.TheVariants.{Exception, NoMemory}
-use Rattle.modbus_exec.specs.Runs.{reference_at, is_in_map, are_in_map, bits_from, bit_words, with_bits}
+use Rattle.plant_types.specs.Discretes.{bits_from, bit_words, with_bits}
+use Rattle.modbus_exec.specs.Runs.{reference_at, is_in_map, are_in_map}
 use Rattle.modbus_exec.specs.Answer.{Outcome, outcome_of, has_references, masked, IsOneOf, Writes}
 use Rattle.modbus_exec.specs.Executing.{Executes}
-use Rattle.modbus_exec.proofs.RunLemmas.{length-bits_from, length-bit_words}
+use Rattle.plant_types.proofs.DiscretesLemmas.{length-bits_from, length-bit_words}
 use Rattle.modbus_exec.proofs.Outcomes.{chosen}
 
 -- The outcome of a test.

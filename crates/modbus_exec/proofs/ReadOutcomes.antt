@@ -8,7 +8,8 @@ use Rattle.modbus_pdu.specs.Quantities.{most_discretes_read, most_registers_read
 use Rattle.modbus_pdu.specs.Steps.{most_read, read_request, reading_function}
 use Rattle.modbus_pdu.specs.declared.reply.Reply.TheVariants as replies
 use Rattle.modbus_exec.specs.Answer.{Outcome, reply_by, stored_by, outcome_of}
-use Rattle.modbus_exec.specs.Runs.{reference_at, are_in_map, bits_from}
+use Rattle.plant_types.specs.Discretes.{bits_from}
+use Rattle.modbus_exec.specs.Runs.{reference_at, are_in_map}
 use Rattle.modbus_exec.proofs.Outcomes.{chosen}
 
 -- Discretes are read as bits.

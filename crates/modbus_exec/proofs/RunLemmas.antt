@@ -8,7 +8,8 @@ use Rattle.plant_types.specs.declared.reference.Ref.{Ref}
 use Rattle.plant_types.specs.Reference.{ref_from}
 use Rattle.plant_types.specs.Store.{Contents, is_on, word_at, words_from, with_words}
 use Rattle.plant_types.proofs.RunLemmas.{ref_from-zero, ref_from-ref_from, length-words_from, get_or-words_from, with_words-push}
-use Rattle.modbus_exec.specs.Runs.{is_in_map, are_in_map, HasRun, bits_from, bit_words}
+use Rattle.plant_types.specs.Discretes.{bits_from, bit_words}
+use Rattle.modbus_exec.specs.Runs.{is_in_map, are_in_map, HasRun}
 
 and_true : (a b : Bool) → a ≡ true → b ≡ true → (a && b) ≡ true
 and_true true true e f = refl
@@ -88,10 +89,6 @@ with_words-more m at words i lt =
     let size = length-take-le i words (omega arith) in
     ap (with_words m at) (take_more words i 0 lt) ∙ with_words-push m at (take i words) (get_or words i 0) ∙ ap (λ (n : ℕ). insert (with_words m at (take i words)) (ref_from at n) (get_or words i 0)) size
 
--- As many words are stored as there are bits.
-pub length-bit_words : (bits : List Bool) → length (bit_words bits) ≡ length bits
-length-bit_words bits = let word : Bool → ℕ = λ bit. if bit then 1 else 0 in length-map bits word
-
 -- A bit as the word that is stored for it.
 pub stored_bit : (bits : List Bool) (i : ℕ) → i < length bits → get_or (bit_words bits) i 0 ≡ cond (get_or bits i false) 1 0
 stored_bit bits i lt = let word : Bool → ℕ = λ bit. if bit then 1 else 0 in get_or-map word bits i false 0 lt
@@ -103,7 +100,3 @@ bits_from-more m at count i lt =
     let long : length words ≡ count = length-words_from m at count in
     let here : get_or (bits_from m at count) i false ≡ is_on m (ref_from at i) = get_or-map (λ (word : ℕ). nat_lt 0 word) words i 0 false (omega arith) ∙ ap (λ (word : ℕ). nat_lt 0 word) (get_or-words_from m at count i 0 lt) in
     take_more (bits_from m at count) i false (omega (arith, length-map words (λ (word : ℕ). nat_lt 0 word))) ∙ ap (λ (b : Bool). take i (bits_from m at count) ++ b ∷ []) here
-
--- A run has as many bits as are asked for.
-pub length-bits_from : (m : Contents) (at : Ref) (count : ℕ) → length (bits_from m at count) ≡ count
-length-bits_from m at count = length-map (words_from m at count) (λ (word : ℕ). nat_lt 0 word) ∙ length-words_from m at count

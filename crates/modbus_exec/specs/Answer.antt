@@ -14,7 +14,8 @@ use Rattle.modbus_pdu.specs.declared.reply.Reply.TheVariants as replies
 use Rattle.modbus_pdu.specs.Exceptions.{illegal_function, illegal_address, illegal_value}
 use Rattle.modbus_pdu.specs.Reading.{request_of}
 use Rattle.modbus_pdu.specs.Spelling.{is_listed, reply_bytes}
-use Rattle.modbus_exec.specs.Runs.{reference_at, is_in_map, are_in_map, bits_from, with_bits}
+use Rattle.plant_types.specs.Discretes.{bits_from, with_bits}
+use Rattle.modbus_exec.specs.Runs.{reference_at, is_in_map, are_in_map}
 
 -- A reply, and the contents that the request leaves. This project's own.
 pub record Outcome : Type 0 where

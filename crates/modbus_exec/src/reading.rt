@@ -51,7 +51,7 @@ fn reply_of<R: RefStore>(
     Ok(Reply::Words { function, words })
 }
 
-/// The references of a kind from an address on.
+/// The reply to a read of references of a kind.
 pub(crate) fn read<R: RefStore>(
     alloc: Global,
     ram: &R,

@@ -3,7 +3,8 @@ ghost use Rattle.std.specs.Prelude.{◌≡◌, ◌+◌, ◌<◌, ◌≤◌, true
 ghost use Rattle.plant_types.specs.Reference.{is_discrete, ref_from};
 ghost use Rattle.plant_types.specs.Store.{words_from, with_words};
 ghost use Rattle.modbus_pdu.specs.Quantities.{most_discretes_read, most_registers_read};
-ghost use Rattle.modbus_exec.specs.Runs.{reference_at, is_in_map, are_in_map, HasRun, bits_from, with_bits};
+ghost use Rattle.plant_types.specs.Discretes.{bits_from, with_bits};
+ghost use Rattle.modbus_exec.specs.Runs.{reference_at, is_in_map, are_in_map, HasRun};
 
 use plant_types::{List, Ref, RefKind, RefStore, Words};
 use std::alloc::{AllocError, Global};

@@ -153,7 +153,8 @@ pub(crate) fn read_write<R: RefStore>(
 ) -> Result<Reply, ExecEnd>
     requires read { quantity ≤ most_registers_read }
     requires written { length words.now ≤ most_registers_exchanged }
-    ensures { Replies (Request.ReadWrite read quantity write words.now) (R.contents ram.now) result }
+    ensures { let request = Request.ReadWrite read quantity write words.now in
+        Replies request (R.contents ram.now) result }
 {
     let count = quantity as usize;
     let words = words.words();

@@ -1,7 +1,8 @@
-use Rattle.std.proofs.Common.{Err, refl, subst, sym}
+use Rattle.std.proofs.Common.{Result, Err, ap, subst, sym}
 use Rattle.std.proofs.lemmas.Result.{IfOk-weaker}
 use Rattle.plant_types.specs.Store.{Keeps}
-use Rattle.modbus_pdu.specs.declared.end.DecodeEnd.TheVariants.{Exception}
+use Rattle.modbus_pdu.specs.declared.end.DecodeEnd.{DecodeEnd}
+use Rattle.modbus_pdu.specs.declared.request.Request.{Request}
 use Rattle.modbus_exec.proofs.AnswerLemmas.{answer_fits, answer_keeps, answered_has}
 use Rattle.modbus_exec.proofs.GrammarAnswers.{refused_answer, failed_answer, done_answer}
 use Rattle.modbus_exec.proofs.answering.answer.Goals as goal
@@ -25,8 +26,10 @@ returns-in-Err-Exception-clause-answered g c =
     let bytes = c.args.bytes.now in
     let code = c.in-Err-Exception.code in
     let said = c.in-Err-Exception.ensures in
+    let failed : DecodeEnd → Result Request DecodeEnd = λ end. Err end in
+    let is_code = ap failed c.in-Err-Exception.field-0-is in
     IfOk-weaker c.encode_reply.result _ _
-    (λ pdu is. refused_answer bytes m pdu code (Err (Exception code)) refl said.ends said.unlisted said.misformed is)
+    (λ pdu is. refused_answer bytes m pdu code _ is_code said.ends said.unlisted said.misformed is)
     c.encode_reply.ensures.bytes
 
 pub returns-in-Err-Exception-reply_to-clause-answered :
@@ -35,8 +38,9 @@ returns-in-Err-Exception-reply_to-clause-answered g c =
     let m = g.R.RefStore.contents c.args.ram.now in
     let spelled = c.in-Ok.ensures.spelled in
     let code = c.in-Err-Exception-reply_to.code in
+    let failed = rw c.in-Err-Exception-reply_to.field-0-is at c.in-Err-Exception-reply_to.ensures in
     IfOk-weaker c.encode_reply-in-Err-Exception-reply_to.result _ _
-    (λ pdu is. failed_answer c.args.bytes.now m c.in-Ok.request pdu code spelled c.in-Err-Exception-reply_to.ensures is)
+    (λ pdu is. failed_answer c.args.bytes.now m c.in-Ok.request pdu code spelled failed is)
     c.encode_reply-in-Err-Exception-reply_to.ensures.bytes
 
 pub returns-clause-answered : goal.returns-clause-answered

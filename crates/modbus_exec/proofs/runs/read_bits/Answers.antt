@@ -3,8 +3,10 @@ use Rattle.std.proofs.lemmas.Grind.{common_steps}
 use Rattle.std.proofs.lemmas.List.{take_all}
 use Rattle.plant_types.specs.Reference.{ref_from}
 use Rattle.plant_types.specs.Store.{is_on}
-use Rattle.modbus_exec.specs.Runs.{reference_at, bits_from}
-use Rattle.modbus_exec.proofs.RunLemmas.{bits_from-more, length-bits_from}
+use Rattle.plant_types.specs.Discretes.{bits_from}
+use Rattle.modbus_exec.specs.Runs.{reference_at}
+use Rattle.plant_types.proofs.DiscretesLemmas.{length-bits_from}
+use Rattle.modbus_exec.proofs.RunLemmas.{bits_from-more}
 use Rattle.modbus_exec.proofs.runs.read_bits.Goals as goal
 
 pub loop-place-preserved : goal.loop-place-preserved

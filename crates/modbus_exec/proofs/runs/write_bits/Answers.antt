@@ -4,8 +4,10 @@ use Rattle.plant_types.specs.declared.reference.RefKind.TheVariants as kinds
 use Rattle.plant_types.specs.Reference.{ref_from}
 use Rattle.plant_types.specs.Store.{with_words}
 use Rattle.plant_types.proofs.RunLemmas.{Keeps-with_words}
-use Rattle.modbus_exec.specs.Runs.{reference_at, bit_words}
-use Rattle.modbus_exec.proofs.RunLemmas.{with_words-more, stored_bit, length-bit_words}
+use Rattle.plant_types.specs.Discretes.{bit_words}
+use Rattle.modbus_exec.specs.Runs.{reference_at}
+use Rattle.plant_types.proofs.DiscretesLemmas.{length-bit_words}
+use Rattle.modbus_exec.proofs.RunLemmas.{with_words-more, stored_bit}
 use Rattle.modbus_exec.proofs.runs.write_bits.Goals as goal
 
 pub loop-place-init : goal.loop-place-init

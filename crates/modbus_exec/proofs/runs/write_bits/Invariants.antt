@@ -1,7 +1,8 @@
 use Rattle.std.proofs.Common.{◌≡◌, take}
 use Rattle.plant_types.specs.declared.reference.RefKind.TheVariants as kinds
 use Rattle.plant_types.specs.Store.{with_words}
-use Rattle.modbus_exec.specs.Runs.{reference_at, bit_words}
+use Rattle.plant_types.specs.Discretes.{bit_words}
+use Rattle.modbus_exec.specs.Runs.{reference_at}
 use Rattle.modbus_exec.proofs.runs.write_bits.Given as goal
 
 abbrev pub invariant-loop-place : goal.invariant-loop-place
