@@ -24,11 +24,6 @@ word_written m to words at i lt e = ap (word_at (with_words m to words)) e ∙ a
 pub word_kept : (m : Contents) (to : Ref) (words : List ℕ) (at : Ref) → ((i : ℕ) → i < length words → ref_from to i ≢ at) → word_at (with_words m to words) at ≡ word_at m at
 word_kept m to words at other = ap (λ o. unwrap_or o 0) (get-with_words_other m to words at other)
 
--- Two tests that hold.
-pub both : (a b : Bool) → true ≡ a → true ≡ b → true ≡ (a && b)
-both true b e f = f
-both false b e f = absurd cc
-
 -- A holding register by its number. This project's own.
 abbrev pub register : ℕ → Ref
 register number = record { kind = kinds.Register; number = number }

@@ -17,7 +17,7 @@ use crate::request::Request;
 use plant_types::Pdu;
 use std::alloc::{AllocError, Global};
 
-fn two_words(alloc: Global, function: u8, first: u16, second: u16) -> Result<Pdu, AllocError>
+fn encode_two(alloc: Global, function: u8, first: u16, second: u16) -> Result<Pdu, AllocError>
     ensures { IfOk result (λ pdu. pdu ≡ function ∷ word_bytes first ++ word_bytes second) }
 {
     let mut draft = Draft::new();
@@ -27,7 +27,7 @@ fn two_words(alloc: Global, function: u8, first: u16, second: u16) -> Result<Pdu
     draft.finish(alloc)
 }
 
-fn three_words(
+fn encode_three(
     alloc: Global,
     function: u8,
     first: u16,
@@ -100,18 +100,18 @@ pub fn encode_request(alloc: Global, request: &Request) -> Result<Pdu, AllocErro
     ensures bytes { IfOk result (λ pdu. pdu ≡ spelling_of request.now) }
 {
     match request {
-        Request::ReadCoils { address, quantity } => two_words(alloc, 1, *address, *quantity),
-        Request::ReadInputs { address, quantity } => two_words(alloc, 2, *address, *quantity),
-        Request::ReadRegisters { address, quantity } => two_words(alloc, 3, *address, *quantity),
+        Request::ReadCoils { address, quantity } => encode_two(alloc, 1, *address, *quantity),
+        Request::ReadInputs { address, quantity } => encode_two(alloc, 2, *address, *quantity),
+        Request::ReadRegisters { address, quantity } => encode_two(alloc, 3, *address, *quantity),
         Request::ReadInputRegisters { address, quantity } => {
-            two_words(alloc, 4, *address, *quantity)
+            encode_two(alloc, 4, *address, *quantity)
         }
-        Request::WriteCoil { address, on: true } => two_words(alloc, 5, *address, 0xff00),
-        Request::WriteCoil { address, on: false } => two_words(alloc, 5, *address, 0),
-        Request::WriteRegister { address, value } => two_words(alloc, 6, *address, *value),
-        Request::Echo { word } => two_words(alloc, 8, 0, *word),
-        Request::Stats { clear: false } => two_words(alloc, 8, 21, 3),
-        Request::Stats { clear: true } => two_words(alloc, 8, 21, 4),
+        Request::WriteCoil { address, on: true } => encode_two(alloc, 5, *address, 0xff00),
+        Request::WriteCoil { address, on: false } => encode_two(alloc, 5, *address, 0),
+        Request::WriteRegister { address, value } => encode_two(alloc, 6, *address, *value),
+        Request::Echo { word } => encode_two(alloc, 8, 0, *word),
+        Request::Stats { clear: false } => encode_two(alloc, 8, 21, 3),
+        Request::Stats { clear: true } => encode_two(alloc, 8, 21, 4),
         Request::WriteCoils { address, bits } => write_coils(alloc, *address, bits.as_slice()),
         Request::WriteRegisters { address, words } => {
             write_registers(alloc, *address, words.words())
@@ -120,7 +120,7 @@ pub fn encode_request(alloc: Global, request: &Request) -> Result<Pdu, AllocErro
             address,
             and_mask,
             or_mask,
-        } => three_words(alloc, 22, *address, *and_mask, *or_mask),
+        } => encode_three(alloc, 22, *address, *and_mask, *or_mask),
         Request::ReadWrite {
             read,
             quantity,
@@ -205,7 +205,7 @@ pub fn encode_reply(alloc: Global, reply: &Reply) -> Result<Pdu, AllocError>
             function,
             address,
             quantity,
-        } => two_words(alloc, *function, *address, *quantity),
+        } => encode_two(alloc, *function, *address, *quantity),
         Reply::Stats { words } => stats_reply(alloc, words.words()),
         Reply::Exception { function, code } => exception_reply(alloc, *function, *code),
     }

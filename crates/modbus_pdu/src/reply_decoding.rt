@@ -43,7 +43,7 @@ fn two_behind(function: u8, bytes: &[u8]) -> Option<(u16, u16)>
     }
 }
 
-fn bits_from(alloc: Global, function: u8, quantity: u16, bytes: &[u8]) -> Result<Reply, BadReply>
+fn decode_bits(alloc: Global, function: u8, quantity: u16, bytes: &[u8]) -> Result<Reply, BadReply>
     requires { (function ≡ 1) ⊎ (function ≡ 2) }
     ensures { Finds (IsBits function quantity bytes.now) result }
 {
@@ -60,7 +60,7 @@ fn bits_from(alloc: Global, function: u8, quantity: u16, bytes: &[u8]) -> Result
     Ok(Reply::Bits { function, bits })
 }
 
-fn words_from(alloc: Global, function: u8, quantity: u16, bytes: &[u8]) -> Result<Reply, BadReply>
+fn decode_words(alloc: Global, function: u8, quantity: u16, bytes: &[u8]) -> Result<Reply, BadReply>
     requires { (function ≡ 3) ⊎ (function ≡ 4) ⊎ (function ≡ 23) }
     ensures { Finds (IsWords function quantity bytes.now) result }
 {
@@ -74,7 +74,7 @@ fn words_from(alloc: Global, function: u8, quantity: u16, bytes: &[u8]) -> Resul
     Ok(Reply::Words { function, words })
 }
 
-fn written_from(
+fn decode_written(
     function: u8,
     address: u16,
     quantity: usize,
@@ -109,7 +109,7 @@ fn operation_behind(bytes: &[u8]) -> Option<(u16, &[u8])>
     }
 }
 
-fn stats_from(alloc: Global, quantity: usize, bytes: &[u8]) -> Result<Reply, BadReply>
+fn decode_stats(alloc: Global, quantity: usize, bytes: &[u8]) -> Result<Reply, BadReply>
     requires { (quantity ≡ 0) ⊎ (quantity ≡ statistics_words) }
     ensures { Finds (IsStats quantity bytes.now) result }
 {
@@ -129,7 +129,7 @@ fn is_two(function: u8, first: u16, second: u16, bytes: &[u8]) -> bool
     matches!(two_behind(function, bytes), Some((one, two)) if one == first && two == second)
 }
 
-fn write_coil_from(address: u16, on: bool, bytes: &[u8]) -> Result<Reply, BadReply>
+fn decode_write_coil(address: u16, on: bool, bytes: &[u8]) -> Result<Reply, BadReply>
     ensures { Finds (IsSame (Request.WriteCoil address on) bytes.now) result }
 {
     let value = if on { 0xff00 } else { 0 };
@@ -139,7 +139,7 @@ fn write_coil_from(address: u16, on: bool, bytes: &[u8]) -> Result<Reply, BadRep
     Ok(Reply::Same(Request::WriteCoil { address, on }))
 }
 
-fn write_register_from(address: u16, value: u16, bytes: &[u8]) -> Result<Reply, BadReply>
+fn decode_write_register(address: u16, value: u16, bytes: &[u8]) -> Result<Reply, BadReply>
     ensures { Finds (IsSame (Request.WriteRegister address value) bytes.now) result }
 {
     if !is_two(6, address, value, bytes) {
@@ -148,7 +148,7 @@ fn write_register_from(address: u16, value: u16, bytes: &[u8]) -> Result<Reply, 
     Ok(Reply::Same(Request::WriteRegister { address, value }))
 }
 
-fn echo_from(word: u16, bytes: &[u8]) -> Result<Reply, BadReply>
+fn decode_echo(word: u16, bytes: &[u8]) -> Result<Reply, BadReply>
     ensures { Finds (IsSame (Request.Echo word) bytes.now) result }
 {
     if !is_two(8, 0, word, bytes) {
@@ -157,7 +157,7 @@ fn echo_from(word: u16, bytes: &[u8]) -> Result<Reply, BadReply>
     Ok(Reply::Same(Request::Echo { word }))
 }
 
-fn mask_from(address: u16, and_mask: u16, or_mask: u16, bytes: &[u8]) -> Result<Reply, BadReply>
+fn decode_mask(address: u16, and_mask: u16, or_mask: u16, bytes: &[u8]) -> Result<Reply, BadReply>
     ensures { Finds (IsSame (Request.Mask address and_mask or_mask) bytes.now) result }
 {
     match bytes {
@@ -184,26 +184,26 @@ fn normal_reply(alloc: Global, request: &Request, bytes: &[u8]) -> Result<Reply,
     ensures { Finds (IsNormal request.now bytes.now) result }
 {
     match request {
-        Request::ReadCoils { quantity, .. } => bits_from(alloc, 1, *quantity, bytes),
-        Request::ReadInputs { quantity, .. } => bits_from(alloc, 2, *quantity, bytes),
-        Request::ReadRegisters { quantity, .. } => words_from(alloc, 3, *quantity, bytes),
-        Request::ReadInputRegisters { quantity, .. } => words_from(alloc, 4, *quantity, bytes),
-        Request::WriteCoil { address, on } => write_coil_from(*address, *on, bytes),
-        Request::WriteRegister { address, value } => write_register_from(*address, *value, bytes),
-        Request::Echo { word } => echo_from(*word, bytes),
-        Request::Stats { clear } => stats_from(alloc, stats_quantity(*clear), bytes),
+        Request::ReadCoils { quantity, .. } => decode_bits(alloc, 1, *quantity, bytes),
+        Request::ReadInputs { quantity, .. } => decode_bits(alloc, 2, *quantity, bytes),
+        Request::ReadRegisters { quantity, .. } => decode_words(alloc, 3, *quantity, bytes),
+        Request::ReadInputRegisters { quantity, .. } => decode_words(alloc, 4, *quantity, bytes),
+        Request::WriteCoil { address, on } => decode_write_coil(*address, *on, bytes),
+        Request::WriteRegister { address, value } => decode_write_register(*address, *value, bytes),
+        Request::Echo { word } => decode_echo(*word, bytes),
+        Request::Stats { clear } => decode_stats(alloc, stats_quantity(*clear), bytes),
         Request::WriteCoils { address, bits } => {
-            written_from(15, *address, bits.as_slice().len(), COILS_WRITTEN, bytes)
+            decode_written(15, *address, bits.as_slice().len(), COILS_WRITTEN, bytes)
         }
         Request::WriteRegisters { address, words } => {
-            written_from(16, *address, words.words().len(), REGISTERS_WRITTEN, bytes)
+            decode_written(16, *address, words.words().len(), REGISTERS_WRITTEN, bytes)
         }
         Request::Mask {
             address,
             and_mask,
             or_mask,
-        } => mask_from(*address, *and_mask, *or_mask, bytes),
-        Request::ReadWrite { quantity, .. } => words_from(alloc, 23, *quantity, bytes),
+        } => decode_mask(*address, *and_mask, *or_mask, bytes),
+        Request::ReadWrite { quantity, .. } => decode_words(alloc, 23, *quantity, bytes),
     }
 }
 

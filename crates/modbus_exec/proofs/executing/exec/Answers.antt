@@ -14,4 +14,4 @@ returns-clause-in_range g c =
 
 pub returns-clause-reply : goal.returns-clause-reply
 returns-clause-reply g c =
-    IfOk-weaker c.execute.result _ _ (λ reply h. h.reply) (executed_fits c.args.request.now (g.R.RefStore.contents c.args.ram.now) (g.R.RefStore.contents c.execute.new.ram) c.execute.result c.requires c.execute.ensures)
+    IfOk-weaker c.execute.result _ _ (λ reply h. h.to) (executed_fits c.args.request.now (g.R.RefStore.contents c.args.ram.now) (g.R.RefStore.contents c.execute.new.ram) c.execute.result c.requires c.execute.ensures)

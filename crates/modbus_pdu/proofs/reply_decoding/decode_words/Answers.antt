@@ -1,7 +1,7 @@
 use Rattle.std.proofs.Common.{arith}
 use Rattle.std.proofs.lemmas.Result.{err_from_is_err_and}
 use Rattle.modbus_pdu.proofs.Replies.{no_words, words_found, words_there}
-use Rattle.modbus_pdu.proofs.reply_decoding.words_from.Goals as goal
+use Rattle.modbus_pdu.proofs.reply_decoding.decode_words.Goals as goal
 
 pub returns-in_default : goal.returns-in_default
 returns-in_default c = no_words c.args.function c.args.quantity c.args.bytes.now c.in_default.ensures

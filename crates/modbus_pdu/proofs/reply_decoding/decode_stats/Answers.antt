@@ -1,9 +1,9 @@
 use Rattle.std.proofs.Common.{sym, ◌∙◌, arith}
 use Rattle.std.proofs.lemmas.Result.{err_from_is_err_and}
 use Rattle.modbus_pdu.proofs.Replies.{no_stats, stats_unfit, stats_found, stats_there}
-use Rattle.modbus_pdu.proofs.reply_decoding.stats_from.Goals as goal
-use Rattle.modbus_pdu.proofs.reply_decoding.stats_from.Goals.{then-operation-stats_operation-via-then-operation-stats_operation}
-use Rattle.modbus_pdu.proofs.reply_decoding.stats_from.Goals.{then-operation-stats_operation-via-else-operation-stats_operation+then-rest-quantity}
+use Rattle.modbus_pdu.proofs.reply_decoding.decode_stats.Goals as goal
+use Rattle.modbus_pdu.proofs.reply_decoding.decode_stats.Goals.{then-operation-stats_operation-via-then-operation-stats_operation}
+use Rattle.modbus_pdu.proofs.reply_decoding.decode_stats.Goals.{then-operation-stats_operation-via-else-operation-stats_operation+then-rest-quantity}
 
 pub returns-in_default : goal.returns-in_default
 returns-in_default c = no_stats c.args.quantity c.args.bytes.now c.in_default.ensures

@@ -1,7 +1,7 @@
 use Rattle.std.proofs.Common.{refl, arith}
 use Rattle.std.proofs.lemmas.Result.{err_from_is_err_and}
 use Rattle.modbus_pdu.proofs.Replies.{no_bits, bits_unclear, bits_found, bits_there}
-use Rattle.modbus_pdu.proofs.reply_decoding.bits_from.Goals as goal
+use Rattle.modbus_pdu.proofs.reply_decoding.decode_bits.Goals as goal
 
 pub returns-in_default : goal.returns-in_default
 returns-in_default c = no_bits c.args.function c.args.quantity c.args.bytes.now c.in_default.ensures
