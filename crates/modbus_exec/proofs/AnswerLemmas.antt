@@ -1,5 +1,6 @@
 -- What every answer of a request to a map keeps to.
-use Rattle.std.proofs.Common.{◌≡◌, ◌≢◌, ℕ, ◌+◌, ◌<◌, ◌≤◌, Bool, true, false, ◌&&◌, List, length, Result, Ok, Err, refl, ap, subst, sym, ◌∙◌, inl, inr, cond, arith}
+use Rattle.std.proofs.Common.{◌≡◌, ◌≢◌, ℕ, ◌+◌, ◌<◌, ◌≤◌, Bool, true, false, ◌&&◌, List, length}
+use Rattle.std.proofs.Common.{Result, Ok, Err, refl, ap, subst, sym, ◌∙◌, inl, inr, cond, arith}
 use Rattle.std.specs.Prelude.{IfOk}
 use Rattle.std.specs.FinMap.{get, insert}
 use Rattle.plant_types.specs.declared.reference.Ref.{Ref}
@@ -10,7 +11,11 @@ use Rattle.plant_types.specs.Store.{Contents, Keeps, word_at, words_from, with_w
 use Rattle.plant_types.proofs.RunLemmas.{length-words_from, get-insert_other, get-with_words_other, Keeps-insert, Keeps-with_words}
 use Rattle.modbus_pdu.specs.Spelling.{IsInRange, IsReplyInRange, IsReplyTo}
 use Rattle.modbus_pdu.specs.declared.request.Request.{Request}
-use Rattle.modbus_pdu.specs.declared.request.Request.TheVariants.{ReadCoils, ReadInputs, ReadRegisters, ReadInputRegisters, WriteCoil, WriteRegister, Echo, Stats, WriteCoils, WriteRegisters, Mask, ReadWrite}
+use Rattle.modbus_pdu.specs.declared.request.Request.TheVariants.{ReadCoils, ReadInputs}
+use Rattle.modbus_pdu.specs.declared.request.Request.TheVariants.{ReadRegisters, ReadInputRegisters}
+use Rattle.modbus_pdu.specs.declared.request.Request.TheVariants.{WriteCoil, WriteRegister, Echo}
+use Rattle.modbus_pdu.specs.declared.request.Request.TheVariants.{Stats, WriteCoils, WriteRegisters}
+use Rattle.modbus_pdu.specs.declared.request.Request.TheVariants.{Mask, ReadWrite}
 use Rattle.modbus_pdu.specs.declared.reply.Reply.{Reply}
 use Rattle.modbus_pdu.specs.declared.reply.Reply.TheVariants as replies
 use Rattle.modbus_exec.specs.declared.end.ExecEnd.{ExecEnd}
@@ -83,7 +88,8 @@ answer_fits request m outcome range e =
     subst (Fits request) is (reply_fits request m outcome range e)
 
 -- A reference that is not one of so many is none of them.
-apart : (kind : RefKind) (address count : ℕ) (at : Ref) → ¬ IsOneOf kind address count at → (i : ℕ) → i < count → ref_from (reference_at kind address) i ≢ at
+apart : (kind : RefKind) (address count : ℕ) (at : Ref) → ¬ IsOneOf kind address count at
+    → (i : ℕ) → i < count → ref_from (reference_at kind address) i ≢ at
 apart kind address count at other i lt e =
     let same : kind ≡ at.kind = ap (λ (r : Ref). r.kind) e in
     let number : address + 1 + i ≡ at.number = ap (λ (r : Ref). r.number) e in
@@ -156,12 +162,15 @@ same_kept : (m : Contents) → Keeps m m
 same_kept m at h = h
 
 -- A reply is one that fits.
-pub executed_fits : (request : Request) (old new : Contents) (result : Result Reply ExecEnd) → IsInRange request → Executes request old result new → IfOk result (Fits request)
+pub executed_fits : (request : Request) (old new : Contents) (result : Result Reply ExecEnd)
+    → IsInRange request → Executes request old result new → IfOk result (Fits request)
 executed_fits request old new (Ok reply) range h = answer_fits request old (record { reply = reply; stored = new }) range h
 executed_fits request old new (Err end) range h = tt
 
 -- Whatever comes, the references that a request does not write stay.
-pub executed_others : (request : Request) (old new : Contents) (result : Result Reply ExecEnd) → Executes request old result new → (at : Ref) → ¬ Writes request at → get new at ≡ get old at
+pub executed_others : (request : Request) (old new : Contents) (result : Result Reply ExecEnd)
+    → Executes request old result new → (at : Ref) → ¬ Writes request at
+    → get new at ≡ get old at
 executed_others request old new (Ok reply) h at other = answer_others request old at (record { reply = reply; stored = new }) other h
 executed_others request old new (Err (Exception code)) h at other = ap (λ (m : Contents). get m at) h.1
 executed_others request old new (Err NoMemory) h at other = ap (λ (m : Contents). get m at) h.1

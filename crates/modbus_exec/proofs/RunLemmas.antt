@@ -1,5 +1,7 @@
 -- Runs of references of a map.
-use Rattle.std.proofs.Common.{◌≡◌, ℕ, zero, suc, ◌+◌, ◌<◌, ◌≤◌, Bool, true, false, ◌&&◌, List, [], ◌∷◌, ◌++◌, length, take, get_or, cond, refl, sym, ap, ◌∙◌, below_more, arith}
+use Rattle.std.proofs.Common.{◌≡◌, ℕ, zero, suc, ◌+◌, ◌<◌, ◌≤◌, Bool, true, false, ◌&&◌, List, []}
+use Rattle.std.proofs.Common.{◌∷◌, ◌++◌, length, take, get_or, cond, refl, sym, ap, ◌∙◌, below_more}
+use Rattle.std.proofs.Common.{arith}
 use Rattle.std.specs.Prelude.{nat_le, nat_lt, if◌then◌else◌, map}
 use Rattle.std.specs.Cmp.{first_so, second_so}
 use Rattle.std.specs.Cmp.Derive.{both_true}
@@ -47,7 +49,8 @@ pub not_in_map : (m : Contents) (at : Ref) (count place : ℕ) → place < count
 unfolding are_in_map
 not_in_map m at zero place lt h = absurd (omega arith)
 not_in_map m at (suc count) zero lt h = ap (λ b. b && are_in_map m (ref_from at 1) count) (ap (is_in_map m) (sym (ref_from-zero at)) ∙ h)
-not_in_map m at (suc count) (suc place) lt h = and_false (is_in_map m at) _ (not_in_map m (ref_from at 1) count place (omega arith) (ap (is_in_map m) (next at place) ∙ h))
+not_in_map m at (suc count) (suc place) lt h =
+    and_false (is_in_map m at) _ (not_in_map m (ref_from at 1) count place (omega arith) (ap (is_in_map m) (next at place) ∙ h))
 
 -- Where all are of the map, they are a run.
 pub run_of : (m : Contents) (at : Ref) (count : ℕ) → are_in_map m at count ≡ true → HasRun m at count
@@ -71,26 +74,35 @@ run_of m at (suc count) h =
     held first rest (suc place) lt = ap (contains_key m) (sym (next at place)) ∙ rest.held place (omega arith)
 
 -- One more reference of a run.
-pub one_more : (m : Contents) (at here : Ref) (count : ℕ) → HasRun m at count → at.number + count ≤ last_number → here ≡ ref_from at count → contains_key m here ≡ true → HasRun m at (count + 1)
+pub one_more : (m : Contents) (at here : Ref) (count : ℕ) → HasRun m at count
+    → at.number + count ≤ last_number → here ≡ ref_from at count → contains_key m here ≡ true
+    → HasRun m at (count + 1)
 one_more m at here count run fits is held = record {
   fits = λ place lt. omega arith;
   held = below_more (λ place. contains_key m (ref_from at place) ≡ true) count run.held (ap (contains_key m) (sym is) ∙ held);
 }
 
 -- One more word is stored behind the first so many.
-pub with_words-more : (m : Contents) (at : Ref) (words : List ℕ) (i : ℕ) → i < length words → with_words m at (take (i + 1) words) ≡ insert (with_words m at (take i words)) (ref_from at i) (get_or words i 0)
+pub with_words-more : (m : Contents) (at : Ref) (words : List ℕ) (i : ℕ) → i < length words
+    → with_words m at (take (i + 1) words) ≡ insert (with_words m at (take i words)) (ref_from at i) (get_or words i 0)
 with_words-more m at words i lt =
     let size = length-take-le i words (omega arith) in
-    ap (with_words m at) (take_more words i 0 lt) ∙ with_words-push m at (take i words) (get_or words i 0) ∙ ap (λ (n : ℕ). insert (with_words m at (take i words)) (ref_from at n) (get_or words i 0)) size
+    ap (with_words m at) (take_more words i 0 lt)
+    ∙ with_words-push m at (take i words) (get_or words i 0)
+    ∙ ap (λ (n : ℕ). insert (with_words m at (take i words)) (ref_from at n) (get_or words i 0)) size
 
 -- A bit as the word that is stored for it.
 pub stored_bit : (bits : List Bool) (i : ℕ) → i < length bits → get_or (bit_words bits) i 0 ≡ cond (get_or bits i false) 1 0
 stored_bit bits i lt = let word : Bool → ℕ = λ bit. if bit then 1 else 0 in get_or-map word bits i false 0 lt
 
 -- One more bit of a run.
-pub bits_from-more : (m : Contents) (at : Ref) (count i : ℕ) → i < count → take (i + 1) (bits_from m at count) ≡ take i (bits_from m at count) ++ is_on m (ref_from at i) ∷ []
+pub bits_from-more : (m : Contents) (at : Ref) (count i : ℕ) → i < count
+    → take (i + 1) (bits_from m at count) ≡ take i (bits_from m at count) ++ is_on m (ref_from at i) ∷ []
 bits_from-more m at count i lt =
     let words = words_from m at count in
     let long : length words ≡ count = length-words_from m at count in
-    let here : get_or (bits_from m at count) i false ≡ is_on m (ref_from at i) = get_or-map (λ (word : ℕ). nat_lt 0 word) words i 0 false (omega arith) ∙ ap (λ (word : ℕ). nat_lt 0 word) (get_or-words_from m at count i 0 lt) in
-    take_more (bits_from m at count) i false (omega (arith, length-map words (λ (word : ℕ). nat_lt 0 word))) ∙ ap (λ (b : Bool). take i (bits_from m at count) ++ b ∷ []) here
+    let here : get_or (bits_from m at count) i false ≡ is_on m (ref_from at i) =
+    get_or-map (λ (word : ℕ). nat_lt 0 word) words i 0 false (omega arith)
+    ∙ ap (λ (word : ℕ). nat_lt 0 word) (get_or-words_from m at count i 0 lt) in
+    take_more (bits_from m at count) i false (omega (arith, length-map words (λ (word : ℕ). nat_lt 0 word)))
+    ∙ ap (λ (b : Bool). take i (bits_from m at count) ++ b ∷ []) here

@@ -65,7 +65,10 @@ pub packed-unpacked : (bytes : List ℕ) → IsBytes bytes → packed (length by
 unfolding packed unpacked
 packed-unpacked [] fits = refl
 packed-unpacked (byte ∷ bytes) fits =
-    rw (take_at (bit_digits 8 byte) (unpacked bytes) 8 (length-bit_digits 8 byte), drop_at (bit_digits 8 byte) (unpacked bytes) 8 (length-bit_digits 8 byte), number_of_digits 8 byte (fits 0), packed-unpacked bytes (λ i. fits (suc i))) refl
+    let eight = length-bit_digits 8 byte in
+    let front = take_at (bit_digits 8 byte) (unpacked bytes) 8 eight in
+    let back = drop_at (bit_digits 8 byte) (unpacked bytes) 8 eight in
+    rw (front, back, number_of_digits 8 byte (fits 0), packed-unpacked bytes (λ i. fits (suc i))) refl
 
 -- Bits that fill their bytes are what is unpacked from these.
 pub unpacked-packed : (count : ℕ) (bits : List Bool) → length bits ≡ 8 * count → unpacked (packed count bits) ≡ bits

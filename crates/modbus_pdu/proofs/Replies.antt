@@ -4,7 +4,7 @@ use Rattle.std.proofs.Common.{List, [], ◌∷◌, ◌++◌, length, take, drop,
 use Rattle.std.proofs.Common.{refl, ap, subst, sym, ◌∙◌, arith}
 use Rattle.std.specs.Prelude.{◌⊎◌, ◌==◌, if◌then◌else◌}
 use Rattle.std.proofs.lemmas.List.{take_at, drop_at, take-append-drop, length-append, length-take, length-drop, length-replicate, get_or-drop}
-use Rattle.modbus_pdu.specs.Bytes.{word_bytes, words_bytes, words_in, packed, unpacked, bytes_for, clear_spare, counted_bits, counted_words}
+use Rattle.modbus_pdu.specs.Bytes.{word_bytes, words_bytes, words_in, packed, unpacked, bytes_for, clear_spare, spare_count, counted_bits, counted_words}
 use Rattle.modbus_pdu.specs.Quantities.{IsUpTo, most_discretes_read, most_registers_read, statistics_words}
 use Rattle.modbus_pdu.specs.Spelling.{operation_for}
 use Rattle.modbus_pdu.specs.Steps.{IsOperation, IsClear, Finds, IsBits, IsWords, IsStats}
@@ -102,7 +102,13 @@ bits_unclear f q bytes x e unclear (replies.Bits code bits) h =
     let all = bits_are f q bytes x e code bits h in
     let long : length bits ≡ q = h.0.1 in
     let back : drop q (unpacked x) ≡ clear_spare (length bits) = ap (drop q) (sym all) ∙ drop_at bits (clear_spare (length bits)) q long in
-    unclear (λ place le lt. let there : q + (place - q) ≡ place = omega arith in ap (λ (i : ℕ). get_or (unpacked x) i false) (sym there) ∙ sym (get_or-drop q (unpacked x) (place - q) false) ∙ ap (λ (bs : List Bool). get_or bs (place - q) false) back ∙ clear-replicate (8 * bytes_for (length bits) - length bits) (place - q))
+    unclear
+    (λ place le lt.
+    let there : q + (place - q) ≡ place = omega arith in
+    ap (λ (i : ℕ). get_or (unpacked x) i false) (sym there)
+    ∙ sym (get_or-drop q (unpacked x) (place - q) false)
+    ∙ ap (λ (bs : List Bool). get_or bs (place - q) false) back
+    ∙ clear-replicate (spare_count (length bits)) (place - q))
 bits_unclear f q bytes x e unclear _ h = absurd h
 
 -- The bits that bytes tell.
@@ -121,7 +127,12 @@ bits_told f q bytes x listed fits e range count clear =
     ∙ ap (packed (bytes_for q)) (take-append-drop q (unpacked x))
     ∙ ap (λ (n : ℕ). packed n (unpacked x)) (sym count)
     ∙ packed-unpacked x (behind_fits f bytes x fits e) in
-    ((refl, long), record { range = (listed, (omega arith, omega arith)); form = e ∙ ap (λ (n : ℕ). f ∷ n ∷ x) count ∙ ap (λ (xs : List ℕ). f ∷ bytes_for q ∷ xs) (sym back) ∙ ap (λ (n : ℕ). f ∷ bytes_for n ∷ packed (bytes_for n) (bits ++ clear_spare n)) (sym long) })
+    let form : bytes ≡ f ∷ counted_bits bits (clear_spare (length bits)) =
+    e
+    ∙ ap (λ (n : ℕ). f ∷ n ∷ x) count
+    ∙ ap (λ (xs : List ℕ). f ∷ bytes_for q ∷ xs) (sym back)
+    ∙ ap (λ (n : ℕ). f ∷ bytes_for n ∷ packed (bytes_for n) (bits ++ clear_spare n)) (sym long) in
+    ((refl, long), record { range = (listed, (omega arith, omega arith)); form = form })
 
 -- Bits that were read from the bytes are the reply.
 pub bits_found : (f q : ℕ) (bytes x : List ℕ) (bits : List Bool) → (f ≡ 1) ⊎ (f ≡ 2)

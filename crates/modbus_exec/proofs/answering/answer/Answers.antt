@@ -47,4 +47,5 @@ pub returns-clause-answered : goal.returns-clause-answered
 returns-clause-answered g c =
     let m = g.R.RefStore.contents c.args.ram.now in
     let after = g.R.RefStore.contents c.store.new.ram in
-    done_answer c.args.bytes.now m after c.in-Ok.request _ c.in_ok-pdu.pdu c.in-Ok.ensures.spelled c.in-Ok-reply_to.ensures c.in_ok-pdu.ensures.bytes c.store.ensures
+    done_answer c.args.bytes.now m after c.in-Ok.request _ c.in_ok-pdu.pdu c.in-Ok.ensures.spelled c.in-Ok-reply_to.ensures c.in_ok-pdu.ensures.bytes
+    c.store.ensures

@@ -22,4 +22,6 @@ pub returns : goal.returns
 returns g c =
     let m = g.R.RefStore.contents c.args.ram.now in
     let at = reference_at c.args.kind c.args.address in
-    c.from_vec.ensures ∙ c.loop-place.invariant ∙ take_all c.loop-place.place (bits_from m at c.args.count) (omega (arith, length-bits_from m at c.args.count))
+    c.from_vec.ensures
+    ∙ c.loop-place.invariant
+    ∙ take_all c.loop-place.place (bits_from m at c.args.count) (omega (arith, length-bits_from m at c.args.count))

@@ -1,4 +1,5 @@
 use Rattle.std.proofs.Common.{sym, ◌∙◌, arith}
+use Rattle.modbus_pdu.proofs.Bytes.{IsBytes}
 use Rattle.std.proofs.lemmas.Result.{err_from_is_err_and}
 use Rattle.modbus_pdu.proofs.Replies.{no_stats, stats_unfit, stats_found, stats_there}
 use Rattle.modbus_pdu.proofs.reply_decoding.decode_stats.Goals as goal
@@ -11,7 +12,11 @@ returns-in_default c = no_stats c.args.quantity c.args.bytes.now c.in_default.en
 pub returns-in_err-words : goal.returns-in_err-words
 returns-in_err-words c =
     let p = err_from_is_err_and c.from_residual.result c.from_residual.ensures.1 in
-    rw (p.1, p.2) (stats_there c.args.quantity c.args.bytes.now c.in-Some.operation c.in-Some.rest.now c.requires (λ i. omega (arith, c.type_inv.bytes i)) c.in-Some.ensures (c.if-operation-stats_operation.false ∙ c.stats_operation.ensures) (omega arith))
+    let fits : IsBytes c.args.bytes.now = λ i. omega (arith, c.type_inv.bytes i) in
+    let at = c.in-Some in
+    let operation = c.if-operation-stats_operation.false ∙ c.stats_operation.ensures in
+    rw (p.1, p.2)
+    (stats_there c.args.quantity c.args.bytes.now at.operation at.rest.now c.requires fits at.ensures operation (omega arith))
 
 pub returns : goal.returns
 returns c =
