@@ -13,6 +13,7 @@ use modbus_pdu::{ILLEGAL_ADDRESS, Reply, Request};
 use plant_types::{List, RefKind, RefStore, Words};
 use std::alloc::{AllocError, Global};
 
+/// The reply to a write of one coil.
 pub(crate) fn write_coil<R: RefStore>(ram: &R, address: u16, on: bool) -> Result<Reply, ExecEnd>
     ensures { Replies (Request.WriteCoil address on) (R.contents ram.now) result }
 {
@@ -22,6 +23,7 @@ pub(crate) fn write_coil<R: RefStore>(ram: &R, address: u16, on: bool) -> Result
     Ok(Reply::Same(Request::WriteCoil { address, on }))
 }
 
+/// The reply to a write of one register.
 pub(crate) fn write_register<R: RefStore>(
     ram: &R,
     address: u16,
@@ -35,6 +37,7 @@ pub(crate) fn write_register<R: RefStore>(
     Ok(Reply::Same(Request::WriteRegister { address, value }))
 }
 
+/// The reply to a write of one register by masks.
 pub(crate) fn write_mask<R: RefStore>(
     ram: &R,
     address: u16,
@@ -53,6 +56,7 @@ pub(crate) fn write_mask<R: RefStore>(
     }))
 }
 
+/// The reply to a write of coils.
 pub(crate) fn write_coils<R: RefStore>(
     ram: &R,
     address: u16,
@@ -72,6 +76,7 @@ pub(crate) fn write_coils<R: RefStore>(
     })
 }
 
+/// The reply to a write of registers.
 pub(crate) fn write_registers<R: RefStore>(
     ram: &R,
     address: u16,
@@ -143,6 +148,7 @@ fn read_after<R: RefStore>(
     Words::of(alloc, found)
 }
 
+/// The reply to a write of registers and a read after it.
 pub(crate) fn read_write<R: RefStore>(
     alloc: Global,
     ram: &R,

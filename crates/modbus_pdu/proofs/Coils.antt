@@ -1,6 +1,6 @@
 -- Requests that write coils, behind their function code.
-use Rattle.std.proofs.Common.{◌≡◌, ◌≢◌, ℕ, ◌*◌, ◌≤◌, Bool, List, ◌∷◌, ◌++◌, length, take, drop, Ok}
-use Rattle.std.proofs.Common.{refl, ap, subst, sym, ◌∙◌, arith}
+use Rattle.std.proofs.Common.{◌≡◌, ℕ, ◌*◌, ◌≤◌, Bool, List, ◌++◌, length, take, drop}
+use Rattle.std.proofs.Common.{refl, ap, ◌∙◌, arith}
 use Rattle.std.proofs.lemmas.List.{take-append-drop, length-take, length-drop}
 use Rattle.modbus_pdu.specs.Bytes.{word_bytes, bytes_for, packed, unpacked, counted_bits}
 use Rattle.modbus_pdu.specs.Quantities.{IsUpTo, most_coils_written}

@@ -3,7 +3,7 @@ use Rattle.std.proofs.Common.{◌≡◌, ℕ, ◌+◌, ◌<◌, Bool, List, [], 
 use Rattle.std.specs.Prelude.{if◌then◌else◌, IfOk, IsErrOf, ◌↔◌}
 use Rattle.std.proofs.lemmas.Bool.Decides.{nat_tests}
 use Rattle.modbus_pdu.specs.Quantities.{statistics_words}
-use Rattle.modbus_pdu.specs.Spelling.{Spells, SpellsReply, IsReplyTo, IsEchoed, function_of, exception_code}
+use Rattle.modbus_pdu.specs.Spelling.{SpellsReply, IsEchoed, function_of, exception_code}
 use Rattle.modbus_pdu.specs.Decoding.{IsSpelledReply, IsOnlyReply, HasNoReply}
 use Rattle.modbus_pdu.specs.Steps.{Finds, IsBits, IsWords, IsWritten, IsStats, IsSame, IsNormal}
 use Rattle.modbus_pdu.specs.declared.end.BadReply.{BadReply}

@@ -1,5 +1,5 @@
 -- Requests that write and then read registers, behind their function code.
-use Rattle.std.proofs.Common.{◌≡◌, ◌≢◌, ℕ, suc, ◌^◌, ◌<◌, get_or, ◌*◌, List, ◌∷◌, ◌++◌, length}
+use Rattle.std.proofs.Common.{◌≡◌, ℕ, suc, ◌^◌, ◌<◌, get_or, ◌*◌, List, ◌∷◌, ◌++◌, length}
 use Rattle.std.proofs.Common.{refl, ap, subst, sym, ◌∙◌, arith}
 use Rattle.modbus_pdu.specs.Bytes.{word_bytes, words_bytes, words_in, counted_words}
 use Rattle.modbus_pdu.specs.Quantities.{IsUpTo, most_registers_read, most_registers_exchanged}

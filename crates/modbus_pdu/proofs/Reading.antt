@@ -1,16 +1,15 @@
 -- The request that bytes spell is read from the places of its fields.
 use Rattle.std.specs.Prelude.{if◌then◌else◌, find}
-use Rattle.std.specs.Str.{bytes_eq}
 use Rattle.std.specs.Cmp.{first_so, second_so}
 use Rattle.std.specs.Cmp.Derive.{both_true}
-use Rattle.std.proofs.Common.{◌≡◌, ℕ, zero, suc, ◌+◌, ◌*◌, ◌/◌, ◌%◌, ◌<◌, ◌≤◌, Bool, true, false}
-use Rattle.std.proofs.Common.{◌&&◌, List, [], ◌∷◌, ◌++◌, length, take, drop, get_or, slice_index}
-use Rattle.std.proofs.Common.{Option, Some, None, refl, ap, subst, sym, ◌∙◌, arith, ◌↔◌}
+use Rattle.std.proofs.Common.{◌≡◌, ℕ, zero, suc, ◌+◌, ◌*◌, ◌/◌, ◌%◌, ◌<◌, Bool, true, false}
+use Rattle.std.proofs.Common.{List, [], ◌∷◌, ◌++◌, length, take, drop, get_or, slice_index}
+use Rattle.std.proofs.Common.{Option, Some, None, refl, ap, sym, ◌∙◌, arith}
 use Rattle.std.proofs.lemmas.Bool.{leb-true, le-leb}
 use Rattle.std.proofs.lemmas.List.{take_at, drop_at, length-append, length-drop}
 use Rattle.std.proofs.lemmas.Slice.Eq.{bytes_eq-Decides}
-use Rattle.modbus_pdu.specs.Bytes.{word_bytes, words_bytes, word_in, words_in, packed, unpacked}
-use Rattle.modbus_pdu.specs.Bytes.{bytes_for, spare_count, clear_spare}
+use Rattle.modbus_pdu.specs.Bytes.{word_bytes, word_in, words_in, packed, unpacked}
+use Rattle.modbus_pdu.specs.Bytes.{bytes_for, spare_count}
 use Rattle.modbus_pdu.specs.Quantities.{Quantity, EachUpTo, are_up_to}
 use Rattle.modbus_pdu.specs.Spelling.{Spells, HasForm, function_of, request_bytes, quantities_of}
 use Rattle.modbus_pdu.specs.Reading.{forms_of, spare_in, is_spelled, request_of}

@@ -1,5 +1,5 @@
 -- Requests that write registers, behind their function code.
-use Rattle.std.proofs.Common.{◌≡◌, ◌≢◌, ℕ, ◌*◌, List, ◌∷◌, ◌++◌, length, Err, refl, ap, sym, ◌∙◌, arith}
+use Rattle.std.proofs.Common.{◌≡◌, ℕ, ◌*◌, List, ◌∷◌, ◌++◌, length, refl, ap, sym, ◌∙◌, arith}
 use Rattle.modbus_pdu.specs.Bytes.{word_bytes, words_bytes, words_in, counted_words}
 use Rattle.modbus_pdu.specs.Quantities.{IsUpTo, most_registers_written}
 use Rattle.modbus_pdu.specs.declared.request.Request.{Request}

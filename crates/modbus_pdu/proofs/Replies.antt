@@ -1,8 +1,8 @@
 -- Which replies with bits or words the bytes spell.
-use Rattle.std.proofs.Common.{◌≡◌, ◌≢◌, ℕ, zero, suc, ◌+◌, ◌-◌, ◌*◌, ◌^◌, ◌<◌, ◌≤◌, Bool, false}
+use Rattle.std.proofs.Common.{◌≡◌, ◌≢◌, ℕ, zero, suc, ◌+◌, ◌-◌, ◌*◌, ◌^◌, ◌<◌, Bool, false}
 use Rattle.std.proofs.Common.{List, [], ◌∷◌, ◌++◌, length, take, drop, replicate, get_or, Ok, Err}
 use Rattle.std.proofs.Common.{refl, ap, subst, sym, ◌∙◌, arith}
-use Rattle.std.specs.Prelude.{◌⊎◌, ◌==◌, if◌then◌else◌}
+use Rattle.std.specs.Prelude.{◌⊎◌}
 use Rattle.std.proofs.lemmas.List.{take_at, drop_at, take-append-drop, length-append, length-take, length-drop, length-replicate, get_or-drop}
 use Rattle.modbus_pdu.specs.Bytes.{word_bytes, words_bytes, words_in, packed, unpacked, bytes_for, clear_spare, spare_count, counted_bits, counted_words}
 use Rattle.modbus_pdu.specs.Quantities.{IsUpTo, most_discretes_read, most_registers_read, statistics_words}

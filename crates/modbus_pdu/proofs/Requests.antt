@@ -1,5 +1,5 @@
 -- Which requests stand behind a function code.
-use Rattle.std.proofs.Common.{◌≡◌, ◌≢◌, ℕ, ◌≤◌, true, List, [], ◌∷◌, ◌++◌, length, drop, slice_index}
+use Rattle.std.proofs.Common.{◌≡◌, ◌≢◌, ℕ, ◌≤◌, List, [], ◌∷◌, ◌++◌, length, drop, slice_index}
 use Rattle.std.proofs.Common.{cond, Result, Ok, Err, refl, ap, inr, arith, ◌↔◌}
 use Rattle.std.specs.Prelude.{IfOk, IfErr, IsErrOf}
 use Rattle.plant_types.specs.declared.reference.RefKind.{RefKind}
@@ -7,8 +7,8 @@ use Rattle.plant_types.specs.declared.reference.RefKind.TheVariants.{Coil, Input
 use Rattle.modbus_pdu.specs.Bytes.{word_bytes}
 use Rattle.modbus_pdu.specs.Decoding.{IsSpelled, IsOnlyRequest, IsUnspelled, IsDecodeEnd}
 use Rattle.modbus_pdu.specs.Exceptions.{illegal_function, illegal_value}
-use Rattle.modbus_pdu.specs.Quantities.{IsUpTo, most_discretes_read, most_registers_read}
-use Rattle.modbus_pdu.specs.Spelling.{Spells, is_listed}
+use Rattle.modbus_pdu.specs.Quantities.{IsUpTo}
+use Rattle.modbus_pdu.specs.Spelling.{Spells}
 use Rattle.modbus_pdu.specs.declared.end.DecodeEnd.{DecodeEnd}
 use Rattle.modbus_pdu.specs.declared.end.DecodeEnd.TheVariants.{Exception, NoMemory}
 use Rattle.modbus_pdu.specs.declared.request.Request.{Request}

@@ -1,6 +1,6 @@
 -- Which bytes are requests and replies, and why others are none. This project's own order: the
 -- function first, then all of the form.
-use Rattle.std.specs.Prelude.{◌≡◌, ℕ, Bool, true, false, List, slice_index, ◌⊎◌, ⊤}
+use Rattle.std.specs.Prelude.{◌≡◌, ℕ, true, false, List, slice_index, ◌⊎◌, ⊤}
 use Rattle.modbus_pdu.specs.Exceptions.{illegal_function, illegal_value}
 use Rattle.modbus_pdu.specs.Spelling.{Spells, is_listed, SpellsReply, IsReplyTo}
 use Rattle.modbus_pdu.specs.declared.end.DecodeEnd.{DecodeEnd}

@@ -1,5 +1,5 @@
 -- The request that bytes spell, as a function of the bytes.
-use Rattle.std.specs.Prelude.{ℕ, ◌≡◌, Bool, true, false, ◌&&◌, List, [], ◌∷◌, length, take, drop}
+use Rattle.std.specs.Prelude.{ℕ, Bool, true, false, ◌&&◌, List, [], ◌∷◌, length, take, drop}
 use Rattle.std.specs.Prelude.{Option, find}
 use Rattle.std.specs.Str.{bytes_eq}
 use Rattle.modbus_pdu.specs.Bytes.{word_in, words_in, unpacked}

@@ -1,5 +1,5 @@
 -- How requests and replies are spelled as bytes: the function code, then the fields of its form.
-use Rattle.std.specs.Prelude.{◌≡◌, ◌≤◌, ℕ, ◌+◌, ◌*◌, Bool, ◌||◌, ◌&&◌, ◌==◌, nat_le, nat_lt}
+use Rattle.std.specs.Prelude.{◌≡◌, ℕ, ◌+◌, Bool, ◌||◌, ◌&&◌, ◌==◌, nat_le, nat_lt}
 use Rattle.std.specs.Prelude.{if◌then◌else◌, List, [], ◌∷◌, ◌++◌, length, ⊤, ◌⊎◌}
 use Rattle.modbus_pdu.specs.Bytes.{word_bytes, words_bytes, spare_count, clear_spare}
 use Rattle.modbus_pdu.specs.Bytes.{counted_bits, counted_words}

@@ -27,6 +27,7 @@ impl Model for Draft {
 }
 
 impl Draft {
+    /// A PDU of nothing yet.
     pub(crate) fn new() -> Draft
         ensures { result ≡ [] }
     {
@@ -36,6 +37,7 @@ impl Draft {
         }
     }
 
+    /// Puts a byte last.
     pub(crate) fn byte(&mut self, byte: u8)
         requires { length self.old < 253 }
         ensures bytes { self.new ≡ self.old ++ byte ∷ [] }
@@ -45,6 +47,7 @@ impl Draft {
         self.count += 1;
     }
 
+    /// Puts a word last, its high byte first.
     pub(crate) fn word(&mut self, word: u16)
         requires { length self.old + 2 ≤ 253 }
         ensures bytes { self.new ≡ self.old ++ word_bytes word }
@@ -56,6 +59,7 @@ impl Draft {
         self.byte(bytes[1]);
     }
 
+    /// Puts words last, one after the other.
     pub(crate) fn words(&mut self, words: &[u16])
         requires { length self.old + 2 * length words.now ≤ 253 }
         ensures bytes { self.new ≡ self.old ++ words_bytes words.now }
@@ -79,6 +83,7 @@ impl Draft {
         }
     }
 
+    /// The PDU, in memory of its own.
     pub(crate) fn finish(&self, alloc: Global) -> Result<Pdu, AllocError>
         requires { 1 ≤ length self.now }
         ensures { IfOk result (λ pdu. pdu ≡ self.now) }

@@ -1,4 +1,4 @@
-use Rattle.std.proofs.Common.{refl, sym}
+use Rattle.std.proofs.Common.{refl}
 use Rattle.modbus_pdu.proofs.Requests.{reading_there, no_reading}
 use Rattle.modbus_pdu.proofs.decoding.read.Goals as goal
 
