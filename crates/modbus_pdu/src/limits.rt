@@ -1,5 +1,8 @@
 //! How many references requests and replies may tell, and the codes of exceptions.
 
+/// Bytes in a PDU.
+pub(crate) const PDU_BYTES: usize = 253;
+
 /// Coils or inputs in one read.
 pub(crate) const DISCRETES_READ: u16 = 2000;
 
