@@ -1,4 +1,5 @@
 pub mod RunLemmas
 pub mod Outcomes
 pub mod AnswerLemmas
-pub mod OneAnswer
+pub mod GrammarAnswers
+pub mod ReadOutcomes

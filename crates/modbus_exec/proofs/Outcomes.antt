@@ -17,17 +17,16 @@ is_there true outcome e = (outcome, refl)
 is_there false outcome e = absurd cc
 
 -- A register that was written has the word.
-pub word_written : (m : Contents) (to : Ref) (words : List ℕ) (at : Ref) (i : ℕ) → i < length words → at ≡ ref_from to i → word_at (with_words m to words) at ≡ get_or words i 0
+pub word_written : (m : Contents) (to : Ref) (words : List ℕ) (at : Ref) (i : ℕ)
+    → i < length words → at ≡ ref_from to i
+    → word_at (with_words m to words) at ≡ get_or words i 0
 word_written m to words at i lt e = ap (word_at (with_words m to words)) e ∙ ap (λ o. unwrap_or o 0) (get-with_words_at m to words i 0 lt)
 
 -- A register that was not keeps its own.
-pub word_kept : (m : Contents) (to : Ref) (words : List ℕ) (at : Ref) → ((i : ℕ) → i < length words → ref_from to i ≢ at) → word_at (with_words m to words) at ≡ word_at m at
+pub word_kept : (m : Contents) (to : Ref) (words : List ℕ) (at : Ref)
+    → ((i : ℕ) → i < length words → ref_from to i ≢ at)
+    → word_at (with_words m to words) at ≡ word_at m at
 word_kept m to words at other = ap (λ o. unwrap_or o 0) (get-with_words_other m to words at other)
-
--- Two tests that hold.
-pub both : (a b : Bool) → true ≡ a → true ≡ b → true ≡ (a && b)
-both true b e f = f
-both false b e f = absurd cc
 
 -- A holding register by its number. This project's own.
 abbrev pub register : ℕ → Ref

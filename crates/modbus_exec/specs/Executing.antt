@@ -1,20 +1,38 @@
 -- What executing a request answers and leaves.
 use Rattle.std.specs.Prelude.{◌≡◌, ℕ, List, Result, Ok, Err}
+use Rattle.std.specs.FinMap.{get}
+use Rattle.plant_types.specs.declared.reference.Ref.{Ref}
 use Rattle.plant_types.specs.Store.{Contents}
 use Rattle.modbus_pdu.specs.declared.request.Request.{Request}
 use Rattle.modbus_pdu.specs.declared.reply.Reply.{Reply}
 use Rattle.modbus_exec.specs.declared.end.ExecEnd.{ExecEnd}
 use Rattle.modbus_exec.specs.declared.end.ExecEnd.TheVariants as ends
-use Rattle.modbus_exec.specs.Answer.{Outcome, answer_of, stored_by}
+use Rattle.modbus_exec.specs.Answer.{Outcome, outcome_of, stored_by, Answer, answer_of, Writes}
 
--- The reply of the outcome; or the code of the exception; or want of memory where there is an outcome. This project's own.
+-- The outcome of a request is this reply and these contents. This project's own.
+abbrev pub ComesTo : Request → Contents → Contents → Reply → Type 0
+ComesTo request old new reply =
+    outcome_of request old ≡ Ok (record { reply = reply; stored = new })
+
+-- The answer to bytes is this reply and these contents. This project's own.
+abbrev pub Answers : List ℕ → Contents → Contents → List ℕ → Type 0
+Answers bytes old new reply = answer_of bytes old ≡ record { reply = reply; stored = new }
+
+-- Every reference that a request does not write stays. This project's own.
+abbrev pub KeepsOthers : Request → Contents → Contents → Type 0
+KeepsOthers request old new = (at : Ref) → ¬ Writes request at → get new at ≡ get old at
+
+-- The reply of the outcome; or the code of the exception; or want of memory where there is an
+-- outcome. This project's own.
 abbrev pub Replies : Request → Contents → Result Reply ExecEnd → Type 0
-Replies request m (Ok reply) = answer_of request m ≡ Ok (record { reply = reply; stored = stored_by request m })
-Replies request m (Err (ends.Exception code)) = answer_of request m ≡ Err code
-Replies request m (Err ends.NoMemory) = (outcome : Outcome) × (answer_of request m ≡ Ok outcome)
+Replies request m (Ok reply) = ComesTo request m (stored_by request m) reply
+Replies request m (Err (ends.Exception code)) = outcome_of request m ≡ Err code
+Replies request m (Err ends.NoMemory) = (outcome : Outcome) × (outcome_of request m ≡ Ok outcome)
 
--- The reply and the contents of the outcome; or the code of the exception; or want of memory where there is an outcome. Without a reply the contents stay. This project's own.
+-- The same and the contents that are left; without a reply the contents stay. This project's own.
 abbrev pub Executes : Request → Contents → Result Reply ExecEnd → Contents → Type 0
-Executes request old (Ok reply) new = answer_of request old ≡ Ok (record { reply = reply; stored = new })
-Executes request old (Err (ends.Exception code)) new = (answer_of request old ≡ Err code) × (new ≡ old)
-Executes request old (Err ends.NoMemory) new = ((outcome : Outcome) × (answer_of request old ≡ Ok outcome)) × (new ≡ old)
+Executes request old (Ok reply) new = ComesTo request old new reply
+Executes request old (Err (ends.Exception code)) new =
+    (outcome_of request old ≡ Err code) × (new ≡ old)
+Executes request old (Err ends.NoMemory) new =
+    ((outcome : Outcome) × (outcome_of request old ≡ Ok outcome)) × (new ≡ old)

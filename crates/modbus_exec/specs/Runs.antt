@@ -1,18 +1,23 @@
 -- Runs of references of a map, and what they hold.
-use Rattle.std.specs.Prelude.{◌≡◌, ℕ, zero, suc, ◌+◌, ◌<◌, Bool, true, ◌&&◌, nat_lt, if◌then◌else◌, List, map}
+use Rattle.std.specs.Prelude.{◌≡◌, ℕ, zero, suc, ◌+◌, ◌<◌, ◌≤◌, Bool, true, ◌&&◌, nat_le}
 use Rattle.std.specs.FinMap.{contains_key}
 use Rattle.plant_types.specs.declared.reference.Ref.{Ref}
 use Rattle.plant_types.specs.declared.reference.RefKind.{RefKind}
 use Rattle.plant_types.specs.Reference.{ref_from}
-use Rattle.plant_types.specs.Store.{Contents, words_from, with_words}
+use Rattle.plant_types.specs.Store.{Contents}
 
--- The reference of a kind at an address: address 0 is number 1. Modicon Modbus Protocol Reference Guide.
+-- The reference of a kind at an address: address 0 is number 1.
+-- Modicon Modbus Protocol Reference Guide.
 abbrev pub reference_at : RefKind → ℕ → Ref
 reference_at kind address = record { kind = kind; number = address + 1 }
 
--- A reference of the map; one past 65,535 is of none. This project's own.
+-- The last number that a reference can have. This project's own.
+abbrev pub last_number : ℕ
+last_number = 65535
+
+-- A reference of the map. This project's own.
 abbrev pub is_in_map : Contents → Ref → Bool
-is_in_map m at = nat_lt at.number 65536 && contains_key m at
+is_in_map m at = nat_le at.number last_number && contains_key m at
 
 -- Whether so many references from one on are all of the map. This project's own.
 unfoldable pub are_in_map : Contents → Ref → ℕ → Bool
@@ -21,17 +26,5 @@ are_in_map m at (suc count) = is_in_map m at && are_in_map m (ref_from at 1) cou
 
 -- Each of so many references from one on is of the map. This project's own.
 pub record HasRun (m : Contents) (at : Ref) (count : ℕ) : Type 0 where
-  pub fits : (place : ℕ) → place < count → at.number + place < 65536
+  pub fits : (place : ℕ) → place < count → at.number + place ≤ last_number
   pub held : (place : ℕ) → place < count → contains_key m (ref_from at place) ≡ true
-
--- Whether so many discretes from one on are on. This project's own.
-abbrev pub bits_from : Contents → Ref → ℕ → List Bool
-bits_from m at count = map (λ word. nat_lt 0 word) (words_from m at count)
-
--- The numbers that are stored for discretes: 1 for on, 0 for off. This project's own.
-abbrev pub bit_words : List Bool → List ℕ
-bit_words bits = map (λ bit. if bit then 1 else 0) bits
-
--- The contents after discretes are set from one on. This project's own.
-abbrev pub with_bits : Contents → Ref → List Bool → Contents
-with_bits m at bits = with_words m at (bit_words bits)

@@ -1,7 +1,7 @@
 //! The answer to the bytes of a request.
-ghost use Rattle.std.specs.Prelude.{◌≡◌, ◌≤◌, length, IfOk, OnErr};
+ghost use Rattle.std.specs.Prelude.{◌≡◌, ◌≤◌, length, slice_index, IfOk, OnErr};
 ghost use Rattle.plant_types.specs.Store.{Keeps};
-ghost use Rattle.modbus_exec.specs.Answer.{IsAnswer};
+ghost use Rattle.modbus_exec.specs.Executing.{Answers};
 
 use crate::end::ExecEnd;
 use crate::executing::reply_to;
@@ -10,10 +10,12 @@ use modbus_pdu::{DecodeEnd, Reply, decode, encode_reply};
 use plant_types::{Pdu, RefStore};
 use std::alloc::{AllocError, Global};
 
-/// The bytes of the answer to a request, which is executed. An `Err` changes nothing.
+/// The bytes of the answer to a request, which is executed. Their memory is taken before anything
+/// is written: an `Err` changes nothing.
 pub fn answer<R: RefStore>(alloc: Global, bytes: &[u8], ram: &mut R) -> Result<Pdu, AllocError>
     requires { 1 ≤ length bytes.now }
-    ensures answered { IfOk result (λ reply. IsAnswer bytes.now (R.contents ram.old) reply (R.contents ram.new)) }
+    ensures answered { IfOk result
+        (Answers bytes.now (R.contents ram.old) (R.contents ram.new)) }
     ensures keeps { Keeps (R.contents ram.old) (R.contents ram.new) }
     ensures unchanged { OnErr result (R.contents ram.new ≡ R.contents ram.old) }
 {

@@ -1,20 +1,18 @@
 //! Requests on the references of a store.
 ghost use Rattle.std.specs.Prelude.{◌≡◌, ℕ, ◌↔◌, Ok, Err, IfOk, OnErr, IsErrOf};
-ghost use Rattle.std.specs.FinMap as map;
-ghost use Rattle.plant_types.specs.declared.reference.Ref.{Ref as Reference};
 ghost use Rattle.modbus_pdu.specs.Spelling.{IsInRange, IsReplyInRange, IsReplyTo};
 ghost use Rattle.plant_types.specs.Store.{Keeps};
-ghost use Rattle.modbus_exec.specs.Answer.{answer_of, Writes};
-ghost use Rattle.modbus_exec.specs.Executing.{Executes, Replies};
+ghost use Rattle.modbus_exec.specs.Answer.{outcome_of};
+ghost use Rattle.modbus_exec.specs.Executing.{ComesTo, Executes, KeepsOthers, Replies};
 
 use crate::end::ExecEnd;
-use crate::reading::{read_coils, read_input_registers, read_inputs, read_registers};
+use crate::reading::read;
 use crate::storing::store;
 use crate::writing::{
     read_write, write_coil, write_coils, write_mask, write_register, write_registers,
 };
-use modbus_pdu::{Reply, Request};
-use plant_types::RefStore;
+use modbus_pdu::{ILLEGAL_FUNCTION, Reply, Request};
+use plant_types::{RefKind, RefStore};
 use std::alloc::Global;
 
 /// The reply to a request, found before anything is written.
@@ -27,18 +25,22 @@ pub(crate) fn reply_to<R: RefStore>(
     ensures { Replies request.now (R.contents ram.now) result }
 {
     match request {
-        Request::ReadCoils { address, quantity } => read_coils(alloc, ram, *address, *quantity),
-        Request::ReadInputs { address, quantity } => read_inputs(alloc, ram, *address, *quantity),
+        Request::ReadCoils { address, quantity } => {
+            read(alloc, ram, RefKind::Coil, *address, *quantity)
+        }
+        Request::ReadInputs { address, quantity } => {
+            read(alloc, ram, RefKind::Input, *address, *quantity)
+        }
         Request::ReadRegisters { address, quantity } => {
-            read_registers(alloc, ram, *address, *quantity)
+            read(alloc, ram, RefKind::Register, *address, *quantity)
         }
         Request::ReadInputRegisters { address, quantity } => {
-            read_input_registers(alloc, ram, *address, *quantity)
+            read(alloc, ram, RefKind::InputRegister, *address, *quantity)
         }
         Request::WriteCoil { address, on } => write_coil(ram, *address, *on),
         Request::WriteRegister { address, value } => write_register(ram, *address, *value),
         Request::Echo { word } => Ok(Reply::Same(Request::Echo { word: *word })),
-        Request::Stats { .. } => Err(ExecEnd::Exception(1)),
+        Request::Stats { .. } => Err(ExecEnd::Exception(ILLEGAL_FUNCTION)),
         Request::WriteCoils { address, bits } => write_coils(ram, *address, bits),
         Request::WriteRegisters { address, words } => write_registers(ram, *address, words),
         Request::Mask {
@@ -69,14 +71,17 @@ fn execute<R: RefStore>(alloc: Global, request: &Request, ram: &mut R) -> Result
     }
 }
 
-/// Does what a request asks. Without a reply nothing is changed: the reply's memory is taken first.
+/// Does what a request asks: exception 1 for statistics, which are not asked of a map, exception 2
+/// where a reference is outside the map. Without a reply nothing is changed: the reply's memory is
+/// taken first.
 pub fn exec<R: RefStore>(alloc: Global, request: &Request, ram: &mut R) -> Result<Reply, ExecEnd>
     requires { IsInRange request.now }
-    ensures answered { IfOk result (λ reply.
-        answer_of request.now (R.contents ram.old) ≡ Ok (record { reply = reply; stored = R.contents ram.new })) }
-    ensures exception { (code : ℕ) → IsErrOf result (ExecEnd.Exception code) ↔ (answer_of request.now (R.contents ram.old) ≡ Err code) }
+    ensures answered { IfOk result
+        (ComesTo request.now (R.contents ram.old) (R.contents ram.new)) }
+    ensures exception { (code : ℕ) → IsErrOf result (ExecEnd.Exception code)
+        ↔ (outcome_of request.now (R.contents ram.old) ≡ Err code) }
     ensures unchanged { OnErr result (R.contents ram.new ≡ R.contents ram.old) }
-    ensures others { (at : Reference) → ¬ Writes request.now at → map.get (R.contents ram.new) at ≡ map.get (R.contents ram.old) at }
+    ensures others { KeepsOthers request.now (R.contents ram.old) (R.contents ram.new) }
     ensures keeps { Keeps (R.contents ram.old) (R.contents ram.new) }
     ensures in_range { IfOk result IsReplyInRange }
     ensures reply { IfOk result (IsReplyTo request.now) }

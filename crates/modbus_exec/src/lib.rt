@@ -13,7 +13,7 @@ mod writing;
 pub use answering::answer;
 pub use end::ExecEnd;
 pub use executing::exec;
-pub use laws::one_answer;
+pub use laws::answers_follow_the_grammar;
 
 #[cfg(test)]
 mod tests;

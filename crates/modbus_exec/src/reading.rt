@@ -1,77 +1,71 @@
 //! Requests that read.
-ghost use Rattle.std.specs.Prelude.{◌≤◌};
+ghost use Rattle.std.specs.Prelude.{◌≡◌, ◌≤◌, IfOk};
+ghost use Rattle.plant_types.specs.Reference.{is_discrete};
+ghost use Rattle.modbus_pdu.specs.Steps.{most_read, read_request, reading_function};
+ghost use Rattle.modbus_exec.specs.Answer.{reply_by};
 ghost use Rattle.modbus_exec.specs.Executing.{Replies};
+ghost use Rattle.modbus_exec.specs.Runs.{reference_at, HasRun};
 
 use crate::end::ExecEnd;
 use crate::runs::{are_in_map, read_bits, read_run};
-use modbus_pdu::{Reply, Request};
+use modbus_pdu::{ILLEGAL_ADDRESS, Reply};
 use plant_types::{RefKind, RefStore};
-use std::alloc::Global;
+use std::alloc::{AllocError, Global};
 
-pub(crate) fn read_coils<R: RefStore>(
-    alloc: Global,
-    ram: &R,
-    address: u16,
-    quantity: u16,
-) -> Result<Reply, ExecEnd>
-    requires { quantity ≤ 2000 }
-    ensures { Replies (Request.ReadCoils address quantity) (R.contents ram.now) result }
+fn is_discrete(kind: RefKind) -> bool
+    ensures { result ≡ is_discrete kind }
 {
-    let count = quantity as usize;
-    if !are_in_map(ram, RefKind::Coil, address, count) {
-        return Err(ExecEnd::Exception(2));
-    }
-    let bits = read_bits(alloc, ram, RefKind::Coil, address, count)?;
-    Ok(Reply::Bits { function: 1, bits })
+    matches!(kind, RefKind::Coil | RefKind::Input)
 }
 
-pub(crate) fn read_inputs<R: RefStore>(
-    alloc: Global,
-    ram: &R,
-    address: u16,
-    quantity: u16,
-) -> Result<Reply, ExecEnd>
-    requires { quantity ≤ 2000 }
-    ensures { Replies (Request.ReadInputs address quantity) (R.contents ram.now) result }
+/// The function that reads references of a kind.
+fn reading_function(kind: RefKind) -> u8
+    ensures { result ≡ reading_function kind }
 {
-    let count = quantity as usize;
-    if !are_in_map(ram, RefKind::Input, address, count) {
-        return Err(ExecEnd::Exception(2));
+    match kind {
+        RefKind::Coil => 1,
+        RefKind::Input => 2,
+        RefKind::Register => 3,
+        RefKind::InputRegister => 4,
     }
-    let bits = read_bits(alloc, ram, RefKind::Input, address, count)?;
-    Ok(Reply::Bits { function: 2, bits })
 }
 
-pub(crate) fn read_registers<R: RefStore>(
+fn reply_of<R: RefStore>(
     alloc: Global,
     ram: &R,
+    kind: RefKind,
     address: u16,
-    quantity: u16,
-) -> Result<Reply, ExecEnd>
-    requires { quantity ≤ 125 }
-    ensures { Replies (Request.ReadRegisters address quantity) (R.contents ram.now) result }
+    count: usize,
+) -> Result<Reply, AllocError>
+    requires run { HasRun (R.contents ram.now) (reference_at kind address) count }
+    requires most { count ≤ most_read kind }
+    ensures { IfOk result (λ reply.
+        reply ≡ reply_by (read_request kind address count) (R.contents ram.now)) }
 {
-    let count = quantity as usize;
-    if !are_in_map(ram, RefKind::Register, address, count) {
-        return Err(ExecEnd::Exception(2));
+    let function = reading_function(kind);
+    if is_discrete(kind) {
+        let bits = read_bits(alloc, ram, kind, address, count)?;
+        return Ok(Reply::Bits { function, bits });
     }
-    let words = read_run(alloc, ram, RefKind::Register, address, count)?;
-    Ok(Reply::Words { function: 3, words })
+    let words = read_run(alloc, ram, kind, address, count)?;
+    Ok(Reply::Words { function, words })
 }
 
-pub(crate) fn read_input_registers<R: RefStore>(
+/// The reply to a read of references of a kind.
+pub(crate) fn read<R: RefStore>(
     alloc: Global,
     ram: &R,
+    kind: RefKind,
     address: u16,
     quantity: u16,
 ) -> Result<Reply, ExecEnd>
-    requires { quantity ≤ 125 }
-    ensures { Replies (Request.ReadInputRegisters address quantity) (R.contents ram.now) result }
+    requires { quantity ≤ most_read kind }
+    ensures { Replies (read_request kind address quantity) (R.contents ram.now) result }
 {
     let count = quantity as usize;
-    if !are_in_map(ram, RefKind::InputRegister, address, count) {
-        return Err(ExecEnd::Exception(2));
+    if !are_in_map(ram, kind, address, count) {
+        return Err(ExecEnd::Exception(ILLEGAL_ADDRESS));
     }
-    let words = read_run(alloc, ram, RefKind::InputRegister, address, count)?;
-    Ok(Reply::Words { function: 4, words })
+    let reply = reply_of(alloc, ram, kind, address, count)?;
+    Ok(reply)
 }

@@ -2,7 +2,9 @@
 ghost use Rattle.std.specs.Prelude.{◌≡◌, ◌+◌, ◌<◌, ◌≤◌, true, false, length, IsTrue, IfOk};
 ghost use Rattle.plant_types.specs.Reference.{is_discrete, ref_from};
 ghost use Rattle.plant_types.specs.Store.{words_from, with_words};
-ghost use Rattle.modbus_exec.specs.Runs.{reference_at, is_in_map, are_in_map, HasRun, bits_from, with_bits};
+ghost use Rattle.modbus_pdu.specs.Quantities.{most_discretes_read, most_registers_read};
+ghost use Rattle.plant_types.specs.Discretes.{bits_from, with_bits};
+ghost use Rattle.modbus_exec.specs.Runs.{reference_at, is_in_map, are_in_map, HasRun};
 
 use plant_types::{List, Ref, RefKind, RefStore, Words};
 use std::alloc::{AllocError, Global};
@@ -19,7 +21,7 @@ pub(crate) fn is_in_map<R: RefStore>(ram: &R, kind: RefKind, address: u16) -> bo
 
 /// Whether the map has the reference so many places behind an address.
 fn is_in_map_behind<R: RefStore>(ram: &R, kind: RefKind, address: u16, place: usize) -> bool
-    requires { place ≤ 2000 }
+    requires { place ≤ most_discretes_read }
     ensures { result ≡ is_in_map (R.contents ram.now) (ref_from (reference_at kind address) place) }
 {
     let number = u32::from(address) + 1 + place as u32;
@@ -34,7 +36,7 @@ fn is_in_map_behind<R: RefStore>(ram: &R, kind: RefKind, address: u16, place: us
 
 /// Whether the map has so many references from an address on.
 pub(crate) fn are_in_map<R: RefStore>(ram: &R, kind: RefKind, address: u16, count: usize) -> bool
-    requires { count ≤ 2000 }
+    requires { count ≤ most_discretes_read }
     ensures all { result ≡ are_in_map (R.contents ram.now) (reference_at kind address) count }
     ensures run { IsTrue result → HasRun (R.contents ram.now) (reference_at kind address) count }
 {
@@ -78,7 +80,8 @@ pub(crate) fn read_bits<R: RefStore>(
 ) -> Result<List<bool>, AllocError>
     requires run { HasRun (R.contents ram.now) (reference_at kind address) count }
     requires kind { is_discrete kind ≡ true }
-    ensures { IfOk result (λ bits. bits ≡ bits_from (R.contents ram.now) (reference_at kind address) count) }
+    ensures { IfOk result (λ bits.
+        bits ≡ bits_from (R.contents ram.now) (reference_at kind address) count) }
 {
     let mut bits = Vec::with_capacity(alloc, count)?;
     for place in 0..count {
@@ -91,7 +94,8 @@ pub(crate) fn read_bits<R: RefStore>(
 fn read_words<R: RefStore>(ram: &R, kind: RefKind, address: u16, words: &mut [u16])
     requires run { HasRun (R.contents ram.now) (reference_at kind address) (length words.old) }
     requires kind { is_discrete kind ≡ false }
-    ensures { words.new ≡ words_from (R.contents ram.now) (reference_at kind address) (length words.old) }
+    ensures { let count = length words.old in
+        words.new ≡ words_from (R.contents ram.now) (reference_at kind address) count }
 {
     for (place, word) in words.iter_mut().enumerate() {
         *word = ram.word(reference_behind(kind, address, place));
@@ -108,8 +112,9 @@ pub(crate) fn read_run<R: RefStore>(
 ) -> Result<Words, AllocError>
     requires run { HasRun (R.contents ram.now) (reference_at kind address) count }
     requires kind { is_discrete kind ≡ false }
-    requires most { count ≤ 125 }
-    ensures { IfOk result (λ words. words ≡ words_from (R.contents ram.now) (reference_at kind address) count) }
+    requires most { count ≤ most_registers_read }
+    ensures { IfOk result (λ words.
+        words ≡ words_from (R.contents ram.now) (reference_at kind address) count) }
 {
     let mut words = [0; 125];
     let words = &mut words[..count];
@@ -120,7 +125,8 @@ pub(crate) fn read_run<R: RefStore>(
 /// Sets the coils from an address on.
 pub(crate) fn write_bits<R: RefStore>(ram: &mut R, address: u16, bits: &[bool])
     requires { HasRun (R.contents ram.old) (reference_at RefKind.Coil address) (length bits.now) }
-    ensures { R.contents ram.new ≡ with_bits (R.contents ram.old) (reference_at RefKind.Coil address) bits.now }
+    ensures { let at = reference_at RefKind.Coil address in
+        R.contents ram.new ≡ with_bits (R.contents ram.old) at bits.now }
 {
     for (place, on) in bits.iter().enumerate() {
         ram.set_bit(reference_behind(RefKind::Coil, address, place), *on);
@@ -129,8 +135,10 @@ pub(crate) fn write_bits<R: RefStore>(ram: &mut R, address: u16, bits: &[bool])
 
 /// Stores words in the registers from an address on.
 pub(crate) fn write_words<R: RefStore>(ram: &mut R, address: u16, words: &[u16])
-    requires { HasRun (R.contents ram.old) (reference_at RefKind.Register address) (length words.now) }
-    ensures { R.contents ram.new ≡ with_words (R.contents ram.old) (reference_at RefKind.Register address) words.now }
+    requires { let at = reference_at RefKind.Register address in
+        HasRun (R.contents ram.old) at (length words.now) }
+    ensures { let at = reference_at RefKind.Register address in
+        R.contents ram.new ≡ with_words (R.contents ram.old) at words.now }
 {
     for (place, word) in words.iter().enumerate() {
         ram.set_word(reference_behind(RefKind::Register, address, place), *word);

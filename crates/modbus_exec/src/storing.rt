@@ -12,7 +12,8 @@ use plant_types::{RefKind, RefStore};
 #[tactic(auto, using(crate::proofs::RunLemmas::in_map_is))]
 fn store_coil<R: RefStore>(ram: &mut R, address: u16, on: bool)
     requires { is_in_map (R.contents ram.old) (reference_at RefKind.Coil address) ≡ true }
-    ensures { R.contents ram.new ≡ with_bit (R.contents ram.old) (reference_at RefKind.Coil address) on }
+    ensures { let at = reference_at RefKind.Coil address in
+        R.contents ram.new ≡ with_bit (R.contents ram.old) at on }
 {
     ram.set_bit(reference_of(RefKind::Coil, address), on);
 }
@@ -20,7 +21,8 @@ fn store_coil<R: RefStore>(ram: &mut R, address: u16, on: bool)
 #[tactic(auto, using(crate::proofs::RunLemmas::in_map_is))]
 fn store_register<R: RefStore>(ram: &mut R, address: u16, value: u16)
     requires { is_in_map (R.contents ram.old) (reference_at RefKind.Register address) ≡ true }
-    ensures { R.contents ram.new ≡ map.insert (R.contents ram.old) (reference_at RefKind.Register address) value }
+    ensures { let at = reference_at RefKind.Register address in
+        R.contents ram.new ≡ map.insert (R.contents ram.old) at value }
 {
     ram.set_word(reference_of(RefKind::Register, address), value);
 }
@@ -28,8 +30,9 @@ fn store_register<R: RefStore>(ram: &mut R, address: u16, value: u16)
 #[tactic(auto, using(crate::proofs::RunLemmas::in_map_is))]
 fn store_masked<R: RefStore>(ram: &mut R, address: u16, and_mask: u16, or_mask: u16)
     requires { is_in_map (R.contents ram.old) (reference_at RefKind.Register address) ≡ true }
-    ensures { let at = reference_at RefKind.Register address in
-        R.contents ram.new ≡ map.insert (R.contents ram.old) at (masked (word_at (R.contents ram.old) at) and_mask or_mask) }
+    ensures { let old = R.contents ram.old in
+        let at = reference_at RefKind.Register address in
+        R.contents ram.new ≡ map.insert old at (masked (word_at old at) and_mask or_mask) }
 {
     let value = ram.word(reference_of(RefKind::Register, address));
     store_register(ram, address, (value & and_mask) | (or_mask & !and_mask));

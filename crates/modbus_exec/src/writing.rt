@@ -2,24 +2,28 @@
 ghost use Rattle.std.specs.Prelude.{◌≡◌, ◌+◌, ◌≤◌, length, IfOk};
 ghost use Rattle.plant_types.specs.Reference.{ref_from};
 ghost use Rattle.plant_types.specs.Store.{word_at, words_from, with_words};
+ghost use Rattle.modbus_pdu.specs.Quantities.{most_coils_written, most_registers_written};
+ghost use Rattle.modbus_pdu.specs.Quantities.{most_registers_read, most_registers_exchanged};
 ghost use Rattle.modbus_exec.specs.Executing.{Replies};
 ghost use Rattle.modbus_exec.specs.Runs.{reference_at, HasRun};
 
 use crate::end::ExecEnd;
 use crate::runs::{are_in_map, is_in_map, reference_behind};
-use modbus_pdu::{Reply, Request};
+use modbus_pdu::{ILLEGAL_ADDRESS, Reply, Request};
 use plant_types::{List, RefKind, RefStore, Words};
 use std::alloc::{AllocError, Global};
 
+/// The reply to a write of one coil.
 pub(crate) fn write_coil<R: RefStore>(ram: &R, address: u16, on: bool) -> Result<Reply, ExecEnd>
     ensures { Replies (Request.WriteCoil address on) (R.contents ram.now) result }
 {
     if !is_in_map(ram, RefKind::Coil, address) {
-        return Err(ExecEnd::Exception(2));
+        return Err(ExecEnd::Exception(ILLEGAL_ADDRESS));
     }
     Ok(Reply::Same(Request::WriteCoil { address, on }))
 }
 
+/// The reply to a write of one register.
 pub(crate) fn write_register<R: RefStore>(
     ram: &R,
     address: u16,
@@ -28,11 +32,12 @@ pub(crate) fn write_register<R: RefStore>(
     ensures { Replies (Request.WriteRegister address value) (R.contents ram.now) result }
 {
     if !is_in_map(ram, RefKind::Register, address) {
-        return Err(ExecEnd::Exception(2));
+        return Err(ExecEnd::Exception(ILLEGAL_ADDRESS));
     }
     Ok(Reply::Same(Request::WriteRegister { address, value }))
 }
 
+/// The reply to a write of one register by masks.
 pub(crate) fn write_mask<R: RefStore>(
     ram: &R,
     address: u16,
@@ -42,7 +47,7 @@ pub(crate) fn write_mask<R: RefStore>(
     ensures { Replies (Request.Mask address and_mask or_mask) (R.contents ram.now) result }
 {
     if !is_in_map(ram, RefKind::Register, address) {
-        return Err(ExecEnd::Exception(2));
+        return Err(ExecEnd::Exception(ILLEGAL_ADDRESS));
     }
     Ok(Reply::Same(Request::Mask {
         address,
@@ -51,17 +56,18 @@ pub(crate) fn write_mask<R: RefStore>(
     }))
 }
 
+/// The reply to a write of coils.
 pub(crate) fn write_coils<R: RefStore>(
     ram: &R,
     address: u16,
     bits: &List<bool>,
 ) -> Result<Reply, ExecEnd>
-    requires { length bits.now ≤ 1968 }
+    requires { length bits.now ≤ most_coils_written }
     ensures { Replies (Request.WriteCoils address bits.now) (R.contents ram.now) result }
 {
     let count = bits.as_slice().len();
     if !are_in_map(ram, RefKind::Coil, address, count) {
-        return Err(ExecEnd::Exception(2));
+        return Err(ExecEnd::Exception(ILLEGAL_ADDRESS));
     }
     Ok(Reply::Written {
         function: 15,
@@ -70,17 +76,18 @@ pub(crate) fn write_coils<R: RefStore>(
     })
 }
 
+/// The reply to a write of registers.
 pub(crate) fn write_registers<R: RefStore>(
     ram: &R,
     address: u16,
     words: &Words,
 ) -> Result<Reply, ExecEnd>
-    requires { length words.now ≤ 123 }
+    requires { length words.now ≤ most_registers_written }
     ensures { Replies (Request.WriteRegisters address words.now) (R.contents ram.now) result }
 {
     let count = words.words().len();
     if !are_in_map(ram, RefKind::Register, address, count) {
-        return Err(ExecEnd::Exception(2));
+        return Err(ExecEnd::Exception(ILLEGAL_ADDRESS));
     }
     Ok(Reply::Written {
         function: 16,
@@ -130,7 +137,7 @@ fn read_after<R: RefStore>(
     words: &[u16],
 ) -> Result<Words, AllocError>
     requires run { HasRun (R.contents ram.now) (reference_at RefKind.Register read) count }
-    requires most { count ≤ 125 }
+    requires most { count ≤ most_registers_read }
     ensures { IfOk result (λ found. found ≡ words_from
         (with_words (R.contents ram.now) (reference_at RefKind.Register write) words.now)
         (reference_at RefKind.Register read) count) }
@@ -141,6 +148,7 @@ fn read_after<R: RefStore>(
     Words::of(alloc, found)
 }
 
+/// The reply to a write of registers and a read after it.
 pub(crate) fn read_write<R: RefStore>(
     alloc: Global,
     ram: &R,
@@ -149,17 +157,18 @@ pub(crate) fn read_write<R: RefStore>(
     write: u16,
     words: &Words,
 ) -> Result<Reply, ExecEnd>
-    requires read { quantity ≤ 125 }
-    requires written { length words.now ≤ 121 }
-    ensures { Replies (Request.ReadWrite read quantity write words.now) (R.contents ram.now) result }
+    requires read { quantity ≤ most_registers_read }
+    requires written { length words.now ≤ most_registers_exchanged }
+    ensures { let request = Request.ReadWrite read quantity write words.now in
+        Replies request (R.contents ram.now) result }
 {
     let count = quantity as usize;
     let words = words.words();
     if !are_in_map(ram, RefKind::Register, read, count) {
-        return Err(ExecEnd::Exception(2));
+        return Err(ExecEnd::Exception(ILLEGAL_ADDRESS));
     }
     if !are_in_map(ram, RefKind::Register, write, words.len()) {
-        return Err(ExecEnd::Exception(2));
+        return Err(ExecEnd::Exception(ILLEGAL_ADDRESS));
     }
     let found = read_after(alloc, ram, read, count, write, words)?;
     Ok(Reply::Words {

@@ -2,14 +2,16 @@
 use Rattle.std.proofs.Common.{◌≡◌, ℕ, zero, suc, ◌+◌, ◌*◌, ◌/◌, ◌%◌, ◌^◌, ◌<◌, List, [], ◌∷◌, ◌++◌, length, get_or, refl, ap, subst, sym, ◌∙◌, arith}
 use Rattle.std.proofs.lemmas.List.Concat.{flat_map-cons}
 use Rattle.byteorder.specs.Endian.{big_number, IsRead}
-use Rattle.modbus_pdu.specs.Bytes.{word_bytes, words_bytes}
+use Rattle.modbus_pdu.specs.Steps.{Counts}
+use Rattle.modbus_pdu.specs.Bytes.{word_bytes, words_bytes, words_in}
 
 -- Lists of bytes.
 abbrev pub IsBytes : List ℕ → Type 0
 IsBytes bytes = (i : ℕ) → get_or bytes i 0 < 2 ^ 8
 
 -- Words that were read from bytes are spelled by these.
-pub words_read : (bytes words : List ℕ) → IsBytes bytes → length bytes ≡ 2 * length words → IsRead big_number 2 bytes words → words_bytes words ≡ bytes
+pub words_read : (bytes words : List ℕ) → IsBytes bytes → length bytes ≡ 2 * length words
+    → IsRead big_number 2 bytes words → words_bytes words ≡ bytes
 words_read [] [] fits long read = refl
 words_read (b ∷ bytes) [] fits long read = absurd (omega arith)
 words_read [] (w ∷ words) fits long read = absurd (omega arith)
@@ -20,7 +22,8 @@ words_read (high ∷ low ∷ rest) (w ∷ words) fits long read =
     let number : w ≡ big_number 2 (high ∷ low ∷ rest) = read 0 (omega arith) in
     let first : w / 256 ≡ high = omega arith in
     let second : w % 256 ≡ low = omega arith in
-    let later : IsRead big_number 2 rest words = λ k lt. let twice : 2 * suc k ≡ suc (suc (2 * k)) = omega arith in rw twice at (read (suc k) (omega arith)) in
+    let later : IsRead big_number 2 rest words =
+    λ k lt. let twice : 2 * suc k ≡ suc (suc (2 * k)) = omega arith in rw twice at (read (suc k) (omega arith)) in
     let rest-is : words_bytes words ≡ rest = words_read rest words (λ i. fits (suc (suc i))) (omega arith) later in
     rw (flat_map-cons word_bytes w words, first, second, rest-is) refl
 
@@ -42,42 +45,34 @@ words_is [] [] e = refl
 words_is [] (y ∷ ys) e = absurd (omega (arith, ap length e, length-words_bytes (y ∷ ys)))
 words_is (x ∷ xs) [] e = absurd (omega (arith, ap length e, length-words_bytes (x ∷ xs)))
 words_is (x ∷ xs) (y ∷ ys) e =
-    let both : word_bytes x ++ words_bytes xs ≡ word_bytes y ++ words_bytes ys = sym (flat_map-cons word_bytes x xs) ∙ e ∙ flat_map-cons word_bytes y ys in
+    let both : word_bytes x ++ words_bytes xs ≡ word_bytes y ++ words_bytes ys =
+    sym (flat_map-cons word_bytes x xs) ∙ e ∙ flat_map-cons word_bytes y ys in
     let one = word_is x y (words_bytes xs) (words_bytes ys) both in
     let rest : xs ≡ ys = words_is xs ys one.1 in
     let first : x ≡ y = one.0 in
     cc
 
--- The words that bytes are, two for each.
-abbrev pub paired : List ℕ → List ℕ
-paired [] = []
-paired (high ∷ []) = []
-paired (high ∷ low ∷ rest) = (256 * high + low) ∷ paired rest
+-- Words are read from their own bytes.
+pub words_in-words_bytes : (words : List ℕ) → words_in (words_bytes words) ≡ words
+words_in-words_bytes [] = refl
+words_in-words_bytes (w ∷ words) =
+    let first : 256 * (w / 256) + w % 256 ≡ w = omega arith in
+    ap words_in (flat_map-cons word_bytes w words) ∙ (λ i. first i ∷ words_in-words_bytes words i)
 
 -- Bytes in pairs are words.
-pub words_paired : (bytes : List ℕ) (count : ℕ) → IsBytes bytes → length bytes ≡ 2 * count → words_bytes (paired bytes) ≡ bytes
-words_paired [] count fits e = refl
-words_paired (high ∷ []) count fits e = absurd (omega arith)
-words_paired (high ∷ low ∷ rest) zero fits e = absurd (omega arith)
-words_paired (high ∷ low ∷ rest) (suc count) fits e =
+pub words_again : (bytes : List ℕ) (count : ℕ) → IsBytes bytes → length bytes ≡ 2 * count → words_bytes (words_in bytes) ≡ bytes
+words_again [] count fits e = refl
+words_again (high ∷ []) count fits e = absurd (omega arith)
+words_again (high ∷ low ∷ rest) zero fits e = absurd (omega arith)
+words_again (high ∷ low ∷ rest) (suc count) fits e =
     let h : high < 256 = fits 0 in
     let l : low < 256 = fits 1 in
     let first : (256 * high + low) / 256 ≡ high = omega arith in
     let second : (256 * high + low) % 256 ≡ low = omega arith in
-    let rest-is : words_bytes (paired rest) ≡ rest = words_paired rest count (λ i. fits (suc (suc i))) (omega arith) in
-    rw (flat_map-cons word_bytes (256 * high + low) (paired rest), first, second, rest-is) refl
-
--- What stands behind a byte that counts it.
-abbrev pub Counts : List ℕ → ℕ → ℕ → List ℕ → Type 0
-Counts fields address quantity rest = fields ≡ word_bytes address ++ word_bytes quantity ++ (length rest ∷ rest)
-
--- Fields with a count have one address, quantity and rest.
-pub counts_one : (fields : List ℕ) (a q b p : ℕ) (x y : List ℕ) → Counts fields a q x → Counts fields b p y → (a ≡ b) × (q ≡ p) × (x ≡ y)
-counts_one fields a q b p x y e f =
-    let first = word_is a b (word_bytes q ++ (length x ∷ x)) (word_bytes p ++ (length y ∷ y)) (sym e ∙ f) in
-    let second = word_is q p (length x ∷ x) (length y ∷ y) first.1 in
-    (first.0, second.0, cc)
+    let rest-is : words_bytes (words_in rest) ≡ rest = words_again rest count (λ i. fits (suc (suc i))) (omega arith) in
+    rw (flat_map-cons word_bytes (256 * high + low) (words_in rest), first, second, rest-is) refl
 
 -- What is counted in bytes is bytes.
 pub counted_fits : (fields : List ℕ) (a q : ℕ) (x : List ℕ) → IsBytes fields → Counts fields a q x → IsBytes x
-counted_fits fields a q x fits e i = subst (λ (bytes : List ℕ). get_or bytes (suc (suc (suc (suc (suc i))))) 0 < 2 ^ 8) e (fits (suc (suc (suc (suc (suc i))))))
+counted_fits fields a q x fits e i =
+    subst (λ (bytes : List ℕ). get_or bytes (suc (suc (suc (suc (suc i))))) 0 < 2 ^ 8) e (fits (suc (suc (suc (suc (suc i))))))

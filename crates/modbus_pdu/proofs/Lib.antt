@@ -6,4 +6,4 @@ pub mod Registers
 pub mod ReadWrites
 pub mod Replies
 pub mod Matching
-pub mod OneSpelling
+pub mod Reading

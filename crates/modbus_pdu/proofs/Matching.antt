@@ -2,14 +2,20 @@
 use Rattle.std.proofs.Common.{◌≡◌, ℕ, ◌+◌, ◌<◌, Bool, List, [], ◌∷◌, length, Result, Ok, Err, refl, ap, subst, sym, ◌∙◌, inl, inr, arith}
 use Rattle.std.specs.Prelude.{if◌then◌else◌, IfOk, IsErrOf, ◌↔◌}
 use Rattle.std.proofs.lemmas.Bool.Decides.{nat_tests}
-use Rattle.modbus_pdu.specs.Spelling.{Spells, SpellsReply, IsReplyTo, IsEchoed, function_of, exception_code}
-use Rattle.modbus_pdu.specs.Decoding.{Finds, IsBits, IsWords, IsWritten, IsStats, IsSame, IsNormal, IsSpelledReply}
+use Rattle.modbus_pdu.specs.Quantities.{statistics_words}
+use Rattle.modbus_pdu.specs.Spelling.{SpellsReply, IsEchoed, function_of, exception_code}
+use Rattle.modbus_pdu.specs.Decoding.{IsSpelledReply, IsOnlyReply, HasNoReply}
+use Rattle.modbus_pdu.specs.Steps.{Finds, IsBits, IsWords, IsWritten, IsStats, IsSame, IsNormal}
 use Rattle.modbus_pdu.specs.declared.end.BadReply.{BadReply}
 use Rattle.modbus_pdu.specs.declared.end.BadReply.TheVariants.{Form, NoMemory}
 use Rattle.modbus_pdu.specs.declared.reply.Reply.{Reply}
 use Rattle.modbus_pdu.specs.declared.reply.Reply.TheVariants as replies
 use Rattle.modbus_pdu.specs.declared.request.Request.{Request}
-use Rattle.modbus_pdu.specs.declared.request.Request.TheVariants.{ReadCoils, ReadInputs, ReadRegisters, ReadInputRegisters, WriteCoil, WriteRegister, Echo, Stats, WriteCoils, WriteRegisters, Mask, ReadWrite}
+use Rattle.modbus_pdu.specs.declared.request.Request.TheVariants.{ReadCoils, ReadInputs}
+use Rattle.modbus_pdu.specs.declared.request.Request.TheVariants.{ReadRegisters, ReadInputRegisters}
+use Rattle.modbus_pdu.specs.declared.request.Request.TheVariants.{WriteCoil, WriteRegister, Echo}
+use Rattle.modbus_pdu.specs.declared.request.Request.TheVariants.{Stats, WriteCoils, WriteRegisters}
+use Rattle.modbus_pdu.specs.declared.request.Request.TheVariants.{Mask, ReadWrite}
 
 -- What is found by one fact is found by another that holds of the same values.
 Finds-same : {A : Type 0} (P Q : A → Type 0) (r : Result A BadReply) → ((x : A) → P x → Q x) → ((x : A) → Q x → P x) → Finds P r → Finds Q r
@@ -22,7 +28,8 @@ same_echoed : (bytes : List ℕ) (again request : Request) → again ≡ request
 same_echoed bytes again request e h = subst IsEchoed e h.range
 
 -- A read of coils is answered by bits.
-pub read_coils_reply : (address quantity : ℕ) (bytes : List ℕ) (r : Result Reply BadReply) → Finds (IsBits 1 quantity bytes) r → Finds (IsNormal (ReadCoils address quantity) bytes) r
+pub read_coils_reply : (address quantity : ℕ) (bytes : List ℕ) (r : Result Reply BadReply)
+    → Finds (IsBits 1 quantity bytes) r → Finds (IsNormal (ReadCoils address quantity) bytes) r
 read_coils_reply address quantity bytes r = Finds-same _ _ r to from
   where
     to : (x : Reply) → IsBits 1 quantity bytes x → IsNormal (ReadCoils address quantity) bytes x
@@ -36,7 +43,9 @@ read_coils_reply address quantity bytes r = Finds-same _ _ r to from
     from _ h = absurd h.0
 
 -- A read of inputs is answered by bits.
-pub read_inputs_reply : (address quantity : ℕ) (bytes : List ℕ) (r : Result Reply BadReply) → Finds (IsBits 2 quantity bytes) r → Finds (IsNormal (ReadInputs address quantity) bytes) r
+pub read_inputs_reply : (address quantity : ℕ) (bytes : List ℕ) (r : Result Reply BadReply)
+    → Finds (IsBits 2 quantity bytes) r
+    → Finds (IsNormal (ReadInputs address quantity) bytes) r
 read_inputs_reply address quantity bytes r = Finds-same _ _ r to from
   where
     to : (x : Reply) → IsBits 2 quantity bytes x → IsNormal (ReadInputs address quantity) bytes x
@@ -50,7 +59,9 @@ read_inputs_reply address quantity bytes r = Finds-same _ _ r to from
     from _ h = absurd h.0
 
 -- A read of registers is answered by words.
-pub read_registers_reply : (address quantity : ℕ) (bytes : List ℕ) (r : Result Reply BadReply) → Finds (IsWords 3 quantity bytes) r → Finds (IsNormal (ReadRegisters address quantity) bytes) r
+pub read_registers_reply : (address quantity : ℕ) (bytes : List ℕ) (r : Result Reply BadReply)
+    → Finds (IsWords 3 quantity bytes) r
+    → Finds (IsNormal (ReadRegisters address quantity) bytes) r
 read_registers_reply address quantity bytes r = Finds-same _ _ r to from
   where
     to : (x : Reply) → IsWords 3 quantity bytes x → IsNormal (ReadRegisters address quantity) bytes x
@@ -64,7 +75,9 @@ read_registers_reply address quantity bytes r = Finds-same _ _ r to from
     from _ h = absurd h.0
 
 -- A read of input registers is answered by words.
-pub read_input_registers_reply : (address quantity : ℕ) (bytes : List ℕ) (r : Result Reply BadReply) → Finds (IsWords 4 quantity bytes) r → Finds (IsNormal (ReadInputRegisters address quantity) bytes) r
+pub read_input_registers_reply : (address quantity : ℕ) (bytes : List ℕ) (r : Result Reply BadReply)
+    → Finds (IsWords 4 quantity bytes) r
+    → Finds (IsNormal (ReadInputRegisters address quantity) bytes) r
 read_input_registers_reply address quantity bytes r = Finds-same _ _ r to from
   where
     to : (x : Reply) → IsWords 4 quantity bytes x → IsNormal (ReadInputRegisters address quantity) bytes x
@@ -78,7 +91,9 @@ read_input_registers_reply address quantity bytes r = Finds-same _ _ r to from
     from _ h = absurd h.0
 
 -- A write and read of registers is answered by words.
-pub read_write_reply : (read quantity write : ℕ) (written : List ℕ) (bytes : List ℕ) (r : Result Reply BadReply) → Finds (IsWords 23 quantity bytes) r → Finds (IsNormal (ReadWrite read quantity write written) bytes) r
+pub read_write_reply : (read quantity write : ℕ) (written : List ℕ) (bytes : List ℕ) (r : Result Reply BadReply)
+    → Finds (IsWords 23 quantity bytes) r
+    → Finds (IsNormal (ReadWrite read quantity write written) bytes) r
 read_write_reply read quantity write written bytes r = Finds-same _ _ r to from
   where
     to : (x : Reply) → IsWords 23 quantity bytes x → IsNormal (ReadWrite read quantity write written) bytes x
@@ -92,7 +107,9 @@ read_write_reply read quantity write written bytes r = Finds-same _ _ r to from
     from _ h = absurd h.0
 
 -- A write of coils is answered by how many.
-pub write_coils_reply : (address : ℕ) (bits : List Bool) (bytes : List ℕ) (r : Result Reply BadReply) → Finds (IsWritten 15 address (length bits) bytes) r → Finds (IsNormal (WriteCoils address bits) bytes) r
+pub write_coils_reply : (address : ℕ) (bits : List Bool) (bytes : List ℕ) (r : Result Reply BadReply)
+    → Finds (IsWritten 15 address (length bits) bytes) r
+    → Finds (IsNormal (WriteCoils address bits) bytes) r
 write_coils_reply address bits bytes r = Finds-same _ _ r to from
   where
     to : (x : Reply) → IsWritten 15 address (length bits) bytes x → IsNormal (WriteCoils address bits) bytes x
@@ -106,7 +123,9 @@ write_coils_reply address bits bytes r = Finds-same _ _ r to from
     from _ h = absurd h.0
 
 -- A write of registers is answered by how many.
-pub write_registers_reply : (address : ℕ) (words : List ℕ) (bytes : List ℕ) (r : Result Reply BadReply) → Finds (IsWritten 16 address (length words) bytes) r → Finds (IsNormal (WriteRegisters address words) bytes) r
+pub write_registers_reply : (address : ℕ) (words : List ℕ) (bytes : List ℕ) (r : Result Reply BadReply)
+    → Finds (IsWritten 16 address (length words) bytes) r
+    → Finds (IsNormal (WriteRegisters address words) bytes) r
 write_registers_reply address words bytes r = Finds-same _ _ r to from
   where
     to : (x : Reply) → IsWritten 16 address (length words) bytes x → IsNormal (WriteRegisters address words) bytes x
@@ -120,21 +139,25 @@ write_registers_reply address words bytes r = Finds-same _ _ r to from
     from _ h = absurd h.0
 
 -- A statistics request is answered by twenty words, or none after a clear.
-pub stats_reply : (clear : Bool) (bytes : List ℕ) (r : Result Reply BadReply) → Finds (IsStats (if clear then 0 else 20) bytes) r → Finds (IsNormal (Stats clear) bytes) r
+pub stats_reply : (clear : Bool) (bytes : List ℕ) (r : Result Reply BadReply)
+    → Finds (IsStats (if clear then 0 else statistics_words) bytes) r
+    → Finds (IsNormal (Stats clear) bytes) r
 stats_reply clear bytes r = Finds-same _ _ r to from
   where
-    to : (x : Reply) → IsStats (if clear then 0 else 20) bytes x → IsNormal (Stats clear) bytes x
+    to : (x : Reply) → IsStats (if clear then 0 else statistics_words) bytes x → IsNormal (Stats clear) bytes x
     to (replies.Stats words) h = h
     to _ h = absurd h
 
-    from : (x : Reply) → IsNormal (Stats clear) bytes x → IsStats (if clear then 0 else 20) bytes x
+    from : (x : Reply) → IsNormal (Stats clear) bytes x → IsStats (if clear then 0 else statistics_words) bytes x
     from (replies.Stats words) h = h
     from (replies.Same again) h = absurd (same_echoed bytes again (Stats clear) h.0 h.1)
     from (replies.Exception function code) h = absurd h
     from _ h = absurd h.0
 
 -- A write of a coil is answered by the request.
-pub write_coil_reply : (address : ℕ) (on : Bool) (bytes : List ℕ) (r : Result Reply BadReply) → Finds (IsSame (WriteCoil address on) bytes) r → Finds (IsNormal (WriteCoil address on) bytes) r
+pub write_coil_reply : (address : ℕ) (on : Bool) (bytes : List ℕ) (r : Result Reply BadReply)
+    → Finds (IsSame (WriteCoil address on) bytes) r
+    → Finds (IsNormal (WriteCoil address on) bytes) r
 write_coil_reply address on bytes r = Finds-same _ _ r to from
   where
     to : (x : Reply) → IsSame (WriteCoil address on) bytes x → IsNormal (WriteCoil address on) bytes x
@@ -147,7 +170,9 @@ write_coil_reply address on bytes r = Finds-same _ _ r to from
     from _ h = absurd h.0
 
 -- A write of a register is answered by the request.
-pub write_register_reply : (address value : ℕ) (bytes : List ℕ) (r : Result Reply BadReply) → Finds (IsSame (WriteRegister address value) bytes) r → Finds (IsNormal (WriteRegister address value) bytes) r
+pub write_register_reply : (address value : ℕ) (bytes : List ℕ) (r : Result Reply BadReply)
+    → Finds (IsSame (WriteRegister address value) bytes) r
+    → Finds (IsNormal (WriteRegister address value) bytes) r
 write_register_reply address value bytes r = Finds-same _ _ r to from
   where
     to : (x : Reply) → IsSame (WriteRegister address value) bytes x → IsNormal (WriteRegister address value) bytes x
@@ -173,7 +198,9 @@ echo_reply word bytes r = Finds-same _ _ r to from
     from _ h = absurd h.0
 
 -- A write by masks is answered by the request.
-pub mask_reply : (address and_mask or_mask : ℕ) (bytes : List ℕ) (r : Result Reply BadReply) → Finds (IsSame (Mask address and_mask or_mask) bytes) r → Finds (IsNormal (Mask address and_mask or_mask) bytes) r
+pub mask_reply : (address and_mask or_mask : ℕ) (bytes : List ℕ) (r : Result Reply BadReply)
+    → Finds (IsSame (Mask address and_mask or_mask) bytes) r
+    → Finds (IsNormal (Mask address and_mask or_mask) bytes) r
 mask_reply address and_mask or_mask bytes r = Finds-same _ _ r to from
   where
     to : (x : Reply) → IsSame (Mask address and_mask or_mask) bytes x → IsNormal (Mask address and_mask or_mask) bytes x
@@ -215,11 +242,6 @@ same_head head code rest bytes request e small h =
     let is = exception_is request in
     omega arith
 
--- An exception reply is no spelled request.
-spelled_head : (code : ℕ) (bytes : List ℕ) (request again : Request) → Spells bytes again → ¬ IsExceptionOf request bytes code
-spelled_head code [] request again s h = s
-spelled_head code (head ∷ rest) request again s h = let small = function_small again in same_head head code rest (head ∷ rest) request refl (omega (arith, s.code)) h
-
 -- No other reply is spelled by an exception reply.
 pub not_normal : (code : ℕ) (bytes : List ℕ) (request : Request) (reply : Reply) → IsExceptionOf request bytes code → ¬ IsNormal request bytes reply
 not_normal code bytes request (replies.Bits function bits) h n = elim n.1.range.0 [
@@ -233,7 +255,8 @@ not_normal code bytes request (replies.Words function words) h n = elim n.1.rang
     | inr e ↦ same_head function code _ bytes request n.1.form (omega (arith, e)) h
   ]
 ]
-not_normal code bytes request (replies.Same again) h n = spelled_head code bytes request again n.1.form h
+not_normal code bytes request (replies.Same again) h n =
+    same_head (function_of again) code _ bytes request n.1.form (function_small again) h
 not_normal code bytes request (replies.Written function address quantity) h n = elim n.1.range [
   | inl e ↦ same_head function code _ bytes request n.1.form (omega (arith, e)) h
   | inr e ↦ same_head function code _ bytes request n.1.form (omega (arith, e)) h
@@ -242,7 +265,9 @@ not_normal code bytes request (replies.Stats words) h n = same_head 8 code _ byt
 not_normal code bytes request (replies.Exception function other) h n = n
 
 -- An exception reply of the request is the one reply that the bytes spell.
-pub exception_found : (code : ℕ) (bytes : List ℕ) (request : Request) → IsExceptionOf request bytes code → Finds (IsSpelledReply request bytes) (Ok (replies.Exception (function_of request) code))
+pub exception_found : (code : ℕ) (bytes : List ℕ) (request : Request)
+    → IsExceptionOf request bytes code
+    → Finds (IsSpelledReply request bytes) (Ok (replies.Exception (function_of request) code))
 exception_found code bytes request e = ((refl, record { range = tt; form = e }), only)
   where
     only : (other : Reply) → IsSpelledReply request bytes other → other ≡ replies.Exception (function_of request) code
@@ -259,7 +284,9 @@ exception_found code bytes request e = ((refl, record { range = tt; form = e }),
     only (replies.Stats words) h = absurd (not_normal code bytes request (replies.Stats words) e h)
 
 -- Where the bytes are no exception reply of the request, a normal reply is all that they may spell.
-pub normal_found : (bytes : List ℕ) (request : Request) (r : Result Reply BadReply) → ((code : ℕ) → ¬ IsExceptionOf request bytes code) → Finds (IsNormal request bytes) r → Finds (IsSpelledReply request bytes) r
+pub normal_found : (bytes : List ℕ) (request : Request) (r : Result Reply BadReply)
+    → ((code : ℕ) → ¬ IsExceptionOf request bytes code) → Finds (IsNormal request bytes) r
+    → Finds (IsSpelledReply request bytes) r
 normal_found bytes request r none = Finds-same _ _ r to from
   where
     to : (x : Reply) → IsNormal request bytes x → IsSpelledReply request bytes x
@@ -280,13 +307,13 @@ normal_found bytes request r none = Finds-same _ _ r to from
 
 -- The only reply that is found is the only one to the request that the bytes spell.
 pub found_only : (bytes : List ℕ) (request : Request) (r : Result Reply BadReply) → Finds (IsSpelledReply request bytes) r
-    → IfOk r (λ reply. (other : Reply) → IsReplyTo request other → SpellsReply bytes other → other ≡ reply)
-found_only bytes request (Ok reply) h = λ other to spelled. h.1 other (to, spelled)
+    → IfOk r (IsOnlyReply request bytes)
+found_only bytes request (Ok reply) h = h.1
 found_only bytes request (Err e) h = tt
 
 -- Form is found exactly where the bytes spell no reply to the request.
 pub found_form : (bytes : List ℕ) (request : Request) (r : Result Reply BadReply) → Finds (IsSpelledReply request bytes) r
-    → IsErrOf r Form ↔ ((reply : Reply) → IsReplyTo request reply → ¬ SpellsReply bytes reply)
-found_form bytes request (Ok reply) h = (λ e. absurd cc, λ none. absurd (none reply h.0.0 h.0.1))
-found_form bytes request (Err Form) h = (λ e reply to spelled. h reply (to, spelled), λ none. refl)
-found_form bytes request (Err NoMemory) h = (λ e. absurd cc, λ none. absurd (none h.0 h.1.0 h.1.1))
+    → IsErrOf r Form ↔ HasNoReply request bytes
+found_form bytes request (Ok reply) h = (λ e. absurd cc, λ none. absurd (none reply h.0))
+found_form bytes request (Err Form) h = (λ e. h, λ none. refl)
+found_form bytes request (Err NoMemory) h = (λ e. absurd cc, λ none. absurd (none h.0 h.1))

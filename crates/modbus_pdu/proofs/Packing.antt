@@ -1,6 +1,10 @@
 -- Bits that are packed and unpacked again.
-use Rattle.std.proofs.Common.{◌≡◌, ℕ, zero, suc, ◌+◌, ◌*◌, ◌/◌, ◌%◌, ◌^◌, ◌<◌, ◌≤◌, ◌-◌, ◌==◌, Bool, true, false, cond, List, [], ◌∷◌, ◌++◌, length, take, drop, replicate, get_or, add-one, refl, ap, sym, ◌∙◌, arith, inl, inr}
-use Rattle.std.proofs.lemmas.List.{take_at, drop_at, take-append-drop, length-append, length-take, length-drop, take_all, drop-drop, drop-append-le, get_or_append_left, get_or-append_right}
+use Rattle.std.proofs.Common.{◌≡◌, ℕ, zero, suc, ◌+◌, ◌*◌, ◌/◌, ◌%◌, ◌^◌, ◌<◌, ◌≤◌, ◌-◌, ◌==◌, Bool}
+use Rattle.std.proofs.Common.{true, false, cond, List, [], ◌∷◌, ◌++◌, length, take, drop, replicate}
+use Rattle.std.proofs.Common.{get_or, add-one, refl, ap, sym, ◌∙◌, arith, inl, inr}
+use Rattle.std.proofs.lemmas.List.{take_at, drop_at, take-append-drop, length-append, length-take}
+use Rattle.std.proofs.lemmas.List.{length-drop, take_all, drop-drop, drop-append-le}
+use Rattle.std.proofs.lemmas.List.{get_or_append_left, get_or-append_right}
 use Rattle.std.specs.Prelude.{min}
 use Rattle.std.proofs.lemmas.Bool.{cases_lt}
 use Rattle.std.proofs.Math.Nat.{pow-succ', div-one, div-div-eq-div-mul}
@@ -39,7 +43,8 @@ unfolding bit_digits bits_number
 digits_of_number zero [] e = refl
 digits_of_number zero (bit ∷ bits) e = absurd (omega arith)
 digits_of_number (suc count) [] e = absurd (omega arith)
-digits_of_number (suc count) (bit ∷ bits) e = rw (odd_is bit (bits_number bits), half_is bit (bits_number bits), digits_of_number count bits (omega arith)) refl
+digits_of_number (suc count) (bit ∷ bits) e =
+    rw (odd_is bit (bits_number bits), half_is bit (bits_number bits), digits_of_number count bits (omega arith)) refl
 
 one_is : (digit : ℕ) → digit < 2 → cond (digit == 1) 1 0 ≡ digit
 one_is zero lt = refl
@@ -60,7 +65,10 @@ pub packed-unpacked : (bytes : List ℕ) → IsBytes bytes → packed (length by
 unfolding packed unpacked
 packed-unpacked [] fits = refl
 packed-unpacked (byte ∷ bytes) fits =
-    rw (take_at (bit_digits 8 byte) (unpacked bytes) 8 (length-bit_digits 8 byte), drop_at (bit_digits 8 byte) (unpacked bytes) 8 (length-bit_digits 8 byte), number_of_digits 8 byte (fits 0), packed-unpacked bytes (λ i. fits (suc i))) refl
+    let eight = length-bit_digits 8 byte in
+    let front = take_at (bit_digits 8 byte) (unpacked bytes) 8 eight in
+    let back = drop_at (bit_digits 8 byte) (unpacked bytes) 8 eight in
+    rw (front, back, number_of_digits 8 byte (fits 0), packed-unpacked bytes (λ i. fits (suc i))) refl
 
 -- Bits that fill their bytes are what is unpacked from these.
 pub unpacked-packed : (count : ℕ) (bits : List Bool) → length bits ≡ 8 * count → unpacked (packed count bits) ≡ bits
@@ -118,19 +126,23 @@ unfolding packed
 packed-suc zero bits = refl
 packed-suc (suc count) bits =
     let further : 8 * suc count ≡ 8 + 8 * count = omega arith in
-    let place : drop (8 * count) (drop 8 bits) ≡ drop (8 * suc count) bits = drop-drop (8 * count) 8 bits ∙ ap (λ (n : ℕ). drop n bits) (sym further) in
-    ap (λ (rest : List ℕ). bits_number (take 8 bits) ∷ rest) (packed-suc count (drop 8 bits) ∙ ap (λ (rest : List Bool). packed count (drop 8 bits) ++ bits_number (take 8 rest) ∷ []) place)
+    let place : drop (8 * count) (drop 8 bits) ≡ drop (8 * suc count) bits =
+    drop-drop (8 * count) 8 bits ∙ ap (λ (n : ℕ). drop n bits) (sym further) in
+    ap (λ (rest : List ℕ). bits_number (take 8 bits) ∷ rest)
+    (packed-suc count (drop 8 bits) ∙ ap (λ (rest : List Bool). packed count (drop 8 bits) ++ bits_number (take 8 rest) ∷ []) place)
 
 -- One more byte of bits is packed.
 pub packed_more : (count : ℕ) (bits : List Bool) (spare : ℕ) → 8 * count ≤ length bits
-    → packed (count + 1) (bits ++ replicate spare false) ≡ packed count (bits ++ replicate spare false) ++ bits_number (take 8 (drop (8 * count) bits)) ∷ []
+    → packed (count + 1) (bits ++ replicate spare false) ≡ packed count (bits ++ replicate spare false) ++ bits_number
+    (take 8 (drop (8 * count) bits)) ∷ []
 packed_more count bits spare le =
     let all = bits ++ replicate spare false in
     let rest : drop (8 * count) all ≡ drop (8 * count) bits ++ replicate spare false = drop-append-le (8 * count) bits (replicate spare false) le in
     rw (add-one, packed-suc count all, rest, number_take 8 (drop (8 * count) bits) spare) refl
 
 -- The first eight bits, or all where there are fewer.
-pub first_eight : (k end : ℕ) (bits : List Bool) → end ≡ min (length bits) (k + 8) → k ≤ length bits → take (end - k) (drop k bits) ≡ take 8 (drop k bits)
+pub first_eight : (k end : ℕ) (bits : List Bool) → end ≡ min (length bits) (k + 8)
+    → k ≤ length bits → take (end - k) (drop k bits) ≡ take 8 (drop k bits)
 first_eight k end bits is le =
     elim (cases_lt (length bits) (k + 8)) [
       | inl short ↦

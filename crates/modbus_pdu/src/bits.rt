@@ -1,13 +1,16 @@
 //! Bits packed into bytes, the first in the lowest place.
-ghost use Rattle.std.specs.Prelude.{◌≡◌, ◌↔◌, ℕ, IsTrue, ◌^◌, ◌*◌, ◌<◌, ◌≤◌, false, length, take, drop, slice_index_or, IfOk};
+ghost use Rattle.std.specs.Prelude.{◌≡◌, ◌↔◌, ℕ, IsTrue, ◌^◌, ◌*◌, ◌<◌, ◌≤◌, false, length, take};
+ghost use Rattle.std.specs.Prelude.{drop, slice_index_or, IfOk};
+ghost use Rattle.modbus_pdu.specs.Quantities.{most_discretes_read};
 ghost use Rattle.modbus_pdu.specs.Bytes.{bytes_for, bits_number, unpacked};
+ghost use Rattle.modbus_pdu.specs.Steps.{IsClear};
 
 use plant_types::List;
 use std::alloc::{AllocError, Global};
 
 /// How many bytes so many bits take.
 pub(crate) fn bytes_for(quantity: usize) -> usize
-    requires { quantity ≤ 2000 }
+    requires { quantity ≤ most_discretes_read }
     ensures { result ≡ bytes_for quantity }
 {
     quantity.div_ceil(8)
@@ -63,8 +66,7 @@ pub(crate) fn byte_at(bits: &[bool], index: usize) -> u8
 /// Whether the bits behind the first so many are 0.
 pub(crate) fn spare_is_clear(packed: &[u8], quantity: usize) -> bool
     requires { length packed.now ≤ 250 }
-    ensures { IsTrue result
-        ↔ ((place : ℕ) → quantity ≤ place → place < 8 * length packed.now → slice_index_or (unpacked packed.now) place false ≡ false) }
+    ensures { IsTrue result ↔ IsClear packed.now quantity }
 {
     for place in quantity..8 * packed.len() {
         if bit_at(packed, place) {

@@ -1,7 +1,14 @@
 //! Requests and replies as bytes.
 ghost use Rattle.std.specs.Prelude.{◌≡◌, ◌≤◌, ◌==◌, if◌then◌else◌, [], ◌∷◌, ◌++◌, length, IfOk};
-ghost use Rattle.modbus_pdu.specs.Bytes.{word_bytes, words_bytes, counted_words, counted_bits, clear_spare};
-ghost use Rattle.modbus_pdu.specs.Spelling.{IsInRange, Spells, HasClearSpare, IsReplyInRange, SpellsReply, exception_code};
+ghost use Rattle.modbus_pdu.specs.Bytes.{word_bytes, words_bytes, counted_words, counted_bits};
+ghost use Rattle.modbus_pdu.specs.Bytes.{clear_spare};
+ghost use Rattle.modbus_pdu.specs.Quantities.{most_coils_written, most_registers_written};
+ghost use Rattle.modbus_pdu.specs.Quantities.{most_registers_exchanged};
+ghost use Rattle.modbus_pdu.specs.Quantities.{most_discretes_read, most_registers_read};
+ghost use Rattle.modbus_pdu.specs.Quantities.{statistics_words};
+ghost use Rattle.modbus_pdu.specs.Spelling.{IsInRange, Spells, spelling_of, IsReplyInRange};
+ghost use Rattle.modbus_pdu.specs.Spelling.{SpellsReply, reply_bytes, exception_code};
+ghost use Rattle.modbus_pdu.specs.Spelling.{operation_for};
 
 use crate::bits::bytes_for;
 use crate::draft::Draft;
@@ -10,7 +17,7 @@ use crate::request::Request;
 use plant_types::Pdu;
 use std::alloc::{AllocError, Global};
 
-fn two_words(alloc: Global, function: u8, first: u16, second: u16) -> Result<Pdu, AllocError>
+fn encode_two(alloc: Global, function: u8, first: u16, second: u16) -> Result<Pdu, AllocError>
     ensures { IfOk result (λ pdu. pdu ≡ function ∷ word_bytes first ++ word_bytes second) }
 {
     let mut draft = Draft::new();
@@ -20,14 +27,15 @@ fn two_words(alloc: Global, function: u8, first: u16, second: u16) -> Result<Pdu
     draft.finish(alloc)
 }
 
-fn three_words(
+fn encode_three(
     alloc: Global,
     function: u8,
     first: u16,
     second: u16,
     third: u16,
 ) -> Result<Pdu, AllocError>
-    ensures { IfOk result (λ pdu. pdu ≡ function ∷ word_bytes first ++ word_bytes second ++ word_bytes third) }
+    ensures { IfOk result (λ pdu. pdu ≡
+        function ∷ word_bytes first ++ word_bytes second ++ word_bytes third) }
 {
     let mut draft = Draft::new();
     draft.byte(function);
@@ -38,9 +46,8 @@ fn three_words(
 }
 
 fn write_coils(alloc: Global, address: u16, bits: &[bool]) -> Result<Pdu, AllocError>
-    requires { length bits.now ≤ 1968 }
-    ensures { IfOk result (λ pdu. pdu ≡
-        15 ∷ word_bytes address ++ word_bytes (length bits.now) ++ counted_bits bits.now (clear_spare (length bits.now))) }
+    requires { length bits.now ≤ most_coils_written }
+    ensures { IfOk result (λ pdu. pdu ≡ spelling_of (Request.WriteCoils address bits.now)) }
 {
     let mut draft = Draft::new();
     draft.byte(15);
@@ -52,8 +59,8 @@ fn write_coils(alloc: Global, address: u16, bits: &[bool]) -> Result<Pdu, AllocE
 }
 
 fn write_registers(alloc: Global, address: u16, words: &[u16]) -> Result<Pdu, AllocError>
-    requires { length words.now ≤ 123 }
-    ensures { IfOk result (λ pdu. pdu ≡ 16 ∷ word_bytes address ++ word_bytes (length words.now) ++ counted_words words.now) }
+    requires { length words.now ≤ most_registers_written }
+    ensures { IfOk result (λ pdu. pdu ≡ spelling_of (Request.WriteRegisters address words.now)) }
 {
     let mut draft = Draft::new();
     draft.byte(16);
@@ -71,10 +78,9 @@ fn read_write(
     write: u16,
     words: &[u16],
 ) -> Result<Pdu, AllocError>
-    requires { length words.now ≤ 121 }
+    requires { length words.now ≤ most_registers_exchanged }
     ensures { IfOk result (λ pdu. pdu ≡
-        23 ∷ word_bytes read ++ word_bytes quantity ++ word_bytes write ++
-        word_bytes (length words.now) ++ counted_words words.now) }
+        spelling_of (Request.ReadWrite read quantity write words.now)) }
 {
     let mut draft = Draft::new();
     draft.byte(23);
@@ -87,25 +93,25 @@ fn read_write(
     draft.finish(alloc)
 }
 
-/// The bytes of a request.
+/// The bytes of a request; the spare bits behind its coils are 0.
 pub fn encode_request(alloc: Global, request: &Request) -> Result<Pdu, AllocError>
     requires { IsInRange request.now }
     ensures spelled { IfOk result (λ pdu. Spells pdu request.now) }
-    ensures spare { IfOk result (λ pdu. HasClearSpare pdu request.now) }
+    ensures bytes { IfOk result (λ pdu. pdu ≡ spelling_of request.now) }
 {
     match request {
-        Request::ReadCoils { address, quantity } => two_words(alloc, 1, *address, *quantity),
-        Request::ReadInputs { address, quantity } => two_words(alloc, 2, *address, *quantity),
-        Request::ReadRegisters { address, quantity } => two_words(alloc, 3, *address, *quantity),
+        Request::ReadCoils { address, quantity } => encode_two(alloc, 1, *address, *quantity),
+        Request::ReadInputs { address, quantity } => encode_two(alloc, 2, *address, *quantity),
+        Request::ReadRegisters { address, quantity } => encode_two(alloc, 3, *address, *quantity),
         Request::ReadInputRegisters { address, quantity } => {
-            two_words(alloc, 4, *address, *quantity)
+            encode_two(alloc, 4, *address, *quantity)
         }
-        Request::WriteCoil { address, on: true } => two_words(alloc, 5, *address, 0xff00),
-        Request::WriteCoil { address, on: false } => two_words(alloc, 5, *address, 0),
-        Request::WriteRegister { address, value } => two_words(alloc, 6, *address, *value),
-        Request::Echo { word } => two_words(alloc, 8, 0, *word),
-        Request::Stats { clear: false } => two_words(alloc, 8, 21, 3),
-        Request::Stats { clear: true } => two_words(alloc, 8, 21, 4),
+        Request::WriteCoil { address, on: true } => encode_two(alloc, 5, *address, 0xff00),
+        Request::WriteCoil { address, on: false } => encode_two(alloc, 5, *address, 0),
+        Request::WriteRegister { address, value } => encode_two(alloc, 6, *address, *value),
+        Request::Echo { word } => encode_two(alloc, 8, 0, *word),
+        Request::Stats { clear: false } => encode_two(alloc, 8, 21, 3),
+        Request::Stats { clear: true } => encode_two(alloc, 8, 21, 4),
         Request::WriteCoils { address, bits } => write_coils(alloc, *address, bits.as_slice()),
         Request::WriteRegisters { address, words } => {
             write_registers(alloc, *address, words.words())
@@ -114,7 +120,7 @@ pub fn encode_request(alloc: Global, request: &Request) -> Result<Pdu, AllocErro
             address,
             and_mask,
             or_mask,
-        } => three_words(alloc, 22, *address, *and_mask, *or_mask),
+        } => encode_three(alloc, 22, *address, *and_mask, *or_mask),
         Request::ReadWrite {
             read,
             quantity,
@@ -125,8 +131,8 @@ pub fn encode_request(alloc: Global, request: &Request) -> Result<Pdu, AllocErro
 }
 
 fn bits_reply(alloc: Global, function: u8, bits: &[bool]) -> Result<Pdu, AllocError>
-    requires { length bits.now ≤ 2000 }
-    ensures { IfOk result (λ pdu. pdu ≡ function ∷ counted_bits bits.now (clear_spare (length bits.now))) }
+    requires { length bits.now ≤ most_discretes_read }
+    ensures { IfOk result (λ pdu. pdu ≡ reply_bytes (Reply.Bits function bits.now)) }
 {
     let mut draft = Draft::new();
     draft.byte(function);
@@ -136,8 +142,8 @@ fn bits_reply(alloc: Global, function: u8, bits: &[bool]) -> Result<Pdu, AllocEr
 }
 
 fn words_reply(alloc: Global, function: u8, words: &[u16]) -> Result<Pdu, AllocError>
-    requires { length words.now ≤ 125 }
-    ensures { IfOk result (λ pdu. pdu ≡ function ∷ counted_words words.now) }
+    requires { length words.now ≤ most_registers_read }
+    ensures { IfOk result (λ pdu. pdu ≡ reply_bytes (Reply.Words function words.now)) }
 {
     let mut draft = Draft::new();
     draft.byte(function);
@@ -148,14 +154,14 @@ fn words_reply(alloc: Global, function: u8, words: &[u16]) -> Result<Pdu, AllocE
 
 /// The operation that gives so many words of statistics: 4 clears and gives none, 3 gives them.
 pub(crate) fn stats_operation(quantity: usize) -> u16
-    ensures { result ≡ (if quantity == 0 then 4 else 3) }
+    ensures { result ≡ operation_for quantity }
 {
     if quantity == 0 { 4 } else { 3 }
 }
 
 fn stats_reply(alloc: Global, words: &[u16]) -> Result<Pdu, AllocError>
-    requires { length words.now ≤ 20 }
-    ensures { IfOk result (λ pdu. pdu ≡ 8 ∷ word_bytes 21 ++ word_bytes (if length words.now == 0 then 4 else 3) ++ words_bytes words.now) }
+    requires { length words.now ≤ statistics_words }
+    ensures { IfOk result (λ pdu. pdu ≡ reply_bytes (Reply.Stats words.now)) }
 {
     let mut draft = Draft::new();
     draft.byte(8);
@@ -177,7 +183,7 @@ pub(crate) fn exception_code(function: u8) -> u8
 }
 
 fn exception_reply(alloc: Global, function: u8, code: u8) -> Result<Pdu, AllocError>
-    ensures { IfOk result (λ pdu. pdu ≡ exception_code function ∷ code ∷ []) }
+    ensures { IfOk result (λ pdu. pdu ≡ reply_bytes (Reply.Exception function code)) }
 {
     let mut draft = Draft::new();
     draft.byte(exception_code(function));
@@ -188,7 +194,8 @@ fn exception_reply(alloc: Global, function: u8, code: u8) -> Result<Pdu, AllocEr
 /// The bytes of a reply.
 pub fn encode_reply(alloc: Global, reply: &Reply) -> Result<Pdu, AllocError>
     requires { IsReplyInRange reply.now }
-    ensures { IfOk result (λ pdu. SpellsReply pdu reply.now) }
+    ensures spelled { IfOk result (λ pdu. SpellsReply pdu reply.now) }
+    ensures bytes { IfOk result (λ pdu. pdu ≡ reply_bytes reply.now) }
 {
     match reply {
         Reply::Bits { function, bits } => bits_reply(alloc, *function, bits.as_slice()),
@@ -198,7 +205,7 @@ pub fn encode_reply(alloc: Global, reply: &Reply) -> Result<Pdu, AllocError>
             function,
             address,
             quantity,
-        } => two_words(alloc, *function, *address, *quantity),
+        } => encode_two(alloc, *function, *address, *quantity),
         Reply::Stats { words } => stats_reply(alloc, words.words()),
         Reply::Exception { function, code } => exception_reply(alloc, *function, *code),
     }

@@ -1,15 +1,24 @@
 //! What holds of all spellings.
-ghost use Rattle.std.specs.Prelude.{◌≡◌, ℕ, List};
+ghost use Rattle.std.specs.Prelude.{◌≡◌, ◌↔◌, ℕ, List, Some};
+ghost use Rattle.modbus_pdu.specs.Reading.{request_of};
 ghost use Rattle.modbus_pdu.specs.Spelling.{Spells, SpellsReply};
 ghost use Rattle.modbus_pdu.specs.declared.request.Request.{Request as AnyRequest};
 ghost use Rattle.modbus_pdu.specs.declared.reply.Reply.{Reply as AnyReply};
 
 /// Bytes spell one request at most.
 pub fn one_request()
-    ensures { (bytes : List ℕ) (one other : AnyRequest) → Spells bytes one → Spells bytes other → one ≡ other }
+    ensures { (bytes : List ℕ) (one other : AnyRequest) →
+        Spells bytes one → Spells bytes other → one ≡ other }
+{}
+
+/// The request that the function of the bytes gives is the one that they spell.
+pub fn request_is_spelled()
+    ensures { (bytes : List ℕ) (request : AnyRequest) →
+        (request_of bytes ≡ Some request) ↔ Spells bytes request }
 {}
 
 /// A reply has one spelling at most.
 pub fn one_reply_spelling()
-    ensures { (reply : AnyReply) (one other : List ℕ) → SpellsReply one reply → SpellsReply other reply → one ≡ other }
+    ensures { (reply : AnyReply) (one other : List ℕ) →
+        SpellsReply one reply → SpellsReply other reply → one ≡ other }
 {}

@@ -1,15 +1,19 @@
 //! Two-byte numbers.
-ghost use Rattle.std.specs.Prelude.{◌≡◌, ◌≢◌, ℕ, List, ◌∷◌, ◌++◌, ◌<◌, ◌*◌, ◌≤◌, length, MatchOption, IfOk};
+ghost use Rattle.std.specs.Prelude.{◌≡◌, ◌≢◌, ℕ, List, ◌∷◌, ◌++◌, ◌<◌, ◌*◌, ◌≤◌, length};
+ghost use Rattle.std.specs.Prelude.{MatchOption, IfOk};
 ghost use Rattle.modbus_pdu.specs.Bytes.{word_bytes, words_bytes};
-ghost use Rattle.modbus_pdu.specs.Spelling.{IsUpTo};
+ghost use Rattle.modbus_pdu.specs.Quantities.{IsUpTo, most_registers_read};
+ghost use Rattle.modbus_pdu.specs.Steps.{AreTwoWords, AreThreeWords, Counts, CountsBoth};
 
+use crate::limits::REGISTERS_READ;
 use byteorder::{BigEndian, ByteOrder};
 use plant_types::Words;
 use std::alloc::{AllocError, Global};
 
 /// The number at the front, and the bytes behind it.
 pub(crate) fn word_at(bytes: &[u8]) -> Option<(u16, &[u8])>
-    ensures { MatchOption result (length bytes.now < 2) (λ found. bytes.now ≡ word_bytes found.0 ++ found.1.now) }
+    ensures { MatchOption result (length bytes.now < 2)
+        (λ found. bytes.now ≡ word_bytes found.0 ++ found.1.now) }
 {
     if bytes.len() < 2 {
         return None;
@@ -20,8 +24,8 @@ pub(crate) fn word_at(bytes: &[u8]) -> Option<(u16, &[u8])>
 /// Two numbers and nothing else.
 pub(crate) fn two_words(bytes: &[u8]) -> Option<(u16, u16)>
     ensures { MatchOption result
-        ((first second : ℕ) → bytes.now ≢ word_bytes first ++ word_bytes second)
-        (λ found. bytes.now ≡ word_bytes found.0 ++ word_bytes found.1) }
+        ((first second : ℕ) → ¬ AreTwoWords bytes.now first second)
+        (λ found. AreTwoWords bytes.now found.0 found.1) }
 {
     if bytes.len() != 4 {
         return None;
@@ -34,8 +38,8 @@ pub(crate) fn two_words(bytes: &[u8]) -> Option<(u16, u16)>
 /// An address and a quantity from one up to the most, and nothing else.
 pub(crate) fn range_in(bytes: &[u8], most: u16) -> Option<(u16, u16)>
     ensures { MatchOption result
-        ((address quantity : ℕ) → IsUpTo most quantity → bytes.now ≢ word_bytes address ++ word_bytes quantity)
-        (λ found. IsUpTo most found.1 × (bytes.now ≡ word_bytes found.0 ++ word_bytes found.1)) }
+        ((address quantity : ℕ) → IsUpTo most quantity → ¬ AreTwoWords bytes.now address quantity)
+        (λ found. IsUpTo most found.1 × AreTwoWords bytes.now found.0 found.1) }
 {
     let (address, quantity) = two_words(bytes)?;
     if quantity < 1 || quantity > most {
@@ -47,8 +51,8 @@ pub(crate) fn range_in(bytes: &[u8], most: u16) -> Option<(u16, u16)>
 /// Three numbers and nothing else.
 pub(crate) fn three_words(bytes: &[u8]) -> Option<(u16, u16, u16)>
     ensures { MatchOption result
-        ((first second third : ℕ) → bytes.now ≢ word_bytes first ++ word_bytes second ++ word_bytes third)
-        (λ found. bytes.now ≡ word_bytes found.0 ++ word_bytes found.1 ++ word_bytes found.2) }
+        ((first second third : ℕ) → ¬ AreThreeWords bytes.now first second third)
+        (λ found. AreThreeWords bytes.now found.0 found.1 found.2) }
 {
     if bytes.len() != 6 {
         return None;
@@ -68,10 +72,10 @@ fn read_words(bytes: &[u8], words: &mut [u16])
 /// So many numbers, all of the bytes.
 pub(crate) fn words_in(alloc: Global, bytes: &[u8], count: usize) -> Result<Words, AllocError>
     requires even { length bytes.now ≡ 2 * count }
-    requires fits { count ≤ 125 }
+    requires fits { count ≤ most_registers_read }
     ensures { IfOk result (λ words. words_bytes words ≡ bytes.now) }
 {
-    let mut words = [0; 125];
+    let mut words = [0; REGISTERS_READ as usize];
     let words = &mut words[..count];
     read_words(bytes, words);
     Words::of(alloc, words)
@@ -79,7 +83,9 @@ pub(crate) fn words_in(alloc: Global, bytes: &[u8], count: usize) -> Result<Word
 
 /// What a byte counts: the bytes behind it, no more and no fewer.
 pub(crate) fn counted(bytes: &[u8]) -> Option<&[u8]>
-    ensures { MatchOption result ((rest : List ℕ) → bytes.now ≢ length rest ∷ rest) (λ rest. bytes.now ≡ length rest.now ∷ rest.now) }
+    ensures { MatchOption result
+        ((rest : List ℕ) → bytes.now ≢ length rest ∷ rest)
+        (λ rest. bytes.now ≡ length rest.now ∷ rest.now) }
 {
     match bytes {
         [count, rest @ ..] if *count as usize == rest.len() => Some(rest),
@@ -90,8 +96,8 @@ pub(crate) fn counted(bytes: &[u8]) -> Option<&[u8]>
 /// An address, a quantity and what a byte counts.
 pub(crate) fn written(bytes: &[u8]) -> Option<(u16, u16, &[u8])>
     ensures { MatchOption result
-        ((address quantity : ℕ) (rest : List ℕ) → bytes.now ≢ word_bytes address ++ word_bytes quantity ++ (length rest ∷ rest))
-        (λ found. bytes.now ≡ word_bytes found.0 ++ word_bytes found.1 ++ (length found.2.now ∷ found.2.now)) }
+        ((address quantity : ℕ) (rest : List ℕ) → ¬ Counts bytes.now address quantity rest)
+        (λ found. Counts bytes.now found.0 found.1 found.2.now) }
 {
     let (address, rest) = word_at(bytes)?;
     let (quantity, rest) = word_at(rest)?;
@@ -103,10 +109,8 @@ pub(crate) fn written(bytes: &[u8]) -> Option<(u16, u16, &[u8])>
 pub(crate) fn read_written(bytes: &[u8]) -> Option<(u16, u16, u16, u16, &[u8])>
     ensures { MatchOption result
         ((read quantity write count : ℕ) (rest : List ℕ) →
-        bytes.now ≢ word_bytes read ++ word_bytes quantity ++ word_bytes write ++
-        word_bytes count ++ (length rest ∷ rest))
-        (λ found. bytes.now ≡ word_bytes found.0 ++ word_bytes found.1 ++ word_bytes found.2 ++
-        word_bytes found.3 ++ (length found.4.now ∷ found.4.now)) }
+        ¬ CountsBoth bytes.now read quantity write count rest)
+        (λ found. CountsBoth bytes.now found.0 found.1 found.2 found.3 found.4.now) }
 {
     let (read, rest) = word_at(bytes)?;
     let (quantity, rest) = word_at(rest)?;

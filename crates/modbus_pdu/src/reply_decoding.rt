@@ -1,12 +1,19 @@
 //! Replies from bytes.
-ghost use Rattle.std.specs.Prelude.{◌≡◌, ◌≢◌, if◌then◌else◌, ℕ, ◌≤◌, ◌<◌, ◌⊎◌, List, [], ◌∷◌, ◌++◌, length, IsTrue, IfOk, IsErrOf, ◌↔◌, MatchOption};
+ghost use Rattle.std.specs.Prelude.{◌≡◌, ◌≢◌, if◌then◌else◌, ℕ, ◌≤◌, ◌<◌, ◌⊎◌, List, [], ◌∷◌, ◌++◌};
+ghost use Rattle.std.specs.Prelude.{length, IsTrue, IfOk, IsErrOf, ◌↔◌, MatchOption};
 ghost use Rattle.modbus_pdu.specs.Bytes.{word_bytes};
-ghost use Rattle.modbus_pdu.specs.Decoding.{Finds, IsBits, IsWords, IsWritten, IsStats, IsSame, IsNormal, IsSpelledReply};
+ghost use Rattle.modbus_pdu.specs.Decoding.{IsSpelledReply, IsOnlyReply, HasReply, HasNoReply};
+ghost use Rattle.modbus_pdu.specs.Quantities.{statistics_words};
 ghost use Rattle.modbus_pdu.specs.Spelling.{function_of, exception_code, IsReplyTo, SpellsReply};
+ghost use Rattle.modbus_pdu.specs.Steps.{Finds, IsBits, IsWords, IsWritten, IsStats, IsSame};
+ghost use Rattle.modbus_pdu.specs.Steps.{IsNormal, IsOperation, IsWriting};
 
 use crate::bits::{bytes_for, spare_is_clear, unpack};
 use crate::encoding::{exception_code, stats_operation};
 use crate::end::BadReply;
+use crate::limits::{
+    COILS_WRITTEN, DISCRETES_READ, REGISTERS_READ, REGISTERS_WRITTEN, STATISTICS_WORDS,
+};
 use crate::numbers::{counted, three_words, two_words, word_at, words_in};
 use crate::reply::Reply;
 use crate::request::Request;
@@ -36,47 +43,45 @@ fn two_behind(function: u8, bytes: &[u8]) -> Option<(u16, u16)>
     }
 }
 
-fn bits_from(alloc: Global, function: u8, quantity: u16, bytes: &[u8]) -> Result<Reply, BadReply>
+fn decode_bits(alloc: Global, function: u8, quantity: u16, bytes: &[u8]) -> Result<Reply, BadReply>
     requires { (function ≡ 1) ⊎ (function ≡ 2) }
     ensures { Finds (IsBits function quantity bytes.now) result }
 {
     let Some(packed) = counted_behind(function, bytes) else {
         return Err(BadReply::Form);
     };
-    let quantity = quantity as usize;
-    if quantity < 1 || quantity > 2000 || packed.len() != bytes_for(quantity) {
+    if quantity < 1 || quantity > DISCRETES_READ || packed.len() != bytes_for(quantity as usize) {
         return Err(BadReply::Form);
     }
-    if !spare_is_clear(packed, quantity) {
+    if !spare_is_clear(packed, quantity as usize) {
         return Err(BadReply::Form);
     }
-    let bits = unpack(alloc, packed, quantity)?;
+    let bits = unpack(alloc, packed, quantity as usize)?;
     Ok(Reply::Bits { function, bits })
 }
 
-fn words_from(alloc: Global, function: u8, quantity: u16, bytes: &[u8]) -> Result<Reply, BadReply>
+fn decode_words(alloc: Global, function: u8, quantity: u16, bytes: &[u8]) -> Result<Reply, BadReply>
     requires { (function ≡ 3) ⊎ (function ≡ 4) ⊎ (function ≡ 23) }
     ensures { Finds (IsWords function quantity bytes.now) result }
 {
     let Some(rest) = counted_behind(function, bytes) else {
         return Err(BadReply::Form);
     };
-    let quantity = quantity as usize;
-    if quantity < 1 || quantity > 125 || rest.len() != 2 * quantity {
+    if quantity < 1 || quantity > REGISTERS_READ || rest.len() != 2 * quantity as usize {
         return Err(BadReply::Form);
     }
-    let words = words_in(alloc, rest, quantity)?;
+    let words = words_in(alloc, rest, quantity as usize)?;
     Ok(Reply::Words { function, words })
 }
 
-fn written_from(
+fn decode_written(
     function: u8,
     address: u16,
     quantity: usize,
     most: u16,
     bytes: &[u8],
 ) -> Result<Reply, BadReply>
-    requires { ((function ≡ 15) × (most ≡ 1968)) ⊎ ((function ≡ 16) × (most ≡ 123)) }
+    requires { IsWriting function most }
     ensures { Finds (IsWritten function address quantity bytes.now) result }
 {
     match two_behind(function, bytes) {
@@ -95,8 +100,8 @@ fn written_from(
 /// The operation behind function 8 and sub-function 21, and what follows it.
 fn operation_behind(bytes: &[u8]) -> Option<(u16, &[u8])>
     ensures { MatchOption result
-        ((operation : ℕ) (rest : List ℕ) → bytes.now ≢ 8 ∷ word_bytes 21 ++ word_bytes operation ++ rest)
-        (λ found. bytes.now ≡ 8 ∷ word_bytes 21 ++ word_bytes found.0 ++ found.1.now) }
+        ((operation : ℕ) (rest : List ℕ) → ¬ IsOperation bytes.now operation rest)
+        (λ found. IsOperation bytes.now found.0 found.1.now) }
 {
     match bytes {
         [8, 0, 21, rest @ ..] => word_at(rest),
@@ -104,8 +109,8 @@ fn operation_behind(bytes: &[u8]) -> Option<(u16, &[u8])>
     }
 }
 
-fn stats_from(alloc: Global, quantity: usize, bytes: &[u8]) -> Result<Reply, BadReply>
-    requires { (quantity ≡ 0) ⊎ (quantity ≡ 20) }
+fn decode_stats(alloc: Global, quantity: usize, bytes: &[u8]) -> Result<Reply, BadReply>
+    requires { (quantity ≡ 0) ⊎ (quantity ≡ statistics_words) }
     ensures { Finds (IsStats quantity bytes.now) result }
 {
     let Some((operation, rest)) = operation_behind(bytes) else {
@@ -124,7 +129,7 @@ fn is_two(function: u8, first: u16, second: u16, bytes: &[u8]) -> bool
     matches!(two_behind(function, bytes), Some((one, two)) if one == first && two == second)
 }
 
-fn write_coil_from(address: u16, on: bool, bytes: &[u8]) -> Result<Reply, BadReply>
+fn decode_write_coil(address: u16, on: bool, bytes: &[u8]) -> Result<Reply, BadReply>
     ensures { Finds (IsSame (Request.WriteCoil address on) bytes.now) result }
 {
     let value = if on { 0xff00 } else { 0 };
@@ -134,7 +139,7 @@ fn write_coil_from(address: u16, on: bool, bytes: &[u8]) -> Result<Reply, BadRep
     Ok(Reply::Same(Request::WriteCoil { address, on }))
 }
 
-fn write_register_from(address: u16, value: u16, bytes: &[u8]) -> Result<Reply, BadReply>
+fn decode_write_register(address: u16, value: u16, bytes: &[u8]) -> Result<Reply, BadReply>
     ensures { Finds (IsSame (Request.WriteRegister address value) bytes.now) result }
 {
     if !is_two(6, address, value, bytes) {
@@ -143,7 +148,7 @@ fn write_register_from(address: u16, value: u16, bytes: &[u8]) -> Result<Reply, 
     Ok(Reply::Same(Request::WriteRegister { address, value }))
 }
 
-fn echo_from(word: u16, bytes: &[u8]) -> Result<Reply, BadReply>
+fn decode_echo(word: u16, bytes: &[u8]) -> Result<Reply, BadReply>
     ensures { Finds (IsSame (Request.Echo word) bytes.now) result }
 {
     if !is_two(8, 0, word, bytes) {
@@ -152,7 +157,7 @@ fn echo_from(word: u16, bytes: &[u8]) -> Result<Reply, BadReply>
     Ok(Reply::Same(Request::Echo { word }))
 }
 
-fn mask_from(address: u16, and_mask: u16, or_mask: u16, bytes: &[u8]) -> Result<Reply, BadReply>
+fn decode_mask(address: u16, and_mask: u16, or_mask: u16, bytes: &[u8]) -> Result<Reply, BadReply>
     ensures { Finds (IsSame (Request.Mask address and_mask or_mask) bytes.now) result }
 {
     match bytes {
@@ -169,36 +174,36 @@ fn mask_from(address: u16, and_mask: u16, or_mask: u16, bytes: &[u8]) -> Result<
 
 /// How many words of statistics are due.
 fn stats_quantity(clear: bool) -> usize
-    ensures due { result ≡ (if clear then 0 else 20) }
-    ensures either { (result ≡ 0) ⊎ (result ≡ 20) }
+    ensures due { result ≡ (if clear then 0 else statistics_words) }
+    ensures either { (result ≡ 0) ⊎ (result ≡ statistics_words) }
 {
-    if clear { 0 } else { 20 }
+    if clear { 0 } else { STATISTICS_WORDS }
 }
 
 fn normal_reply(alloc: Global, request: &Request, bytes: &[u8]) -> Result<Reply, BadReply>
     ensures { Finds (IsNormal request.now bytes.now) result }
 {
     match request {
-        Request::ReadCoils { quantity, .. } => bits_from(alloc, 1, *quantity, bytes),
-        Request::ReadInputs { quantity, .. } => bits_from(alloc, 2, *quantity, bytes),
-        Request::ReadRegisters { quantity, .. } => words_from(alloc, 3, *quantity, bytes),
-        Request::ReadInputRegisters { quantity, .. } => words_from(alloc, 4, *quantity, bytes),
-        Request::WriteCoil { address, on } => write_coil_from(*address, *on, bytes),
-        Request::WriteRegister { address, value } => write_register_from(*address, *value, bytes),
-        Request::Echo { word } => echo_from(*word, bytes),
-        Request::Stats { clear } => stats_from(alloc, stats_quantity(*clear), bytes),
+        Request::ReadCoils { quantity, .. } => decode_bits(alloc, 1, *quantity, bytes),
+        Request::ReadInputs { quantity, .. } => decode_bits(alloc, 2, *quantity, bytes),
+        Request::ReadRegisters { quantity, .. } => decode_words(alloc, 3, *quantity, bytes),
+        Request::ReadInputRegisters { quantity, .. } => decode_words(alloc, 4, *quantity, bytes),
+        Request::WriteCoil { address, on } => decode_write_coil(*address, *on, bytes),
+        Request::WriteRegister { address, value } => decode_write_register(*address, *value, bytes),
+        Request::Echo { word } => decode_echo(*word, bytes),
+        Request::Stats { clear } => decode_stats(alloc, stats_quantity(*clear), bytes),
         Request::WriteCoils { address, bits } => {
-            written_from(15, *address, bits.as_slice().len(), 1968, bytes)
+            decode_written(15, *address, bits.as_slice().len(), COILS_WRITTEN, bytes)
         }
         Request::WriteRegisters { address, words } => {
-            written_from(16, *address, words.words().len(), 123, bytes)
+            decode_written(16, *address, words.words().len(), REGISTERS_WRITTEN, bytes)
         }
         Request::Mask {
             address,
             and_mask,
             or_mask,
-        } => mask_from(*address, *and_mask, *or_mask, bytes),
-        Request::ReadWrite { quantity, .. } => words_from(alloc, 23, *quantity, bytes),
+        } => decode_mask(*address, *and_mask, *or_mask, bytes),
+        Request::ReadWrite { quantity, .. } => decode_words(alloc, 23, *quantity, bytes),
     }
 }
 
@@ -246,9 +251,9 @@ fn reply_in(alloc: Global, request: &Request, bytes: &[u8]) -> Result<Reply, Bad
 pub fn decode_reply(alloc: Global, request: &Request, bytes: &[u8]) -> Result<Reply, BadReply>
     ensures reply { IfOk result (IsReplyTo request.now) }
     ensures spelled { IfOk result (SpellsReply bytes.now) }
-    ensures only { IfOk result (λ reply. (other : Reply) → IsReplyTo request.now other → SpellsReply bytes.now other → other ≡ reply) }
-    ensures form { IsErrOf result BadReply.Form ↔ ((reply : Reply) → IsReplyTo request.now reply → ¬ SpellsReply bytes.now reply) }
-    ensures memory { IsErrOf result BadReply.NoMemory → (reply : Reply) × IsReplyTo request.now reply × SpellsReply bytes.now reply }
+    ensures only { IfOk result (IsOnlyReply request.now bytes.now) }
+    ensures form { IsErrOf result BadReply.Form ↔ HasNoReply request.now bytes.now }
+    ensures memory { IsErrOf result BadReply.NoMemory → HasReply request.now bytes.now }
 {
     reply_in(alloc, request, bytes)
 }

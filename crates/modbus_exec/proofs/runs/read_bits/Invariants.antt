@@ -1,5 +1,6 @@
 use Rattle.std.proofs.Common.{◌≡◌, take}
-use Rattle.modbus_exec.specs.Runs.{reference_at, bits_from}
+use Rattle.plant_types.specs.Discretes.{bits_from}
+use Rattle.modbus_exec.specs.Runs.{reference_at}
 use Rattle.modbus_exec.proofs.runs.read_bits.Given as goal
 
 abbrev pub invariant-loop-place : goal.invariant-loop-place

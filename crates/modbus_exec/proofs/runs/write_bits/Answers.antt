@@ -4,8 +4,10 @@ use Rattle.plant_types.specs.declared.reference.RefKind.TheVariants as kinds
 use Rattle.plant_types.specs.Reference.{ref_from}
 use Rattle.plant_types.specs.Store.{with_words}
 use Rattle.plant_types.proofs.RunLemmas.{Keeps-with_words}
-use Rattle.modbus_exec.specs.Runs.{reference_at, bit_words}
-use Rattle.modbus_exec.proofs.RunLemmas.{with_words-more, stored_bit, length-bit_words}
+use Rattle.plant_types.specs.Discretes.{bit_words}
+use Rattle.modbus_exec.specs.Runs.{reference_at}
+use Rattle.plant_types.proofs.DiscretesLemmas.{length-bit_words}
+use Rattle.modbus_exec.proofs.RunLemmas.{with_words-more, stored_bit}
 use Rattle.modbus_exec.proofs.runs.write_bits.Goals as goal
 
 pub loop-place-init : goal.loop-place-init
@@ -17,7 +19,8 @@ set_bit-requires-clause-held g c =
     let m = g.R.RefStore.contents c.args.ram.now in
     let at = reference_at kinds.Coil c.args.address in
     let words = bit_words c.args.bits.now in
-    rw (c.reference_behind.ensures, c.loop-place.invariant) (Keeps-with_words m at (take c.loop-place.place words) (ref_from at c.loop-place.place) (c.requires.held c.loop-place.place (omega arith)))
+    rw (c.reference_behind.ensures, c.loop-place.invariant)
+    (Keeps-with_words m at (take c.loop-place.place words) (ref_from at c.loop-place.place) (c.requires.held c.loop-place.place (omega arith)))
 
 pub loop-place-preserved : goal.loop-place-preserved
 loop-place-preserved g c =

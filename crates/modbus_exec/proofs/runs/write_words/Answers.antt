@@ -17,7 +17,8 @@ set_word-requires-clause-held g c =
     let m = g.R.RefStore.contents c.args.ram.now in
     let at = reference_at kinds.Register c.args.address in
     let words = c.args.words.now in
-    rw (c.reference_behind.ensures, c.loop-place.invariant) (Keeps-with_words m at (take c.loop-place.place words) (ref_from at c.loop-place.place) (c.requires.held c.loop-place.place (omega arith)))
+    rw (c.reference_behind.ensures, c.loop-place.invariant)
+    (Keeps-with_words m at (take c.loop-place.place words) (ref_from at c.loop-place.place) (c.requires.held c.loop-place.place (omega arith)))
 
 pub loop-place-preserved : goal.loop-place-preserved
 loop-place-preserved g c =

@@ -9,5 +9,6 @@ pub loop-place-preserved : goal.loop-place-preserved
 loop-place-preserved c =
     let all = unpacked c.args.packed.now in
     let place = c.loop-place.place in
-    let more : take (place + 1) all ≡ take place all ++ get_or all place false ∷ [] = take_more all place false (omega (arith, length-unpacked c.args.packed.now)) in
+    let more : take (place + 1) all ≡ take place all ++ get_or all place false ∷ [] =
+    take_more all place false (omega (arith, length-unpacked c.args.packed.now)) in
     grind (arith, common_steps)

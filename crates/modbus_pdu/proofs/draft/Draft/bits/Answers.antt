@@ -17,6 +17,9 @@ loop-index-preserved c =
     let byte = c.byte_at.result in
     let more = packed_more index bits (8 * bytes_for (length bits) - length bits) (omega arith) in
     record {
-      bytes = c.byte.ensures.bytes ∙ ap (λ (s : List ℕ). s ++ byte ∷ []) c.loop-index.invariant.bytes ∙ append_assoc old before (byte ∷ []) ∙ ap (λ (p : List ℕ). old ++ p) (ap (λ (b : ℕ). before ++ b ∷ []) c.byte_at.ensures ∙ sym more);
+      bytes = c.byte.ensures.bytes
+          ∙ ap (λ (s : List ℕ). s ++ byte ∷ []) c.loop-index.invariant.bytes
+          ∙ append_assoc old before (byte ∷ [])
+          ∙ ap (λ (p : List ℕ). old ++ p) (ap (λ (b : ℕ). before ++ b ∷ []) c.byte_at.ensures ∙ sym more);
       length = omega (arith, c.byte.ensures.length);
     }
