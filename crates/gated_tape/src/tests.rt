@@ -16,13 +16,16 @@ fn counts_up(marks: &[Mark], node: u32, count: u64) -> bool {
 }
 
 #[test]
-fn a_plain_tape(rt: HostRuntime) -> Result<(), Fail> {
-    let mut tape = Tape::new(rt.alloc(), 9);
-    write_all(&mut tape, 7, 3)?;
-    write_all(&mut tape, 4, 1)?;
-    assert_eq!(rt; tape.marks().len(), 4);
-    assert!(rt; counts_up(tape.marks(), 7, 3));
-    assert!(rt; counts_up(tape.marks(), 4, 1));
+fn two_plain_tapes(rt: HostRuntime) -> Result<(), Fail> {
+    let mut first = Tape::new(rt.alloc(), 9);
+    let mut second = Tape::new(rt.alloc(), 3);
+    assert_eq!(rt; write_both(&mut first, &mut second, 7, 2), Ok(()));
+    assert_eq!(rt; first.count(7), 2);
+    assert_eq!(rt; first.count(4), 0);
+    assert_eq!(rt; write_both(&mut first, &mut second, 7, 9), Err(PutNo::Full));
+    assert!(rt; counts_up(first.marks(), 7, 4));
+    assert!(rt; counts_up(second.marks(), 7, 3));
+    assert_eq!(rt; second.put(7, 3), Err(PutNo::Full));
     Ok(())
 }
 
@@ -30,20 +33,39 @@ fn a_plain_tape(rt: HostRuntime) -> Result<(), Fail> {
 fn each_in_its_own_order(rt: HostRuntime) -> Result<(), Fail> {
     let crews = [(1, 1, 5), (2, 2, 1000), (32, 4, 40), (3, 8, 0), (0, 1, 9)];
     for (writers, threads, count) in crews {
+        let all = count * u64::from(writers);
         let crew = Crew {
             writers,
             threads,
             count,
+            limit: all,
         };
-        let tape = write_in_turns(&rt, rt.alloc(), crew)?;
-        let all = count.saturating_mul(u64::from(writers));
-        assert_eq!(rt; tape.marks().len() as u64, all, "{writers} writers");
-        for node in 0..writers {
-            assert!(rt;
-                counts_up(tape.marks(), node.saturating_add(1), count),
-                "{node} of {writers}"
-            );
+        let written = write_in_turns(&rt, rt.alloc(), crew)?;
+        assert_eq!(rt; written.ended, Ok(()));
+        for marks in [written.first.marks(), written.second.marks()] {
+            assert_eq!(rt; marks.len() as u64, all, "{writers} writers");
+            for node in 0..writers {
+                assert!(rt;
+                    counts_up(marks, node.saturating_add(1), count),
+                    "{node} of {writers}"
+                );
+            }
         }
     }
+    Ok(())
+}
+
+#[test]
+fn full_tapes(rt: HostRuntime) -> Result<(), Fail> {
+    let crew = Crew {
+        writers: 3,
+        threads: 2,
+        count: 50,
+        limit: 20,
+    };
+    let written = write_in_turns(&rt, rt.alloc(), crew)?;
+    assert_eq!(rt; written.ended, Err(PutNo::Full));
+    assert_eq!(rt; written.first.marks().len(), 20);
+    assert!(rt; written.second.marks().len() <= 20);
     Ok(())
 }
