@@ -25,7 +25,7 @@ module _ (gate : GateName Mark) (p : PassFacts Mark) (opening : gate.opening ≡
 
   -- a mark that names a number of pass 0, and not 0, names a writer
   names_writer : (writers : ℕ) → IsWithin p.given (count_down writers) → (m : Mark) → is_among m.node (numbers p) ≡ true → eqb m.node 0 ≡ false
-        → is_among m.node (count_down writers) ≡ true
+      → is_among m.node (count_down writers) ≡ true
   names_writer writers within m named other =
       let rest : Bool = is_among m.node (firsts p.joined) in
       let later : rest ≡ true =
@@ -34,7 +34,7 @@ module _ (gate : GateName Mark) (p : PassFacts Mark) (opening : gate.opening ≡
 
   -- each mark names a writer, since pass 0 made none
   pub by_writers : (writers : ℕ) (marks : List Mark) → IsWithin p.given (count_down writers) → NamesKept node_of p marks → Owns node_of p marks
-        → AreByWriters writers marks
+      → AreByWriters writers marks
   by_writers writers marks within named owns k d low =
       let unwritten : own node_of 0 marks ≡ [] =
       ap (own node_of 0) (all_made marks owns.made owns.all_is)
@@ -44,7 +44,7 @@ module _ (gate : GateName Mark) (p : PassFacts Mark) (opening : gate.opening ≡
 
 -- where a pass that came back had seen a full tape, the closed tape is full
 pub heard_full : (limit : ℕ) (p : PassFacts Mark) (marks : List Mark) → All (StartsWith marks) p.heard → IsLegal limit marks → HasHeardFull limit p
-      → length marks ≡ limit
+    → length marks ≡ limit
 heard_full limit p marks starts legal heard =
     let any = Any-from_list_any (λ s. length s == limit) p.heard heard in
     let begins : StartsWith marks any.1 = subst (StartsWith marks) any.3 (starts any.0 any.1 any.2) in
@@ -55,14 +55,14 @@ heard_full limit p marks starts legal heard =
 
 -- where each list that was joined has `count` marks, the own marks of each number that was joined are those that count up to it
 own_joined : (joined : List (ℕ × List Mark)) (marks : List Mark) (count : ℕ) → All (λ q. own node_of q.0 marks ≡ marks_up_to q.0 (length q.1)) joined
-      → All (λ q. length q.1 ≡ count) joined
+    → All (λ q. length q.1 ≡ count) joined
     → (n : ℕ) → is_among n (firsts joined) ≡ true → own node_of n marks ≡ marks_up_to n count
 own_joined [] marks count exact counted n among = absurd (let no : false ≡ true = among in cc)
 own_joined (q ∷ qs) marks count exact counted n among = here (nat_eq n q.0) refl among
     (own_joined qs marks count (λ k d low. exact (suc k) d (omega arith)) (λ k d low. counted (suc k) d (omega arith)) n)
   where
     here : (b : Bool) → nat_eq n q.0 ≡ b → (nat_eq n q.0 || is_among n (firsts qs)) ≡ true
-          → (is_among n (firsts qs) ≡ true → own node_of n marks ≡ marks_up_to n count) → own node_of n marks ≡ marks_up_to n count
+        → (is_among n (firsts qs) ≡ true → own node_of n marks ≡ marks_up_to n count) → own node_of n marks ≡ marks_up_to n count
     here true is among later =
         let same : n ≡ q.0 = eqb-true n q.0 is in
         ap (λ m. own node_of m marks) same ∙ (exact 0 q (omega arith) ∙ (λ i. marks_up_to (sym same i) (counted 0 q (omega arith) i)))
@@ -81,7 +81,7 @@ module _ {T X : Type 0} (gate : GateName Mark) (count writers : ℕ) (p : PassFa
 
   -- where the work was done, each writer's marks are written
   pub are_written : (marks : List Mark) (ended : Result T X) → IsGathering gate count ended [] p → HasGiven writers ended p → HasCountsOf marks p
-        → OnOk ended (AreWritten writers count marks)
+      → OnOk ended (AreWritten writers count marks)
   are_written marks (Ok x) g given counts = λ n among.
       let back : firsts p.joined ≡ count_down writers = sym (append-nil (firsts p.joined)) ∙ (sym g.given_is ∙ given.all) in
       own_joined p.joined marks count counts g.written n (ap (is_among n) back ∙ among)

@@ -36,7 +36,7 @@ pub next_given : (gate : GateName Mark) (n m : ℕ) → m ≡ suc n
     → record (first_pass gate) { given = m ∷ count_down n } ≡ record (first_pass gate) { given = count_down m }
 unfolding count_down
 next_given gate n m is = ap (λ k. record (first_pass gate) { given = k ∷ count_down n }) is
-      ∙ ap (λ k. record (first_pass gate) { given = count_down k }) (sym is)
+    ∙ ap (λ k. record (first_pass gate) { given = count_down k }) (sym is)
 
 module _ (one two : GateFacts Mark ℕ) where
   -- no writer is dealt yet
@@ -53,7 +53,7 @@ module _ (one two : GateFacts Mark ℕ) where
 
   -- one more writer with sides of its own
   pub dealt_next : (n m : ℕ) (writers : List GatedWriter) (w : GatedWriter) → one.name.opening ≡ [] → two.name.opening ≡ [] → m ≡ suc n
-        → AreDealt one two (count_down n) writers
+      → AreDealt one two (count_down n) writers
       → w.node ≡ m → w.one ≡ new_side one m → w.two ≡ new_side two m → AreDealt one two (count_down m) (writers ++ w ∷ [])
   unfolding count_down
   dealt_next n m writers w open_one open_two is dealt node one_is two_is = record {
@@ -74,4 +74,4 @@ module _ (one two : GateFacts Mark ℕ) where
       cards_at : All (IsAt one two) (cards_of (writers ++ w ∷ []))
       cards_at = Rattle.std.proofs.Common.subst (All (IsAt one two)) (sym (map-append (card_of gated_frame seen_of) writers (w ∷ [])))
           (All-append (IsAt one two) (cards_of writers) (card_of gated_frame seen_of w ∷ []) dealt.at
-                (all_one (IsAt one two) (card_of gated_frame seen_of w) card))
+          (all_one (IsAt one two) (card_of gated_frame seen_of w) card))

@@ -86,7 +86,7 @@ module _ {T X : Type 0} where
         written = on_both ended e so_far.written done (λ all counted.
             subst (λ l. All (λ r. length r.1 ≡ count) (p.joined ++ l)) (sym lists)
             (All-append (λ r. length r.1 ≡ count) p.joined ((n, a.mine) ∷ []) all
-                  (all_one (λ r. length r.1 ≡ count) (n, a.mine) (ap length mine ∙ counted))));
+            (all_one (λ r. length r.1 ≡ count) (n, a.mine) (ap length mine ∙ counted))));
       }
 
 -- a pass that had heard of a full tape still has
@@ -176,7 +176,7 @@ pub record Popped {T : Type 0} (one two : GateFacts Mark ℕ) (count : ℕ) (end
   pub so_far : AreGathering one two count ended (rest ++ w ∷ []) p q
 
 pub popped : {T : Type 0} (one two : GateFacts Mark ℕ) (count : ℕ) (ended : Result T PutNo) (writers rest : List GatedWriter) (w : GatedWriter)
-      (p q : PassFacts Mark)
+    (p q : PassFacts Mark)
     → writers ≡ rest ++ w ∷ [] → All (HasEnded gated_frame seen_of count) writers → All (IsAt one two)
     (cards_of writers) → AreGathering one two count ended writers p q → Popped one two count ended rest w p q
 popped one two count ended writers rest w p q is all_ended all_at gathering =

@@ -153,6 +153,7 @@ pub struct Crew {
 }
 
 /// Two tapes that a crew wrote on, and the first refusal that a writer met.
+#[derive(Drop)]
 pub struct Written {
     pub first: Tape,
     pub second: Tape,

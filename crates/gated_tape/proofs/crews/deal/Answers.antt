@@ -52,5 +52,5 @@ loop-index-preserved g c =
       capacity = search rules;
       dealt = subst (AreDealt one two (count_down (index + 1))) (sym c.push_reserved.ensures.items)
           (dealt_next one two index (index + 1) c.loop-index.room.items _ c.requires.opening.0 c.requires.opening.1
-                (add-one index) i.dealt refl first second);
+          (add-one index) i.dealt refl first second);
     }

@@ -72,14 +72,14 @@ loop-writer-preserved g c =
     (subst (λ s. OnOk w.ended (count_of w.node s ≡ c.args.count)) (sym c.into_pass.ensures.seen) k.ended_is.done_one)
     (subst (λ s. OnOk w.ended (count_of w.node s ≡ c.args.count)) (sym c.into_pass-in-Some.ensures.seen) k.ended_is.done_two)
     (full_at one two c.args.count w.ended w.node w.one w.two first second k.at_is.0 k.at_is.1 c.into_pass.ensures.seen
-          c.into_pass-in-Some.ensures.seen k.ended_is) in
+    c.into_pass-in-Some.ensures.seen k.ended_is) in
     record {
       ended_each = k.rest_ended;
       at = k.rest_at;
       gathering = subst (λ e. AreGathering one two c.args.count e rest c.join-zero.result c.join-second_zero.result) (sym c.sooner-ended.ensures)
           (subst (λ p. AreGathering one two c.args.count (first_refusal l.ended w.ended) rest p c.join-second_zero.result) (sym c.join-zero.ensures)
           (subst (λ p. AreGathering one two c.args.count (first_refusal l.ended w.ended) rest (taken_in l.zero first) p)
-                (sym c.join-second_zero.ensures) next));
+          (sym c.join-second_zero.ensures) next));
       given_one = ap (λ (p : PassFacts Mark). p.given) c.join-zero.ensures ∙ i.given_one;
       given_two = ap (λ (p : PassFacts Mark). p.given) c.join-second_zero.ensures ∙ i.given_two;
     }
