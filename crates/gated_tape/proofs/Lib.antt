@@ -1,3 +1,6 @@
+pub mod Marking
+pub mod Going
 pub mod Ran
-pub mod Writing
+pub mod Dealing
 pub mod Gathering
+pub mod Closing

@@ -1,27 +1,41 @@
 -- Runs of writers, put together.
-use Rattle.std.proofs.Common.{◌≡◌, ℕ, zero, suc, ◌<◌, List, [], ◌∷◌, ◌++◌, Option, length, set, slice_index_or, refl, sym, ap, ◌∙◌, arith}
+use Rattle.std.proofs.Common.{◌≡◌, ℕ, zero, suc, ◌<◌, List, [], ◌∷◌, ◌++◌, length, map, set, slice_index_or, sym, ap, ◌∙◌, arith}
 use Rattle.std.proofs.lemmas.List.{map-append}
 use Rattle.std.proofs.lemmas.List.Elements.{All-append}
 use Rattle.gated_tape.specs.declared.tapes.Mark.{Mark}
 use Rattle.gated_tape.specs.declared.runs.Writer.{Writer}
-use Rattle.gated_tape.specs.Writers.{Wrote}
-use Rattle.gated_tape.specs.Ran.{RanEach}
+use Rattle.gated_tape.specs.Sides.{Frame}
+use Rattle.gated_tape.specs.Runs.{card_of, HasEnded, RanEach}
 
-module _ {S : Type 0} (known : S → List Mark) (writer : S → Option ℕ) (count : ℕ) where
+module _ {S P : Type 0} (frame : S → Frame P) (known : S → List Mark) (count : ℕ) where
   -- no writer ran
-  pub ran_none : RanEach known writer count [] []
-  ran_none = record { wrote = λ k d low. absurd (omega arith); nodes = refl }
+  pub ran_none : RanEach frame known count [] []
+  ran_none = record { ended = λ k d low. absurd (omega arith); cards = λ i. [] }
 
   -- a list of one writer
-  pub ran_one : (l : List (Writer S)) (w d : Writer S) → length l ≡ 1 → Wrote known writer count w.side w.node w.done → w.node ≡ (slice_index_or l 0 d).node → RanEach known writer count l (set l 0 w)
-  ran_one [] w d long wrote node = absurd (omega arith)
-  ran_one (v ∷ []) w d long wrote node = record { wrote = one; nodes = ap (λ n. n ∷ []) node }
+  pub ran_one : (l : List (Writer S)) (w d : Writer S) → length l ≡ 1 → HasEnded frame known count w
+      → card_of frame known w ≡ card_of frame known (slice_index_or l 0 d)
+      → RanEach frame known count l (set l 0 w)
+  ran_one [] w d long ended card = absurd (omega arith)
+  ran_one (v ∷ []) w d long ended card = record { ended = one; cards = ap (λ c. c ∷ []) card }
     where
-      one : (k : ℕ) (e : Writer S) → k < 1 → Wrote known writer count (slice_index_or (w ∷ []) k e).side (slice_index_or (w ∷ []) k e).node (slice_index_or (w ∷ []) k e).done
-      one zero e low = wrote
+      one : (k : ℕ) (e : Writer S) → k < 1 → HasEnded frame known count (slice_index_or (w ∷ []) k e)
+      one zero e low = ended
       one (suc k) e low = absurd (omega arith)
-  ran_one (v ∷ u ∷ us) w d long wrote node = absurd (omega arith)
+  ran_one (v ∷ u ∷ us) w d long ended card = absurd (omega arith)
 
   -- two runs over the halves of a list are one over the whole
-  pub ran_both : (a b a' b' : List (Writer S)) → RanEach known writer count a a' → RanEach known writer count b b' → RanEach known writer count (a ++ b) (a' ++ b')
-  ran_both a b a' b' p q = record { wrote = All-append (λ w. Wrote known writer count w.side w.node w.done) a' b' p.wrote q.wrote; nodes = map-append (λ w. w.node) a' b' ∙ ((λ i. p.nodes i ++ q.nodes i) ∙ sym (map-append (λ w. w.node) a b)) }
+  ran_both : (a b c d : List (Writer S)) → RanEach frame known count a c → RanEach frame known count b d → RanEach frame known count (a ++ b) (c ++ d)
+  ran_both a b c d p q = record {
+    ended = All-append (HasEnded frame known count) c d p.ended q.ended;
+    cards = map-append (card_of frame known) c d
+        ∙ ((λ i. p.cards i ++ q.cards i) ∙ sym (map-append (card_of frame known) a b));
+  }
+
+  -- and so of halves that make up a list
+  pub ran_halves : (whole a b c d : List (Writer S)) → whole ≡ a ++ b
+      → RanEach frame known count a c → RanEach frame known count b d
+      → RanEach frame known count whole (c ++ d)
+  ran_halves whole a b c d is p q =
+      let both = ran_both a b c d p q in
+      record { ended = both.ended; cards = both.cards ∙ ap (map (card_of frame known)) (sym is) }

@@ -1,5 +1,6 @@
 pub mod Marks
 pub mod Cells
 pub mod Sides
-pub mod Writers
-pub mod Ran
+pub mod Workers
+pub mod Runs
+pub mod Crews

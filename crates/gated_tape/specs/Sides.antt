@@ -1,33 +1,36 @@
 -- What a side says of the tape behind it. All of it is this project's own.
-use Rattle.std.specs.Prelude.{◌≡◌, ℕ, Bool, true, List, [], ◌++◌, Option, Some, None, unwrap_or}
-use Rattle.turn_gate.specs.Known.{GateFacts, PassFacts, own, IsOutside, Owns}
+use Rattle.std.specs.Prelude.{◌≡◌, ℕ, Bool, true, List, ◌++◌, Option, Some, None}
+use Rattle.turn_gate.specs.Known.{GateFacts, own}
 use Rattle.gated_tape.specs.declared.tapes.Mark.{Mark}
-use Rattle.gated_tape.specs.Marks.{node_of}
 
--- the marks went on with marks of others, none where the side is alone, and then with the added ones
-pub record WentOn (alone : Bool) (node : ℕ) (before added after : List Mark) : Type 0 where
-  pub between : List Mark
-  pub others : own node_of node between ≡ []
-  pub none_alone : alone ≡ true → between ≡ []
-  pub after_is : after ≡ (before ++ between) ++ added
+-- the list went on by a suffix, of which the entries that name n are the added ones; all of it
+-- where the side is alone
+pub record WentOn {E : Type 0} (alone : Bool) (maker : E → ℕ) (n : ℕ)
+    (before added after : List E) : Type 0 where
+  pub suffix : List E
+  pub after_is : after ≡ before ++ suffix
+  pub own_is : own maker n suffix ≡ added
+  pub all_alone : alone ≡ true → suffix ≡ added
 
 -- a side may write in this node's name: it writes in anyone's, or in this one's
 abbrev pub Serves : Option ℕ → ℕ → Type 0
 Serves None node = Unit {0}
 Serves (Some n) node = n ≡ node
 
--- what a contract sees of a side over a gate: the marks that its pass has seen, and its number
+-- what no call changes of a side: the limit of its tape, the one node in whose name it may write,
+-- or none where it writes for each, and where the tape is
+pub record Frame (P : Type 0) : Type 0 where
+  pub limit : ℕ
+  pub writer : Option ℕ
+  pub place : P
+
+-- what a contract sees of a side over a gate: the gate, the number of its pass, and the marks
+-- that it has seen
 pub record SideFacts : Type 0 where
-  pub seen : List Mark
+  pub gate : GateFacts Mark ℕ
   pub number : ℕ
+  pub seen : List Mark
 
--- the limit of the tape in a gate
-abbrev pub limit_of : GateFacts Mark ℕ → ℕ
-limit_of g = unwrap_or g.fixed 0
-
--- the pass is one of this gate, outside, with no other joined into it, and of what it has seen its own entries are exact
-pub record IsReady (gate : GateFacts Mark ℕ) (p : PassFacts Mark ℕ) : Type 0 where
-  pub gate_is : p.gate ≡ gate
-  pub outside : IsOutside p
-  pub unjoined : p.joined ≡ []
-  pub own_is : Owns node_of p p.seen
+-- what no call changes of a side over a gate
+abbrev pub gated_frame : SideFacts → Frame (GateFacts Mark ℕ)
+gated_frame s = record { limit = s.gate.fixed; writer = Some s.number; place = s.gate }

@@ -1,93 +1,84 @@
 //! A tape behind a gate.
 ghost use Rattle.std.specs.Prelude.{◌≡◌};
-ghost use Rattle.gated_tape.specs.Sides.{IsReady};
+ghost use Rattle.gated_tape.specs.Marks.{node_of};
+ghost use Rattle.turn_gate.specs.Known.{IsReady};
 
 use crate::cells::TapeCell;
+use crate::refusals::PutNo;
 use crate::sides::Side;
-use std::alloc::AllocError;
-use std::marker::{Brand, Model, PhantomData};
+use crate::tapes::Tape;
+use std::marker::Model;
 use std::sync::Wait;
 use turn_gate::{Gate, Pass};
 
-/// Which gate it is. Each run picks it.
-pub trait Naming {
-    ghost use Rattle.std.specs.Prelude.{ℕ};
-    ghost use Rattle.turn_gate.specs.Known.{GateFacts};
-    ghost use Rattle.gated_tape.specs.declared.tapes.Mark.{Mark};
-
-    ghost gate: { GateFacts Mark ℕ };
-}
-
-impl Naming for Brand {
-    ghost use Rattle.turn_gate.specs.Known.{no_gate};
-
-    ghost gate = { no_gate };
-}
-
-/// The side of one pass of a gate.
-pub struct GatedSide<'a, N: Naming, R: Wait> {
+/// The side of one pass of a gate. Each call is one stay.
+pub struct GatedSide<'a, R: Wait> {
     rt: &'a R,
     gate: &'a Gate<TapeCell>,
     pass: Pass<TapeCell>,
-    name: PhantomData<N>,
 }
 
-impl<'a, N: Naming, R: Wait> Model for GatedSide<'a, N, R> {
-    ghost use Rattle.std.specs.Prelude.{◌≡◌};
-    ghost use Rattle.gated_tape.specs.Sides.{SideFacts, IsReady};
+impl<'a, R: Wait> Model for GatedSide<'a, R> {
+    ghost use Rattle.turn_gate.specs.Known.{IsReady};
+    ghost use Rattle.gated_tape.specs.Marks.{node_of};
+    ghost use Rattle.gated_tape.specs.Sides.{SideFacts};
 
     ghost Value = { SideFacts };
 
-    ghost view = { λ s. record { seen = s.pass.seen; number = s.pass.number } };
+    ghost view = { λ s. record { gate = s.gate.now; number = s.pass.number; seen = s.pass.seen } };
 
-    ghost invariant = { λ s. (s.gate.now ≡ N.gate) × IsReady N.gate s.pass };
+    ghost invariant = { λ s. IsReady node_of s.pass.number s.gate.now.name s.pass };
 }
 
-impl<'a, N: Naming, R: Wait> GatedSide<'a, N, R> {
+impl<'a, R: Wait> GatedSide<'a, R> {
     /// A side that goes through this pass.
-    pub fn new(rt: &'a R, gate: &'a Gate<TapeCell>, pass: Pass<TapeCell>) -> GatedSide<'a, N, R>
-        requires gate { gate.now ≡ N.gate }
-        requires ready { IsReady N.gate pass }
-        ensures { result ≡ record { seen = pass.seen; number = pass.number } }
+    pub fn new(rt: &'a R, gate: &'a Gate<TapeCell>, pass: Pass<TapeCell>) -> GatedSide<'a, R>
+        requires { IsReady node_of pass.number gate.now.name pass }
+        ensures { result ≡ record { gate = gate.now; number = pass.number; seen = pass.seen } }
     {
-        GatedSide {
-            rt,
-            gate,
-            pass,
-            name: PhantomData,
-        }
+        GatedSide { rt, gate, pass }
     }
 
     /// Gives the pass back.
     pub fn into_pass(self) -> Pass<TapeCell>
-        ensures ready { IsReady N.gate result }
-        ensures known { (result.seen ≡ self.entry.seen) × (result.number ≡ self.entry.number) }
+        ensures ready { IsReady node_of self.entry.number self.entry.gate.name result }
+        ensures seen { result.seen ≡ self.entry.seen }
     {
         let GatedSide {
             rt: _,
             gate: _,
             pass,
-            name: _,
         } = self;
         pass
     }
 }
 
-impl<'a, N: Naming, R: Wait> Side for GatedSide<'a, N, R> {
-    ghost use Rattle.std.specs.Prelude.{false, Some};
-    ghost use Rattle.gated_tape.specs.Sides.{limit_of};
+impl<'a, R: Wait> Side for GatedSide<'a, R> {
+    ghost use Rattle.std.specs.Prelude.{false};
+    ghost use Rattle.gated_tape.specs.Sides.{gated_frame};
 
-    ghost limit = { λ _. limit_of N.gate };
+    type Place = Gate<TapeCell>;
+
+    ghost frame = { gated_frame };
 
     ghost known = { λ s. s.seen };
 
-    ghost writer = { λ s. Some s.number };
-
     ghost alone = { false };
 
-    fn put(&mut self, node: u32, word: u64) -> Result<(), AllocError> {
+    fn count(&mut self, node: u32) -> u64 {
         let mut held = self.gate.enter(self.rt, &mut self.pass);
-        let answer = held.value().get_mut().put(node, word);
+        let tape = held.value().get_mut();
+        let answer = Tape::count(tape, node);
+        let _ = tape.marks();
+        self.gate.leave(&mut self.pass, held);
+        answer
+    }
+
+    fn put(&mut self, node: u32, word: u64) -> Result<(), PutNo> {
+        let mut held = self.gate.enter(self.rt, &mut self.pass);
+        let tape = held.value().get_mut();
+        let answer = Tape::put(tape, node, word);
+        let _ = tape.marks();
         self.gate.leave(&mut self.pass, held);
         answer
     }

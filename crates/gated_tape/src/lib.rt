@@ -1,16 +1,23 @@
-//! A tape of marks, alone or behind a gate: an example of use of `turn_gate`. One worker writes on a side, which is a plain tape or goes through a pass of a gate.
+//! Tapes of marks, each alone or behind a gate: how a worker with two sides is written and proved over `turn_gate`.
+//!
+//! A side is a plain tape, or goes through a pass of a gate. The worker puts each mark on the first tape and then on the second, and is proved once, over sides. `write_in_turns` runs many of them in threads, each through a pass of each gate.
 #![tactic(auto)]
 
 mod cells;
+mod crews;
 mod gated;
+mod refusals;
 mod runs;
 mod sides;
 mod tapes;
 #[cfg(test)]
 mod tests;
+mod workers;
 
 pub use cells::TapeCell;
-pub use gated::{GatedSide, Naming};
-pub use runs::{Crew, write_all, write_in_turns};
+pub use crews::{Crew, Written, write_in_turns};
+pub use gated::GatedSide;
+pub use refusals::PutNo;
 pub use sides::Side;
 pub use tapes::{Mark, Tape};
+pub use workers::write_both;

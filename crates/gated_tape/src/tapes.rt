@@ -1,7 +1,8 @@
 //! A tape by itself.
-ghost use Rattle.std.specs.Prelude.{◌≡◌, ◌++◌, ◌<◌, []};
-ghost use Rattle.gated_tape.specs.Marks.{mark, added_on};
+ghost use Rattle.std.specs.Prelude.{◌≡◌, ◌++◌, []};
+ghost use Rattle.gated_tape.specs.Marks.{mark, added_on, count_of, IsNext, IsLegal, TellsRoom};
 
+use crate::refusals::PutNo;
 use std::alloc::{AllocError, Global};
 use std::marker::Model;
 
@@ -12,7 +13,7 @@ pub struct Mark {
     pub word: u64,
 }
 
-/// Marks in the order in which they were put. Each word is below the tape's limit.
+/// At most `limit` marks, in the order in which they were put. The words of each node count up from 0.
 #[derive(Drop)]
 pub struct Tape {
     limit: u64,
@@ -20,14 +21,13 @@ pub struct Tape {
 }
 
 impl Model for Tape {
-    ghost use Rattle.std.specs.Prelude.{All, ◌<◌};
-    ghost use Rattle.gated_tape.specs.Marks.{TapeFacts};
+    ghost use Rattle.gated_tape.specs.Marks.{TapeFacts, IsLegal};
 
     ghost Value = { TapeFacts };
 
     ghost view = { λ t. record { limit = t.limit; marks = t.marks.items } };
 
-    ghost invariant = { λ t. All (λ m. m.word < t.limit) t.marks.items };
+    ghost invariant = { λ t. IsLegal t.limit t.marks.items };
 }
 
 impl Tape {
@@ -43,16 +43,29 @@ impl Tape {
 
     /// The marks, the oldest first.
     pub fn marks(&self) -> &[Mark]
-        ensures { result.now ≡ self.now.marks }
+        ensures marks { result.now ≡ self.now.marks }
+        ensures legal { IsLegal self.now.limit self.now.marks }
     {
         self.marks.as_slice()
     }
 
-    /// Puts a mark at the end.
-    pub fn put(&mut self, node: u32, word: u64) -> Result<(), AllocError>
-        requires { word < self.old.limit }
-        ensures { self.new ≡ record self.old { marks = self.old.marks ++ added_on result (mark node word) } }
+    /// How many marks are the node's. It reads all marks.
+    pub fn count(&self, node: u32) -> u64
+        ensures { result ≡ count_of node self.now.marks }
     {
+        self.marks.iter().filter(|mark| mark.node == node).count() as u64
+    }
+
+    /// Puts a mark at the end, whose word is the number of the node's marks so far. A tape with `limit` marks is full.
+    pub fn put(&mut self, node: u32, word: u64) -> Result<(), PutNo>
+        requires { IsNext node word self.old.marks }
+        ensures marks { let added = added_on result (mark node word) in
+            self.new ≡ record self.old { marks = self.old.marks ++ added } }
+        ensures room { TellsRoom self.new.limit result self.new.marks }
+    {
+        if self.marks.len() as u64 >= self.limit {
+            return Err(PutNo::Full);
+        }
         self.marks.push(Mark { node, word })?;
         Ok(())
     }

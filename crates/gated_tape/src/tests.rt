@@ -16,14 +16,27 @@ fn counts_up(marks: &[Mark], node: u32, count: u64) -> bool {
 }
 
 #[test]
-fn a_plain_tape(rt: HostRuntime) -> Result<(), Fail> {
-    let mut tape = Tape::new(rt.alloc(), 9);
-    write_all(&mut tape, 7, 3)?;
-    write_all(&mut tape, 4, 1)?;
-    assert_eq!(rt; tape.marks().len(), 4);
-    assert!(rt; counts_up(tape.marks(), 7, 3));
-    assert!(rt; counts_up(tape.marks(), 4, 1));
+fn two_plain_tapes(rt: HostRuntime) -> Result<(), Fail> {
+    let mut first = Tape::new(rt.alloc(), 9);
+    let mut second = Tape::new(rt.alloc(), 3);
+    assert_eq!(rt; write_both(&mut first, &mut second, 7, 2), Ok(()));
+    assert_eq!(rt; first.count(7), 2);
+    assert_eq!(rt; first.count(4), 0);
+    assert_eq!(rt; write_both(&mut first, &mut second, 7, 9), Err(PutNo::Full));
+    assert!(rt; counts_up(first.marks(), 7, 4));
+    assert!(rt; counts_up(second.marks(), 7, 3));
+    assert_eq!(rt; second.put(7, 3), Err(PutNo::Full));
     Ok(())
+}
+
+/// The tape has each writer's marks up to the count, and no others.
+fn is_written(tape: &Tape, writers: u32, count: u64) -> bool {
+    for node in 0..writers {
+        if !counts_up(tape.marks(), node.saturating_add(1), count) {
+            return false;
+        }
+    }
+    tape.marks().len() as u64 == count.saturating_mul(u64::from(writers))
 }
 
 #[test]
@@ -34,16 +47,33 @@ fn each_in_its_own_order(rt: HostRuntime) -> Result<(), Fail> {
             writers,
             threads,
             count,
+            limit: 2000,
         };
-        let tape = write_in_turns(&rt, rt.alloc(), crew)?;
-        let all = count.saturating_mul(u64::from(writers));
-        assert_eq!(rt; tape.marks().len() as u64, all, "{writers} writers");
-        for node in 0..writers {
-            assert!(rt;
-                counts_up(tape.marks(), node.saturating_add(1), count),
-                "{node} of {writers}"
-            );
-        }
+        let written = write_in_turns(&rt, rt.alloc(), crew)?;
+        assert_eq!(rt; written.ended, Ok(()));
+        assert!(rt;
+            is_written(&written.first, writers, count),
+            "{writers} writers"
+        );
+        assert!(rt;
+            is_written(&written.second, writers, count),
+            "{writers} writers"
+        );
     }
+    Ok(())
+}
+
+#[test]
+fn full_tapes(rt: HostRuntime) -> Result<(), Fail> {
+    let crew = Crew {
+        writers: 3,
+        threads: 2,
+        count: 50,
+        limit: 20,
+    };
+    let written = write_in_turns(&rt, rt.alloc(), crew)?;
+    assert_eq!(rt; written.ended, Err(PutNo::Full));
+    assert_eq!(rt; written.first.marks().len(), 20);
+    assert!(rt; written.second.marks().len() <= 20);
     Ok(())
 }

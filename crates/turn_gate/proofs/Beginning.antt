@@ -11,7 +11,7 @@ use Rattle.turn_gate.proofs.Owning.{distinct-nil, distinct-cons}
 
 module _ {V E F : Type 0} (entries : V → List E) (fixed : V → F) (maker : E → ℕ) (first : V) where
   -- both words are 0, the opening value is at home, and pass 0 has seen its entries
-  pub begins : (xs : List (Option V)) → xs ≡ Some first ∷ [] → Rule entries fixed maker first (opening (0 ∷ 0 ∷ []) xs (first_view (entries first) (fixed first)))
+  pub begins : (xs : List (Option V)) → xs ≡ Some first ∷ [] → Rule entries fixed maker first (opening (0 ∷ 0 ∷ []) xs (first_view (entries first)))
   begins xs is = record {
     account = start;
     words = refl;
@@ -29,18 +29,27 @@ module _ {V E F : Type 0} (entries : V → List E) (fixed : V → F) (maker : E 
     low = λ n h. absurd (let no : false ≡ true = h in cc);
   }
     where
-      v : View E F
-      v = first_view (entries first) (fixed first)
+      v : View E
+      v = first_view (entries first)
 
       start : Account V E
       start = record { made = []; ticket = 0; serving = 0; holder = λ _. 0; owner = λ _. 0; given = []; slot = Some first }
 
-      owns : (n : ℕ) (es : List E) (k : ℕ) → get_elem? {A = ℕ × List E} ((0, []) ∷ []) k ≡ some (n, es) → OwnsNumber maker (entries first) (fixed first) [] (λ _. 0) [] 0 (Some (fixed first)) (entries first) [] n es
-      owns n es k there = let p = at_only (0, []) (n, es) k there in record { exact = sym (ap (λ (q : ℕ × List E). q.1) p); owner_is = refl; origin = inl (sym (ap (λ (q : ℕ × List E). q.0) p)); fixed_is = refl; opening_is = refl; unseen = refl }
+      owns : (n : ℕ) (es : List E) (k : ℕ) → get_elem? {A = ℕ × List E} ((0, []) ∷ []) k ≡ some (n, es)
+          → OwnsNumber maker (entries first) [] (λ _. 0) [] 0 (entries first) [] n es
+      owns n es k there = let p = at_only (0, []) (n, es) k there in
+          record {
+            exact = sym (ap (λ (q : ℕ × List E). q.1) p);
+            owner_is = refl;
+            origin = inl (sym (ap (λ (q : ℕ × List E). q.0) p));
+            opening_is = refl;
+            unseen = refl;
+          }
 
-      one : (j : ℕ) (d : View E F) → get_elem? (v ∷ []) j ≡ some d → Fits maker (entries first) (fixed first) start j d
-      one zero d e = subst (Fits maker (entries first) (fixed first) start 0) (some-injective v d e) (record {
+      one : (j : ℕ) (d : View E) → get_elem? (v ∷ []) j ≡ some d → Fits maker (entries first) start j d
+      one zero d e = subst (Fits maker (entries first) start 0) (some-injective v d e) (record {
         begins = ([], append-nil _ ∙ sym (append-nil _));
+        heard = λ k s e. absurd (some-ne-none s (sym e));
         early = [];
         rest = [];
         made_is = refl;

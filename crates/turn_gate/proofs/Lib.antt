@@ -3,6 +3,7 @@ mod Owning
 mod Tickets
 mod Beginning
 mod Drawing
+mod Heeding
 mod Looking
 mod Releasing
 mod Splitting

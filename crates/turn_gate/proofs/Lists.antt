@@ -6,8 +6,7 @@ use mathlib.Core.Option.{some, some-injective, some-ne-none}
 use native.Mathlib.Decide.{ℕ_discrete}
 use lib.ListN.{get_elem?}
 use Rattle.atomic_table.proofs.Lists.{at_set, set_here, set_else}
-use Rattle.turn_gate.specs.Known.{longer}
-use Rattle.turn_gate.specs.Rule.{StartsWith}
+use Rattle.turn_gate.specs.Known.{longer, StartsWith}
 
 module _ {A : Type 0} where
   -- a place with an element is below the length
@@ -43,7 +42,8 @@ module _ {A : Type 0} where
       (λ (t : (j ≢ me) × (get_elem? l j ≡ some d)). others j d t.0 t.1) (at_set l me j w d e)
 
   -- a fact of some element stays, at the place, where an element that has the fact is replaced by one that has it
-  pub witness : (P : A → Type 0) (vs : List A) (me : ℕ) (v w : A) → get_elem? vs me ≡ some v → (P v → P w) → (i : ℕ) (u : A) → get_elem? vs i ≡ some u → P u → (x : A) × (get_elem? (set vs me w) i ≡ some x) × P x
+  pub witness : (P : A → Type 0) (vs : List A) (me : ℕ) (v w : A) → get_elem? vs me ≡ some v → (P v → P w) → (i : ℕ) (u : A)
+      → get_elem? vs i ≡ some u → P u → (x : A) × (get_elem? (set vs me w) i ≡ some x) × P x
   witness P vs me v w at over i u there p =
       dite (ℕ_discrete i me)
       (λ (e : i ≡ me). let same : v ≡ u = some-injective v u (sym at ∙ (ap (get_elem? vs) (sym e) ∙ there)) in

@@ -67,7 +67,9 @@ module _ {E : Type 0} where
   kept_among n [] e = absurd (let no : false ≡ true = e in cc)
   kept_among n (x ∷ xs) e = here x xs (kept_among n xs) (nat_eq n x.0) refl e
     where
-      here : (x : ℕ × List E) (xs : List (ℕ × List E)) → (is_among n (numbers_of xs) ≡ true → (es : List E) × ((k : ℕ) × (get_elem? xs k ≡ some (n, es)))) → (b : Bool) → nat_eq n x.0 ≡ b → (nat_eq n x.0 || is_among n (numbers_of xs)) ≡ true → (es : List E) × ((k : ℕ) × (get_elem? (x ∷ xs) k ≡ some (n, es)))
+      here : (x : ℕ × List E) (xs : List (ℕ × List E))
+          → (is_among n (numbers_of xs) ≡ true → (es : List E) × ((k : ℕ) × (get_elem? xs k ≡ some (n, es)))) → (b : Bool) → nat_eq n x.0 ≡ b
+          → (nat_eq n x.0 || is_among n (numbers_of xs)) ≡ true → (es : List E) × ((k : ℕ) × (get_elem? (x ∷ xs) k ≡ some (n, es)))
       here x xs more true is e = (x.1, (0, ap (λ m. some (m, x.1)) (sym (eqb-true n x.0 is))))
       here x xs more false is e = let m = more (sym (ap (λ b. b || is_among n (numbers_of xs)) is) ∙ e) in (m.0, (suc m.1.0, m.1.1))
 
@@ -121,7 +123,8 @@ pub distinct-first : (n : ℕ) (xs : List ℕ) → IsDistinct nat_eq (n ∷ xs) 
 distinct-first n xs d = none_each n xs (IsDistinct-head nat_eq n xs d)
 
 -- two lists of numbers that differ, with none in both
-pub distinct-append : (xs ys : List ℕ) → IsDistinct nat_eq xs → IsDistinct nat_eq ys → ((n : ℕ) → is_among n xs ≡ true → is_among n ys ≡ false) → IsDistinct nat_eq (xs ++ ys)
+pub distinct-append : (xs ys : List ℕ) → IsDistinct nat_eq xs → IsDistinct nat_eq ys → ((n : ℕ) → is_among n xs ≡ true → is_among n ys ≡ false)
+    → IsDistinct nat_eq (xs ++ ys)
 distinct-append [] ys d e apart = e
 distinct-append (x ∷ xs) ys d e apart =
     distinct-cons x (xs ++ ys) (among_neither x xs ys (distinct-first x xs d) (apart x (ap (λ b. b || is_among x xs) (eq-eqb x x refl))))

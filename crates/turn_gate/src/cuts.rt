@@ -20,7 +20,7 @@ pub struct Cut<N> {
     number: PhantomData<N>,
 }
 
-impl<E, F, N: Numbering> Split<View<E, F>> for Cut<N> {
+impl<E, N: Numbering> Split<View<E>> for Cut<N> {
     ghost left = { giver N.number };
 
     ghost right = { newcomer N.number };
@@ -29,7 +29,7 @@ impl<E, F, N: Numbering> Split<View<E, F>> for Cut<N> {
 /// A pass takes in another.
 pub struct Glue;
 
-impl<E, F> Join<View<E, F>> for Glue {
+impl<E> Join<View<E>> for Glue {
     ghost both = { joined };
 
     ghost spent = { spent };

@@ -12,7 +12,7 @@ impl<V: Journal> Model for Pass<V> {
     ghost use Rattle.turn_gate.specs.Known.{PassFacts};
     ghost use Rattle.turn_gate.specs.Seats.{pass_facts, IsSound};
 
-    ghost Value = { PassFacts V.Entry V.Fixed };
+    ghost Value = { PassFacts V.Entry };
 
     ghost view = { λ p. pass_facts p.seat.table_id p.seat.me };
 

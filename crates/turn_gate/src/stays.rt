@@ -17,17 +17,18 @@ pub struct Held<V: Journal> {
 
 impl<V: Journal> Model for Held<V> {
     ghost use Rattle.turn_gate.specs.Known.{HeldFacts};
-    ghost use Rattle.turn_gate.specs.Seats.{ticket_of};
+    ghost use Rattle.turn_gate.specs.Seats.{held_facts};
 
     ghost Value = { HeldFacts V };
 
-    ghost view = { λ h. record { value = h.value; gate = h.seat.value.table_id; ticket = ticket_of h.seat.value.me.0.phase } };
+    ghost view = { λ h. held_facts h.value h.seat.value.table_id h.seat.value.me.0.phase };
 }
 
 impl<V: Journal> Held<V> {
     /// Lends the value.
     pub fn value(&mut self) -> &mut V
-        ensures* writes_back { sem 𝓛 (Lends (the_row V.row V.Entry.row V.Fixed.row V.Journal) V.row self.entry result (with_value self.old)) }
+        ensures* writes_back { let held = the_row V.row V.Entry.row V.Fixed.row V.Journal in
+            sem 𝓛 (Lends held V.row self.entry result (with_value self.old)) }
         ensures value { result.now ≡ self.old.value }
     {
         &mut self.value

@@ -11,5 +11,9 @@ split_seat-requires g c =
     let not_zero = c.requires.fresh.0 in
     let fits = c.ranges.number.fits in
     let above : 0 < n = omega arith in
-    let below : n < 2 ^ 32 = fits in
-    (c.requires.gate ∙ ap (λ v. v.id) (sym c.self.view_is), search rules, splits g.V.Journal.entries g.V.Journal.fixed g.V.Journal.maker _ _ _ g.N.Numbering.number z (subst (λ (k : ℕ). 0 < k) p above) (subst (λ (k : ℕ). k < 2 ^ 32) p below) (subst (λ (k : ℕ). is_among k c.args.seat.now.me.0.given ≡ false) p c.requires.fresh.1))
+    let below : n < 2 ^ 32 = fits in (
+      c.requires.gate ∙ ap (λ v. v.name.table) (sym c.self.view_is),
+      search rules,
+      splits g.V.Journal.entries g.V.Journal.fixed g.V.Journal.maker _ _ _ g.N.Numbering.number z (subst (λ (k : ℕ). 0 < k) p above)
+          (subst (λ (k : ℕ). k < 2 ^ 32) p below) (subst (λ (k : ℕ). is_among k c.args.seat.now.me.0.given ≡ false) p c.requires.fresh.1),
+    )

@@ -11,7 +11,7 @@ returns-clause-found g c =
     let x = c.await_turn-value.result in
     let J = g.V.Journal in
     subst (λ p. Finds J.maker p (J.entries x)) c.pass.view_is
-    (finds c.pass.inside.seat.me c.pass.invariant.keeps_one J.entries J.fixed J.maker _ x c.await_turn-value.ensures.handed)
+    (finds c.pass.inside.seat.me c.pass.invariant.keeps_one J.entries J.fixed J.maker _ _ x c.await_turn-value.ensures.handed)
 
 pub returns-clause-own : goal.returns-clause-own
 returns-clause-own g c =

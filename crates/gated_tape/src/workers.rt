@@ -1,0 +1,50 @@
+//! A worker with two sides.
+ghost use Rattle.std.specs.Prelude.{◌≡◌, ◌+◌, ◌≤◌};
+ghost use Rattle.gated_tape.specs.Marks.{count_of};
+ghost use Rattle.gated_tape.specs.Sides.{Serves};
+ghost use Rattle.gated_tape.specs.Workers.{Worked, Ended};
+
+use crate::refusals::PutNo;
+use crate::sides::Side;
+
+/// Puts the node's words up to below `count`, each on the first side and then on the second. It begins where the tapes stand, and stops at the first refusal.
+pub fn write_both<A: Side, B: Side>(
+    one: &mut A,
+    two: &mut B,
+    node: u32,
+    count: u64,
+) -> Result<(), PutNo>
+    requires serves_one { Serves (A.frame one.old).writer node }
+    requires serves_two { Serves (B.frame two.old).writer node }
+    requires even { count_of node (A.known one.old) ≡ count_of node (B.known two.old) }
+    requires few { count_of node (A.known one.old) ≤ count }
+    ensures ended { Ended node count result (A.frame one.new) (A.known one.new)
+        (B.frame two.new) (B.known two.new) }
+    ensures one { Worked A.alone node (A.frame one.old) (A.known one.old)
+        (A.frame one.new) (A.known one.new) }
+    ensures two { Worked B.alone node (B.frame two.old) (B.known two.old)
+        (B.frame two.new) (B.known two.new) }
+{
+    let begun = one.count(node);
+    for word in begun..count {
+        put_both(one, two, node, word)?;
+    }
+    Ok(())
+}
+
+fn put_both<A: Side, B: Side>(one: &mut A, two: &mut B, node: u32, word: u64) -> Result<(), PutNo>
+    requires serves_one { Serves (A.frame one.old).writer node }
+    requires serves_two { Serves (B.frame two.old).writer node }
+    requires next_one { count_of node (A.known one.old) ≡ word }
+    requires next_two { count_of node (B.known two.old) ≡ word }
+    ensures ended { Ended node (word + 1) result (A.frame one.new) (A.known one.new)
+        (B.frame two.new) (B.known two.new) }
+    ensures one { Worked A.alone node (A.frame one.old) (A.known one.old)
+        (A.frame one.new) (A.known one.new) }
+    ensures two { Worked B.alone node (B.frame two.old) (B.known two.old)
+        (B.frame two.new) (B.known two.new) }
+{
+    one.put(node, word)?;
+    two.put(node, word)?;
+    Ok(())
+}
