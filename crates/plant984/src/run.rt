@@ -2,6 +2,7 @@
 ghost use Rattle.std.specs.Prelude.{◌≡◌, ◌≤◌, IfOk, length, map, string_bytes, true};
 ghost use Rattle.std.specs.List.{range_with_len};
 ghost use Rattle.plant_types.specs.Checks.{passes_check};
+ghost use Rattle.plant_types.specs.Plain.{ArePlain};
 ghost use Rattle.plant984.specs.Run.{end_of};
 ghost use Rattle.plant984.specs.Panel.{panel};
 
@@ -20,6 +21,7 @@ pub fn panel_of(
     scans: u32,
 ) -> Result<String, AllocError>
     requires passes { passes_check controller.now ≡ true }
+    requires plain { ArePlain controller.now.segments }
     requires segment { 1 ≤ length controller.now.segments }
     requires scans { scans ≤ 2000 }
     ensures { IfOk result (λ text. string_bytes text

@@ -195,3 +195,21 @@ fn stops_behind_the_limit(rt: HostRuntime) -> Result<(), Fail> {
     }
     Ok(())
 }
+
+// The most scans that a run has, each with its line.
+#[test]
+fn runs_two_thousand_scans(rt: HostRuntime) -> Result<(), Fail> {
+    let alloc = rt.alloc();
+    let words = words_of(alloc, "run 2000")?;
+    let bytes = Vec::from_slice(alloc, CONTACT_AND_COIL.as_bytes())?;
+    let mut source = MemSource::new(bytes, 4096, Vec::new(alloc));
+    let mut sink = MemSink::new(alloc, 4096, Vec::new(alloc));
+    let status = plant_top(alloc, &words, &mut source, &mut sink);
+    assert_eq!(rt; status, Status::Ok);
+    assert_eq!(rt; sink.bytes().len(), 36_893);
+    assert!(rt;
+        sink.bytes()
+            .ends_with(b"S 1999 N 1 00001=1\nS 2000 N 1 00001=1\n".as_slice())
+    );
+    Ok(())
+}

@@ -1,0 +1,3 @@
+pub mod MachineLemmas
+pub mod Lengths
+pub mod Keeping

@@ -1,0 +1,85 @@
+-- What a machine keeps from event to event.
+use Rattle.std.proofs.Common.{◌≡◌, ◌≢◌, ◌≤◌, ◌<◌, ℕ, ◌+◌, ◌-◌, ◌*◌, List, length, get_or, set, Option, Some, None, inl, inr, refl, sym, ap, subst, ◌∙◌, arith}
+use Rattle.std.proofs.lemmas.Bool.{cases_eq}
+use Rattle.std.proofs.lemmas.List.{get_or-set_same, get_or-set_other}
+use Rattle.std.proofs.lemmas.Option.{slice_get_within, slice_get-get_or}
+use Rattle.plant_types.specs.declared.reference.Ref.{Ref}
+use Rattle.plant_types.specs.declared.drops.IoDrop.{IoDrop}
+use Rattle.plant_types.specs.declared.plan.OrderRow.{OrderRow}
+use Rattle.plant_types.specs.declared.plan.ControllerPlan.{ControllerPlan}
+use Rattle.plant_types.specs.Checks.{sizes_of, CheckedPlansFindAll, KeptStoresFindAll, HasSegmentOperands, HasSegmentPast}
+use Rattle.plant_types.specs.Sizes.{cleared, discretes, discretes_of, DiscretesFollow}
+use Rattle.plant_types.specs.Store.{Contents, Keeps}
+use Rattle.ladder_solver.proofs.Stored.{all_at_item}
+use Rattle.scan_order.specs.Due.{row_of}
+use Rattle.traffic_cop.specs.Drops.{IsReady}
+use Rattle.traffic_cop.proofs.ModuleLemmas.{HasModules-kept}
+use Rattle.controller_core.specs.declared.entry.Entry.{Entry}
+use Rattle.controller_core.specs.declared.machine.Machine.{Machine}
+use Rattle.controller_core.specs.Replay.{apply}
+use Rattle.controller_core.specs.Machine.{CanRun, Does, FitsRow, HasControl, IsSound, IsTimely, state_is}
+
+-- a row of a plan that can be run fits it
+pub row_fits : (plan : ControllerPlan) (number : ℕ) (row : OrderRow) → CanRun plan → row_of plan number ≡ Some row → FitsRow plan row
+row_fits plan number row runs is =
+    let within = slice_get_within plan.orders (number - 1) row is in
+    let got = slice_get-get_or plan.orders (number - 1) row within in
+    let same : row ≡ get_or plan.orders (number - 1) row = cc (is, got) in
+    all_at_item (FitsRow plan) plan.orders (number - 1) row within same runs.rows
+
+-- a drop whose modules a store has, each store that keeps its references has too
+pub ready-kept : (drops : List IoDrop) (number : ℕ) (m n : Contents) → Keeps m n → IsReady drops number m → IsReady drops number n
+ready-kept drops number m n keeps ready = record {
+  found = ready.found;
+  named = ready.named;
+  fits = ready.fits;
+  room = HasModules-kept m n ready.found.modules keeps ready.room;
+}
+
+pub control-kept : (m n : Contents) (control : Option Ref) → Keeps m n → HasControl m control → HasControl n control
+control-kept m n None keeps has = tt
+control-kept m n (Some at) keeps has = (keeps at has.0, has.1)
+
+-- what a segment asks of the stores of a machine is there
+pub operands_there : (machine : Machine) → CheckedPlansFindAll → KeptStoresFindAll → IsSound machine
+    → HasSegmentOperands machine.ram machine.ladder.segments
+operands_there machine checked kept sound =
+    let plan = machine.fixed.plan in
+    let found = checked plan sound.runs.plan.passes in
+    subst (HasSegmentOperands machine.ram) (sym sound.segments)
+    (kept.operands (cleared (sizes_of plan)) machine.ram plan.segments sound.keeps found.operands)
+
+pub past_there : (machine : Machine) → CheckedPlansFindAll → KeptStoresFindAll → DiscretesFollow → IsSound machine
+    → HasSegmentPast machine.past machine.ladder.segments
+past_there machine checked kept follow sound =
+    let plan = machine.fixed.plan in
+    let sizes = sizes_of plan in
+    let found = checked plan sound.runs.plan.passes in
+    let there = follow.kept sizes sound.past.store sound.past.keeps in
+    subst (HasSegmentPast machine.past) (sym sound.segments)
+    (subst (λ (past : Contents). HasSegmentPast past plan.segments) (sym sound.past.is)
+    (kept.past (cleared (discretes_of sizes)) (discretes sizes sound.past.store) plan.segments there found.past))
+
+-- a machine that is in time still is a step later
+pub later : (machine : Machine) (steps : ℕ) → IsTimely machine steps → IsTimely machine (steps + 1)
+later machine steps timely = record {
+  clock = let h = timely.clock in omega arith;
+  exchanges = λ i. let h = timely.exchanges i in omega arith;
+  ended = let h = timely.ended in omega arith;
+}
+
+-- a machine that stays as it is does an event that leaves the state as it is
+pub does_nothing : (machine : Machine) (entry : Entry) → IsSound machine
+    → apply machine.fixed (state_is machine) entry ≡ state_is machine → Does entry machine machine
+does_nothing machine entry sound same =
+    record { fixed = refl; state = sym same; sound = sound; timely = later machine }
+
+-- one count more is at most one more
+pub counted : (xs : List ℕ) (place most : ℕ) → ((i : ℕ) → get_or xs i 0 ≤ most) → place < length xs
+    → (i : ℕ) → get_or (set xs place (get_or xs place 0 + 1)) i 0 ≤ most + 1
+counted xs place most all within i =
+    elim (cases_eq i place) [
+      | inl same ↦ let e = ap (λ n. get_or (set xs place (get_or xs place 0 + 1)) n 0) same
+          ∙ get_or-set_same xs place (get_or xs place 0 + 1) 0 within in let h = all place in omega arith
+      | inr other ↦ let e = get_or-set_other xs place i (get_or xs place 0 + 1) 0 other in let h = all i in omega arith
+    ]

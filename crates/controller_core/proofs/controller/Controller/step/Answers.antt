@@ -1,0 +1,103 @@
+use Rattle.std.proofs.Common.{◌≡◌, ◌≤◌, ◌<◌, ◌+◌, ℕ, suc, Bool, true, ◌&&◌, List, ◌++◌, ◌∷◌, [], length, sym, ap, ◌∙◌, subst, arith}
+use Rattle.std.specs.Prelude.{not}
+use Rattle.std.proofs.lemmas.Grind.{common_steps}
+use Rattle.scan_order.specs.declared.due.ScanPlace.{ScanPlace}
+use Rattle.scan_order.specs.Due.{due_after, place_after}
+use Rattle.controller_core.specs.declared.fixed.Fixed.{Fixed}
+use Rattle.controller_core.specs.declared.entry.Entry.{Entry}
+use Rattle.controller_core.specs.Event.{entry_of}
+use Rattle.controller_core.specs.Machine.{state_is}
+use Rattle.controller_core.specs.Scans.{ends_scan}
+use Rattle.controller_core.specs.Controller.{ControllerIs}
+use Rattle.controller_core.specs.Kept.{IsKept}
+use Rattle.controller_core.proofs.Keeping.{kept_as, kept_step, not_done, room_step, step_made, step_none, timely_enough}
+use Rattle.controller_core.proofs.controller.Controller.step.Goals as goal
+
+pub next_due-step-requires-clause-place : goal.next_due-step-requires-clause-place
+next_due-step-requires-clause-place c = c.self.invariant.kept.place
+
+pub next_due-step-requires-clause-rows : goal.next_due-step-requires-clause-rows
+next_due-step-requires-clause-rows c = c.self.invariant.kept.sound.runs.plan.count
+
+pub perform-entry-requires-clause-timely : goal.perform-entry-requires-clause-timely
+perform-entry-requires-clause-timely c =
+    let i = c.self.inside in
+    let runs = c.self.invariant.kept.sound.runs in
+    timely_enough i.machine.fixed i.machine i.history.items i.at c.self.invariant.kept runs.scans runs.plan.count
+
+pub note-requires : goal.note-requires
+note-requires c =
+    let i = c.self.inside in
+    let kept = c.self.invariant.kept in
+    let step = c.next_due-step.result in
+    let lt = not_done i.machine.fixed.scans i.at i.machine.ended kept.within (sym c.if-is_done.ensures) in
+    let got = step_made i.machine.fixed i.machine i.history.items i.at i.reserved step
+    c.args.self.now c.self.view_is kept lt c.next_due-step.ensures.next in
+    let has : i.reserved ≡ true = ap (λ (v : ControllerIs). v.reserved) c.self.view_is ∙ c.requires got.2 in
+    let room = c.self.invariant.room has in
+    let some = ap length c.next_due-step.ensures.next in
+    grind (arith, common_steps, room, some)
+
+pub returns-then-is_done-clause-grows : goal.returns-then-is_done-clause-grows
+returns-then-is_done-clause-grows c =
+    let i = c.self.inside in
+    sym (step_none i.machine.fixed i.machine i.history.items i.at i.reserved c.args.self.now c.self.view_is c.self.invariant.kept (sym c.if-is_done.ensures)).0
+
+pub returns-then-is_done-clause-answer : goal.returns-then-is_done-clause-answer
+returns-then-is_done-clause-answer c =
+    let i = c.self.inside in
+    sym (step_none i.machine.fixed i.machine i.history.items i.at i.reserved c.args.self.now c.self.view_is c.self.invariant.kept (sym c.if-is_done.ensures)).1
+
+pub invariant_of-self : goal.invariant_of-self
+invariant_of-self c =
+    let i = c.self.inside in
+    let kept = c.self.invariant.kept in
+    let step = c.next_due-step.result in
+    let next = c.next_due-step.ensures.next in
+    let does = c.perform-entry.ensures.does in
+    let lt = not_done i.machine.fixed.scans i.at i.machine.ended kept.within (sym c.if-is_done.ensures) in
+    let e = entry_of i.machine.fixed (state_is i.machine) step in
+    let h : c.note.new.history.items ≡ i.history.items ++ e ∷ [] =
+    c.note.ensures.items ∙ ap (λ (x : Entry). i.history.items ++ x ∷ []) c.perform-entry.ensures.entry in
+    record {
+      kept = kept_as _ _ _ _ _ _ _ does.fixed h c.place_after-at.ensures
+          (kept_step i.machine.fixed i.machine c.perform-entry.new.self i.history.items i.at step kept lt next c.next_due-step.ensures.step does);
+      room = λ is.
+          let two = room_step i.reserved i.machine.fixed.plan i.at step (sym c.keeps_room-reserved.ensures ∙ is) next in
+          let before = c.self.invariant.room two.0 in
+          let less = two.1 in
+          let place = ap (λ (p : ScanPlace). length (due_after i.machine.fixed.plan p)) c.place_after-at.ensures in
+          let plan = ap (λ (f : Fixed). length (due_after f.plan c.place_after-at.result)) does.fixed in
+          grind (arith, common_steps, before, less, place, plan);
+    }
+
+pub returns-clause-grows : goal.returns-clause-grows
+returns-clause-grows c =
+    let i = c.self.inside in
+    let kept = c.self.invariant.kept in
+    let step = c.next_due-step.result in
+    let does = c.perform-entry.ensures.does in
+    let lt = not_done i.machine.fixed.scans i.at i.machine.ended kept.within (sym c.if-is_done.ensures) in
+    let got = step_made i.machine.fixed i.machine i.history.items i.at i.reserved step
+    c.args.self.now c.self.view_is kept lt c.next_due-step.ensures.next in
+    let h : c.note.new.history.items ≡ i.history.items ++ entry_of i.machine.fixed (state_is i.machine) step ∷ [] =
+    c.note.ensures.items ∙ ap (λ (x : Entry). i.history.items ++ x ∷ []) c.perform-entry.ensures.entry in
+    let r : c.keeps_room-reserved.result ≡ (i.reserved && not (ends_scan step)) = c.keeps_room-reserved.ensures in
+    let made : record { fixed = c.perform-entry.new.self.fixed; history = c.note.new.history.items; reserved = c.keeps_room-reserved.result }
+    ≡ record {
+      fixed = i.machine.fixed;
+      history = i.history.items ++ entry_of i.machine.fixed
+          (state_is i.machine) step ∷ [];
+      reserved = i.reserved && not (ends_scan step);
+    } =
+    λ j. record { fixed = does.fixed j; history = h j; reserved = r j } in
+    made ∙ sym got.0
+
+pub returns-clause-answer : goal.returns-clause-answer
+returns-clause-answer c =
+    let i = c.self.inside in
+    let kept = c.self.invariant.kept in
+    let lt = not_done i.machine.fixed.scans i.at i.machine.ended kept.within (sym c.if-is_done.ensures) in
+    let got = step_made i.machine.fixed i.machine i.history.items i.at i.reserved c.next_due-step.result
+    c.args.self.now c.self.view_is kept lt c.next_due-step.ensures.next in
+    sym got.1

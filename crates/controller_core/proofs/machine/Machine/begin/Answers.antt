@@ -1,0 +1,23 @@
+use Rattle.std.proofs.Common.{refl, arith}
+use Rattle.controller_core.proofs.machine.Machine.begin.Goals as goal
+
+pub returns : goal.returns
+returns c =
+    let sound = c.requires.sound in
+    record {
+      fixed = refl;
+      state = rw c.from.ensures refl;
+      sound = record {
+        runs = sound.runs;
+        segments = sound.segments;
+        drops = sound.drops;
+        keeps = sound.keeps;
+        past = sound.past;
+        exchanges = sound.exchanges;
+      };
+      timely = λ steps timely. record {
+        clock = let h = timely.clock in let t = sound.runs.scan_time in omega (arith, c.from.ensures);
+        exchanges = λ i. let h = timely.exchanges i in omega arith;
+        ended = let h = timely.ended in omega arith;
+      };
+    }

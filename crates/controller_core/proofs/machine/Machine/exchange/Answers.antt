@@ -1,0 +1,51 @@
+use Rattle.std.proofs.Common.{◌≡◌, ◌≤◌, ◌<◌, ◌+◌, ◌-◌, ℕ, List, length, get_or, set, refl, sym, ap, subst, ◌∙◌, arith}
+use Rattle.std.proofs.lemmas.List.{get_or_default, length-set}
+use Rattle.plant_types.specs.declared.drops.IoDrop.{IoDrop}
+use Rattle.ladder_solver.specs.State.{state_of}
+use Rattle.traffic_cop.specs.Drops.{input_after}
+use Rattle.controller_core.proofs.MachineLemmas.{counted}
+use Rattle.controller_core.proofs.machine.Machine.exchange.Goals as goal
+
+pub returns : goal.returns
+returns c =
+    let machine = c.args.self.now in
+    let sound = c.requires.sound in
+    let xs = machine.exchanges.items in
+    let drop = c.args.drop in
+    let from = c.requires.there.from in
+    let to = c.requires.there.to in
+    let size = sound.exchanges in
+    let place = c.from-place.result - 1 in
+    let here : place ≡ drop - 1 = ap (λ n. n - 1) c.from-place.ensures in
+    let within : place < length xs = omega (arith, c.from-place.ensures) in
+    let count : c.index.result.now ≡ get_or xs place 0 = c.index.ensures ∙ get_or_default xs place c.index.result.now 0 within in
+    let next = get_or xs (drop - 1) 0 + 1 in
+    let k : c.index.result.now + 1 ≡ next = ap (λ n. n + 1) (count ∙ ap (λ p. get_or xs p 0) here) in
+    let map : c.input.new.ram ≡ input_after machine.fixed.plan.drops drop next machine.ram =
+    c.input.ensures.stored ∙ ap (λ n. input_after machine.cop drop n machine.ram) k
+    ∙ ap (λ (d : List IoDrop). input_after d drop next machine.ram) sound.drops in
+    let counts : set xs place (c.index.result.now + 1) ≡ set xs (drop - 1) next =
+    ap (λ p. set xs p (c.index.result.now + 1)) here ∙ ap (set xs (drop - 1)) k in
+    record {
+      fixed = refl;
+      state = λ i. record {
+        solving = state_of (map i) machine.past machine.ladder.edges machine.clock;
+        exchanges = counts i;
+        ended = machine.ended;
+      };
+      sound = record {
+        runs = sound.runs;
+        segments = sound.segments;
+        drops = sound.drops;
+        keeps = λ at h. c.input.ensures.keeps at (sound.keeps at h);
+        past = sound.past;
+        exchanges = length-set xs place (c.index.result.now + 1) ∙ size;
+      };
+      timely = λ steps timely. record {
+        clock = let h = timely.clock in omega arith;
+        exchanges = λ i.
+            subst (λ n. get_or (set xs place (n + 1)) i 0 ≤ steps + 1) (sym count)
+            (counted xs place steps timely.exchanges within i);
+        ended = let h = timely.ended in omega arith;
+      };
+    }

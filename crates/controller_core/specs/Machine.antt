@@ -1,0 +1,111 @@
+-- What the fields of a machine stand for, and what they keep.
+use Rattle.std.specs.Prelude.{◌≡◌, ◌≤◌, ℕ, ◌+◌, ◌*◌, ◌^◌, true, List, length, Option, Some, None, slice_index}
+use Rattle.std.specs.List.{AllByRecursion}
+use Rattle.plant_types.specs.declared.reference.Ref.{Ref}
+use Rattle.plant_types.specs.declared.plan.OrderRow.{OrderRow}
+use Rattle.plant_types.specs.declared.plan.ControllerPlan.{ControllerPlan}
+use Rattle.plant_types.specs.Checks.{passes_check, sizes_of}
+use Rattle.plant_types.specs.Plain.{ArePlain}
+use Rattle.plant_types.specs.Sizes.{Sizes, cleared, discretes}
+use Rattle.plant_types.specs.Store.{Contents, HasDiscrete, Keeps}
+use Rattle.ladder_solver.specs.State.{state_of}
+use Rattle.ladder_solver.specs.Segment.{segment_after}
+use Rattle.traffic_cop.specs.Drops.{IsReady}
+use Rattle.controller_core.specs.declared.entry.Entry.{Entry}
+use Rattle.controller_core.specs.declared.fixed.Fixed.{Fixed}
+use Rattle.controller_core.specs.declared.machine.Machine.{Machine}
+use Rattle.controller_core.specs.Replay.{State, apply, exchanged}
+
+-- A control is a discrete of the store; a row may have none. This project's own.
+abbrev pub HasControl : Contents → Option Ref → Type 0
+HasControl m None = Unit {0}
+HasControl m (Some at) = HasDiscrete m at
+
+-- A drop of the plan, whose modules are in its map. This project's own.
+pub record HasDrop (plan : ControllerPlan) (number : ℕ) : Type 0 where
+  pub from : 1 ≤ number
+  pub to : number ≤ 32
+  pub ready : IsReady plan.drops number (cleared (sizes_of plan))
+
+abbrev pub NamesDrop : ControllerPlan → Option ℕ → Type 0
+NamesDrop plan None = Unit {0}
+NamesDrop plan (Some number) = HasDrop plan number
+
+-- A row of the order of solve names a segment of the plan, a control of its map, and drops of
+-- it. This project's own.
+pub record FitsRow (plan : ControllerPlan) (row : OrderRow) : Type 0 where
+  pub from : 1 ≤ row.segment
+  pub to : row.segment ≤ length plan.segments
+  pub control : HasControl (cleared (sizes_of plan)) row.control
+  pub input : NamesDrop plan row.input
+  pub output : NamesDrop plan row.output
+
+-- A plan that can be run: it passes its tests, and each row of its order of solve fits it. This
+-- project's own.
+pub record CanRun (plan : ControllerPlan) : Type 0 where
+  pub passes : passes_check plan ≡ true
+  pub plain : ArePlain plan.segments
+  pub count : length plan.orders ≤ 32
+  pub rows : AllByRecursion (FitsRow plan) plan.orders
+
+-- A fixed part that can be run: its plan, its scan time and its number of scans. This project's
+-- own limits.
+pub record IsRunnable (fixed : Fixed) : Type 0 where
+  pub plan : CanRun fixed.plan
+  pub scan_time : fixed.scan_time ≤ 1000
+  pub scans : fixed.scans ≤ 2000
+
+-- The state that a machine's fields stand for. This project's own.
+abbrev pub state_is : Machine → State
+state_is machine = record {
+  solving = state_of machine.ram machine.past machine.ladder.edges machine.clock;
+  exchanges = machine.exchanges.items;
+  ended = machine.ended;
+}
+
+-- The discretes of some store with the references of these sizes. This project's own.
+pub record IsPast (sizes : Sizes) (past : Contents) : Type 0 where
+  pub store : Contents
+  pub keeps : Keeps (cleared sizes) store
+  pub is : past ≡ discretes sizes store
+
+-- What a machine's fields keep: they are those of its plan, and its stores have all references
+-- of it. This project's own.
+pub record IsSound (machine : Machine) : Type 0 where
+  pub runs : IsRunnable machine.fixed
+  pub segments : machine.ladder.segments ≡ machine.fixed.plan.segments
+  pub drops : machine.cop ≡ machine.fixed.plan.drops
+  pub keeps : Keeps (cleared (sizes_of machine.fixed.plan)) machine.ram
+  pub past : IsPast (sizes_of machine.fixed.plan) machine.past
+  pub exchanges : length machine.exchanges.items ≡ 32
+
+-- After so many steps the clock and the counts are no further than these can bring them. This
+-- project's own.
+pub record IsTimely (machine : Machine) (steps : ℕ) : Type 0 where
+  pub clock : machine.clock.now ≤ 1000 * steps
+  pub exchanges : (i : ℕ) → slice_index machine.exchanges.items i ≤ steps
+  pub ended : machine.ended ≤ steps
+
+-- A call does what an event does, once, and keeps what a machine's fields keep. This project's own.
+pub record Does (entry : Entry) (old new : Machine) : Type 0 where
+  pub fixed : new.fixed ≡ old.fixed
+  pub state : state_is new ≡ apply old.fixed (state_is old) entry
+  pub sound : IsSound new
+  pub timely : (steps : ℕ) → IsTimely old steps → IsTimely new (steps + 1)
+
+-- A call makes the next exchange of a drop. This project's own.
+pub record Exchanges (drop : ℕ) (old new : Machine) : Type 0 where
+  pub fixed : new.fixed ≡ old.fixed
+  pub state : state_is new ≡ exchanged old.fixed.plan.drops drop (state_is old)
+  pub sound : IsSound new
+  pub timely : (steps : ℕ) → IsTimely old steps → IsTimely new (steps + 1)
+
+-- A call solves a segment. This project's own.
+pub record Solves (segment : ℕ) (old new : Machine) : Type 0 where
+  pub fixed : new.fixed ≡ old.fixed
+  pub solving : (state_is new).solving
+      ≡ segment_after old.fixed.plan.segments segment (state_is old).solving
+  pub exchanges : new.exchanges ≡ old.exchanges
+  pub ended : new.ended ≡ old.ended
+  pub clock : new.clock ≡ old.clock
+  pub sound : IsSound new

@@ -1,0 +1,210 @@
+//! The state of a controller, with what each event of a scan does to it.
+ghost use Rattle.std.specs.Prelude.{◌≡◌, ◌≤◌, length, IfOk};
+ghost use Rattle.scan_order.specs.Due.{IsRow, IsStep};
+ghost use Rattle.controller_core.specs.Event.{entry_of, outputs_at};
+ghost use Rattle.controller_core.specs.Replay.{control_is_on, start};
+ghost use Rattle.controller_core.specs.Machine.{state_is, Does, Exchanges, HasControl, HasDrop};
+ghost use Rattle.controller_core.specs.Machine.{IsRunnable, IsSound, IsTimely, Solves};
+
+use crate::entry::Entry;
+use crate::fixed::Fixed;
+use ladder_solver::Ladder;
+use plant_types::{
+    Block, Ref, RefStore, checked_plans_find_all, discretes_follow, kept_stores_find_all,
+};
+use scan_order::{ScanStep, row_of};
+use state_ram::PackedRam;
+use std::alloc::{AllocError, Global};
+use timer_ops::Clock;
+use traffic_cop::Cop;
+
+/// The drops of a controller have numbers from 1 to this.
+const DROP_LIMIT: usize = 32;
+
+/// The store of a controller and all that its events change beside it.
+#[derive(Drop)]
+pub(crate) struct Machine {
+    pub(crate) fixed: Fixed,
+    ladder: Ladder,
+    cop: Cop,
+    ram: PackedRam,
+    /// The discretes as the scan before ended.
+    past: PackedRam,
+    clock: Clock,
+    /// How many input exchanges each drop had, by its number.
+    exchanges: Vec<u32>,
+    /// How many scans have ended.
+    pub(crate) ended: u32,
+}
+
+impl Machine {
+    /// A controller at its start.
+    pub(crate) fn new(alloc: Global, fixed: Fixed) -> Result<Machine, AllocError>
+        requires { IsRunnable fixed }
+        ensures plan { IfOk result (λ machine. machine.fixed ≡ fixed) }
+        ensures sound { IfOk result IsSound }
+        ensures state { IfOk result (λ machine. state_is machine ≡ start fixed.plan) }
+        ensures timely { IfOk result (λ machine. IsTimely machine 0) }
+    {
+        discretes_follow();
+        let plan = &fixed.plan;
+        let (coils, inputs) = (plan.coils, plan.inputs);
+        let (input_registers, registers) = (plan.input_registers, plan.registers);
+        let ladder = Ladder::new(alloc, plan)?;
+        let cop = Cop::new(alloc, plan.drops.as_slice())?;
+        let ram = PackedRam::new(alloc, coils, inputs, input_registers, registers)?;
+        let past = PackedRam::new(alloc, coils, inputs, 0, 0)?;
+        let exchanges = vec![in alloc; 0; DROP_LIMIT]?;
+        Ok(Machine {
+            fixed,
+            ladder,
+            cop,
+            ram,
+            past,
+            clock: Clock { before: 0, now: 0 },
+            exchanges,
+            ended: 0,
+        })
+    }
+
+    /// The store.
+    pub(crate) fn ram(&self) -> &PackedRam
+        ensures { result.now ≡ self.now.ram }
+    {
+        &self.ram
+    }
+
+    fn begin(&mut self)
+        requires sound { IsSound self.old }
+        requires timely { IsTimely self.old 196000 }
+        ensures { Does Entry.Begin self.old self.new }
+    {
+        self.clock = Clock {
+            before: self.clock.now,
+            now: self.clock.now + u64::from(self.fixed.scan_time),
+        };
+    }
+
+    /// The next input exchange of a drop.
+    fn exchange(&mut self, drop: u8)
+        requires sound { IsSound self.old }
+        requires timely { IsTimely self.old 196000 }
+        requires there { HasDrop self.old.fixed.plan drop }
+        ensures { Exchanges drop self.old self.new }
+    {
+        let place = usize::from(drop) - 1;
+        let count = self.exchanges[place] + 1;
+        self.cop.input(drop, count, &mut self.ram);
+        self.exchanges[place] = count;
+    }
+
+    fn input(&mut self, row: u16)
+        requires sound { IsSound self.old }
+        requires timely { IsTimely self.old 196000 }
+        requires row { IsRow self.old.fixed.plan row }
+        ensures { Does (Entry.Input row) self.old self.new }
+    {
+        let Some(found) = row_of(&self.fixed.plan, row) else {
+            return;
+        };
+        match found.input {
+            Some(drop) => self.exchange(drop),
+            None => {}
+        }
+    }
+
+    /// Whether the control of a row is on, if it has one.
+    fn is_on(&self, control: Option<Ref>) -> bool
+        requires { HasControl self.now.ram control }
+        ensures { result ≡ control_is_on self.now.ram control }
+    {
+        match control {
+            Some(at) => self.ram.bit(at),
+            None => true,
+        }
+    }
+
+    fn solve_segment(&mut self, segment: u16)
+        requires sound { IsSound self.old }
+        requires first { 1 ≤ segment }
+        requires last { segment ≤ length self.old.fixed.plan.segments }
+        ensures { Solves segment self.old self.new }
+    {
+        checked_plans_find_all();
+        kept_stores_find_all();
+        discretes_follow();
+        self.ladder
+            .solve(segment, self.clock, &mut self.ram, &self.past);
+    }
+
+    fn solve(&mut self, row: u16)
+        requires sound { IsSound self.old }
+        requires row { IsRow self.old.fixed.plan row }
+        ensures { Does (Entry.Solve row) self.old self.new }
+    {
+        let Some(found) = row_of(&self.fixed.plan, row) else {
+            return;
+        };
+        if !self.is_on(found.control) {
+            return;
+        }
+        self.solve_segment(found.segment);
+    }
+
+    /// The words that a row gives its output drop.
+    fn output(&self, row: u16) -> Block
+        requires sound { IsSound self.now }
+        requires row { IsRow self.now.fixed.plan row }
+        ensures { result ≡ outputs_at self.now.fixed (state_is self.now) row }
+    {
+        let Some(found) = row_of(&self.fixed.plan, row) else {
+            return Block::of(&[]);
+        };
+        match found.output {
+            Some(drop) => self.cop.output(drop, &self.ram),
+            None => Block::of(&[]),
+        }
+    }
+
+    fn end(&mut self)
+        requires sound { IsSound self.old }
+        requires timely { IsTimely self.old 196000 }
+        ensures { Does Entry.End self.old self.new }
+    {
+        discretes_follow();
+        self.past.copy_from(&self.ram);
+        self.ended += 1;
+    }
+
+    /// Makes an event, and answers its entry. Takes no memory.
+    pub(crate) fn perform(&mut self, step: ScanStep) -> Entry
+        requires sound { IsSound self.old }
+        requires timely { IsTimely self.old 196000 }
+        requires step { IsStep self.old.fixed.plan step }
+        ensures entry { result ≡ entry_of self.old.fixed (state_is self.old) step }
+        ensures does { Does (entry_of self.old.fixed (state_is self.old) step) self.old self.new }
+    {
+        match step {
+            ScanStep::Begin => {
+                self.begin();
+                Entry::Begin
+            }
+            ScanStep::In(row) => {
+                self.input(row);
+                Entry::Input(row)
+            }
+            ScanStep::Solve(row) => {
+                self.solve(row);
+                Entry::Solve(row)
+            }
+            ScanStep::Out(row) => Entry::Output {
+                row,
+                words: self.output(row),
+            },
+            ScanStep::End => {
+                self.end();
+                Entry::End
+            }
+        }
+    }
+}
