@@ -11,20 +11,9 @@ use Rattle.std.proofs.lemmas.Nat.{mod-pow-add, or_of_16, and_le_l}
 use Rattle.std.proofs.lemmas.Nat.Bits.{bit_at-lt, bit_at_set_same, bit_at_set_other, bit_at_clear_same, bit_at_clear_other}
 use Rattle.std.proofs.Math.Nat.{pow-suc}
 use Rattle.plant_types.specs.Power.{bit_of}
-use Rattle.matrix_ops.specs.Bits.{bits_high_first, word_bits, matrix_bits, number_of_bits, matrix_words}
-
--- so many bits are so many
-pub length-bits_high_first : (n w : ℕ) → length (bits_high_first n w) ≡ n
-unfolding bits_high_first
-length-bits_high_first zero w = refl
-length-bits_high_first (suc n) w = ap suc (length-bits_high_first n w)
-
--- the bit at a place counts down from the highest
-pub get_or-bits_high_first : (n w j k : ℕ) (d : Bool) → j + k + 1 ≡ n → get_or (bits_high_first n w) j d ≡ (bit_at w k == 1)
-unfolding bits_high_first
-get_or-bits_high_first zero w j k d e = absurd (omega arith)
-get_or-bits_high_first (suc n) w zero k d e = let same : n ≡ k = omega arith in ap (λ i. bit_at w i == 1) same
-get_or-bits_high_first (suc n) w (suc j) k d e = get_or-bits_high_first n w j k d (omega arith)
+use Rattle.plant_types.proofs.DiscretesLemmas.{length-bits_high_first, get_or-bits_high_first}
+use Rattle.plant_types.specs.Discretes.{bits_high_first, word_bits}
+use Rattle.matrix_ops.specs.Bits.{matrix_bits, number_of_bits, matrix_words}
 
 bit_again : (b : ℕ) → b < 2 → bit_of (b == 1) ≡ b
 bit_again b h = grind (arith, nat_tests)

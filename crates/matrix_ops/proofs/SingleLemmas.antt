@@ -11,9 +11,10 @@ use Rattle.plant_types.specs.Power.{bit_of}
 use Rattle.plant_types.specs.Reference.{ref_from}
 use Rattle.plant_types.specs.Store.{Contents, word_at, words_from}
 use Rattle.plant_types.proofs.RunLemmas.{length-words_from, get_or-words_from, words_from-by_place, ref_from-apart, get-insert_same, get-insert_other}
-use Rattle.matrix_ops.specs.Bits.{bits_high_first, word_bits, matrix_bits, number_of_bits}
+use Rattle.plant_types.specs.Discretes.{bits_high_first, word_bits}
+use Rattle.matrix_ops.specs.Bits.{matrix_bits, number_of_bits}
 use Rattle.matrix_ops.specs.Matrices.{SetsOneBit}
-use Rattle.matrix_ops.proofs.BitLemmas.{length-bits_high_first}
+use Rattle.plant_types.proofs.DiscretesLemmas.{length-bits_high_first}
 
 -- the number that bits make behind others
 abbrev behind_of : ℕ → List Bool → ℕ

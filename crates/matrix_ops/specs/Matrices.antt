@@ -1,5 +1,7 @@
 -- What each block that works on the bits of a matrix does when it is solved.
-use Rattle.std.specs.Prelude.{◌≡◌, ◌≤◌, ℕ, ◌+◌, ◌-◌, ◌*◌, ◌/◌, ◌%◌, Bool, false, not, ◌&&◌, nat_le, if◌then◌else◌, List, [], ◌∷◌, ◌++◌, take, drop, map, zip, slice_set, Option, is_some, option_map, unwrap_or}
+use Rattle.std.specs.Prelude.{◌≡◌, ◌≤◌, ℕ, ◌+◌, ◌-◌, ◌*◌, ◌/◌, ◌%◌, Bool, false, not, ◌&&◌, nat_le}
+use Rattle.std.specs.Prelude.{if◌then◌else◌, List, [], ◌∷◌, ◌++◌, take, drop, map, zip, slice_set}
+use Rattle.std.specs.Prelude.{Option, is_some, option_map, unwrap_or}
 use Rattle.std.specs.Int.{bit_not, w16}
 use Rattle.std.specs.List.{position_from}
 use Rattle.std.specs.FinMap.{insert}
@@ -7,11 +9,12 @@ use Rattle.plant_types.specs.declared.element.Operand.{Operand}
 use Rattle.plant_types.specs.declared.element.Operand.TheVariants.{Const, At}
 use Rattle.plant_types.specs.declared.power.NodePower.{NodePower}
 use Rattle.plant_types.specs.declared.reference.Ref.{Ref}
+use Rattle.plant_types.specs.Discretes.{word_bits}
 use Rattle.plant_types.specs.Effect.{Effect}
 use Rattle.plant_types.specs.Operands.{number_of}
 use Rattle.plant_types.specs.Reference.{ref_from, is_holding}
 use Rattle.plant_types.specs.Store.{Contents, word_at, words_from, with_words}
-use Rattle.matrix_ops.specs.Bits.{word_bits, matrix_bits, bit_number, number_of_bits, matrix_words}
+use Rattle.matrix_ops.specs.Bits.{matrix_bits, bit_number, number_of_bits, matrix_words}
 
 -- Two matrices put together word by word. This project's own.
 abbrev pub word_by_word : (ℕ → ℕ → ℕ) → List ℕ → List ℕ → List ℕ
@@ -128,7 +131,7 @@ mbit_effect top mid length inputs m =
       };
       stored =
           if inputs.top && is_bit_of length k
-              then (if inputs.bottom then with_pointer changed top (k + 1) else changed)
+          then (if inputs.bottom then with_pointer changed top (k + 1) else changed)
           else m;
     }
 
@@ -141,7 +144,7 @@ sens_effect top mid length inputs m =
       outputs = record {
         top = inputs.top;
         middle = inputs.top && is_bit_of length k
-        && bit_number (matrix_bits (words_from m mid length)) k;
+            && bit_number (matrix_bits (words_from m mid length)) k;
         bottom = inputs.top && not (is_bit_of length k);
       };
       stored =

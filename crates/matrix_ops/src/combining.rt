@@ -1,7 +1,9 @@
 //! AND, OR, XOR and COMP.
 ghost use Rattle.std.specs.Prelude.{◌≡◌, ◌≤◌, false, length, map, bit_and, bit_or, bit_xor};
 ghost use Rattle.std.specs.Int.{bit_not, w16};
+ghost use Rattle.plant_types.specs.Effect.{Does};
 ghost use Rattle.plant_types.specs.Power.{nodes_of, bits_of};
+ghost use Rattle.plant_types.specs.Slots.{matrix_limit};
 ghost use Rattle.plant_types.specs.Store.{HasRegisters, Keeps, words_from, with_words};
 ghost use Rattle.matrix_ops.specs.Matrices.{word_by_word, combine_effect, comp_effect};
 ghost use Rattle.matrix_ops.specs.Rule.{rule_of};
@@ -39,7 +41,7 @@ fn combine_words(rule: Rule, words: &mut [u16], others: &[u16])
 }
 
 fn combine_registers<R: RefStore>(rule: Rule, top: Ref, mid: Ref, length: u16, ram: &mut R)
-    requires length { length ≤ MATRIX_LIMIT }
+    requires length { length ≤ matrix_limit }
     requires source { HasRegisters (R.contents ram.old) top length }
     requires matrix { HasRegisters (R.contents ram.old) mid length }
     ensures stored { R.contents ram.new ≡ with_words (R.contents ram.old) mid
@@ -70,14 +72,11 @@ fn passed_on(power: bool) -> u8
 }
 
 fn combine<R: RefStore>(rule: Rule, top: Ref, mid: Ref, length: u16, inputs: u8, ram: &mut R) -> u8
-    requires length { length ≤ MATRIX_LIMIT }
+    requires length { length ≤ matrix_limit }
     requires source { HasRegisters (R.contents ram.old) top length }
     requires matrix { HasRegisters (R.contents ram.old) mid length }
-    ensures outputs { result ≡ bits_of
-        (combine_effect (rule_of rule) top mid length (nodes_of inputs) (R.contents ram.old)).outputs }
-    ensures stored { R.contents ram.new ≡
-        (combine_effect (rule_of rule) top mid length (nodes_of inputs) (R.contents ram.old)).stored }
-    ensures keeps { Keeps (R.contents ram.old) (R.contents ram.new) }
+    ensures { Does (combine_effect (rule_of rule) top mid length (nodes_of inputs)) result
+        (R.contents ram.old) (R.contents ram.new) }
 {
     let power = NodePower::of_bits(inputs).top;
     if power {
@@ -91,14 +90,11 @@ fn combine<R: RefStore>(rule: Rule, top: Ref, mid: Ref, length: u16, inputs: u8,
 /// Input: the top node works. Output: the top node passes power on. Matrices have `length`
 /// registers.
 pub fn and<R: RefStore>(top: Ref, mid: Ref, length: u16, inputs: u8, ram: &mut R) -> u8
-    requires length { length ≤ MATRIX_LIMIT }
+    requires length { length ≤ matrix_limit }
     requires source { HasRegisters (R.contents ram.old) top length }
     requires matrix { HasRegisters (R.contents ram.old) mid length }
-    ensures outputs { result ≡ bits_of
-        (combine_effect bit_and top mid length (nodes_of inputs) (R.contents ram.old)).outputs }
-    ensures stored { R.contents ram.new ≡
-        (combine_effect bit_and top mid length (nodes_of inputs) (R.contents ram.old)).stored }
-    ensures keeps { Keeps (R.contents ram.old) (R.contents ram.new) }
+    ensures { Does (combine_effect bit_and top mid length (nodes_of inputs)) result
+        (R.contents ram.old) (R.contents ram.new) }
 {
     combine(Rule::Both, top, mid, length, inputs, ram)
 }
@@ -107,14 +103,11 @@ pub fn and<R: RefStore>(top: Ref, mid: Ref, length: u16, inputs: u8, ram: &mut R
 ///
 /// Input, output and length are those of `and`.
 pub fn or<R: RefStore>(top: Ref, mid: Ref, length: u16, inputs: u8, ram: &mut R) -> u8
-    requires length { length ≤ MATRIX_LIMIT }
+    requires length { length ≤ matrix_limit }
     requires source { HasRegisters (R.contents ram.old) top length }
     requires matrix { HasRegisters (R.contents ram.old) mid length }
-    ensures outputs { result ≡ bits_of
-        (combine_effect bit_or top mid length (nodes_of inputs) (R.contents ram.old)).outputs }
-    ensures stored { R.contents ram.new ≡
-        (combine_effect bit_or top mid length (nodes_of inputs) (R.contents ram.old)).stored }
-    ensures keeps { Keeps (R.contents ram.old) (R.contents ram.new) }
+    ensures { Does (combine_effect bit_or top mid length (nodes_of inputs)) result
+        (R.contents ram.old) (R.contents ram.new) }
 {
     combine(Rule::Either, top, mid, length, inputs, ram)
 }
@@ -123,14 +116,11 @@ pub fn or<R: RefStore>(top: Ref, mid: Ref, length: u16, inputs: u8, ram: &mut R)
 ///
 /// Input, output and length are those of `and`.
 pub fn xor<R: RefStore>(top: Ref, mid: Ref, length: u16, inputs: u8, ram: &mut R) -> u8
-    requires length { length ≤ MATRIX_LIMIT }
+    requires length { length ≤ matrix_limit }
     requires source { HasRegisters (R.contents ram.old) top length }
     requires matrix { HasRegisters (R.contents ram.old) mid length }
-    ensures outputs { result ≡ bits_of
-        (combine_effect bit_xor top mid length (nodes_of inputs) (R.contents ram.old)).outputs }
-    ensures stored { R.contents ram.new ≡
-        (combine_effect bit_xor top mid length (nodes_of inputs) (R.contents ram.old)).stored }
-    ensures keeps { Keeps (R.contents ram.old) (R.contents ram.new) }
+    ensures { Does (combine_effect bit_xor top mid length (nodes_of inputs)) result
+        (R.contents ram.old) (R.contents ram.new) }
 {
     combine(Rule::OneAlone, top, mid, length, inputs, ram)
 }
@@ -147,14 +137,11 @@ fn invert_words(words: &mut [u16])
 ///
 /// Input, output and length are those of `and`.
 pub fn comp<R: RefStore>(top: Ref, mid: Ref, length: u16, inputs: u8, ram: &mut R) -> u8
-    requires length { length ≤ MATRIX_LIMIT }
+    requires length { length ≤ matrix_limit }
     requires source { HasRegisters (R.contents ram.old) top length }
     requires matrix { HasRegisters (R.contents ram.old) mid length }
-    ensures outputs { result ≡ bits_of
-        (comp_effect top mid length (nodes_of inputs) (R.contents ram.old)).outputs }
-    ensures stored { R.contents ram.new ≡
-        (comp_effect top mid length (nodes_of inputs) (R.contents ram.old)).stored }
-    ensures keeps { Keeps (R.contents ram.old) (R.contents ram.new) }
+    ensures { Does (comp_effect top mid length (nodes_of inputs)) result
+        (R.contents ram.old) (R.contents ram.new) }
 {
     let power = NodePower::of_bits(inputs).top;
     if power {

@@ -1,7 +1,9 @@
 //! CMPR.
 ghost use Rattle.std.specs.Prelude.{◌≡◌, ◌≤◌, ◌+◌, ◌*◌, length, IfSome};
-ghost use Rattle.plant_types.specs.Power.{nodes_of, bits_of};
-ghost use Rattle.plant_types.specs.Store.{HasRegisters, Keeps, words_from};
+ghost use Rattle.plant_types.specs.Effect.{Does};
+ghost use Rattle.plant_types.specs.Power.{nodes_of};
+ghost use Rattle.plant_types.specs.Slots.{matrix_limit};
+ghost use Rattle.plant_types.specs.Store.{HasRegisters, words_from};
 ghost use Rattle.matrix_ops.specs.Bits.{matrix_bits};
 ghost use Rattle.matrix_ops.specs.Matrices.{first_difference, cmpr_effect};
 
@@ -13,8 +15,9 @@ use plant_types::{NodePower, Ref, RefStore, load_words, ref_after};
 /// The number of the first bit behind so many in which two matrices of one length differ.
 fn difference_behind(behind: u16, words: &[u16], others: &[u16]) -> Option<u16>
     requires same { length words.now ≡ length others.now }
-    requires size { length words.now ≤ MATRIX_LIMIT }
-    ensures found { result ≡ first_difference behind (matrix_bits words.now) (matrix_bits others.now) }
+    requires size { length words.now ≤ matrix_limit }
+    ensures found { result ≡
+        first_difference behind (matrix_bits words.now) (matrix_bits others.now) }
     ensures counts_from_one { IfSome result (λ k. 1 ≤ k) }
     ensures within { IfSome result (λ k. k ≤ 16 * length words.now) }
 {
@@ -34,7 +37,7 @@ fn register_difference<R: RefStore>(
     length: u16,
     ram: &R,
 ) -> Option<u16>
-    requires size { length ≤ MATRIX_LIMIT }
+    requires size { length ≤ matrix_limit }
     requires first { HasRegisters (R.contents ram.now) top length }
     requires second { HasRegisters (R.contents ram.now) second length }
     ensures found { result ≡ first_difference behind
@@ -60,14 +63,11 @@ fn register_difference<R: RefStore>(
 /// Outputs: the top node passes power on, the middle one says that a bit differs, the bottom one is
 /// that bit of `top`.
 pub fn cmpr<R: RefStore>(top: Ref, mid: Ref, length: u16, inputs: u8, ram: &mut R) -> u8
-    requires length { length ≤ MATRIX_LIMIT }
+    requires length { length ≤ matrix_limit }
     requires source { HasRegisters (R.contents ram.old) top length }
     requires pointer { HasRegisters (R.contents ram.old) mid (length + 1) }
-    ensures outputs { result ≡ bits_of
-        (cmpr_effect top mid length (nodes_of inputs) (R.contents ram.old)).outputs }
-    ensures stored { R.contents ram.new ≡
-        (cmpr_effect top mid length (nodes_of inputs) (R.contents ram.old)).stored }
-    ensures keeps { Keeps (R.contents ram.old) (R.contents ram.new) }
+    ensures { Does (cmpr_effect top mid length (nodes_of inputs)) result
+        (R.contents ram.old) (R.contents ram.new) }
 {
     let nodes = NodePower::of_bits(inputs);
     if !nodes.top {

@@ -3,18 +3,18 @@
 #![tactic(auto)]
 
 mod bits;
-pub mod combining;
-pub mod comparing;
-pub mod single_bits;
-pub mod turning;
+mod combining;
+mod comparing;
+mod single_bits;
+mod turning;
 
 pub use combining::{and, comp, or, xor};
 pub use comparing::cmpr;
 pub use single_bits::{mbit, sens, sets_one_bit};
 pub use turning::brot;
 
-/// The most registers of a matrix.
-pub const MATRIX_LIMIT: usize = 100;
+/// Room for the largest matrix.
+const MATRIX_LIMIT: usize = 100;
 
 #[cfg(test)]
 mod testing;

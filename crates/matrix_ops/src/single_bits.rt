@@ -1,12 +1,14 @@
 //! MBIT and SENS.
 ghost use Rattle.std.specs.Prelude.{◌≡◌, ◌≤◌, true, ◌*◌};
 ghost use Rattle.plant_types.specs.Operands.{HasNumber};
-ghost use Rattle.plant_types.specs.Power.{nodes_of, bits_of};
+ghost use Rattle.plant_types.specs.Effect.{Does};
+ghost use Rattle.plant_types.specs.Power.{nodes_of};
+ghost use Rattle.plant_types.specs.Slots.{matrix_limit};
 ghost use Rattle.plant_types.specs.Store.{HasRegisters, Keeps, words_from};
 ghost use Rattle.matrix_ops.specs.Bits.{matrix_bits, bit_number};
-ghost use Rattle.matrix_ops.specs.Matrices.{is_pointer, with_pointer, is_bit_of, with_matrix_bit, SetsOneBit, mbit_effect, sens_effect};
+ghost use Rattle.matrix_ops.specs.Matrices.{is_pointer, with_pointer, is_bit_of};
+ghost use Rattle.matrix_ops.specs.Matrices.{with_matrix_bit, SetsOneBit, mbit_effect, sens_effect};
 
-use crate::MATRIX_LIMIT;
 use crate::bits::{with_word_bit, word_bit};
 use plant_types::{NodePower, Operand, Ref, RefKind, RefStore, ref_after};
 
@@ -35,7 +37,7 @@ fn set_pointer<R: RefStore>(operand: Operand, value: u16, ram: &mut R)
 
 /// Whether a matrix of so many registers has a bit of this number.
 fn has_bit(length: u16, k: u16) -> bool
-    requires { length ≤ MATRIX_LIMIT }
+    requires { length ≤ matrix_limit }
     ensures { result ≡ is_bit_of length k }
 {
     k >= 1 && k <= 16 * length
@@ -77,14 +79,11 @@ pub fn sets_one_bit()
 /// Outputs: the top node passes power on, the middle one is the bit, the bottom one says that the
 /// matrix has no such bit.
 pub fn mbit<R: RefStore>(top: Operand, mid: Ref, length: u16, inputs: u8, ram: &mut R) -> u8
-    requires length { length ≤ MATRIX_LIMIT }
+    requires length { length ≤ matrix_limit }
     requires number { HasNumber (R.contents ram.old) top }
     requires matrix { HasRegisters (R.contents ram.old) mid length }
-    ensures outputs { result ≡ bits_of
-        (mbit_effect top mid length (nodes_of inputs) (R.contents ram.old)).outputs }
-    ensures stored { R.contents ram.new ≡
-        (mbit_effect top mid length (nodes_of inputs) (R.contents ram.old)).stored }
-    ensures keeps { Keeps (R.contents ram.old) (R.contents ram.new) }
+    ensures { Does (mbit_effect top mid length (nodes_of inputs)) result
+        (R.contents ram.old) (R.contents ram.new) }
 {
     let nodes = NodePower::of_bits(inputs);
     if !nodes.top {
@@ -112,14 +111,11 @@ pub fn mbit<R: RefStore>(top: Operand, mid: Ref, length: u16, inputs: u8, ram: &
 /// Inputs: the top node asks, the middle one steps `top` where it is a holding register,
 /// the bottom one sets such a register to 1 first. Outputs are those of `mbit`.
 pub fn sens<R: RefStore>(top: Operand, mid: Ref, length: u16, inputs: u8, ram: &mut R) -> u8
-    requires length { length ≤ MATRIX_LIMIT }
+    requires length { length ≤ matrix_limit }
     requires number { HasNumber (R.contents ram.old) top }
     requires matrix { HasRegisters (R.contents ram.old) mid length }
-    ensures outputs { result ≡ bits_of
-        (sens_effect top mid length (nodes_of inputs) (R.contents ram.old)).outputs }
-    ensures stored { R.contents ram.new ≡
-        (sens_effect top mid length (nodes_of inputs) (R.contents ram.old)).stored }
-    ensures keeps { Keeps (R.contents ram.old) (R.contents ram.new) }
+    ensures { Does (sens_effect top mid length (nodes_of inputs)) result
+        (R.contents ram.old) (R.contents ram.new) }
 {
     let nodes = NodePower::of_bits(inputs);
     if !nodes.top {

@@ -1,7 +1,9 @@
 //! BROT.
 ghost use Rattle.std.specs.Prelude.{◌≡◌, ◌≤◌, ◌<◌, ◌*◌, length, take, drop};
-ghost use Rattle.plant_types.specs.Power.{nodes_of, bits_of};
-ghost use Rattle.plant_types.specs.Store.{HasRegisters, Keeps};
+ghost use Rattle.plant_types.specs.Effect.{Does};
+ghost use Rattle.plant_types.specs.Power.{nodes_of};
+ghost use Rattle.plant_types.specs.Slots.{matrix_limit};
+ghost use Rattle.plant_types.specs.Store.{HasRegisters};
 ghost use Rattle.matrix_ops.specs.Bits.{matrix_bits, number_of_bits, matrix_words};
 ghost use Rattle.matrix_ops.specs.Matrices.{left_turned, right_turned, brot_effect};
 
@@ -63,14 +65,11 @@ fn turn_right(words: &[u16], bit_in: bool, turned: &mut [u16])
 /// Outputs: the top node passes power on, the middle one is the bit that went out.
 pub fn brot<R: RefStore>(top: Ref, mid: Ref, length: u16, inputs: u8, ram: &mut R) -> u8
     requires some { 1 ≤ length }
-    requires length { length ≤ MATRIX_LIMIT }
+    requires length { length ≤ matrix_limit }
     requires source { HasRegisters (R.contents ram.old) top length }
     requires matrix { HasRegisters (R.contents ram.old) mid length }
-    ensures outputs { result ≡ bits_of
-        (brot_effect top mid length (nodes_of inputs) (R.contents ram.old)).outputs }
-    ensures stored { R.contents ram.new ≡
-        (brot_effect top mid length (nodes_of inputs) (R.contents ram.old)).stored }
-    ensures keeps { Keeps (R.contents ram.old) (R.contents ram.new) }
+    ensures { Does (brot_effect top mid length (nodes_of inputs)) result
+        (R.contents ram.old) (R.contents ram.new) }
 {
     let nodes = NodePower::of_bits(inputs);
     if !nodes.top {

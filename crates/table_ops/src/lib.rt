@@ -2,11 +2,11 @@
 //! (*Modicon Ladder Logic Block Library User Guide*).
 #![tactic(auto)]
 
-pub mod moves;
-pub mod queues;
-pub mod searching;
+mod moves;
+mod queues;
+mod searching;
 
-pub use moves::{TABLE_LIMIT, block_move, reg_to_table, table_to_reg, table_to_table};
+pub use moves::{block_move, reg_to_table, table_to_reg, table_to_table};
 pub use queues::{first_in, first_out};
 pub use searching::search;
 

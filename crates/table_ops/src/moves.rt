@@ -4,6 +4,7 @@ ghost use Rattle.std.specs.FinMap.{insert};
 ghost use Rattle.plant_types.specs.Reference.{ref_from};
 ghost use Rattle.plant_types.specs.Effect.{Does};
 ghost use Rattle.plant_types.specs.Power.{nodes_of, bits_of};
+ghost use Rattle.plant_types.specs.Slots.{table_limit};
 ghost use Rattle.plant_types.specs.Store.{HasRegisters, Keeps, word_at};
 ghost use Rattle.table_ops.specs.Tables.{moved, behind, start_place, goes_on, next_place};
 ghost use Rattle.table_ops.specs.Tables.{reg_to_table_effect, table_to_reg_effect};
@@ -11,12 +12,12 @@ ghost use Rattle.table_ops.specs.Tables.{table_to_table_effect, block_move_effec
 
 use plant_types::{NodePower, Ref, RefStore, load_words, ref_after, store_words};
 
-/// The longest table.
-pub const TABLE_LIMIT: usize = 255;
+/// Room for the longest table.
+const TABLE_LIMIT: usize = 255;
 
 /// Copies registers; all are read before any is stored.
 pub(crate) fn move_words<R: RefStore>(ram: &mut R, source: Ref, target: Ref, count: u16)
-    requires size { count ≤ TABLE_LIMIT }
+    requires size { count ≤ table_limit }
     requires source { HasRegisters (R.contents ram.old) source count }
     requires target { HasRegisters (R.contents ram.old) target count }
     ensures stored { R.contents ram.new ≡ moved (R.contents ram.old) source target count }
@@ -142,7 +143,7 @@ pub fn table_to_table<R: RefStore>(top: Ref, mid: Ref, length: u16, inputs: u8, 
 ///
 /// Input: the top node moves. Output: the top node passes power on.
 pub fn block_move<R: RefStore>(top: Ref, mid: Ref, length: u16, inputs: u8, ram: &mut R) -> u8
-    requires length { length ≤ TABLE_LIMIT }
+    requires length { length ≤ table_limit }
     requires source { HasRegisters (R.contents ram.old) top length }
     requires target { HasRegisters (R.contents ram.old) mid length }
     ensures { Does (block_move_effect top mid length (nodes_of inputs)) result

@@ -3,10 +3,11 @@
 ghost use Rattle.std.specs.Prelude.{◌≡◌, ◌≤◌, ◌+◌};
 ghost use Rattle.plant_types.specs.Effect.{Does};
 ghost use Rattle.plant_types.specs.Power.{nodes_of, bits_of};
+ghost use Rattle.plant_types.specs.Slots.{table_limit};
 ghost use Rattle.plant_types.specs.Store.{HasRegisters};
 ghost use Rattle.table_ops.specs.Tables.{queue_outputs, first_in_effect, first_out_effect};
 
-use crate::moves::{TABLE_LIMIT, move_word, move_words};
+use crate::moves::{move_word, move_words};
 use plant_types::{NodePower, Ref, RefStore, ref_after};
 
 /// The output bits of a queue that has so many words.
@@ -28,7 +29,7 @@ fn queue_bits(nodes: NodePower, length: u16, count: u16) -> u8
 /// Outputs: the top node passes power on, the middle one says that the queue is full, the bottom
 /// one that it is empty.
 pub fn first_in<R: RefStore>(top: Ref, mid: Ref, length: u16, inputs: u8, ram: &mut R) -> u8
-    requires length { length ≤ TABLE_LIMIT }
+    requires length { length ≤ table_limit }
     requires source { HasRegisters (R.contents ram.old) top 1 }
     requires queue { HasRegisters (R.contents ram.old) mid (length + 1) }
     ensures { Does (first_in_effect top mid length (nodes_of inputs)) result

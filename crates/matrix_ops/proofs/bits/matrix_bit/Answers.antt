@@ -1,5 +1,6 @@
 use Rattle.std.proofs.Common.{◌/◌, ◌%◌, ◌*◌, ◌+◌, ◌≡◌, ◌<◌, length, get_or, false, sym, ap, ◌∙◌, arith}
-use Rattle.matrix_ops.specs.Bits.{word_bits, matrix_bits}
+use Rattle.plant_types.specs.Discretes.{word_bits}
+use Rattle.matrix_ops.specs.Bits.{matrix_bits}
 use Rattle.matrix_ops.proofs.BitLemmas.{get_or-matrix_bits}
 use Rattle.matrix_ops.proofs.bits.matrix_bit.Goals as goal
 

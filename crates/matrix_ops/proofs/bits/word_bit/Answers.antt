@@ -1,6 +1,6 @@
 use Rattle.std.proofs.Common.{◌==◌, ◌-◌, false, sym, ap, ◌∙◌, arith}
 use Rattle.std.proofs.lemmas.Nat.Bits.{shr_and_one}
-use Rattle.matrix_ops.proofs.BitLemmas.{get_or-bits_high_first}
+use Rattle.plant_types.proofs.DiscretesLemmas.{get_or-bits_high_first}
 use Rattle.matrix_ops.proofs.bits.word_bit.Goals as goal
 
 pub returns : goal.returns

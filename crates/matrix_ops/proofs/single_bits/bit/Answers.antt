@@ -1,7 +1,8 @@
 use Rattle.std.proofs.Common.{◌≡◌, ◌<◌, ◌+◌, ◌-◌, ◌*◌, ◌/◌, ◌%◌, length, get_or, false, sym, ap, ◌∙◌, arith}
 use Rattle.plant_types.specs.Store.{word_at, words_from}
 use Rattle.plant_types.proofs.RunLemmas.{length-words_from, get_or-words_from}
-use Rattle.matrix_ops.specs.Bits.{word_bits, matrix_bits}
+use Rattle.plant_types.specs.Discretes.{word_bits}
+use Rattle.matrix_ops.specs.Bits.{matrix_bits}
 use Rattle.matrix_ops.proofs.BitLemmas.{get_or-matrix_bits}
 use Rattle.matrix_ops.proofs.single_bits.bit.Goals as goal
 
