@@ -5,9 +5,9 @@ ghost use Rattle.plant_types.specs.Power.{bit_of};
 ghost use Rattle.plant_types.specs.Wire.{is_shorted};
 ghost use Rattle.grid_compile.specs.Cells.{cell_at, cells_from, marks_of};
 ghost use Rattle.grid_compile.specs.Lists.{EachColumnListed};
-ghost use Rattle.grid_compile.specs.Layout.{op_of, column_of, grid_of};
+ghost use Rattle.grid_compile.specs.Layout.{op_of, column_of, grid_of, grids_of};
 
-use plant_types::{Cell, Element, List, Network, Short};
+use plant_types::{Cell, Element, List, Network, Segment, Short};
 use std::alloc::{AllocError, Global};
 
 /// A cell of a column.
@@ -44,6 +44,27 @@ impl Grid {
         }
         Ok(Grid { columns })
     }
+}
+
+/// Lays out the networks of each segment.
+pub fn grids_of(alloc: Global, segments: &[Segment]) -> Result<List<List<Grid>>, AllocError>
+    ensures { IfOk result (λ grids. grids ≡ grids_of segments.now) }
+{
+    let mut grids = List::new(alloc);
+    for segment in segments {
+        grids.push(segment_grids(alloc, segment.networks.as_slice())?)?;
+    }
+    Ok(grids)
+}
+
+fn segment_grids(alloc: Global, networks: &[Network]) -> Result<List<Grid>, AllocError>
+    ensures { IfOk result (λ grids. grids ≡ map grid_of networks.now) }
+{
+    let mut grids = List::new(alloc);
+    for network in networks {
+        grids.push(Grid::of(alloc, network)?)?;
+    }
+    Ok(grids)
 }
 
 fn is_shorted(shorts: &[Short], column: u8, row: u8) -> bool

@@ -1,8 +1,7 @@
 -- What each step leaves of the agreement between flags and definitions.
-use Rattle.std.proofs.Common.{◌≡◌, ◌≢◌, ℕ, ◌+◌, ◌-◌, ◌<◌, ◌≤◌, zero, suc, get_or, set, Bool, true, false, ◌&&◌, ◌||◌, ◌==◌, List, [], ◌∷◌, ◌++◌, refl, ◌∙◌, sym, ap, subst, add-zero, length, ◌⊎◌, inl, inr, arith, get_or-set_same, get_or-set_other}
+use Rattle.std.proofs.Common.{◌≡◌, ◌≢◌, ℕ, ◌+◌, ◌-◌, ◌<◌, ◌≤◌, zero, suc, get_or, set, Bool, true, false, ◌&&◌, ◌||◌, ◌==◌, List, ◌∷◌, refl, ◌∙◌, sym, ap, subst, length, ◌⊎◌, inl, inr, arith, get_or-set_same, get_or-set_other}
 use Rattle.std.specs.Prelude.{if◌then◌else◌, bit_or}
 use Rattle.std.proofs.lemmas.Bool.Decides.{nat_tests}
-use Rattle.plant_types.specs.declared.element.Element.{Element}
 use Rattle.ladder_solver.specs.declared.layout.Spot.{Spot}
 use Rattle.grid_compile.proofs.MaskLemmas.{row_on-past}
 use Rattle.plant_types.specs.declared.network.Short.{Short}
@@ -10,13 +9,15 @@ use Rattle.plant_types.specs.declared.power.NodePower.{NodePower}
 use Rattle.plant_types.specs.Network.{is_row}
 use Rattle.plant_types.specs.Store.{Contents}
 use Rattle.timer_ops.specs.declared.Clock.{Clock}
-use Rattle.ladder_solver.specs.State.{Places, State, with_place}
-use Rattle.ladder_solver.specs.Network.{Power, Place, Site, is_live, is_fed, inputs_at, place_in, with_output, with_outputs, element_at}
-use Rattle.ladder_solver.specs.Rows.{flag_of, flags_at, marks_of, reaches_of, three_from, fed_rows, reaches, FeedsAll}
+use Rattle.ladder_solver.specs.State.{State, with_place}
+use Rattle.ladder_solver.specs.Network.{Power, Place, is_live, is_fed, inputs_at, place_in, with_output, with_outputs, element_at}
+use Rattle.grid_compile.specs.Cells.{marks_of}
+use Rattle.grid_compile.proofs.Listing.{marks-small}
+use Rattle.ladder_solver.specs.Rows.{flag_of, flags_at, reaches_of, three_from, fed_rows, reaches, FeedsAll}
 use Rattle.grid_compile.specs.Masks.{are_linked}
 use Rattle.ladder_solver.specs.Agreement.{AgreesPower, AgreesState, GivesEffect, SolvesSpot, is_in_column}
 use Rattle.ladder_solver.specs.Edges.{row_bit}
-use Rattle.ladder_solver.proofs.Spread.{are_linked-joined, marks-small, fed_rows-feeds, fed_rows-small}
+use Rattle.ladder_solver.proofs.Spread.{are_linked-joined, fed_rows-feeds, fed_rows-small}
 use Rattle.ladder_solver.proofs.States.{edge_at, AgreesState-cell}
 
 -- a column is no other column

@@ -1,18 +1,13 @@
-//! Networks laid out by columns, so that solving looks up no cell.
+//! Networks as solving walks them, so that it looks up no cell and joins no rows.
 ghost use Rattle.std.specs.Prelude.{◌≡◌, ◌<◌, ◌≤◌, ◌++◌, IfOk, OnOk, map};
 ghost use Rattle.std.specs.List.{AllByRecursion};
-ghost use Rattle.std.specs.Option.{option_copied};
-ghost use Rattle.plant_types.specs.Power.{bit_of};
-ghost use Rattle.plant_types.specs.Wire.{is_shorted};
-ghost use Rattle.ladder_solver.specs.Conditions.{IsWithin};
-ghost use Rattle.ladder_solver.specs.Network.{cell_at};
-ghost use Rattle.ladder_solver.specs.Rows.{marks_of, reaches_of};
-ghost use Rattle.grid_compile.specs.Cells.{cells_from};
-ghost use Rattle.ladder_solver.specs.Layout.{spot_of, column_spots, grid_of, grids_of};
+ghost use Rattle.grid_compile.specs.Bounds.{IsWithin, IsColumn, IsGrid};
+ghost use Rattle.ladder_solver.specs.Rows.{reaches_of};
+ghost use Rattle.ladder_solver.specs.Layout.{spot_of, column_spots, spots_in, spots_of};
 
 use crate::rows::Reaches;
-use grid_compile::column_join;
-use plant_types::{Cell, Element, List, Network, Segment, Short};
+use grid_compile::{Column, Grid, Op, column_join};
+use plant_types::{Element, List};
 use std::alloc::{AllocError, Global};
 
 /// A cell at its place, with the rows that the output at each of its three rows reaches.
@@ -24,85 +19,33 @@ pub(crate) struct Spot {
     pub reaches: [u8; 3],
 }
 
-/// The cells of a network, column by column, each from the top.
-#[derive(Drop)]
-pub(crate) struct Grid {
-    pub spots: List<Spot>,
-}
-
-fn is_shorted(shorts: &[Short], column: u8, row: u8) -> bool
-    ensures { result ≡ is_shorted shorts.now column row }
-{
-    shorts
-        .iter()
-        .any(|short| short.column == column && short.row == row)
-}
-
-fn mark(shorts: &[Short], column: u8, row: u8) -> u8
-    ensures value { result ≡ bit_of (is_shorted shorts.now column row) }
-    ensures small { result < 2 }
-{
-    u8::from(is_shorted(shorts, column, row))
-}
-
-fn marks_of(shorts: &[Short], column: u8) -> u8
-    ensures value { result ≡ marks_of shorts.now column }
-    ensures small { result < 64 }
-{
-    let low = mark(shorts, column, 1) + 2 * (mark(shorts, column, 2) + 2 * mark(shorts, column, 3));
-    let high = mark(shorts, column, 4)
-        + 2 * (mark(shorts, column, 5) + 2 * mark(shorts, column, 6));
-    low + 8 * high
-}
-
-fn reaches_of(marks: u8) -> Reaches
-    requires { marks < 64 }
-    ensures { result ≡ reaches_of marks }
+fn reaches_of(shorts: u8) -> Reaches
+    requires { shorts < 64 }
+    ensures { result ≡ reaches_of shorts }
 {
     [
-        column_join(marks, 1),
-        column_join(marks, 2),
-        column_join(marks, 4),
-        column_join(marks, 8),
-        column_join(marks, 16),
-        column_join(marks, 32),
-        column_join(marks, 64),
+        column_join(shorts, 1),
+        column_join(shorts, 2),
+        column_join(shorts, 4),
+        column_join(shorts, 8),
+        column_join(shorts, 16),
+        column_join(shorts, 32),
+        column_join(shorts, 64),
         0,
         0,
     ]
 }
 
-fn cell_at(cells: &[Cell], column: u8, row: u8) -> Option<&Cell>
-    ensures { option_copied result ≡ cell_at cells.now column row }
+fn spot_of(reaches: &Reaches, column: u8, op: &Op) -> Spot
+    requires first { 1 ≤ op.now.row }
+    requires last { op.now.row ≤ 7 }
+    ensures { result ≡ spot_of reaches.now column op.now }
 {
-    cells
-        .iter()
-        .find(|cell| cell.column == column && cell.row == row)
-}
-
-fn cells_of(alloc: Global, cells: &[Cell], column: u8) -> Result<List<Cell>, AllocError>
-    ensures cells { IfOk result (λ found. found ≡ cells_from cells.now column 1 7) }
-    ensures within { IfOk result (λ found. AllByRecursion IsWithin found) }
-{
-    let mut found = List::new(alloc);
-    for row in 1..8u8 {
-        if let Some(cell) = cell_at(cells, column, row) {
-            found.push(*cell)?;
-        }
-    }
-    Ok(found)
-}
-
-fn spot_of(reaches: &Reaches, column: u8, cell: &Cell) -> Spot
-    requires first { 1 ≤ cell.now.row }
-    requires last { cell.now.row ≤ 7 }
-    ensures { result ≡ spot_of reaches.now column cell.now }
-{
-    let place = cell.row as usize - 1;
+    let place = op.row as usize - 1;
     Spot {
         column,
-        row: cell.row,
-        element: cell.element,
+        row: op.row,
+        element: op.element,
         reaches: [reaches[place], reaches[place + 1], reaches[place + 2]],
     }
 }
@@ -110,58 +53,61 @@ fn spot_of(reaches: &Reaches, column: u8, cell: &Cell) -> Spot
 fn add_spots(
     reaches: &Reaches,
     column: u8,
-    cells: &[Cell],
+    ops: &[Op],
     spots: &mut List<Spot>,
 ) -> Result<(), AllocError>
-    requires { AllByRecursion IsWithin cells.now }
-    ensures { OnOk result (spots.new ≡ spots.old ++ map (spot_of reaches.now column) cells.now) }
+    requires { AllByRecursion IsWithin ops.now }
+    ensures { OnOk result (spots.new ≡ spots.old ++ map (spot_of reaches.now column) ops.now) }
 {
-    for cell in cells {
-        spots.push(spot_of(reaches, column, cell))?;
+    for op in ops {
+        spots.push(spot_of(reaches, column, op))?;
     }
     Ok(())
 }
 
-fn add_column(
-    alloc: Global,
-    network: &Network,
-    column: u8,
-    spots: &mut List<Spot>,
-) -> Result<(), AllocError>
-    ensures { OnOk result (spots.new ≡ spots.old ++ column_spots network.now column) }
+fn add_column(column: u8, laid: &Column, spots: &mut List<Spot>) -> Result<(), AllocError>
+    requires { IsColumn laid.now }
+    ensures { OnOk result (spots.new ≡ spots.old ++ column_spots column laid.now) }
 {
-    let cells = cells_of(alloc, network.cells.as_slice(), column)?;
-    let reaches = reaches_of(marks_of(network.shorts.as_slice(), column));
-    add_spots(&reaches, column, cells.as_slice(), spots)
+    let reaches = reaches_of(laid.shorts);
+    add_spots(&reaches, column, laid.ops.as_slice(), spots)
 }
 
-fn grid_of(alloc: Global, network: &Network) -> Result<Grid, AllocError>
-    ensures { IfOk result (λ grid. grid ≡ grid_of network.now) }
+/// The cells of a grid, column by column, each from the top.
+fn spots_in(alloc: Global, grid: &Grid) -> Result<List<Spot>, AllocError>
+    requires { IsGrid grid.now }
+    ensures { IfOk result (λ spots. spots ≡ spots_in grid.now) }
 {
+    let columns = grid.columns.as_slice();
     let mut spots = List::new(alloc);
-    for column in 1..12u8 {
-        add_column(alloc, network, column, &mut spots)?;
+    for i in 0..11u8 {
+        add_column(i + 1, &columns[i as usize], &mut spots)?;
     }
-    Ok(Grid { spots })
+    Ok(spots)
 }
 
-fn segment_grids(alloc: Global, networks: &[Network]) -> Result<List<Grid>, AllocError>
-    ensures { IfOk result (λ grids. grids ≡ map grid_of networks.now) }
+fn segment_spots(alloc: Global, grids: &[Grid]) -> Result<List<List<Spot>>, AllocError>
+    requires { AllByRecursion IsGrid grids.now }
+    ensures { IfOk result (λ networks. networks ≡ map spots_in grids.now) }
 {
-    let mut grids = List::new(alloc);
-    for network in networks {
-        grids.push(grid_of(alloc, network)?)?;
+    let mut networks = List::new(alloc);
+    for grid in grids {
+        networks.push(spots_in(alloc, grid)?)?;
     }
-    Ok(grids)
+    Ok(networks)
 }
 
-/// The networks of segments, laid out.
-pub(crate) fn grids_of(alloc: Global, segments: &[Segment]) -> Result<List<List<Grid>>, AllocError>
-    ensures { IfOk result (λ grids. grids ≡ grids_of segments.now) }
+/// The cells of each network of each segment.
+pub(crate) fn spots_of(
+    alloc: Global,
+    segments: &[List<Grid>],
+) -> Result<List<List<List<Spot>>>, AllocError>
+    requires { AllByRecursion (AllByRecursion IsGrid) segments.now }
+    ensures { IfOk result (λ networks. networks ≡ spots_of segments.now) }
 {
-    let mut grids = List::new(alloc);
-    for segment in segments {
-        grids.push(segment_grids(alloc, segment.networks.as_slice())?)?;
+    let mut networks = List::new(alloc);
+    for grids in segments {
+        networks.push(segment_spots(alloc, grids.as_slice())?)?;
     }
-    Ok(grids)
+    Ok(networks)
 }
