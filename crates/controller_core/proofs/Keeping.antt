@@ -1,6 +1,7 @@
 -- What one more step keeps.
 use Rattle.std.proofs.Common.{◌≡◌, ◌≤◌, ◌<◌, ℕ, zero, suc, ◌+◌, ◌-◌, ◌*◌, Bool, true, false, ◌&&◌, List, [], ◌∷◌, ◌++◌, length, drop, Option, Some, None, refl, sym, ap, ◌∙◌, subst, arith, append_assoc, length-append}
 use Rattle.std.specs.Prelude.{fold, not}
+use Rattle.std.specs.List.{flat_map, range_with_len}
 use Rattle.std.proofs.lemmas.List.Elements.{filter_map-append}
 use Rattle.std.proofs.Math.Seq.{drop-append_seam}
 use Rattle.plant_types.specs.declared.drops.IoDrop.{IoDrop}
@@ -9,7 +10,7 @@ use Rattle.scan_order.specs.declared.due.ScanPlace.{ScanPlace}
 use Rattle.scan_order.specs.declared.due.ScanPlace.TheVariants as places
 use Rattle.scan_order.specs.declared.due.ScanStep.{ScanStep}
 use Rattle.scan_order.specs.declared.due.ScanStep.TheVariants as steps
-use Rattle.scan_order.specs.Due.{due_after, rest_after, place_after, IsPlace, IsStep}
+use Rattle.scan_order.specs.Due.{output_steps, row_steps, rows_from, due_after, rest_after, place_after, IsPlace, IsStep}
 use Rattle.controller_core.specs.declared.fixed.Fixed.{Fixed}
 use Rattle.controller_core.specs.declared.entry.Entry.{Entry}
 use Rattle.controller_core.specs.declared.entry.StepEnd.{StepEnd}
@@ -201,6 +202,59 @@ step_none f m h places.Began r v is k done = absurd cc
 step_none f m h (places.DidIn row) r v is k done = absurd cc
 step_none f m h (places.DidSolve row) r v is k done = absurd cc
 step_none f m h (places.DidOut row) r v is k done = absurd cc
+
+-- ---- whether all scans are done
+
+-- a list with a step at its end begins with one
+front_of : (xs : List ScanStep) (y : ScanStep) → (x : ScanStep) × (rest : List ScanStep) × (xs ++ y ∷ [] ≡ x ∷ rest)
+front_of [] y = (y, [], refl)
+front_of (x ∷ xs) y = (x, xs ++ y ∷ [], refl)
+
+rows_some : (plan : ControllerPlan) (row : ℕ) → (x : ScanStep) × (rest : List ScanStep) × (rows_from plan row ≡ x ∷ rest)
+unfolding rows_from
+rows_some plan row = front_of (flat_map (row_steps plan) (range_with_len row (suc (length plan.orders) - row))) steps.End
+
+behind_some : (xs ys : List ScanStep) → (x : ScanStep) × (rest : List ScanStep) × (ys ≡ x ∷ rest)
+    → (x : ScanStep) × (rest : List ScanStep) × (xs ++ ys ≡ x ∷ rest)
+behind_some [] ys some = some
+behind_some (x ∷ xs) ys some = (x, xs ++ ys, refl)
+
+-- something is due at each place
+some_due : (plan : ControllerPlan) (at : ScanPlace) → (x : ScanStep) × (rest : List ScanStep) × (due_after plan at ≡ x ∷ rest)
+some_due plan places.Start = (steps.Begin, rows_from plan 1, refl)
+some_due plan places.Began = rows_some plan 1
+some_due plan (places.DidIn row) = (steps.Solve row, output_steps plan row ++ rows_from plan (row + 1), refl)
+some_due plan (places.DidSolve row) = behind_some (output_steps plan row) (rows_from plan (row + 1)) (rows_some plan (row + 1))
+some_due plan (places.DidOut row) = rows_some plan (row + 1)
+
+goes_on : (f : Fixed) (m : Machine) (h : List Entry) (at : ScanPlace) → IsKept f m h at → m.ended < f.scans
+    → is_none (first_of (drop (length (scan_steps h)) (all_due f))) ≡ false
+goes_on f m h at k lt =
+    let later = scans_from f (m.ended + 1 + 1) (f.scans - suc m.ended) in
+    let some = some_due f.plan at in
+    let front : scan_steps h ++ (some.0 ∷ (some.1 ++ later)) ≡ all_due f =
+    ap (λ (l : List ScanStep). scan_steps h ++ l) (sym (remains f m.ended at lt ∙ ap (λ (l : List ScanStep). l ++ later) some.2)) ∙ k.steps in
+    ap (λ (l : List ScanStep). is_none (first_of (drop (length (scan_steps h)) l))) (sym front)
+    ∙ ap (λ (l : List ScanStep). is_none (first_of l)) (drop-append_seam (scan_steps h) (some.0 ∷ (some.1 ++ later)))
+
+all_ended : (f : Fixed) (m : Machine) (h : List Entry) (at : ScanPlace) → IsKept f m h at → is_done f.scans at m.ended ≡ true
+    → is_none (first_of (drop (length (scan_steps h)) (all_due f))) ≡ true
+all_ended f m h places.Start k done = let all : m.ended ≡ f.scans = grind arith in ap is_none (due_none f m h k all)
+all_ended f m h places.Began k done = absurd cc
+all_ended f m h (places.DidIn row) k done = absurd cc
+all_ended f m h (places.DidSolve row) k done = absurd cc
+all_ended f m h (places.DidOut row) k done = absurd cc
+
+done_either : (f : Fixed) (m : Machine) (h : List Entry) (at : ScanPlace) → IsKept f m h at → (b : Bool) → is_done f.scans at m.ended ≡ b
+    → b ≡ is_none (first_of (drop (length (scan_steps h)) (all_due f)))
+done_either f m h at k true e = sym (all_ended f m h at k e)
+done_either f m h at k false e = sym (goes_on f m h at k (not_done f.scans at m.ended k.within e))
+
+pub ended_is : (f : Fixed) (m : Machine) (h : List Entry) (at : ScanPlace) (r : Bool) (v : ControllerIs)
+    → record { fixed = f; history = h; reserved = r } ≡ v → IsKept f m h at → is_done f.scans at m.ended ≡ has_ended v
+ended_is f m h at r v is k =
+    let P : ControllerIs → Type 0 = λ u. is_done f.scans at m.ended ≡ has_ended u in
+    subst P is (done_either f m h at k (is_done f.scans at m.ended) refl)
 
 pub room_step : (r : Bool) (plan : ControllerPlan) (at : ScanPlace) (step : ScanStep) → (r && not (ends_scan step)) ≡ true
     → due_after plan at ≡ step ∷ rest_after plan step → (r ≡ true) × (length (due_after plan at) ≡ suc (length (due_after plan (place_after step))))

@@ -1,5 +1,6 @@
 -- What contracts see of a controller, which histories are legal, and what a step does.
 use Rattle.std.specs.Prelude.{◌≡◌, ℕ, Bool, true, false, ◌&&◌, not, List, [], ◌∷◌, ◌++◌, length, drop, Option, Some, None}
+use Rattle.plant_types.specs.Store.{Contents}
 use Rattle.scan_order.specs.declared.due.ScanStep.{ScanStep}
 use Rattle.controller_core.specs.declared.fixed.Fixed.{Fixed}
 use Rattle.controller_core.specs.declared.entry.Entry.{Entry}
@@ -38,6 +39,10 @@ pub record IsLegal (fixed : Fixed) (history : List Entry) : Type 0 where
 -- The state of a controller: the replay of its history. This project's own.
 abbrev pub state_of : ControllerIs → State
 state_of v = replay v.fixed v.history
+
+-- Its store. This project's own.
+abbrev pub store_of : ControllerIs → Contents
+store_of v = (state_of v).solving.map
 
 abbrev pub first_of : List ScanStep → Option ScanStep
 first_of [] = None

@@ -1,15 +1,16 @@
 //! The controller: its machine, its place in the scan and its history.
 ghost use Rattle.std.specs.Prelude.{◌≡◌, ◌+◌, ◌<◌, ◌≤◌, ◌&&◌, true, false, not, [], ◌∷◌, ◌++◌};
 ghost use Rattle.std.specs.Prelude.{IfOk, OnErr, OnOk, vec_capacity, vec_len};
-ghost use Rattle.controller_core.specs.Controller.{has_ended, step_end, stepped, IsLegal};
+ghost use Rattle.std.specs.FinMap.{contains_key};
+ghost use Rattle.plant_types.specs.Store.{value_at};
+ghost use Rattle.controller_core.specs.Controller.{has_ended, step_end, stepped, store_of, IsLegal};
 ghost use Rattle.controller_core.specs.Machine.{IsRunnable};
-ghost use Rattle.controller_core.specs.Replay.{replay};
 ghost use Rattle.controller_core.specs.Scans.{ends_scan, is_done};
 
 use crate::entry::{Entry, StepEnd};
 use crate::fixed::Fixed;
 use crate::machine::Machine;
-use plant_types::{ControllerPlan, Copied};
+use plant_types::{ControllerPlan, Copied, Ref, RefKind, RefStore};
 use scan_order::{ScanPlace, ScanStep, next_due, place_after};
 use state_ram::PackedRam;
 use std::alloc::{AllocError, Global};
@@ -132,9 +133,34 @@ impl Controller {
 
     /// The store, which is that of the replay of the history. Takes no memory.
     pub fn ram(&self) -> &PackedRam
-        ensures { result.now ≡ (replay self.now.fixed self.now.history).solving.map }
+        ensures { result.now ≡ store_of self.now }
     {
         self.machine.ram()
+    }
+
+    /// Whether the store has a reference.
+    pub fn has(&self, at: Ref) -> bool
+        ensures { result ≡ contains_key (store_of self.now) at }
+    {
+        self.ram().has(at)
+    }
+
+    /// The number at a reference: 0 or 1 for a discrete.
+    pub fn get(&self, at: Ref) -> u16
+        requires { contains_key (store_of self.now) at ≡ true }
+        ensures { result ≡ value_at (store_of self.now) at }
+    {
+        match at.kind {
+            RefKind::Coil | RefKind::Input => u16::from(self.ram().bit(at)),
+            RefKind::InputRegister | RefKind::Register => self.ram().word(at),
+        }
+    }
+
+    /// Whether all scans are done.
+    pub fn has_ended(&self) -> bool
+        ensures { result ≡ has_ended self.now }
+    {
+        is_done(self.machine.fixed.scans, self.at, self.machine.ended)
     }
 
     /// Until the next End all steps have their memory.

@@ -10,8 +10,8 @@ use Rattle.plant984.specs.Due.{due_of}
 use Rattle.plant984.proofs.RunLemmas.{list-single, serial-single}
 use Rattle.plant984.proofs.answering.answer_to_run.Goals as goal
 
-pub panel_of-text-requires-clause-passes : goal.panel_of-text-requires-clause-passes
-panel_of-text-requires-clause-passes c =
+pub panel_of-requires-clause-passes : goal.panel_of-requires-clause-passes
+panel_of-requires-clause-passes c =
     let plant = c.in-Ok.plant in
     let runs = c.in-Ok.ensures.runnable in
     let controller = c.index-as_slice-0.result in
@@ -19,8 +19,8 @@ panel_of-text-requires-clause-passes c =
     let same : runs.controller ≡ controller = cc (only, runs.only) in
     subst (λ (plan : ControllerPlan). passes_check plan ≡ true) same runs.solvable.passes
 
-pub panel_of-text-requires-clause-plain : goal.panel_of-text-requires-clause-plain
-panel_of-text-requires-clause-plain c =
+pub panel_of-requires-clause-plain : goal.panel_of-requires-clause-plain
+panel_of-requires-clause-plain c =
     let plant = c.in-Ok.plant in
     let runs = c.in-Ok.ensures.runnable in
     let controller = c.index-as_slice-0.result in
@@ -28,8 +28,8 @@ panel_of-text-requires-clause-plain c =
     let same : runs.controller ≡ controller = cc (only, runs.only) in
     subst (λ (plan : ControllerPlan). ArePlain plan.segments) same runs.solvable.plain
 
-pub panel_of-text-requires-clause-segment : goal.panel_of-text-requires-clause-segment
-panel_of-text-requires-clause-segment c =
+pub panel_of-requires-clause-segment : goal.panel_of-requires-clause-segment
+panel_of-requires-clause-segment c =
     let plant = c.in-Ok.plant in
     let runs = c.in-Ok.ensures.runnable in
     let controller = c.index-as_slice-0.result in
