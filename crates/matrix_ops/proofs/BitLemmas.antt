@@ -1,5 +1,7 @@
 -- The bits of words and of matrices.
-use Rattle.std.proofs.Common.{◌≡◌, ◌≢◌, ℕ, zero, suc, ◌+◌, ◌-◌, ◌*◌, ◌/◌, ◌%◌, ◌^◌, ◌<◌, Bool, true, false, ◌==◌, List, [], ◌∷◌, ◌++◌, length, get_or, set, take, drop, map, fold, refl, sym, ap, ◌∙◌, inl, inr, arith}
+use Rattle.std.proofs.Common.{◌≡◌, ◌≢◌, ℕ, zero, suc, ◌+◌, ◌-◌, ◌*◌, ◌/◌, ◌%◌, ◌^◌, ◌<◌, Bool, true}
+use Rattle.std.proofs.Common.{false, ◌==◌, List, [], ◌∷◌, ◌++◌, length, get_or, set, take, drop}
+use Rattle.std.proofs.Common.{map, fold, refl, sym, ap, ◌∙◌, inl, inr, arith}
 use Rattle.std.specs.Int.{bit_at, w16}
 use Rattle.std.specs.Prelude.{bit_and, bit_or}
 use Rattle.std.specs.List.{range_with_len}
@@ -39,7 +41,8 @@ pub number_of_bits-word_bits : (w : ℕ) → w < 2 ^ 16 → number_of_bits (word
 number_of_bits-word_bits w h = let e = fold-bits_high_first 16 w 0 in omega arith
 
 -- 16 bits that are those of a word have its number
-pub number_of_bits-of_word : (bits : List Bool) (w : ℕ) → w < 2 ^ 16 → length bits ≡ 16 → ((j k : ℕ) → j + k ≡ 15 → get_or bits j false ≡ (bit_at w k == 1)) → w ≡ number_of_bits bits
+pub number_of_bits-of_word : (bits : List Bool) (w : ℕ) → w < 2 ^ 16 → length bits ≡ 16 → ((j k : ℕ) → j + k ≡ 15 → get_or bits j false ≡ (bit_at w k == 1))
+    → w ≡ number_of_bits bits
 number_of_bits-of_word bits w h size same =
     sym (number_of_bits-word_bits w h)
     ∙ ap number_of_bits (ext_get_or false (word_bits w) bits (length-bits_high_first 16 w ∙ sym size) (λ j l.
@@ -54,7 +57,8 @@ set_bit_at w r j k i l on at e here others =
     elim (cases_eq i j) [
       | inl same ↦
           let place : k ≡ l = omega arith in
-          ap (λ n. get_or (set (word_bits w) j on) n false) same ∙ get_or-set_same (word_bits w) j on false (omega arith) ∙ here ∙ ap (λ n. bit_at r n == 1) place
+          ap (λ n. get_or (set (word_bits w) j on) n false) same ∙ get_or-set_same (word_bits w) j on false (omega arith) ∙ here
+          ∙ ap (λ n. bit_at r n == 1) place
       | inr apart ↦
           let within : l < 16 = omega arith in
           get_or-set_other (word_bits w) j i on false apart ∙ get_or-bits_high_first 16 w i l false (omega arith)
@@ -62,9 +66,11 @@ set_bit_at w r j k i l on at e here others =
     ]
 
 -- a word with one bit set on or off
-pub number_of_bits-set : (w r j k : ℕ) (on : Bool) → j + k ≡ 15 → r < 2 ^ 16 → (on ≡ (bit_at r k == 1)) → ((i : ℕ) → i < 16 → i ≢ k → bit_at r i ≡ bit_at w i) → r ≡ number_of_bits (set (word_bits w) j on)
+pub number_of_bits-set : (w r j k : ℕ) (on : Bool) → j + k ≡ 15 → r < 2 ^ 16 → (on ≡ (bit_at r k == 1))
+    → ((i : ℕ) → i < 16 → i ≢ k → bit_at r i ≡ bit_at w i) → r ≡ number_of_bits (set (word_bits w) j on)
 number_of_bits-set w r j k on at fits here others =
-    number_of_bits-of_word (set (word_bits w) j on) r fits (length-set (word_bits w) j on ∙ length-bits_high_first 16 w) (λ i l e. set_bit_at w r j k i l on at e here others)
+    number_of_bits-of_word (set (word_bits w) j on) r fits (length-set (word_bits w) j on ∙ length-bits_high_first 16 w)
+    (λ i l e. set_bit_at w r j k i l on at e here others)
 
 -- a bit set on, and one set off
 pub number_of_bits-set_on : (w j : ℕ) → j < 16 → w < 2 ^ 16 → bit_or w (1 * 2 ^ (15 - j) % 65536) ≡ number_of_bits (set (word_bits w) j true)
@@ -92,7 +98,8 @@ length-matrix_bits (w ∷ ws) =
     omega arith
 
 -- the bits of a matrix are those of its words
-pub get_or-matrix_bits : (ws : List ℕ) (i j : ℕ) (d : Bool) → i < length ws → j < 16 → get_or (matrix_bits ws) (16 * i + j) d ≡ get_or (word_bits (get_or ws i 0)) j d
+pub get_or-matrix_bits : (ws : List ℕ) (i j : ℕ) (d : Bool) → i < length ws → j < 16
+    → get_or (matrix_bits ws) (16 * i + j) d ≡ get_or (word_bits (get_or ws i 0)) j d
 unfolding matrix_bits
 get_or-matrix_bits [] i j d h l = absurd (omega arith)
 get_or-matrix_bits (w ∷ ws) zero j d h l =
@@ -106,12 +113,14 @@ get_or-matrix_bits (w ∷ ws) (suc i) j d h l =
     ∙ get_or-matrix_bits ws i j d (omega arith) l
 
 -- the bit of a matrix at a place, as the bit of a number
-pub get_or-matrix_bits_at : (ws : List ℕ) (i j k p : ℕ) (d : Bool) → i < length ws → j + k ≡ 15 → p ≡ 16 * i + j → get_or (matrix_bits ws) p d ≡ (bit_at (get_or ws i 0) k == 1)
+pub get_or-matrix_bits_at : (ws : List ℕ) (i j k p : ℕ) (d : Bool) → i < length ws → j + k ≡ 15 → p ≡ 16 * i + j
+    → get_or (matrix_bits ws) p d ≡ (bit_at (get_or ws i 0) k == 1)
 get_or-matrix_bits_at ws i j k p d h e at =
     ap (λ q. get_or (matrix_bits ws) q d) at ∙ get_or-matrix_bits ws i j d h (omega arith) ∙ get_or-bits_high_first 16 (get_or ws i 0) j k d (omega arith)
 
 -- words that have the bits, 16 by 16, are the words of the bits
-pub matrix_words-by_place : (ws : List ℕ) (bits : List Bool) → length bits / 16 ≡ length ws → ((i : ℕ) → i < length ws → get_or ws i 0 ≡ number_of_bits (take 16 (drop (16 * i) bits))) → ws ≡ matrix_words bits
+pub matrix_words-by_place : (ws : List ℕ) (bits : List Bool) → length bits / 16 ≡ length ws
+    → ((i : ℕ) → i < length ws → get_or ws i 0 ≡ number_of_bits (take 16 (drop (16 * i) bits))) → ws ≡ matrix_words bits
 unfolding matrix_words
 matrix_words-by_place ws bits size each =
     fill_by_all (λ i. number_of_bits (take 16 (drop (16 * i) bits))) ws (length ws) 0 refl each

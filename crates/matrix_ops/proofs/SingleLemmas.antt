@@ -1,5 +1,7 @@
 -- One bit of a matrix in registers is one bit of the list of all its bits.
-use Rattle.std.proofs.Common.{◌≡◌, ℕ, zero, suc, ◌+◌, ◌-◌, ◌*◌, ◌/◌, ◌%◌, ◌^◌, ◌<◌, Bool, true, false, ◌==◌, List, [], ◌∷◌, ◌++◌, length, get_or, set, fold, unwrap_or, refl, sym, ap, ◌∙◌, inl, inr, arith}
+use Rattle.std.proofs.Common.{◌≡◌, ℕ, zero, suc, ◌+◌, ◌-◌, ◌*◌, ◌/◌, ◌%◌, ◌^◌, ◌<◌, Bool, true}
+use Rattle.std.proofs.Common.{false, ◌==◌, List, [], ◌∷◌, ◌++◌, length, get_or, set, fold}
+use Rattle.std.proofs.Common.{unwrap_or, refl, sym, ap, ◌∙◌, inl, inr, arith}
 use Rattle.std.specs.Int.{bit_at}
 use Rattle.std.specs.FinMap.{insert}
 use Rattle.std.proofs.lemmas.Bool.{cases_eq}
@@ -33,7 +35,8 @@ behind_of-split (b ∷ bits) acc =
 
 -- the first bit weighs most
 first_weighs : (b : Bool) (bits : List Bool) → behind_of 0 (b ∷ bits) ≡ bit_of b * 2 ^ length bits + behind_of 0 bits
-first_weighs b bits = let e : 2 * 0 + bit_of b ≡ bit_of b = omega arith in behind_of-split bits (2 * 0 + bit_of b) ∙ ap (λ c. c * 2 ^ length bits + behind_of 0 bits) e
+first_weighs b bits =
+    let e : 2 * 0 + bit_of b ≡ bit_of b = omega arith in behind_of-split bits (2 * 0 + bit_of b) ∙ ap (λ c. c * 2 ^ length bits + behind_of 0 bits) e
 
 small_sum : (b : Bool) (p r : ℕ) → r < p → bit_of b * p + r < p * 2
 small_sum true p r h = omega arith
@@ -66,7 +69,8 @@ bits_high_first-number (b ∷ bits) =
     let n = length bits in
     let low = behind_of 0 bits in
     let none : n - n ≡ 0 = omega arith in
-    let first : bit_at (bit_of b * 2 ^ n + low) n ≡ bit_at (bit_of b) 0 = bit_at_cat_high (bit_of b) n low n (behind_of-lt bits) (omega arith) ∙ ap (bit_at (bit_of b)) none in
+    let first : bit_at (bit_of b * 2 ^ n + low) n ≡ bit_at (bit_of b) 0 = bit_at_cat_high (bit_of b) n low n (behind_of-lt bits) (omega arith)
+    ∙ ap (bit_at (bit_of b)) none in
     ap (bits_high_first (suc n)) (first_weighs b bits)
     ∙ ap (λ c. (c == 1) ∷ bits_high_first n (bit_of b * 2 ^ n + low)) first
     ∙ ap (λ c. c ∷ bits_high_first n (bit_of b * 2 ^ n + low)) (lowest_again b)

@@ -1,5 +1,7 @@
 -- Bits turned to the left and to the right.
-use Rattle.std.proofs.Common.{◌≡◌, ℕ, zero, suc, ◌+◌, ◌-◌, ◌*◌, ◌/◌, ◌%◌, ◌^◌, ◌<◌, Bool, true, false, ◌==◌, List, [], ◌∷◌, length, get_or, take, drop, refl, sym, ap, ◌∙◌, lit<, arith}
+use Rattle.std.proofs.Common.{◌≡◌, ℕ, zero, suc, ◌+◌, ◌-◌, ◌*◌, ◌/◌, ◌%◌, ◌^◌, ◌<◌, Bool, true}
+use Rattle.std.proofs.Common.{false, ◌==◌, List, [], ◌∷◌, length, get_or, take, drop, refl, sym, ap}
+use Rattle.std.proofs.Common.{◌∙◌, lit<, arith}
 use Rattle.std.specs.Int.{bit_at}
 use Rattle.std.specs.Prelude.{bit_and, bit_or}
 use Rattle.std.proofs.lemmas.List.{length-append, length-drop, length-take-le, get_or-take, get_or-drop, get_or_append_left, get_or_push}
@@ -99,7 +101,8 @@ left_bit ws on p h =
     let d = length-drop 1 (matrix_bits ws) in
     get_or_append_left (drop 1 (matrix_bits ws)) (on ∷ []) false p (omega arith) ∙ get_or-drop 1 (matrix_bits ws) p false
 
-left_place : (ws : List ℕ) (p b j k : ℕ) (on : Bool) → p < length ws → b < 2 → get_or (left_turned (matrix_bits ws) on) (16 * p + 15) false ≡ (b == 1) → j + k ≡ 15
+left_place : (ws : List ℕ) (p b j k : ℕ) (on : Bool) → p < length ws → b < 2 → get_or (left_turned (matrix_bits ws) on) (16 * p + 15) false ≡ (b == 1)
+    → j + k ≡ 15
     → get_or (left_turned (matrix_bits ws) on) (16 * p + j) false ≡ (bit_at (get_or ws p 0 % 2 ^ 15 * 2 ^ 1 + b) k == 1)
 left_place ws p b j zero on h small last e =
     let last_place : j ≡ 15 = omega arith in
@@ -109,7 +112,8 @@ left_place ws p b j (suc k) on h small last e =
     ∙ get_or-matrix_bits_at ws p (suc j) k (1 + (16 * p + j)) false h (omega arith) (omega arith)
     ∙ ap (λ n. n == 1) (sym (left_bit_later (get_or ws p 0) b k small (omega arith)))
 
-left_word : (ws : List ℕ) (p b : ℕ) (on : Bool) → p < length ws → get_or ws p 0 < 2 ^ 16 → b < 2 → get_or (left_turned (matrix_bits ws) on) (16 * p + 15) false ≡ (b == 1)
+left_word : (ws : List ℕ) (p b : ℕ) (on : Bool) → p < length ws → get_or ws p 0 < 2 ^ 16 → b < 2
+    → get_or (left_turned (matrix_bits ws) on) (16 * p + 15) false ≡ (b == 1)
     → bit_or (get_or ws p 0 * 2 % 65536) b ≡ number_of_bits (take 16 (drop (16 * p) (left_turned (matrix_bits ws) on)))
 left_word ws p b on h fits small last =
     let size = length-left_turned (matrix_bits ws) (length ws) on (length-matrix_bits ws) (omega arith) in
@@ -125,7 +129,8 @@ left_word-inside ws p on h fits next =
     let b = get_or ws (p + 1) 0 / 32768 in
     let same : b % 2 ≡ b = omega arith in
     left_word ws p b on (omega arith) fits (omega arith)
-    (left_bit ws on (16 * p + 15) (omega arith) ∙ get_or-matrix_bits_at ws (p + 1) 0 15 (1 + (16 * p + 15)) false h (omega arith) (omega arith) ∙ ap (λ n. n == 1) same)
+    (left_bit ws on (16 * p + 15) (omega arith)
+    ∙ get_or-matrix_bits_at ws (p + 1) 0 15 (1 + (16 * p + 15)) false h (omega arith) (omega arith) ∙ ap (λ n. n == 1) same)
 
 -- and the last word takes the bit that comes in
 pub left_word-last : (ws : List ℕ) (p b : ℕ) (on : Bool) → p + 1 ≡ length ws → get_or ws p 0 < 2 ^ 16 → b ≡ bit_of on
@@ -138,11 +143,13 @@ left_word-last ws p b on h fits e =
     left_word ws p b on (omega arith) fits small (get_or_push (drop 1 (matrix_bits ws)) on false (16 * p + 15) (omega arith) ∙ sym (bit_test b on e))
 
 -- the bit that a matrix turned to the right has behind a place
-right_bit : (ws : List ℕ) (on : Bool) (p q : ℕ) → q ≡ suc p → p + 1 < 16 * length ws → get_or (right_turned (16 * length ws) (matrix_bits ws) on) q false ≡ get_or (matrix_bits ws) p false
+right_bit : (ws : List ℕ) (on : Bool) (p q : ℕ) → q ≡ suc p → p + 1 < 16 * length ws
+    → get_or (right_turned (16 * length ws) (matrix_bits ws) on) q false ≡ get_or (matrix_bits ws) p false
 right_bit ws on p q e h =
     ap (λ i. get_or (right_turned (16 * length ws) (matrix_bits ws) on) i false) e ∙ get_or-take (16 * length ws - 1) (matrix_bits ws) p false (omega arith)
 
-right_place : (ws : List ℕ) (p b j k : ℕ) (on : Bool) → p < length ws → get_or ws p 0 < 2 ^ 16 → b < 2 → get_or (right_turned (16 * length ws) (matrix_bits ws) on) (16 * p) false ≡ (b == 1) → j + k ≡ 15
+right_place : (ws : List ℕ) (p b j k : ℕ) (on : Bool) → p < length ws → get_or ws p 0 < 2 ^ 16 → b < 2
+    → get_or (right_turned (16 * length ws) (matrix_bits ws) on) (16 * p) false ≡ (b == 1) → j + k ≡ 15
     → get_or (right_turned (16 * length ws) (matrix_bits ws) on) (16 * p + j) false ≡ (bit_at (b * 2 ^ 15 + get_or ws p 0 / 2) k == 1)
 right_place ws p b zero k on h fits small first e =
     let here : 16 * p + 0 ≡ 16 * p = omega arith in
@@ -154,7 +161,8 @@ right_place ws p b (suc j) k on h fits small first e =
     ∙ get_or-matrix_bits_at ws p j (suc k) (16 * p + j) false h (omega arith) refl
     ∙ ap (λ n. n == 1) (sym (right_bit_later (get_or ws p 0) b k (omega arith)))
 
-right_word : (ws : List ℕ) (p b : ℕ) (on : Bool) → p < length ws → get_or ws p 0 < 2 ^ 16 → b < 2 → get_or (right_turned (16 * length ws) (matrix_bits ws) on) (16 * p) false ≡ (b == 1)
+right_word : (ws : List ℕ) (p b : ℕ) (on : Bool) → p < length ws → get_or ws p 0 < 2 ^ 16 → b < 2
+    → get_or (right_turned (16 * length ws) (matrix_bits ws) on) (16 * p) false ≡ (b == 1)
     → bit_or (b * 32768 % 65536) (get_or ws p 0 / 2) ≡ number_of_bits (take 16 (drop (16 * p) (right_turned (16 * length ws) (matrix_bits ws) on)))
 right_word ws p b on h fits small first =
     let size = length-right_turned (matrix_bits ws) (length ws) on (length-matrix_bits ws) (omega arith) in
@@ -165,7 +173,8 @@ right_word ws p b on h fits small first =
 
 -- a word in a matrix turned to the right takes the lowest bit of the one before
 pub right_word-inside : (ws : List ℕ) (p : ℕ) (on : Bool) → 0 < p → p < length ws → get_or ws p 0 < 2 ^ 16
-    → bit_or (bit_and (get_or ws (p - 1) 0) 1 * 32768 % 65536) (get_or ws p 0 / 2) ≡ number_of_bits (take 16 (drop (16 * p) (right_turned (16 * length ws) (matrix_bits ws) on)))
+    → bit_or (bit_and (get_or ws (p - 1) 0) 1 * 32768 % 65536) (get_or ws p 0 / 2) ≡ number_of_bits
+    (take 16 (drop (16 * p) (right_turned (16 * length ws) (matrix_bits ws) on)))
 right_word-inside ws p on positive h fits =
     let before = get_or ws (p - 1) 0 in
     let whole : before ≡ before / 2 ^ 0 = omega arith in

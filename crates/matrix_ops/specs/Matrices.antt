@@ -23,10 +23,12 @@ word_by_word rule words others = map (λ pair. rule pair.0 pair.1) (zip words ot
 -- AND, OR and XOR: a matrix becomes what a rule makes of it and of another, word by word.
 -- Modicon Ladder Logic Block Library User Guide; the exact outputs are this project's own.
 abbrev pub combine_effect : (ℕ → ℕ → ℕ) → Ref → Ref → ℕ → NodePower → Contents → Effect
-combine_effect rule top mid length inputs m = record {
-  outputs = record { top = inputs.top; middle = false; bottom = false };
-  stored = if inputs.top then with_words m mid (word_by_word rule (words_from m mid length) (words_from m top length)) else m;
-}
+combine_effect rule top mid length inputs m =
+    let both = word_by_word rule (words_from m mid length) (words_from m top length) in
+    record {
+      outputs = record { top = inputs.top; middle = false; bottom = false };
+      stored = if inputs.top then with_words m mid both else m;
+    }
 
 -- COMP: a matrix becomes the inverse of another. Modicon Ladder Logic Block Library User Guide;
 -- the exact outputs are this project's own.
@@ -80,7 +82,8 @@ brot_effect top mid length inputs m =
     let bits = matrix_bits (words_from m top length) in
     let bit_out = bit_number bits (if inputs.middle then 1 else 16 * length) in
     let bit_in = inputs.bottom && bit_out in
-    let turned = if inputs.middle then left_turned bits bit_in else right_turned (16 * length) bits bit_in in
+    let turned =
+    if inputs.middle then left_turned bits bit_in else right_turned (16 * length) bits bit_in in
     record {
       outputs = record { top = inputs.top; middle = inputs.top && bit_out; bottom = false };
       stored = if inputs.top then with_words m mid (matrix_words turned) else m;

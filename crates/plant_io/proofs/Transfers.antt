@@ -17,5 +17,6 @@ Took-then (Some old) b c xs ys h k =
     next ∙ ap Some (append_assoc old xs ys)
 
 -- a text goes on where the front of it ended
-pub Took-front : (a b c : Option (List ℕ)) (text : List ℕ) (done n : ℕ) → Took a b (take done text) → Took b c (take n (drop done text)) → Took a c (take (done + n) text)
+pub Took-front : (a b c : Option (List ℕ)) (text : List ℕ) (done n : ℕ) → Took a b (take done text) → Took b c (take n (drop done text))
+    → Took a c (take (done + n) text)
 Took-front a b c text done n h k = subst (λ t. Took a c t) (sym (take-add done n text)) (Took-then a b c (take done text) (take n (drop done text)) h k)

@@ -16,7 +16,8 @@ unfolding words_from with_words
 moved-one m source target = refl
 
 -- registers some places on in a run
-pub HasRegisters-at : (m : Contents) (at : Ref) (count k part : ℕ) (r : Ref) → HasRegisters m at count → k + part ≤ count → r ≡ ref_from at k → HasRegisters m r part
+pub HasRegisters-at : (m : Contents) (at : Ref) (count k part : ℕ) (r : Ref) → HasRegisters m at count → k + part ≤ count → r ≡ ref_from at k
+    → HasRegisters m r part
 HasRegisters-at m at count k part r has fits e = subst (λ (q : Ref). HasRegisters m q part) (sym e) (HasRegisters-part m at count k part has fits)
 
 -- the first place that holds a number is here, or behind here
@@ -29,7 +30,8 @@ first_place-step m table n place value h =
     let e = length-words_from m table n in
     let within : place < length words = omega arith in
     ap (position_from (λ word. word == value) place) (drop_more words place 0 within)
-    ∙ ap (λ word. if word == value then Some place else position_from (λ w. w == value) (place + 1) (drop (place + 1) words)) (get_or-words_from m table n place 0 h)
+    ∙ ap (λ word. if word == value then Some place else position_from (λ w. w == value) (place + 1) (drop (place + 1) words))
+    (get_or-words_from m table n place 0 h)
 
 -- here it is
 pub first_place-here : (m : Contents) (table : Ref) (length place value : ℕ) → place < length → word_at m (ref_from table place) ≡ value

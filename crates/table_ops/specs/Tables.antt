@@ -1,5 +1,6 @@
 -- What each block that moves or searches the registers of a table does when it is solved.
-use Rattle.std.specs.Prelude.{ℕ, ◌+◌, ◌-◌, Bool, false, not, ◌&&◌, ◌==◌, nat_lt, nat_le, if◌then◌else◌, List, drop, Option, is_some, option_map, unwrap_or}
+use Rattle.std.specs.Prelude.{ℕ, ◌+◌, ◌-◌, Bool, false, not, ◌&&◌, ◌==◌, nat_lt, nat_le}
+use Rattle.std.specs.Prelude.{if◌then◌else◌, List, drop, Option, is_some, option_map, unwrap_or}
 use Rattle.std.specs.List.{position_from}
 use Rattle.std.specs.FinMap.{insert}
 use Rattle.plant_types.specs.declared.reference.Ref.{Ref}
@@ -64,7 +65,8 @@ table_to_reg_effect top mid length inputs m =
 -- Logic Block Library User Guide; the exact inputs and outputs are this project's own.
 abbrev pub table_to_table_effect : Ref → Ref → ℕ → NodePower → Contents → Effect
 table_to_table_effect top mid length inputs m =
-    table_move (λ place. moved m (ref_from top place) (ref_from (behind mid) place) 1) mid length inputs m
+    table_move (λ place. moved m (ref_from top place) (ref_from (behind mid) place) 1)
+    mid length inputs m
 
 -- BLKM: a whole table into another. Modicon Ladder Logic Block Library User Guide; the exact
 -- inputs and outputs are this project's own.
@@ -87,12 +89,11 @@ first_in_effect top mid length inputs m =
     let count = word_at m mid in
     let takes = inputs.top && nat_lt count length in
     let next = if takes then count + 1 else count in
+    let shifted = moved m (behind mid) (ref_from (behind mid) 1) count in
     record {
       outputs = queue_outputs inputs length next;
       stored =
-          if takes
-          then insert (insert (moved m (behind mid) (ref_from (behind mid) 1) count) (behind mid) (word_at m top)) mid next
-          else m;
+          if takes then insert (insert shifted (behind mid) (word_at m top)) mid next else m;
     }
 
 -- FOUT: the last word of the queue, which came first, leaves it for a register. Modicon Ladder
@@ -118,7 +119,8 @@ abbrev pub search_effect : Ref → Ref → ℕ → NodePower → Contents → Ef
 search_effect top mid length inputs m =
     let start = if inputs.middle then word_at m mid else 0 in
     let found = first_place start (word_at m (behind mid)) (words_from m top length) in
+    let pointer = unwrap_or (option_map (λ place. place + 1) found) 0 in
     record {
       outputs = record { top = inputs.top; middle = inputs.top && is_some found; bottom = false };
-      stored = if inputs.top then insert m mid (unwrap_or (option_map (λ place. place + 1) found) 0) else m;
+      stored = if inputs.top then insert m mid pointer else m;
     }

@@ -38,8 +38,8 @@ struct Case<'a> {
     after: &'a [u16],
 }
 
-/// The numbers of the top and the middle register, the length, the inputs, the registers before; then
-/// the outputs and the registers after.
+/// The numbers of the top and the middle register, the length, the inputs, the registers before;
+/// then the outputs and the registers after.
 type Row<const N: usize> = (u16, u16, u16, u8, [u16; N], u8, [u16; N]);
 
 fn register(number: u16) -> Ref

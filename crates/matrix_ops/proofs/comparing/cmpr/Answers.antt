@@ -7,4 +7,5 @@ use Rattle.matrix_ops.proofs.comparing.cmpr.Goals as goal
 pub register_difference-found-requires-clause-second : goal.register_difference-found-requires-clause-second
 register_difference-found-requires-clause-second g c =
     let m = g.R.RefStore.contents c.args.ram.now in
-    subst (λ (at : Ref). HasRegisters m at c.args.length) (sym c.ref_after.ensures) (HasRegisters-part m c.args.mid (c.args.length + 1) 1 c.args.length c.requires.pointer (omega arith))
+    subst (λ (at : Ref). HasRegisters m at c.args.length) (sym c.ref_after.ensures)
+    (HasRegisters-part m c.args.mid (c.args.length + 1) 1 c.args.length c.requires.pointer (omega arith))

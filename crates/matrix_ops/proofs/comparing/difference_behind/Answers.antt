@@ -8,7 +8,8 @@ pub returns-then-matrix_bit-clause-found : goal.returns-then-matrix_bit-clause-f
 returns-then-matrix_bit-clause-found c =
     let others = get_or (matrix_bits c.args.others.now) c.loop-place.place false in
     let tested =
-    ap (λ (b : Bool). is_apart (b, others)) (sym c.matrix_bit.ensures) ∙ ap (λ (b : Bool). is_apart (c.matrix_bit.result, b)) (sym c.matrix_bit-in-loop-place.ensures)
+    ap (λ (b : Bool). is_apart (b, others)) (sym c.matrix_bit.ensures)
+    ∙ ap (λ (b : Bool). is_apart (c.matrix_bit.result, b)) (sym c.matrix_bit-in-loop-place.ensures)
     ∙ sym (apart_test c.matrix_bit.result c.matrix_bit-in-loop-place.result) ∙ c.if-matrix_bit.true in
     sym (difference-here c.args.words.now c.args.others.now c.loop-place.place c.requires.same (omega arith) tested) ∙ c.loop-place.invariant
 
@@ -16,7 +17,8 @@ pub loop-place-preserved : goal.loop-place-preserved
 loop-place-preserved c =
     let others = get_or (matrix_bits c.args.others.now) c.loop-place.place false in
     let tested =
-    ap (λ (b : Bool). is_apart (b, others)) (sym c.matrix_bit.ensures) ∙ ap (λ (b : Bool). is_apart (c.matrix_bit.result, b)) (sym c.matrix_bit-in-loop-place.ensures)
+    ap (λ (b : Bool). is_apart (b, others)) (sym c.matrix_bit.ensures)
+    ∙ ap (λ (b : Bool). is_apart (c.matrix_bit.result, b)) (sym c.matrix_bit-in-loop-place.ensures)
     ∙ sym (apart_test c.matrix_bit.result c.matrix_bit-in-loop-place.result) ∙ c.if-matrix_bit.false in
     difference-later c.args.words.now c.args.others.now c.loop-place.place c.requires.same (omega arith) tested ∙ c.loop-place.invariant
 
