@@ -27,8 +27,11 @@ within_rows cells column row (suc count) low high =
 within_columns : (network : Network) (column count : ℕ) → AllByRecursion IsColumn (columns_from network column count)
 unfolding columns_from
 within_columns network column zero = tt
-within_columns network column (suc count) =
-    (record { rows = within_rows network.cells column 1 7 (omega arith) (omega arith); shorts = marks-small network.shorts column }, within_columns network (column + 1) count)
+within_columns network column (suc count) = (
+  record { rows = within_rows network.cells column 1 7 (omega arith) (omega arith); shorts = marks-small network.shorts column },
+  within_columns network
+      (column + 1) count,
+)
 
 so_many : (network : Network) (column count : ℕ) → length (columns_from network column count) ≡ count
 unfolding columns_from

@@ -40,7 +40,8 @@ last_row row false h = absurd (Rattle.std.proofs.Common.true≢false (sym h))
 -- an output is live at the right border of its own column, in the rows that it reaches
 live_place : (shorts : List Short) (on : List Place) (column row r : ℕ) (b : Bool) → 1 ≤ row
     → (b ≡ true → row ≤ 7) → 1 ≤ r → r ≤ 7
-    → is_live shorts (if b then record { column = column; row = row } ∷ on else on) column r ≡ (b && are_linked (marks_of shorts column) row r) || is_live shorts on column r
+    → is_live shorts (if b then record { column = column; row = row } ∷ on else on) column r ≡ (b && are_linked (marks_of shorts column) row r)
+    || is_live shorts on column r
 live_place shorts on column row r false low high from to = refl
 live_place shorts on column row r true low high from to = rw (same_column column, are_linked-joined shorts column row r low (high refl) from to) refl
 
@@ -54,7 +55,8 @@ live_output shorts on column row r output low from to = live_place shorts on col
 live_outputs : (shorts : List Short) (on : List Place) (column row r : ℕ) (outputs : NodePower) → 1 ≤ row
     → 1 ≤ r → r ≤ 7
     → is_live shorts (with_outputs outputs column row on) column r
-    ≡ reaches outputs.bottom (marks_of shorts column) (row + 2) r || (reaches outputs.middle (marks_of shorts column) (row + 1) r || (reaches outputs.top (marks_of shorts column) row r || is_live shorts on column r))
+    ≡ reaches outputs.bottom (marks_of shorts column) (row + 2) r
+    || (reaches outputs.middle (marks_of shorts column) (row + 1) r || (reaches outputs.top (marks_of shorts column) row r || is_live shorts on column r))
 live_outputs shorts on column row r outputs low from to =
     let top = with_output outputs.top column row on in
     let middle = with_output outputs.middle column (row + 1) top in
@@ -136,7 +138,9 @@ AgreesPower-outputs shorts column row live next p outputs s first within low sma
     | inl e ↦
         ap (λ k. is_live shorts (with_outputs outputs column row p.on) k r) e
         ∙ live_outputs shorts p.on column row r outputs low from to
-        ∙ ap (λ x. reaches outputs.bottom (marks_of shorts column) (row + 2) r || (reaches outputs.middle (marks_of shorts column) (row + 1) r || (reaches outputs.top (marks_of shorts column) row r || x))) (h.live column r first from to)
+        ∙ ap (λ x. reaches outputs.bottom (marks_of shorts column) (row + 2) r
+        || (reaches outputs.middle (marks_of shorts column) (row + 1) r || (reaches outputs.top (marks_of shorts column) row r || x)))
+        (h.live column r first from to)
         ∙ sym (feeds r from to)
         ∙ ap (λ n. flag_of n r) (sym (ap (λ k. get_or (set live column next) k 0) e ∙ get_or-set_same live column next 0 within))
     | inr other ↦
@@ -173,7 +177,8 @@ inputs_at-flags shorts column row live p first low h =
     λ i. record { top = fed row low i; middle = fed (row + 1) (omega arith) i; bottom = fed (row + 2) (omega arith) i }
 
 -- a whole cell
-pub SolvesSpot-done : (spot : Spot) (live : List ℕ) (next : ℕ) (clock : Clock) (past : Contents) (edges : List Bool) (edge_after : Bool) (old new : Contents) (outputs : NodePower)
+pub SolvesSpot-done : (spot : Spot) (live : List ℕ) (next : ℕ) (clock : Clock) (past : Contents) (edges : List Bool) (edge_after : Bool) (old new : Contents)
+    (outputs : NodePower)
     → 1 ≤ spot.column → spot.column < length live → 1 ≤ spot.row → spot.row ≤ 7 → length edges ≡ 7
     → GivesEffect spot.element (flags_at (get_or live (spot.column - 1) 0) spot.row) clock past (get_or edges (spot.row - 1) false) edge_after old new outputs
     → next ≡ bit_or (get_or live spot.column 0) (fed_rows outputs spot.reaches)
@@ -187,10 +192,16 @@ SolvesSpot-done spot live next clock past edges edge_after old new outputs first
     let s : State = record p.state { map = new; edges = with_place p.state.edges place edge_after } in
     let is : next ≡ bit_or was (fed_rows outputs (three_from (reaches_of marks) row)) = fed ∙ ap (λ xs. bit_or was (fed_rows outputs xs)) same in
     let small : next < 128 = subst (λ n. n < 128) (sym is) (fed_rows-small outputs marks row was (marks-small shorts column) low high (power.small column)) in
-    let feeds : FeedsAll outputs marks row was next = subst (λ n. FeedsAll outputs marks row was n) (sym is) (fed_rows-feeds outputs marks row was (marks-small shorts column) low high) in
+    let feeds : FeedsAll outputs marks row was next = subst (λ n. FeedsAll outputs marks row was n) (sym is)
+    (fed_rows-feeds outputs marks row was (marks-small shorts column) low high) in
     let e : element_at shorts site column row spot.element p ≡ record { state = s; on = with_outputs outputs column row p.on } =
-    rw (inputs_at-flags shorts column row live p first low power, effect place p.state state.map state.past state.clock (edge_at site column row edges start old past clock p.state low state)) refl in (
-      subst (λ q. AgreesPower shorts (set live column next) q) (sym e) (AgreesPower-outputs shorts column row live next p outputs s first within low small power feeds),
+    rw (
+      inputs_at-flags shorts column row live p first low power,
+      effect place p.state state.map state.past state.clock
+          (edge_at site column row edges start old past clock p.state low state),
+    ) refl in (
+      subst (λ q. AgreesPower shorts (set live column next) q) (sym e)
+          (AgreesPower-outputs shorts column row live next p outputs s first within low small power feeds),
       subst (λ (q : Power). AgreesState (is_in_column site column) (row_bit (set edges (row - 1) edge_after)) start new past clock q.state) (sym e)
           (AgreesState-cell site column row edges start old past clock p.state edge_after new low (omega arith) state),
     )

@@ -14,7 +14,8 @@ pub add_column-requires : goal.add_column-requires
 add_column-requires c =
     let eleven = ap length c.as_slice-columns.ensures ∙ c.requires.eleven in
     let within : c.loop-i.i < length c.as_slice-columns.result.now = omega (arith, eleven, c.loop-i-test.true) in
-    all_at_item IsColumn c.as_slice-columns.result.now c.loop-i.i c.index-columns-i.result within c.index-columns-i.is (rw c.as_slice-columns.ensures c.requires.columns)
+    all_at_item IsColumn c.as_slice-columns.result.now c.loop-i.i c.index-columns-i.result within c.index-columns-i.is
+    (rw c.as_slice-columns.ensures c.requires.columns)
 
 pub loop-i-preserved : goal.loop-i-preserved
 loop-i-preserved c =

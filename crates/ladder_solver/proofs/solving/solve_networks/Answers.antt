@@ -13,13 +13,15 @@ loop-i-init g c = record { keeps = λ at h. h; solved = λ networks segment star
 
 pub solve_network-requires : goal.solve_network-requires
 solve_network-requires g c =
-    all_at_item (CanSolveNetwork _ _) c.args.networks.now c.loop-i.i c.index-networks-i.result c.loop-i-test.true c.index-networks-i.is (CanSolveNetworks-kept _ _ _ c.args.networks.now c.loop-i.invariant.keeps c.requires.can_solve)
+    all_at_item (CanSolveNetwork _ _) c.args.networks.now c.loop-i.i c.index-networks-i.result c.loop-i-test.true c.index-networks-i.is
+    (CanSolveNetworks-kept _ _ _ c.args.networks.now c.loop-i.invariant.keeps c.requires.can_solve)
 
 pub loop-i-preserved : goal.loop-i-preserved
 loop-i-preserved g c = record {
   keeps = λ at h. c.solve_network.ensures.keeps at (c.loop-i.invariant.keeps at h);
   solved = λ networks segment start s same h.
-      SolvesNetworks-more networks segment c.loop-i.i c.index-networks-i.result _ _ start _ _ _ _ s (rw same at c.loop-i-test.true) (rw same at c.index-networks-i.is) (omega arith)
+      SolvesNetworks-more networks segment c.loop-i.i c.index-networks-i.result _ _ start _ _ _ _ s (rw same at c.loop-i-test.true)
+      (rw same at c.index-networks-i.is) (omega arith)
       (c.loop-i.invariant.solved networks segment start s same h) c.solve_network.ensures.solved;
 }
 
