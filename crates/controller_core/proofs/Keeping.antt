@@ -1,5 +1,5 @@
 -- What one more step keeps.
-use Rattle.std.proofs.Common.{◌≡◌, ◌≤◌, ◌<◌, ℕ, zero, suc, ◌+◌, ◌-◌, ◌*◌, Bool, true, false, ◌&&◌, List, [], ◌∷◌, ◌++◌, length, drop, Option, Some, None, refl, sym, ap, ◌∙◌, subst, arith, append_assoc, length-append}
+use Rattle.std.proofs.Common.{◌≡◌, ◌≤◌, ◌<◌, ℕ, suc, ◌+◌, ◌-◌, Bool, true, false, ◌&&◌, List, [], ◌∷◌, ◌++◌, length, drop, Option, Some, None, refl, sym, ap, ◌∙◌, subst, arith, append_assoc, length-append}
 use Rattle.std.specs.Prelude.{fold, not}
 use Rattle.std.specs.List.{flat_map, range_with_len}
 use Rattle.std.proofs.lemmas.List.Elements.{filter_map-append}
@@ -10,13 +10,12 @@ use Rattle.scan_order.specs.declared.due.ScanPlace.{ScanPlace}
 use Rattle.scan_order.specs.declared.due.ScanPlace.TheVariants as places
 use Rattle.scan_order.specs.declared.due.ScanStep.{ScanStep}
 use Rattle.scan_order.specs.declared.due.ScanStep.TheVariants as steps
-use Rattle.scan_order.specs.Due.{output_steps, row_steps, rows_from, due_after, rest_after, place_after, IsPlace, IsStep}
+use Rattle.scan_order.specs.Due.{output_steps, row_steps, rows_from, due_after, rest_after, place_after, IsStep}
 use Rattle.controller_core.specs.declared.fixed.Fixed.{Fixed}
 use Rattle.controller_core.specs.declared.entry.Entry.{Entry}
-use Rattle.controller_core.specs.declared.entry.StepEnd.{StepEnd}
 use Rattle.controller_core.specs.declared.entry.StepEnd.TheVariants as ends
 use Rattle.controller_core.specs.declared.machine.Machine.{Machine}
-use Rattle.controller_core.specs.Replay.{State, apply, read_in, replay, start}
+use Rattle.controller_core.specs.Replay.{State, apply, read_in, start}
 use Rattle.controller_core.specs.Event.{entry_of, scan_steps, step_of}
 use Rattle.controller_core.specs.Machine.{state_is, Does, IsSound, IsTimely}
 use Rattle.controller_core.specs.Scans.{all_due, ended_after, ends_scan, is_done, remaining, scans_at, scans_from}

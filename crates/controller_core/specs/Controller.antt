@@ -1,5 +1,5 @@
 -- What contracts see of a controller, which histories are legal, and what a step does.
-use Rattle.std.specs.Prelude.{◌≡◌, ℕ, Bool, true, false, ◌&&◌, not, List, [], ◌∷◌, ◌++◌, length, drop, Option, Some, None}
+use Rattle.std.specs.Prelude.{◌≡◌, Bool, true, false, ◌&&◌, not, List, [], ◌∷◌, ◌++◌, length, drop, Option, Some, None}
 use Rattle.plant_types.specs.Store.{Contents}
 use Rattle.scan_order.specs.declared.due.ScanStep.{ScanStep}
 use Rattle.controller_core.specs.declared.fixed.Fixed.{Fixed}

@@ -1,9 +1,9 @@
-use Rattle.std.proofs.Common.{◌≡◌, true, rules, refl, sym, ap, subst, ◌∙◌}
+use Rattle.std.proofs.Common.{rules, refl, sym, ap, subst, ◌∙◌}
 use Rattle.plant_types.specs.declared.plan.ControllerPlan.{ControllerPlan}
 use Rattle.controller_core.specs.declared.fixed.Fixed.{Fixed}
 use Rattle.controller_core.specs.Replay.{start}
 use Rattle.controller_core.specs.Machine.{IsRunnable}
-use Rattle.controller_core.proofs.Keeping.{kept_as, kept_new}
+use Rattle.controller_core.proofs.Keeping.{kept_new}
 use Rattle.controller_core.proofs.controller.Controller.new.Goals as goal
 
 pub new-requires : goal.new-requires

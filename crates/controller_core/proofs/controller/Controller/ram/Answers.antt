@@ -1,4 +1,4 @@
-use Rattle.std.proofs.Common.{ap, sym, ◌∙◌}
+use Rattle.std.proofs.Common.{ap, ◌∙◌}
 use Rattle.controller_core.specs.Replay.{State, replay}
 use Rattle.controller_core.specs.Controller.{ControllerIs}
 use Rattle.controller_core.proofs.controller.Controller.ram.Goals as goal

@@ -1,15 +1,14 @@
-use Rattle.std.proofs.Common.{◌≡◌, ◌≤◌, ◌<◌, ◌+◌, ℕ, suc, Bool, true, ◌&&◌, List, ◌++◌, ◌∷◌, [], length, sym, ap, ◌∙◌, subst, arith}
+use Rattle.std.proofs.Common.{◌≡◌, true, ◌&&◌, ◌++◌, ◌∷◌, [], length, sym, ap, ◌∙◌, arith}
 use Rattle.std.specs.Prelude.{not}
 use Rattle.std.proofs.lemmas.Grind.{common_steps}
 use Rattle.scan_order.specs.declared.due.ScanPlace.{ScanPlace}
-use Rattle.scan_order.specs.Due.{due_after, place_after}
+use Rattle.scan_order.specs.Due.{due_after}
 use Rattle.controller_core.specs.declared.fixed.Fixed.{Fixed}
 use Rattle.controller_core.specs.declared.entry.Entry.{Entry}
 use Rattle.controller_core.specs.Event.{entry_of}
 use Rattle.controller_core.specs.Machine.{state_is}
 use Rattle.controller_core.specs.Scans.{ends_scan}
 use Rattle.controller_core.specs.Controller.{ControllerIs}
-use Rattle.controller_core.specs.Kept.{IsKept}
 use Rattle.controller_core.proofs.Keeping.{kept_as, kept_step, not_done, room_step, step_made, step_none, timely_enough}
 use Rattle.controller_core.proofs.controller.Controller.step.Goals as goal
 

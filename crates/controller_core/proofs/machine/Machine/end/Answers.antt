@@ -1,8 +1,7 @@
-use Rattle.std.proofs.Common.{◌≡◌, ◌≤◌, length, refl, sym, ap, subst, ◌∙◌, arith}
+use Rattle.std.proofs.Common.{◌≡◌, refl, sym, ap, subst, ◌∙◌, arith}
 use Rattle.plant_types.specs.Checks.{sizes_of}
 use Rattle.plant_types.specs.Sizes.{discretes}
 use Rattle.plant_types.specs.Store.{Contents, Keeps, part_at}
-use Rattle.controller_core.specs.declared.fixed.Fixed.{Fixed}
 use Rattle.controller_core.proofs.machine.Machine.end.Goals as goal
 
 pub copy_from-requires : goal.copy_from-requires

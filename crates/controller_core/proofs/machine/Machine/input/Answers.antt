@@ -3,7 +3,7 @@ use Rattle.plant_types.specs.declared.plan.OrderRow.{OrderRow}
 use Rattle.scan_order.specs.Due.{row_of, input_of}
 use Rattle.controller_core.specs.declared.entry.Entry.TheVariants.{Input}
 use Rattle.controller_core.specs.Replay.{read_in}
-use Rattle.controller_core.specs.Machine.{state_is, NamesDrop}
+use Rattle.controller_core.specs.Machine.{state_is}
 use Rattle.controller_core.proofs.MachineLemmas.{does_nothing, row_fits}
 use Rattle.controller_core.proofs.machine.Machine.input.Goals as goal
 

@@ -1,8 +1,8 @@
-use Rattle.std.proofs.Common.{◌≡◌, ◌≤◌, ℕ, zero, suc, List, length, get_or, replicate, rules, refl, sym, ap, subst, ◌∙◌, arith}
+use Rattle.std.proofs.Common.{◌≡◌, ℕ, zero, suc, List, length, get_or, replicate, rules, refl, sym, ap, subst, ◌∙◌, arith}
 use Rattle.std.proofs.lemmas.List.{length-replicate}
 use Rattle.plant_types.specs.Checks.{sizes_of}
 use Rattle.plant_types.specs.Sizes.{cleared, discretes_of}
-use Rattle.plant_types.specs.Store.{Contents, Keeps}
+use Rattle.plant_types.specs.Store.{Keeps}
 use Rattle.ladder_solver.specs.State.{LadderState}
 use Rattle.controller_core.proofs.machine.Machine.new.Goals as goal
 
