@@ -9,3 +9,6 @@ mod machine;
 pub use controller::Controller;
 pub use entry::{Entry, StepEnd};
 pub use fixed::Fixed;
+
+#[cfg(test)]
+mod tests;

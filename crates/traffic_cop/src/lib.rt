@@ -5,3 +5,6 @@ mod cop;
 mod modules;
 
 pub use cop::{Cop, Health};
+
+#[cfg(test)]
+mod tests;
