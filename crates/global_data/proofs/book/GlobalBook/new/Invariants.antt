@@ -1,0 +1,10 @@
+use Rattle.std.proofs.Common.{◌≡◌, drop, replicate, length, None}
+use Rattle.global_data.specs.Book.{new_book, with_members, book_places}
+use Rattle.global_data.proofs.book.GlobalBook.new.Given as goal
+
+abbrev pub invariant-loop : goal.invariant-loop
+invariant-loop l = l.places.items ≡ replicate l.counter None
+
+abbrev pub invariant-loop-member : goal.invariant-loop-member
+invariant-loop-member l =
+    (length l.places.items ≡ book_places) × (with_members l.places.items (drop l.member-index l.members) ≡ new_book l.members)

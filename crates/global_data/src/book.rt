@@ -1,0 +1,88 @@
+//! A book of the global words, by node.
+ghost use Rattle.std.specs.Prelude.{◌≡◌, ◌≢◌, ◌≤◌, length, IfOk, IfSome, None, Some};
+ghost use Rattle.global_data.specs.Book.{place_at, heard_at, waiting_at, with_put, with_passed, new_book, word_limit};
+
+use crate::words::GlobalWords;
+use std::alloc::{AllocError, Global};
+use std::marker::Model;
+
+// A place for each address that a byte can say.
+const PLACES: usize = 256;
+
+/// The words that each member put, and those that went with its latest token
+/// (*Modbus Plus Network Planning and Installation Guide*).
+#[derive(Drop)]
+pub struct GlobalBook {
+    places: Vec<Option<GlobalWords>>,
+}
+
+impl Model for GlobalBook {
+    ghost use Rattle.std.specs.Prelude.{◌≡◌, length};
+    ghost use Rattle.global_data.specs.Book.{Book, book_places};
+
+    ghost Value = { Book };
+
+    ghost view = { λ b. b.places.items };
+
+    ghost invariant = { λ b. length b.places.items ≡ book_places };
+}
+
+impl GlobalBook {
+    /// A book in which no member has put anything.
+    pub fn new(alloc: Global, members: &[u8]) -> Result<GlobalBook, AllocError>
+        ensures { IfOk result (λ book. book ≡ new_book members.now) }
+    {
+        let mut places = Vec::new(alloc);
+        for _ in 0..PLACES {
+            places.push(None)?;
+        }
+        for member in members {
+            places[*member as usize] = Some(GlobalWords::new());
+        }
+        Ok(GlobalBook { places })
+    }
+
+    /// A member puts words, at most 32. Takes no memory.
+    pub fn put(&mut self, node: u8, words: &[u16])
+        requires member { place_at self.old node ≢ None }
+        requires words { length words.now ≤ word_limit }
+        ensures { self.new ≡ with_put self.old node words.now }
+    {
+        if let Some(place) = &mut self.places[node as usize] {
+            place.put(words);
+        }
+    }
+
+    /// A member passes its token: the words that it has put are heard. Takes no memory.
+    pub fn heard(&mut self, node: u8)
+        requires member { place_at self.old node ≢ None }
+        ensures { self.new ≡ with_passed self.old node }
+    {
+        if let Some(place) = &mut self.places[node as usize] {
+            place.pass();
+        }
+    }
+
+    /// The words that went with a member's latest token; None exactly where it is no member.
+    pub fn get(&self, node: u8) -> Option<&[u16]>
+        ensures words { IfSome result (λ words. heard_at (place_at self.now node) ≡ Some words.now) }
+        ensures fits { IfSome result (λ words. length words.now ≤ word_limit) }
+        ensures none { result ≡ None → place_at self.now node ≡ None }
+    {
+        match &self.places[node as usize] {
+            None => None,
+            Some(place) => Some(place.heard()),
+        }
+    }
+
+    /// The words that go with a member's next token; None exactly where it is no member.
+    pub fn waiting(&self, node: u8) -> Option<&[u16]>
+        ensures words { IfSome result (λ words. waiting_at (place_at self.now node) ≡ Some words.now) }
+        ensures none { result ≡ None → place_at self.now node ≡ None }
+    {
+        match &self.places[node as usize] {
+            None => None,
+            Some(place) => Some(place.waiting()),
+        }
+    }
+}

@@ -1,0 +1,10 @@
+//! Global words: what each node passes with its token.
+#![tactic(auto)]
+
+mod book;
+mod words;
+
+pub use book::GlobalBook;
+
+#[cfg(test)]
+mod tests;

@@ -1,0 +1,62 @@
+//! The global words of one node.
+ghost use Rattle.std.specs.Prelude.{◌≡◌, ◌≤◌, length};
+ghost use Rattle.global_data.specs.Book.{GlobalIs, no_words, word_limit};
+
+use plant_types::Block;
+use std::marker::Model;
+
+// What a node put, and what went with its latest token: at most 32 words each.
+#[derive(Drop)]
+pub(crate) struct GlobalWords {
+    put: Block,
+    heard: Block,
+}
+
+impl Model for GlobalWords {
+    ghost use Rattle.std.specs.Prelude.{◌≤◌, length};
+    ghost use Rattle.global_data.specs.Book.{GlobalIs, word_limit};
+
+    ghost Value = { GlobalIs };
+
+    ghost view = { λ w. record { put = w.put; heard = w.heard } };
+
+    ghost invariant = { λ w. (length w.put ≤ word_limit) × (length w.heard ≤ word_limit) };
+}
+
+impl GlobalWords {
+    pub fn new() -> GlobalWords
+        ensures { result ≡ no_words }
+    {
+        GlobalWords {
+            put: Block::of(&[]),
+            heard: Block::of(&[]),
+        }
+    }
+
+    pub fn put(&mut self, words: &[u16])
+        requires { length words.now ≤ word_limit }
+        ensures { self.new ≡ record { put = words.now; heard = self.old.heard } }
+    {
+        self.put = Block::of(words);
+    }
+
+    pub fn pass(&mut self)
+        ensures { self.new ≡ record { put = self.old.put; heard = self.old.put } }
+    {
+        self.heard = Block::of(self.put.words());
+    }
+
+    pub fn waiting(&self) -> &[u16]
+        ensures words { result.now ≡ self.now.put }
+        ensures fits { length self.now.put ≤ word_limit }
+    {
+        self.put.words()
+    }
+
+    pub fn heard(&self) -> &[u16]
+        ensures words { result.now ≡ self.now.heard }
+        ensures fits { length self.now.heard ≤ word_limit }
+    {
+        self.heard.words()
+    }
+}

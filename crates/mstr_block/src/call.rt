@@ -1,0 +1,101 @@
+//! Calls, their names and their results.
+use plant_types::{Block, Copied};
+use std::alloc::{AllocError, Global};
+
+/// The name of a call: who calls, on which of its paths, and its number there.
+/// The four paths are those of the *Modbus Plus Network Planning and Installation Guide*; paths of
+/// an MSTR call's own station are 0. The number is this project's own.
+#[derive(Clone, Copy, Debug, Drop, PartialEq, Eq)]
+pub struct CallId {
+    /// The caller's address, 1 to 64.
+    pub node: u8,
+    /// 1 to 4, or 0 for a call of the own station.
+    pub path: u8,
+    /// From 1 on, rising.
+    pub seq: u32,
+}
+
+/// What an MSTR block asks for (*Modicon Ladder Logic Block Library User Guide*).
+#[derive(Drop)]
+pub enum MstrAsk {
+    /// These words into the holding registers of another node from `start` on.
+    Write { to: u8, start: u16, words: Block },
+    /// As many holding registers of another node from `start` on.
+    Read { to: u8, start: u16, length: u16 },
+    /// The own statistics.
+    LocalStats,
+    /// The own statistics from zero on.
+    ClearLocal,
+    /// These words, at most 32, with the own token from then on.
+    PutGlobal(Block),
+    /// As many of the words that a node passed with its token.
+    GetGlobal { node: u8, length: u16 },
+    /// The statistics of another node.
+    RemoteStats { to: u8 },
+    /// The statistics of another node from zero on.
+    ClearRemote { to: u8 },
+}
+
+/// A call that an MSTR block started.
+#[derive(Drop)]
+pub struct MstrCall {
+    pub id: CallId,
+    pub ask: MstrAsk,
+}
+
+/// How a call ended: with words, or with an error word.
+#[derive(Drop)]
+pub enum MstrResult {
+    Good(Block),
+    Bad(u16),
+}
+
+impl Copied for CallId {
+    fn copied(&self, _: Global) -> Result<Self, AllocError> {
+        Ok(*self)
+    }
+}
+
+impl Copied for MstrAsk {
+    fn copied(&self, alloc: Global) -> Result<Self, AllocError> {
+        match self {
+            MstrAsk::Write { to, start, words } => Ok(MstrAsk::Write {
+                to: *to,
+                start: *start,
+                words: words.copied(alloc)?,
+            }),
+            MstrAsk::Read { to, start, length } => Ok(MstrAsk::Read {
+                to: *to,
+                start: *start,
+                length: *length,
+            }),
+            MstrAsk::LocalStats => Ok(MstrAsk::LocalStats),
+            MstrAsk::ClearLocal => Ok(MstrAsk::ClearLocal),
+            MstrAsk::PutGlobal(words) => Ok(MstrAsk::PutGlobal(words.copied(alloc)?)),
+            MstrAsk::GetGlobal { node, length } => Ok(MstrAsk::GetGlobal {
+                node: *node,
+                length: *length,
+            }),
+            MstrAsk::RemoteStats { to } => Ok(MstrAsk::RemoteStats { to: *to }),
+            MstrAsk::ClearRemote { to } => Ok(MstrAsk::ClearRemote { to: *to }),
+        }
+    }
+}
+
+impl Copied for MstrCall {
+    fn copied(&self, alloc: Global) -> Result<Self, AllocError> {
+        Ok(MstrCall {
+            id: self.id,
+            ask: self.ask.copied(alloc)?,
+        })
+    }
+}
+
+impl Copied for MstrResult {
+    fn copied(&self, alloc: Global) -> Result<Self, AllocError> {
+        match self {
+            MstrResult::Good(words) => Ok(MstrResult::Good(words.copied(alloc)?)),
+            MstrResult::Bad(word) => Ok(MstrResult::Bad(*word)),
+        }
+    }
+}
