@@ -1,0 +1,7 @@
+pub mod Runs
+pub mod Sound
+pub mod Books
+pub mod Noting
+pub mod Keeping
+pub mod Sending
+pub mod Stability

@@ -1,0 +1,104 @@
+-- What a contract sees of a ring, and what its fields keep. This project's own.
+use Rattle.std.specs.Prelude.{◌+◌, ◌-◌, ◌≡◌, ◌≢◌, ℕ, ◌<◌, ◌≤◌, List, [], ◌∷◌, ◌++◌, length, get_or, set, replicate, All, Option, Some, None, Result, MatchResult, ◌⊎◌, Contains}
+use Rattle.ring_core.specs.Words.{NetPlan, RingEntry, Local, Pass, RingNo, NoMemory, LocalOp, PutGlobal}
+use Rattle.ring_core.specs.Machine.{NodeIs, RingIs, ring_after, opening, addresses, path_places, sources, node_at, path_of, passes_of}
+use Rattle.ring_core.specs.Legal.{IsLegal, IsMember}
+use Rattle.ring_core.specs.Scratch.{Note, all_notes, put_words, heard_words}
+use Rattle.station_stats.specs.Counts.{StatsIs, cleared, noted}
+use Rattle.global_data.specs.Book.{Book, GlobalIs, place_at, with_put, with_passed}
+
+-- The net that it was made for, its history, and for how many entries memory is kept.
+pub record RingLog : Type 0 where
+  pub net : NetPlan
+  pub history : List RingEntry
+  pub spare : ℕ
+
+abbrev pub ring_of : RingLog → RingIs
+ring_of v = ring_after v.net v.history
+
+-- One more entry.
+abbrev pub grown : RingLog → RingEntry → RingLog
+grown v e = record { net = v.net; history = v.history ++ e ∷ []; spare = v.spare }
+
+-- The same, where the entry takes one of the spare.
+abbrev pub closed : RingLog → RingEntry → RingLog
+closed v e = record { net = v.net; history = v.history ++ e ∷ []; spare = v.spare - 1 }
+
+-- A call is refused exactly where this says, and for want of memory only where nothing else
+-- refuses it.
+abbrev pub Answers : {T : Type 0} → Result T RingNo → Option RingNo → Type 0
+Answers r why = MatchResult r (λ _. why ≡ None)
+    (λ refused. (why ≡ Some refused) ⊎ ((refused ≡ NoMemory) × (why ≡ None)))
+
+-- Counters of all stations that run along.
+abbrev pub stats_at : List StatsIs → ℕ → StatsIs
+stats_at stats n = get_or stats n (cleared 0)
+
+abbrev pub noted_at : List StatsIs → Note → List StatsIs
+noted_at stats note = set stats note.node (noted (stats_at stats note.node) note.what)
+
+abbrev pub noted_all : List StatsIs → List Note → List StatsIs
+noted_all stats [] = stats
+noted_all stats (note ∷ notes) = noted_all (noted_at stats note) notes
+
+abbrev pub joined_stats : List StatsIs → List ℕ → List StatsIs
+joined_stats stats [] = stats
+joined_stats stats (m ∷ ms) = joined_stats (set stats m (cleared m)) ms
+
+abbrev pub opening_stats : List ℕ → List StatsIs
+opening_stats members = joined_stats (replicate addresses (cleared 0)) members
+
+abbrev pub stats_after : NetPlan → List RingEntry → List StatsIs
+stats_after net history =
+    noted_all (opening_stats net.members) (all_notes net (opening net) history)
+
+-- The book has what each member put and passed, and nobody else's.
+abbrev pub Says : Option GlobalIs → List ℕ → List ℕ → Type 0
+Says None put heard = heard ≡ []
+Says (Some words) put heard = (words.put ≡ put) × (words.heard ≡ heard)
+
+pub record IsBook (net : NetPlan) (history : List RingEntry) (book : Book) : Type 0 where
+  pub size : length book ≡ 256
+  pub says : (n : ℕ) → Says (place_at book n) (put_words n history) (heard_words n history)
+  pub members : (n : ℕ) → IsMember net n → place_at book n ≢ None
+
+-- The book that runs along.
+abbrev pub book_put : Book → ℕ → LocalOp → Book
+book_put book n (PutGlobal words) = with_put book n words
+book_put book n _ = book
+
+abbrev pub book_step : Book → RingEntry → Book
+book_step book (Local n id op result) = book_put book n op
+book_step book (Pass n done words) = with_passed book n
+book_step book _ = book
+
+-- Sizes and bounds of a node's part after so many entries.
+pub record IsSound (k : ℕ) (c : NodeIs) : Type 0 where
+  pub tries : c.tries ≤ 2
+  pub passes : c.passes ≤ k
+  pub done_run : c.done_run ≤ k
+  pub paths : length c.paths ≡ path_places
+  pub accepted : length c.accepted ≡ sources
+  pub waits : (p : ℕ) → passes_of (path_of c p).awaits ≤ k
+
+pub record IsSoundRing (k : ℕ) (r : RingIs) : Type 0 where
+  pub sent : r.sent ≤ k
+  pub size : length r.nodes ≡ addresses
+  pub each : (n : ℕ) → IsSound k (node_at r n)
+
+-- The fields are the ring, the counters and the book that a legal history leads to.
+pub record IsKept (net : NetPlan) (history : List RingEntry) (ring : RingIs)
+    (stats : List StatsIs) (book : Book) : Type 0 where
+  pub members : All (λ m. m < addresses) net.members
+  pub fates : 0 < length net.fates
+  pub legal : IsLegal net history
+  pub state : ring ≡ ring_after net history
+  pub sound : IsSoundRing (length history) ring
+  pub counters : stats ≡ stats_after net history
+  pub said : IsBook net history book
+
+-- The same, with room for the spare.
+pub record IsWhole (net : NetPlan) (history : List RingEntry) (ring : RingIs)
+    (stats : List StatsIs) (book : Book) (spare capacity : ℕ) : Type 0 where
+  pub kept : IsKept net history ring stats book
+  pub room : length history + spare ≤ capacity

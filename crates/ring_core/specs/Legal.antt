@@ -1,0 +1,75 @@
+-- Legal histories of the ring. This project's own.
+use Rattle.std.specs.Prelude.{◌≡◌, ◌≢◌, ℕ, ◌<◌, ◌≤◌, List, [], ◌∷◌, ◌++◌, length, Option, None, Contains}
+use Rattle.ring_core.specs.Words.{CallId, FrameKind, Request, Reply, Frame, MstrResult, Good, Bad, LocalOp, GetStats, ClearStats, PutGlobal, GetGlobal, RemoteGet, RemoteClear, Heard, Acked, Silent, Busy, LeaveCause, Ended, Spent, Fate, D, L, A, NetPlan, RingEntry, Post, Send, Take, Local, GiveUp, Pass, Leave, RingNo, NotMember, NotHolder, Unsent, Untaken, NotDue, NothingToSend, PathTaken, NotAwaited, NoMemory, Await, Nothing, Out, Arrived, Failed, Path}
+use Rattle.ring_core.specs.Machine.{NodeIs, RingIs, node_at, path_of, fate_at, arrival, heard_of, ring_after}
+use Rattle.ring_core.specs.Refusals.{turn_no, free_no, post_no, send_no, pass_no, leave_no, give_up_no, word_of}
+use Rattle.ring_core.specs.Scratch.{put_words, local_result}
+
+-- A node of the plan, whether or not it has left.
+abbrev pub IsMember : NetPlan → ℕ → Type 0
+IsMember net n = Contains net.members n
+
+-- The four paths of a node. Modbus Plus Network Planning and Installation Guide.
+abbrev pub IsPath : ℕ → Type 0
+IsPath path = (1 ≤ path) × (path ≤ 4)
+
+-- Conditions of a Post: of the frame alone, and of the path.
+abbrev pub IsFrom : ℕ → FrameKind → Frame → Type 0
+IsFrom n Request f = (f.id.node ≡ n) × (f.to ≢ n) × IsPath f.id.path
+IsFrom n Reply f = (f.to ≡ f.id.node) × (f.to ≢ n)
+
+-- A Request's number is above all that were posted on its path.
+abbrev pub IsNext : NodeIs → FrameKind → CallId → Type 0
+IsNext c Request id = (path_of c id.path).posted < id.seq
+IsNext c Reply id = Unit {0}
+
+-- Condition of a Local: at most 32 words are put.
+abbrev pub HasRoom : LocalOp → Type 0
+HasRoom (PutGlobal words) = length words ≤ 32
+HasRoom _ = Unit {0}
+
+-- The first frame of a box.
+abbrev pub IsFirst : List Frame → Frame → Type 0
+IsFirst [] f = ⊥
+IsFirst (g ∷ gs) f = g ≡ f
+
+-- What is told of the first frame.
+abbrev pub IsHeard : NetPlan → RingIs → List Frame → Heard → Type 0
+IsHeard net r [] heard = ⊥
+IsHeard net r (f ∷ fs) heard =
+    let fate = fate_at net.fates r.sent in
+    heard ≡ heard_of fate (arrival r.nodes fate f)
+
+-- What an entry owes by itself, whatever was before.
+abbrev pub IsLawful : NetPlan → RingEntry → Type 0
+IsLawful net (Post n f) = IsMember net n × IsFrom n f.kind f
+IsLawful net (Send n heard) = IsMember net n
+IsLawful net (Take n f) = IsMember net n
+IsLawful net (Local n id op result) = IsMember net n × HasRoom op
+IsLawful net (GiveUp id word) = IsMember net id.node × IsPath id.path
+IsLawful net (Pass n done words) = IsMember net n
+IsLawful net (Leave n cause) = IsMember net n
+
+-- After a history its call is not refused, and its values are those of its effect.
+abbrev pub IsTimely : NetPlan → List RingEntry → RingIs → RingEntry → Type 0
+IsTimely net past r (Post n f) = IsNext (node_at r n) f.kind f.id × (post_no r n f ≡ None)
+IsTimely net past r (Send n heard) =
+    (send_no r n ≡ None) × IsHeard net r (node_at r n).outbox heard
+IsTimely net past r (Take n f) = (turn_no r n ≡ None) × IsFirst (node_at r n).inbox f
+IsTimely net past r (Local n id op result) =
+    (free_no r n ≡ None) × (result ≡ local_result net past n op)
+IsTimely net past r (GiveUp id word) = (give_up_no net r id ≡ None) × (word ≡ word_of r id)
+IsTimely net past r (Pass n done words) = (pass_no r n ≡ None) × (words ≡ put_words n past)
+IsTimely net past r (Leave n cause) = leave_no net r n cause ≡ None
+
+-- An entry is a step after a history.
+abbrev pub IsStep : NetPlan → List RingEntry → RingEntry → Type 0
+IsStep net past e = IsLawful net e × IsTimely net past (ring_after net past) e
+
+-- Entries are steps one after another.
+abbrev pub IsRun : NetPlan → List RingEntry → List RingEntry → Type 0
+IsRun net past [] = Unit {0}
+IsRun net past (e ∷ es) = IsStep net past e × IsRun net (past ++ e ∷ []) es
+
+abbrev pub IsLegal : NetPlan → List RingEntry → Type 0
+IsLegal net history = IsRun net [] history

@@ -1,0 +1,314 @@
+-- The ring as a machine: its state, and what each entry makes of it.
+-- The token, the paths and the boxes are those of the Modbus Plus Network Planning and Installation Guide;
+-- fates, tries, give-ups and leaving are this project's own.
+use Rattle.std.specs.Prelude.{◌≡◌, ℕ, zero, suc, ◌+◌, ◌*◌, ◌<◌, ◌%◌, ◌^◌, Bool, true, false, nat_le, ◌==◌, ◌&&◌, not, if◌then◌else◌, List, [], ◌∷◌, ◌++◌, length, get_or, set, map, drop, filter, replicate, count_by, Option, Some, None}
+use Rattle.ring_core.specs.Words.{CallId, FrameKind, Request, Reply, Frame, MstrResult, Good, Bad, LocalOp, GetStats, ClearStats, PutGlobal, GetGlobal, RemoteGet, RemoteClear, Heard, Acked, Silent, Busy, LeaveCause, Ended, Spent, Fate, D, L, A, NetPlan, RingEntry, Post, Send, Take, Local, GiveUp, Pass, Leave, RingNo, NotMember, NotHolder, Unsent, Untaken, NotDue, NothingToSend, PathTaken, NotAwaited, NoMemory, Await, Nothing, Out, Arrived, Failed, Path, Fell, AcceptedRequest, RepeatedRequest, CrowdedOut, AcceptedReply, DroppedReply, is_request, asks, asks_for}
+
+-- A node's part. A path is found by its number, and the greatest accepted number by its source.
+pub record NodeIs : Type 0 where
+  pub here : Bool
+  pub outbox : List Frame
+  pub tries : ℕ
+  pub inbox : List Frame
+  pub passes : ℕ
+  pub done_run : ℕ
+  pub paths : List Path
+  pub accepted : List ℕ
+
+-- The ring: who holds the token, how many transmissions there were, and each node's part at its address.
+pub record RingIs : Type 0 where
+  pub holder : ℕ
+  pub sent : ℕ
+  pub nodes : List NodeIs
+
+-- Addresses are 1 to 64.
+abbrev pub addresses : ℕ
+addresses = 65
+
+-- Paths are 1 to 4, and 0 for calls of the own station.
+abbrev pub path_places : ℕ
+path_places = 5
+
+abbrev pub sources : ℕ
+sources = 325
+
+-- The source of a Request: who asks, and on which path.
+abbrev pub source_of : CallId → ℕ
+source_of id = path_places * id.node + id.path
+
+abbrev pub no_path : Path
+no_path = record { awaits = Nothing; posted = 0 }
+
+abbrev pub fresh : Bool → NodeIs
+fresh here = record {
+  here = here;
+  outbox = [];
+  tries = 0;
+  inbox = [];
+  passes = 0;
+  done_run = 0;
+  paths = replicate path_places no_path;
+  accepted = replicate sources 0;
+}
+
+abbrev pub part_of : List NodeIs → ℕ → NodeIs
+part_of nodes n = get_or nodes n (fresh false)
+
+-- A node's part.
+abbrev pub node_at : RingIs → ℕ → NodeIs
+node_at r n = part_of r.nodes n
+
+-- A path of a node.
+abbrev pub path_of : NodeIs → ℕ → Path
+path_of c path = get_or c.paths path no_path
+
+abbrev pub with_node : RingIs → ℕ → NodeIs → RingIs
+with_node r n c = record r { nodes = set r.nodes n c }
+
+-- The number that a path awaits; 0 for none.
+abbrev pub number_of : Await → ℕ
+number_of Nothing = 0
+number_of (Out seq to passes) = seq
+number_of (Arrived seq) = seq
+number_of (Failed seq word) = seq
+
+-- A path awaits something else.
+abbrev pub awaiting : NodeIs → ℕ → Await → List Path
+awaiting c path awaits =
+    set c.paths path (record { awaits = awaits; posted = (path_of c path).posted })
+
+-- Post: the frame goes last in the outbox, and a Request's path is out.
+abbrev pub asked : NodeIs → FrameKind → CallId → ℕ → List Path
+asked c Request id to =
+    set c.paths id.path (record { awaits = Out id.seq to 0; posted = id.seq })
+asked c Reply id to = c.paths
+
+abbrev pub posted : NodeIs → Frame → NodeIs
+posted c f = record c {
+  outbox = c.outbox ++ f ∷ [];
+  paths = asked c f.kind f.id f.to;
+}
+
+-- Take: the first frame leaves the inbox, and a Reply's path awaits nothing.
+abbrev pub answered : NodeIs → FrameKind → ℕ → List Path
+answered c Request path = c.paths
+answered c Reply path = awaiting c path Nothing
+
+abbrev pub took : NodeIs → FrameKind → CallId → NodeIs
+took c kind id = record c {
+  inbox = drop 1 c.inbox;
+  paths = answered c kind id.path;
+}
+
+-- GiveUp: the path awaits nothing, and its frame leaves the outbox.
+abbrev pub is_head : CallId → List Frame → Bool
+is_head id [] = false
+is_head id (f ∷ fs) = asks_for id f
+
+abbrev pub gave_up : NodeIs → CallId → NodeIs
+gave_up c id = record c {
+  outbox = filter (λ f. not (asks_for id f)) c.outbox;
+  tries = if is_head id c.outbox then 0 else c.tries;
+  paths = awaiting c id.path Nothing;
+}
+
+-- Pass: each path that is out has waited one Pass more.
+abbrev pub aged_await : Await → Await
+aged_await Nothing = Nothing
+aged_await (Out seq to passes) = Out seq to (passes + 1)
+aged_await (Arrived seq) = Arrived seq
+aged_await (Failed seq word) = Failed seq word
+
+abbrev pub aged : Path → Path
+aged path = record { awaits = aged_await path.awaits; posted = path.posted }
+
+abbrev pub passed : NodeIs → Bool → NodeIs
+passed c done = record c {
+  passes = c.passes + 1;
+  done_run = if done then c.done_run + 1 else 0;
+  paths = map aged c.paths;
+}
+
+abbrev pub passes_of : Await → ℕ
+passes_of Nothing = 0
+passes_of (Out seq to passes) = passes
+passes_of (Arrived seq) = 0
+passes_of (Failed seq word) = 0
+
+abbrev pub CanAge : Path → Type 0
+CanAge path = passes_of path.awaits + 1 < 2 ^ 64
+
+-- Leave: the node is no member from then on, and its inbox is emptied.
+abbrev pub gone : NodeIs → NodeIs
+gone c = record c { here = false; inbox = [] }
+
+-- The least member from a place on; 0 where there is none.
+abbrev pub least_from : List NodeIs → ℕ → ℕ
+least_from [] at = 0
+least_from (c ∷ cs) at = if c.here then at else least_from cs (at + 1)
+
+abbrev pub or_else : ℕ → ℕ → ℕ
+or_else zero b = b
+or_else (suc a) b = suc a
+
+-- The successor: the least member above a node, else the least.
+abbrev pub successor : List NodeIs → ℕ → ℕ
+successor nodes n = or_else (least_from (drop (n + 1) nodes) (n + 1)) (least_from nodes 0)
+
+-- The fate of a transmission, by how many there were before it.
+abbrev pub fate_at : List Fate → ℕ → Fate
+fate_at fates sent = get_or fates (sent % length fates) D
+
+abbrev pub reaches : Fate → Bool
+reaches D = true
+reaches L = false
+reaches A = true
+
+abbrev pub told : Fate → Heard → Heard
+told D heard = heard
+told L heard = Silent
+told A heard = Silent
+
+-- A frame arrives where its target is a member and the letter lets it through.
+abbrev pub arrives : List NodeIs → Fate → ℕ → Bool
+arrives nodes fate to = if (part_of nodes to).here then reaches fate else false
+
+-- A number that was accepted of its source already, or a lower one.
+abbrev pub is_repeat : NodeIs → CallId → Bool
+is_repeat c id = nat_le id.seq (get_or c.accepted (source_of id) 0)
+
+-- Four Requests are in the inbox.
+abbrev pub is_full : NodeIs → Bool
+is_full c = nat_le 4 (count_by is_request c.inbox)
+
+-- The path is out with this number.
+abbrev pub waits_for : Await → ℕ → Bool
+waits_for Nothing seq = false
+waits_for (Out out to passes) seq = out == seq
+waits_for (Arrived out) seq = false
+waits_for (Failed out word) seq = false
+
+-- What becomes of a frame that arrives.
+-- The first case that fits.
+abbrev pub fell : NodeIs → FrameKind → CallId → Fell
+fell c Request id =
+    if is_repeat c id then RepeatedRequest else if is_full c then CrowdedOut else AcceptedRequest
+fell c Reply id =
+    if waits_for (path_of c id.path).awaits id.seq then AcceptedReply else DroppedReply
+
+abbrev pub with_frame : NodeIs → Fell → Frame → NodeIs
+with_frame c AcceptedRequest f = record c {
+  inbox = c.inbox ++ f ∷ [];
+  accepted = set c.accepted (source_of f.id) f.id.seq;
+}
+with_frame c RepeatedRequest f = c
+with_frame c CrowdedOut f = c
+with_frame c AcceptedReply f = record c {
+  inbox = c.inbox ++ f ∷ [];
+  paths = awaiting c f.id.path (Arrived f.id.seq);
+}
+with_frame c DroppedReply f = c
+
+-- What the sender is told of it with the letter D.
+abbrev pub told_of : Fell → Heard
+told_of AcceptedRequest = Acked
+told_of RepeatedRequest = Acked
+told_of CrowdedOut = Busy
+told_of AcceptedReply = Acked
+told_of DroppedReply = Acked
+
+-- What becomes of a frame; None where it does not arrive.
+abbrev pub arrival : List NodeIs → Fate → Frame → Option Fell
+arrival nodes fate f =
+    if arrives nodes fate f.to then Some (fell (part_of nodes f.to) f.kind f.id) else None
+
+abbrev pub heard_of : Fate → Option Fell → Heard
+heard_of fate None = Silent
+heard_of fate (Some fall) = told fate (told_of fall)
+
+abbrev pub arrived : List NodeIs → Frame → Option Fell → List NodeIs
+arrived nodes f None = nodes
+arrived nodes f (Some fall) = set nodes f.to (with_frame (part_of nodes f.to) fall f)
+
+-- What the sender makes of what it was told: the third Silent of a frame is the last.
+abbrev pub failed : NodeIs → FrameKind → CallId → ℕ → List Path
+failed c Request id word = awaiting c id.path (Failed id.seq word)
+failed c Reply id word = c.paths
+
+abbrev pub sent_off : NodeIs → List Path → NodeIs
+sent_off c paths = record c { outbox = drop 1 c.outbox; tries = 0; paths = paths }
+
+-- The word of a target that says nothing: 6101 for a member, 6103 for none.
+abbrev pub silence_word : Bool → ℕ
+silence_word there = if there then 0x6101 else 0x6103
+
+abbrev pub busy_word : ℕ
+busy_word = 0x6105
+
+abbrev pub heard_by : NodeIs → FrameKind → CallId → Bool → Heard → NodeIs
+heard_by c kind id there Acked = sent_off c c.paths
+heard_by c kind id there Busy = sent_off c (failed c kind id busy_word)
+heard_by c kind id there Silent =
+    if nat_le 2 c.tries
+    then sent_off c (failed c kind id (silence_word there))
+    else record c { tries = c.tries + 1 }
+
+-- Send: the head frame of the outbox is transmitted.
+abbrev pub sent_with : RingIs → ℕ → Frame → Fate → Option Fell → RingIs
+sent_with r n f fate fall =
+    let nodes = arrived r.nodes f fall in
+    let there = (node_at r f.to).here in
+    record {
+      holder = r.holder;
+      sent = r.sent + 1;
+      nodes = set nodes n (heard_by (part_of nodes n) f.kind f.id there (heard_of fate fall));
+    }
+
+abbrev pub sent_one : NetPlan → RingIs → ℕ → Frame → RingIs
+sent_one net r n f =
+    let fate = fate_at net.fates r.sent in
+    sent_with r n f fate (arrival r.nodes fate f)
+
+abbrev pub sent_head : NetPlan → RingIs → ℕ → List Frame → RingIs
+sent_head net r n [] = r
+sent_head net r n (f ∷ fs) = sent_one net r n f
+
+-- The ring after a node left; the leaver is asked for no successor.
+abbrev pub left_by : RingIs → List NodeIs → ℕ → RingIs
+left_by r nodes n = record { holder = successor nodes n; sent = r.sent; nodes = nodes }
+
+-- The ring after an entry.
+abbrev pub after : NetPlan → RingIs → RingEntry → RingIs
+after net r (Post n f) = with_node r n (posted (node_at r n) f)
+after net r (Send n heard) = sent_head net r n (node_at r n).outbox
+after net r (Take n f) = with_node r n (took (node_at r n) f.kind f.id)
+after net r (Local n id op result) = r
+after net r (GiveUp id word) = with_node r id.node (gave_up (node_at r id.node) id)
+after net r (Pass n done words) = record {
+  holder = successor r.nodes n;
+  sent = r.sent;
+  nodes = set r.nodes n (passed (node_at r n) done);
+}
+after net r (Leave n cause) = left_by r (set r.nodes n (gone (node_at r n))) n
+
+-- The ring after a list of entries.
+abbrev pub after_all : NetPlan → RingIs → List RingEntry → RingIs
+after_all net r [] = r
+after_all net r (e ∷ es) = after_all net (after net r e) es
+
+-- The ring at first: all members are there, and the least holds the token.
+abbrev pub joined : List NodeIs → List ℕ → List NodeIs
+joined nodes [] = nodes
+joined nodes (m ∷ ms) = joined (set nodes m (fresh true)) ms
+
+abbrev pub opening_nodes : List ℕ → List NodeIs
+opening_nodes members = joined (replicate addresses (fresh false)) members
+
+abbrev pub opening : NetPlan → RingIs
+opening net =
+    let nodes = opening_nodes net.members in
+    record { holder = least_from nodes 0; sent = 0; nodes = nodes }
+
+-- The ring after a history.
+abbrev pub ring_after : NetPlan → List RingEntry → RingIs
+ring_after net history = after_all net (opening net) history

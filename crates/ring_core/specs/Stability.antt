@@ -1,0 +1,43 @@
+-- What the entries of others leave as it was. This project's own.
+use Rattle.std.specs.Prelude.{◌≡◌, ◌≢◌, ℕ, Bool, true, false, List, [], ◌∷◌, ◌++◌}
+use Rattle.ring_core.specs.Words.{NetPlan, RingEntry, Post, Send, Take, Local, GiveUp, Pass, Leave, maker}
+use Rattle.ring_core.specs.Machine.{RingIs, node_at, ring_after}
+use Rattle.ring_core.specs.Refusals.{quiet_for}
+use Rattle.ring_core.specs.Legal.{IsRun}
+
+-- No entry of this node.
+abbrev pub NoneBy : ℕ → List RingEntry → Type 0
+NoneBy n [] = Unit {0}
+NoneBy n (e ∷ es) = (maker e ≢ n) × NoneBy n es
+
+-- Who holds the token, a node's boxes and paths, and for how long all have been done.
+pub record Stays (r s : RingIs) (n : ℕ) : Type 0 where
+  pub holder : s.holder ≡ r.holder
+  pub part : node_at s n ≡ node_at r n
+  pub quiet : quiet_for s n ≡ quiet_for r n
+
+-- While a node holds the token, the entries of others leave all of this.
+abbrev pub HolderStays : Type 0
+HolderStays = (net : NetPlan) (past more : List RingEntry) (n : ℕ) → IsRun net past more →
+    (ring_after net past).holder ≡ n → NoneBy n more →
+    Stays (ring_after net past) (ring_after net (past ++ more)) n
+
+-- While a node has left, the entries of others leave its boxes and paths.
+abbrev pub LeftStays : Type 0
+LeftStays = (net : NetPlan) (past more : List RingEntry) (n : ℕ) →
+    (node_at (ring_after net past) n).here ≡ false → NoneBy n more →
+    node_at (ring_after net (past ++ more)) n ≡ node_at (ring_after net past) n
+
+abbrev pub IsLeave : ℕ → RingEntry → Type 0
+IsLeave n (Leave m cause) = m ≡ n
+IsLeave n _ = ⊥
+
+abbrev pub NoLeave : ℕ → List RingEntry → Type 0
+NoLeave n [] = Unit {0}
+NoLeave n (e ∷ es) = (IsLeave n e → ⊥) × NoLeave n es
+
+-- Only its own Leave makes a node leave.
+abbrev pub MemberStays : Type 0
+MemberStays = (net : NetPlan) (past more : List RingEntry) (n : ℕ) →
+    (node_at (ring_after net past) n).here ≡ true → NoLeave n more →
+    (node_at (ring_after net (past ++ more)) n).here ≡ true

@@ -1,0 +1,85 @@
+//! The counters of all stations.
+ghost use Rattle.std.specs.Prelude.{◌≡◌, ◌==◌, ◌≢◌, ◌<◌, length, ◌∷◌, [], None};
+ghost use Rattle.ring_core.specs.Scratch.{counts, arrival_notes, local_note, owner_event};
+ghost use Rattle.ring_core.specs.Kept.{stats_at, noted_at, noted_all, book_put};
+ghost use Rattle.ring_core.specs.Legal.{HasRoom};
+ghost use Rattle.global_data.specs.Book.{place_at};
+ghost use Rattle.station_stats.specs.Counts.StatNote.{Cleared};
+ghost use Rattle.station_stats.specs.Counts.{words_of};
+
+use crate::arrival::{Fell, arrival_event};
+use crate::entry::LocalOp;
+use global_data::GlobalBook;
+use mstr_block::CallId;
+use station_stats::{StatEvent, Stats};
+
+// A station counts an event.
+pub(crate) fn count(stats: &mut Vec<Stats>, node: u8, event: StatEvent)
+    ensures { stats.new.items ≡ noted_at stats.old.items (counts node event) }
+{
+    let at = node as usize;
+    if at < stats.len() {
+        stats[at].note(event);
+    }
+}
+
+// A station counts from zero on.
+pub(crate) fn clear(stats: &mut Vec<Stats>, node: u8)
+    ensures { stats.new.items ≡ noted_at stats.old.items (record { node = node; what = Cleared }) }
+{
+    let at = node as usize;
+    if at < stats.len() {
+        stats[at].clear();
+    }
+}
+
+// The target of a frame counts what became of it.
+pub(crate) fn count_arrival(stats: &mut Vec<Stats>, to: u8, fell: Option<Fell>)
+    ensures { stats.new.items ≡ noted_all stats.old.items (arrival_notes to fell) }
+{
+    if let Some(fell) = fell {
+        if let Some(event) = arrival_event(fell) {
+            count(stats, to, event);
+        }
+    }
+}
+
+fn owner_event(own: bool) -> StatEvent
+    ensures { result ≡ owner_event own }
+{
+    if own {
+        StatEvent::OwnLocal
+    } else {
+        StatEvent::OtherLocal
+    }
+}
+
+// A station counts a Local, or a clear clears.
+pub(crate) fn count_local(stats: &mut Vec<Stats>, node: u8, id: CallId, op: &LocalOp)
+    ensures { stats.new.items ≡
+        noted_at stats.old.items (record { node = node; what = local_note node id op.now }) }
+{
+    match op {
+        LocalOp::ClearStats | LocalOp::RemoteClear => clear(stats, node),
+        _ => count(stats, node, owner_event(id.node == node)),
+    }
+}
+
+// The statistics words of a station.
+pub(crate) fn station_words(stats: &[Stats], node: u8, members: u16, passed: u16) -> [u16; 20]
+    requires { node < length stats.now }
+    ensures { result ≡ words_of (stats_at stats.now node) members passed }
+{
+    stats[node as usize].words(members, passed)
+}
+
+// A PutGlobal puts its words.
+pub(crate) fn put_global(book: &mut GlobalBook, node: u8, op: &LocalOp)
+    requires member { place_at book.old node ≢ None }
+    requires room { HasRoom op.now }
+    ensures { book.new ≡ book_put book.old node op.now }
+{
+    if let LocalOp::PutGlobal(words) = op {
+        book.put(node, words.words());
+    }
+}

@@ -1,0 +1,74 @@
+//! What happens on the ring.
+use crate::frame::Frame;
+use mstr_block::{CallId, MstrResult};
+use plant_types::Words;
+
+/// A call that concerns the own station, or one that another node asked for
+/// (*Modicon Ladder Logic Block Library User Guide*).
+#[derive(Drop)]
+pub enum LocalOp {
+    GetStats,
+    ClearStats,
+    /// At most 32 words.
+    PutGlobal(Words),
+    GetGlobal { node: u8, length: u16 },
+    /// The statistics for another node.
+    RemoteGet,
+    RemoteClear,
+}
+
+/// What a sender is told of its transmission.
+#[derive(Clone, Copy, Debug, Drop, PartialEq, Eq)]
+pub enum Heard {
+    Acked,
+    Silent,
+    /// The target's inbox is full.
+    Busy,
+}
+
+/// Why a node leaves. This project's own.
+#[derive(Clone, Copy, Debug, Drop, PartialEq, Eq)]
+pub enum LeaveCause {
+    /// All members have had nothing to do for some rounds.
+    Ended,
+    /// Its Passes are used up.
+    Spent,
+}
+
+/// One thing that happened on the ring.
+#[derive(Drop)]
+pub enum RingEntry {
+    Post {
+        node: u8,
+        frame: Frame,
+    },
+    Send {
+        node: u8,
+        heard: Heard,
+    },
+    Take {
+        node: u8,
+        frame: Frame,
+    },
+    Local {
+        node: u8,
+        id: CallId,
+        op: LocalOp,
+        result: MstrResult,
+    },
+    /// The caller's node is that of the id.
+    GiveUp {
+        id: CallId,
+        word: u16,
+    },
+    /// `words` are the global words that go with the token.
+    Pass {
+        node: u8,
+        done: bool,
+        words: Words,
+    },
+    Leave {
+        node: u8,
+        cause: LeaveCause,
+    },
+}

@@ -1,0 +1,18 @@
+//! What holds of all legal histories.
+ghost use Rattle.ring_core.specs.Stability.{HolderStays, LeftStays, MemberStays};
+
+/// While a node holds the token, no entry of another changes the holder, the node's boxes and
+/// paths, or for how long all members have been done.
+pub fn holder_stays()
+    ensures { HolderStays }
+{}
+
+/// While a node has left, no entry of another changes its boxes and paths.
+pub fn left_stays()
+    ensures { LeftStays }
+{}
+
+/// Only its own Leave makes a node leave.
+pub fn member_stays()
+    ensures { MemberStays }
+{}

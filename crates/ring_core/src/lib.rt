@@ -1,0 +1,25 @@
+//! The Modbus Plus token ring as a machine: who holds the token, and what becomes of each frame.
+#![tactic(auto)]
+
+mod arrival;
+mod copied;
+mod counting;
+mod entry;
+mod frame;
+mod global;
+mod history;
+mod laws;
+mod members;
+mod node;
+mod opening;
+mod path;
+mod refusal;
+mod ring;
+mod stats_request;
+
+pub use entry::{Heard, LeaveCause, LocalOp, RingEntry};
+pub use frame::{Frame, FrameKind};
+pub use laws::{holder_stays, left_stays, member_stays};
+pub use refusal::RingNo;
+pub use ring::Ring;
+pub use stats_request::is_stats;

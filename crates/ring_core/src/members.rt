@@ -1,0 +1,104 @@
+//! What is read of all nodes: who is a member, and who comes next.
+ghost use Rattle.std.specs.Prelude.{◌≡◌, ◌≤◌, ◌+◌, length, drop, get_or, IfSome, IfErr, OnOk, None, Some};
+ghost use Rattle.ring_core.specs.Machine.{least_from, successor, part_of, arrival, arrived, fresh};
+ghost use Rattle.ring_core.specs.Refusals.{least_done, least_of};
+ghost use Rattle.ring_core.specs.Scratch.{is_here, count_members};
+
+use crate::arrival::{Fell, reaches};
+use crate::frame::Frame;
+use crate::node::Node;
+use crate::refusal::RingNo;
+use plant_types::Fate;
+
+// The least member from a place on, or 0.
+pub(crate) fn least_from(nodes: &[Node], from: usize) -> u8
+    requires { length nodes.now ≤ 256 }
+    ensures { result ≡ least_from (drop from nodes.now) from }
+{
+    for at in from..nodes.len() {
+        if nodes[at].is_here() {
+            return at as u8;
+        }
+    }
+    0
+}
+
+// Who holds the token after a node.
+pub(crate) fn successor(nodes: &[Node], node: u8) -> u8
+    requires { length nodes.now ≤ 256 }
+    ensures { result ≡ successor nodes.now node }
+{
+    let above = least_from(nodes, node as usize + 1);
+    if above == 0 {
+        least_from(nodes, 0)
+    } else {
+        above
+    }
+}
+
+pub(crate) fn is_here(nodes: &[Node], node: u8) -> bool
+    ensures { result ≡ (part_of nodes.now node).here }
+{
+    let at = node as usize;
+    at < nodes.len() && nodes[at].is_here()
+}
+
+// How many members there are.
+pub(crate) fn members_now(nodes: &[Node]) -> usize
+    ensures count { result ≡ count_members nodes.now }
+    ensures fits { result ≤ length nodes.now }
+{
+    nodes.iter().filter(|node| node.is_here()).count()
+}
+
+// The least number of latest Passes in a row that said done, over the members.
+pub(crate) fn least_done(nodes: &[Node]) -> Option<u64>
+    ensures { result ≡ least_done nodes.now }
+{
+    let mut least = None;
+    let mut at = nodes.len();
+    while at > 0 {
+        at -= 1;
+        if nodes[at].is_here() {
+            least = Some(lower(nodes[at].done_run(), least));
+        }
+    }
+    least
+}
+
+// The lesser of a number and another, if there is another.
+fn lower(number: u64, other: Option<u64>) -> u64
+    ensures { result ≡ least_of number other }
+{
+    match other {
+        None => number,
+        Some(other) => number.min(other),
+    }
+}
+
+// What becomes of a frame; None where it does not arrive.
+pub(crate) fn arrival(nodes: &[Node], fate: Fate, frame: &Frame) -> Option<Fell>
+    ensures { result ≡ arrival nodes.now fate frame.now }
+{
+    let at = frame.to as usize;
+    if at >= nodes.len() || !nodes[at].is_here() || !reaches(fate) {
+        return None;
+    }
+    Some(nodes[at].fell(frame.kind, frame.id))
+}
+
+// A frame comes to its target, if it arrives.
+pub(crate) fn settle(nodes: &mut Vec<Node>, frame: Frame, fell: Option<Fell>) -> Result<(), RingNo>
+    ensures ok { OnOk result (nodes.new.items ≡ arrived nodes.old.items frame fell) }
+    ensures err { IfErr result
+        (λ why. (why ≡ RingNo.NoMemory) × (nodes.new.items ≡ nodes.old.items)) }
+{
+    let Some(fell) = fell else {
+        return Ok(());
+    };
+    let at = frame.to as usize;
+    if at >= nodes.len() {
+        return Ok(());
+    }
+    nodes[at].receive(fell, frame)
+}

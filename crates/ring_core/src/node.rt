@@ -1,0 +1,376 @@
+//! A node's part of the ring.
+ghost use Rattle.std.specs.Prelude.{◌≡◌, ◌<◌, ◌+◌, ◌^◌, ℕ, List, [], ◌∷◌, ◌++◌, length, get_or, set, drop, filter, not, true, false, OnOk, OnErr, IfOk, IfSome, IfErr, None, MatchOption, All};
+ghost use Rattle.ring_core.specs.Machine.{NodeIs, posted, took, passed, gone, fresh, path_of, no_path, number_of, CanAge, is_repeat, is_full, waits_for, fell, with_frame, heard_by, sent_off, failed, gave_up, is_head, silence_word};
+ghost use Rattle.ring_core.specs.Refusals.{path_no, boxes_no, empty_no};
+ghost use Rattle.ring_core.specs.Legal.{IsFirst};
+ghost use Rattle.ring_core.specs.Words.{asks_for};
+
+use crate::arrival::Fell;
+use crate::entry::Heard;
+use crate::frame::{Frame, FrameKind};
+use crate::path::{Await, Path, no_path};
+use crate::refusal::RingNo;
+use mstr_block::CallId;
+use plant_types::Copied;
+use std::alloc::{AllocError, Global};
+use std::collections::VecDeque;
+use std::marker::Model;
+
+// How often a frame is transmitted at most without being acknowledged, less one.
+const LAST_TRY: u8 = 2;
+
+// The most Requests in an inbox.
+const INBOX_LIMIT: usize = 4;
+
+#[derive(Drop)]
+pub(crate) struct Node {
+    here: bool,
+    outbox: VecDeque<Frame>,
+    tries: u8,
+    inbox: VecDeque<Frame>,
+    passes: u64,
+    done_run: u64,
+    paths: Vec<Path>,
+    accepted: Vec<u32>,
+}
+
+impl Model for Node {
+    ghost use Rattle.ring_core.specs.Machine.{NodeIs};
+
+    ghost Value = { NodeIs };
+
+    ghost view = { λ n. record {
+      here = n.here;
+      outbox = n.outbox.items;
+      tries = n.tries;
+      inbox = n.inbox.items;
+      passes = n.passes;
+      done_run = n.done_run;
+      paths = n.paths.items;
+      accepted = n.accepted.items;
+    } };
+}
+
+// The path after a Request was posted on it.
+fn asked_path(seq: u32, to: u8) -> Path
+    ensures { result ≡ record { awaits = Await.Out seq to 0; posted = seq } }
+{
+    Path {
+        awaits: Await::Out { seq, to, passes: 0 },
+        posted: seq,
+    }
+}
+
+// A path awaits something else, if it is there.
+fn set_await(paths: &mut Vec<Path>, path: u8, awaits: Await)
+    ensures { paths.new.items ≡ set paths.old.items path
+        (record { awaits = awaits; posted = (get_or paths.old.items path no_path).posted }) }
+{
+    let path = path as usize;
+    if path < paths.len() {
+        paths[path].awaits = awaits;
+    }
+}
+
+// The Request of a call leaves an outbox.
+fn drop_request(outbox: &mut VecDeque<Frame>, id: CallId)
+    ensures { outbox.new.items ≡ filter (λ f. not (asks_for id f)) outbox.old.items }
+{
+    outbox.retain(|frame| !frame.asks_for(id));
+}
+
+impl Node {
+    pub fn new(alloc: Global, here: bool) -> Result<Node, AllocError>
+        ensures { IfOk result (λ node. node ≡ fresh here) }
+    {
+        Ok(Node {
+            here,
+            outbox: VecDeque::new(alloc),
+            tries: 0,
+            inbox: VecDeque::new(alloc),
+            passes: 0,
+            done_run: 0,
+            paths: vec![in alloc; no_path(); 5]?,
+            accepted: vec![in alloc; 0; 325]?,
+        })
+    }
+
+    pub fn is_here(&self) -> bool
+        ensures { result ≡ self.now.here }
+    {
+        self.here
+    }
+
+    pub fn passes(&self) -> u64
+        ensures { result ≡ self.now.passes }
+    {
+        self.passes
+    }
+
+    pub fn done_run(&self) -> u64
+        ensures { result ≡ self.now.done_run }
+    {
+        self.done_run
+    }
+
+    // What a path awaits; nothing where there is no such path.
+    pub fn awaits(&self, path: u8) -> Await
+        ensures { result ≡ (path_of self.now path).awaits }
+    {
+        let path = path as usize;
+        if path < self.paths.len() {
+            self.paths[path].awaits
+        } else {
+            Await::Nothing
+        }
+    }
+
+    pub fn path_no(&self, kind: FrameKind, path: u8) -> Option<RingNo>
+        ensures { result ≡ path_no self.now kind path }
+    {
+        match kind {
+            FrameKind::Request => self.awaits(path).taken_no(),
+            FrameKind::Reply => None,
+        }
+    }
+
+    pub fn boxes_no(&self) -> Option<RingNo>
+        ensures { result ≡ boxes_no self.now }
+    {
+        let unsent = self.outbox.len();
+        if unsent > 0 {
+            return Some(RingNo::Unsent(unsent as u64));
+        }
+        let untaken = self.inbox.len();
+        if untaken > 0 {
+            return Some(RingNo::Untaken(untaken as u64));
+        }
+        None
+    }
+
+    pub fn post(&mut self, frame: Frame) -> Result<(), RingNo>
+        requires path { frame.kind ≡ FrameKind.Request → frame.id.path < length self.old.paths }
+        ensures ok { OnOk result (self.new ≡ posted self.old frame) }
+        ensures err { IfErr result (λ why. (why ≡ RingNo.NoMemory) × (self.new ≡ self.old)) }
+    {
+        let kind = frame.kind;
+        let id = frame.id;
+        let to = frame.to;
+        if self.outbox.push_back(frame).is_err() {
+            return Err(RingNo::NoMemory);
+        }
+        if let FrameKind::Request = kind {
+            self.paths[id.path as usize] = asked_path(id.seq, to);
+        }
+        Ok(())
+    }
+
+    // A copy of the first frame in the inbox.
+    pub fn first(&self, alloc: Global) -> Result<Option<Frame>, AllocError>
+        ensures { IfOk result
+            (λ first. MatchOption first (self.now.inbox ≡ []) (IsFirst self.now.inbox)) }
+    {
+        match self.inbox.front() {
+            None => Ok(None),
+            Some(frame) => Ok(Some(frame.copied(alloc)?)),
+        }
+    }
+
+    // The first frame leaves the inbox.
+    pub fn take(&mut self) -> Option<Frame>
+        ensures none { result ≡ None → (self.old.inbox ≡ []) × (self.new ≡ self.old) }
+        ensures some { IfSome result (λ frame. IsFirst self.old.inbox frame ×
+            (self.new ≡ took self.old frame.kind frame.id)) }
+    {
+        let frame = self.inbox.pop_front()?;
+        if let FrameKind::Reply = frame.kind {
+            set_await(&mut self.paths, frame.id.path, Await::Nothing);
+        }
+        Some(frame)
+    }
+
+    // A copy of the frame that is sent next.
+    pub fn head(&self, alloc: Global) -> Result<Option<Frame>, AllocError>
+        ensures head { IfOk result
+            (λ head. MatchOption head (self.now.outbox ≡ []) (IsFirst self.now.outbox)) }
+        ensures some { OnErr result (empty_no self.now.outbox ≡ None) }
+    {
+        match self.outbox.front() {
+            None => Ok(None),
+            Some(frame) => Ok(Some(frame.copied(alloc)?)),
+        }
+    }
+
+    fn is_repeat(&self, id: CallId) -> bool
+        ensures { result ≡ is_repeat self.now id }
+    {
+        let source = 5 * (id.node as usize) + (id.path as usize);
+        let greatest = match self.accepted.get(source) {
+            Some(seq) => *seq,
+            None => 0,
+        };
+        id.seq <= greatest
+    }
+
+    fn is_full(&self) -> bool
+        ensures { result ≡ is_full self.now }
+    {
+        self.inbox.iter().filter(|frame| frame.is_request()).count() >= INBOX_LIMIT
+    }
+
+    fn waits_for(&self, id: CallId) -> bool
+        ensures { result ≡ waits_for (path_of self.now id.path).awaits id.seq }
+    {
+        match self.awaits(id.path) {
+            Await::Out { seq, .. } => seq == id.seq,
+            _ => false,
+        }
+    }
+
+    // What it makes of a frame that arrives.
+    pub fn fell(&self, kind: FrameKind, id: CallId) -> Fell
+        ensures { result ≡ fell self.now kind id }
+    {
+        match kind {
+            FrameKind::Request => {
+                if self.is_repeat(id) {
+                    return Fell::RepeatedRequest;
+                }
+                if self.is_full() {
+                    Fell::CrowdedOut
+                } else {
+                    Fell::AcceptedRequest
+                }
+            }
+            FrameKind::Reply => {
+                if self.waits_for(id) {
+                    Fell::AcceptedReply
+                } else {
+                    Fell::DroppedReply
+                }
+            }
+        }
+    }
+
+    fn accept_request(&mut self, frame: Frame) -> Result<(), RingNo>
+        ensures ok { OnOk result (self.new ≡ with_frame self.old Fell.AcceptedRequest frame) }
+        ensures err { IfErr result (λ why. (why ≡ RingNo.NoMemory) × (self.new ≡ self.old)) }
+    {
+        let id = frame.id;
+        if self.inbox.push_back(frame).is_err() {
+            return Err(RingNo::NoMemory);
+        }
+        let source = 5 * (id.node as usize) + (id.path as usize);
+        if source < self.accepted.len() {
+            self.accepted[source] = id.seq;
+        }
+        Ok(())
+    }
+
+    fn accept_reply(&mut self, frame: Frame) -> Result<(), RingNo>
+        ensures ok { OnOk result (self.new ≡ with_frame self.old Fell.AcceptedReply frame) }
+        ensures err { IfErr result (λ why. (why ≡ RingNo.NoMemory) × (self.new ≡ self.old)) }
+    {
+        let id = frame.id;
+        if self.inbox.push_back(frame).is_err() {
+            return Err(RingNo::NoMemory);
+        }
+        set_await(&mut self.paths, id.path, Await::Arrived(id.seq));
+        Ok(())
+    }
+
+    // A frame arrives.
+    pub fn receive(&mut self, fell: Fell, frame: Frame) -> Result<(), RingNo>
+        ensures ok { OnOk result (self.new ≡ with_frame self.old fell frame) }
+        ensures err { IfErr result (λ why. (why ≡ RingNo.NoMemory) × (self.new ≡ self.old)) }
+    {
+        match fell {
+            Fell::AcceptedRequest => self.accept_request(frame),
+            Fell::AcceptedReply => self.accept_reply(frame),
+            _ => Ok(()),
+        }
+    }
+
+    // The head frame leaves the outbox, and a Request fails.
+    fn fail(&mut self, kind: FrameKind, id: CallId, word: u16)
+        ensures { self.new ≡ sent_off self.old (failed self.old kind id word) }
+    {
+        let _ = self.outbox.pop_front();
+        self.tries = 0;
+        if let FrameKind::Request = kind {
+            set_await(
+                &mut self.paths,
+                id.path,
+                Await::Failed { seq: id.seq, word },
+            );
+        }
+    }
+
+    // What was told of the head frame.
+    pub fn hear(&mut self, kind: FrameKind, id: CallId, there: bool, heard: Heard)
+        ensures { self.new ≡ heard_by self.old kind id there heard }
+    {
+        match heard {
+            Heard::Acked => {
+                let _ = self.outbox.pop_front();
+                self.tries = 0;
+            }
+            Heard::Busy => self.fail(kind, id, 0x6105),
+            Heard::Silent => {
+                if self.tries >= LAST_TRY {
+                    self.fail(kind, id, silence_word(there));
+                } else {
+                    self.tries += 1;
+                }
+            }
+        }
+    }
+
+    // The call's Request is the head of the outbox.
+    fn is_head(&self, id: CallId) -> bool
+        ensures { result ≡ is_head id self.now.outbox }
+    {
+        match self.outbox.front() {
+            None => false,
+            Some(frame) => frame.asks_for(id),
+        }
+    }
+
+    // A call is given up.
+    pub fn give_up(&mut self, id: CallId)
+        ensures { self.new ≡ gave_up self.old id }
+    {
+        if self.is_head(id) {
+            self.tries = 0;
+        }
+        drop_request(&mut self.outbox, id);
+        set_await(&mut self.paths, id.path, Await::Nothing);
+    }
+
+    pub fn pass(&mut self, done: bool)
+        requires passes { self.old.passes + 1 < 2 ^ 64 }
+        requires done_run { self.old.done_run + 1 < 2 ^ 64 }
+        requires waits { All CanAge self.old.paths }
+        ensures { self.new ≡ passed self.old done }
+    {
+        self.passes += 1;
+        self.done_run = if done { self.done_run + 1 } else { 0 };
+        for path in self.paths.iter_mut() {
+            *path = path.aged();
+        }
+    }
+
+    pub fn leave(&mut self)
+        ensures { self.new ≡ gone self.old }
+    {
+        self.here = false;
+        self.inbox.clear();
+    }
+}
+
+// The word of a target that says nothing.
+pub(crate) fn silence_word(there: bool) -> u16
+    ensures { result ≡ silence_word there }
+{
+    if there { 0x6101 } else { 0x6103 }
+}

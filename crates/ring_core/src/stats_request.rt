@@ -1,0 +1,18 @@
+//! Requests for statistics.
+ghost use Rattle.std.specs.Prelude.{◌≡◌};
+ghost use Rattle.ring_core.specs.Statistics.{is_stats};
+
+use plant_types::Pdu;
+
+const GET_STATISTICS: [u8; 5] = [8, 0, 0x15, 0, 3];
+
+const CLEAR_STATISTICS: [u8; 5] = [8, 0, 0x15, 0, 4];
+
+/// Whether a PDU asks for the statistics, or clears them
+/// (*Modicon Modbus Protocol Reference Guide*, function 8).
+pub fn is_stats(pdu: &Pdu) -> bool
+    ensures { result ≡ is_stats pdu.now }
+{
+    let bytes = pdu.bytes();
+    bytes == &GET_STATISTICS[..] || bytes == &CLEAR_STATISTICS[..]
+}
