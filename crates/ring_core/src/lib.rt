@@ -2,6 +2,7 @@
 #![tactic(auto)]
 
 mod arrival;
+mod conditions;
 mod copied;
 mod counting;
 mod entry;
@@ -17,9 +18,13 @@ mod refusal;
 mod ring;
 mod stats_request;
 
+pub use conditions::{is_from, is_net, is_path};
 pub use entry::{Heard, LeaveCause, LocalOp, RingEntry};
 pub use frame::{Frame, FrameKind};
 pub use laws::{holder_stays, left_stays, member_stays};
 pub use refusal::RingNo;
 pub use ring::Ring;
 pub use stats_request::is_stats;
+
+#[cfg(test)]
+mod tests;

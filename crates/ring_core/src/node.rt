@@ -2,7 +2,7 @@
 ghost use Rattle.std.specs.Prelude.{◌≡◌, ◌<◌, ◌+◌, ◌^◌, ℕ, List, [], ◌∷◌, ◌++◌, length, get_or, set, drop, filter, not, true, false, OnOk, OnErr, IfOk, IfSome, IfErr, None, MatchOption, All};
 ghost use Rattle.ring_core.specs.Machine.{NodeIs, posted, took, passed, gone, fresh, path_of, no_path, number_of, CanAge, is_repeat, is_full, waits_for, fell, with_frame, heard_by, sent_off, failed, gave_up, is_head, silence_word};
 ghost use Rattle.ring_core.specs.Refusals.{path_no, boxes_no, empty_no};
-ghost use Rattle.ring_core.specs.Legal.{IsFirst};
+ghost use Rattle.ring_core.specs.Legal.{IsFirst, IsNext};
 ghost use Rattle.ring_core.specs.Words.{asks_for};
 
 use crate::arrival::Fell;
@@ -122,6 +122,28 @@ impl Node {
             self.paths[path].awaits
         } else {
             Await::Nothing
+        }
+    }
+
+    // The greatest number that was posted on a path.
+    fn posted(&self, path: u8) -> u32
+        ensures { result ≡ (path_of self.now path).posted }
+    {
+        let path = path as usize;
+        if path < self.paths.len() {
+            self.paths[path].posted
+        } else {
+            0
+        }
+    }
+
+    // Whether a frame's number is above all that were posted on its path.
+    pub fn is_next(&self, kind: FrameKind, id: CallId) -> bool
+        ensures { result ≡ true → IsNext self.now kind id }
+    {
+        match kind {
+            FrameKind::Request => self.posted(id.path) < id.seq,
+            FrameKind::Reply => true,
         }
     }
 

@@ -8,9 +8,10 @@ ghost use Rattle.ring_core.specs.Legal.{IsMember, IsPath, IsFrom, IsNext, HasRoo
 ghost use Rattle.ring_core.specs.Kept.{RingLog, ring_of, grown, closed, Answers};
 
 use crate::arrival::{fate_at, heard_event, heard_of, post_event, take_event};
+use crate::conditions::has;
 use crate::counting::{count, count_arrival, count_local, put_global, station_words};
 use crate::entry::{Heard, LeaveCause, LocalOp, RingEntry};
-use crate::frame::Frame;
+use crate::frame::{Frame, FrameKind};
 use crate::global::global_answer;
 use crate::history::{make_room, note};
 use crate::members::{arrival, is_here, least_done, least_from, members_now, settle, successor};
@@ -103,6 +104,28 @@ impl Ring {
             return 0;
         }
         least_done(&self.nodes).unwrap_or(0)
+    }
+
+    /// For how many entries memory is kept.
+    pub fn spare(&self) -> u32
+        ensures { result ≡ self.now.spare }
+    {
+        self.spare
+    }
+
+    /// Whether a node is one of the plan's members, whether or not it has left.
+    pub fn is_member(&self, node: u8) -> bool
+        ensures { result ≡ true → IsMember self.now.net node }
+    {
+        has(self.plan.members.as_slice(), node)
+    }
+
+    /// Whether a frame's number is above all that were posted on its path.
+    pub fn is_next(&self, node: u8, kind: FrameKind, id: CallId) -> bool
+        requires { IsMember self.now.net node }
+        ensures { result ≡ true → IsNext (node_at (ring_of self.now) node) kind id }
+    {
+        self.nodes[node as usize].is_next(kind, id)
     }
 
     /// Keeps memory for at least so many entries.
