@@ -1,4 +1,5 @@
-//! How many requests of each function are answered in a second: decoded, executed on a store and encoded.
+//! How many requests of each function are answered in a second: decoded, executed on a store and
+//! encoded.
 use anyhow::Result;
 use modbus_exec::answer;
 use plant_types::MapRam;

@@ -31,11 +31,13 @@ and_shuffle true false true d = refl
 and_shuffle true false false d = refl
 
 -- two tests of each pair are one test, and another
-pointwise-and : {A B : Type 0} (p q : A → B → Bool) (xs : List A) (ys : List B) → pointwise (λ x y. p x y && q x y) xs ys ≡ pointwise p xs ys && pointwise q xs ys
+pointwise-and : {A B : Type 0} (p q : A → B → Bool) (xs : List A) (ys : List B)
+    → pointwise (λ x y. p x y && q x y) xs ys ≡ pointwise p xs ys && pointwise q xs ys
 pointwise-and p q [] [] = refl
 pointwise-and p q [] (y ∷ ys) = refl
 pointwise-and p q (x ∷ xs) [] = refl
-pointwise-and p q (x ∷ xs) (y ∷ ys) = ap (λ b. (p x y && q x y) && b) (pointwise-and p q xs ys) ∙ and_shuffle (p x y) (q x y) (pointwise p xs ys) (pointwise q xs ys)
+pointwise-and p q (x ∷ xs) (y ∷ ys) = ap (λ b. (p x y && q x y) && b) (pointwise-and p q xs ys)
+    ∙ and_shuffle (p x y) (q x y) (pointwise p xs ys) (pointwise q xs ys)
 
 -- a named reference is of its kind, and has a number from 1 to 9984
 abbrev is_named : Named → Bool
@@ -58,13 +60,15 @@ reference_is_named length (Constant most) (Const n) others h = refl
 reference_is_named length (Constant most) (At at) others h = cc
 
 -- so do operands of the forms of their slots
-references_are_named : (length : ℕ) (slots : List Slot) (operands : List Operand) → pointwise fits_form slots operands ≡ true → pointwise fits_reference slots operands ≡ list_all is_named (named_by length slots operands)
+references_are_named : (length : ℕ) (slots : List Slot) (operands : List Operand) → pointwise fits_form slots operands ≡ true
+    → pointwise fits_reference slots operands ≡ list_all is_named (named_by length slots operands)
 references_are_named length [] [] h = refl
 references_are_named length [] (operand ∷ operands) h = cc
 references_are_named length (slot ∷ slots) [] h = cc
 references_are_named length (slot ∷ slots) (operand ∷ operands) h =
     let parts = and_parts (fits_form slot operand) (pointwise fits_form slots operands) h in
-    ap (λ b. fits_reference slot operand && b) (references_are_named length slots operands parts.1) ∙ reference_is_named length slot operand (named_by length slots operands) parts.0
+    ap (λ b. fits_reference slot operand && b) (references_are_named length slots operands parts.1)
+    ∙ reference_is_named length slot operand (named_by length slots operands) parts.0
 
 -- two tests of each item are one test, and another
 list_all-and : {A : Type 0} (p q : A → Bool) (xs : List A) → list_all (λ x. p x && q x) xs ≡ list_all p xs && list_all q xs
@@ -82,11 +86,13 @@ under_first false b c d h = refl
 under_first true b c d h = ap (λ x. b && x) (h refl)
 
 -- the operands of an element fit the slots of its name exactly where the element has them such as it takes
-pub pointwise-fits : (element : Element) → pointwise fits (slots_of (name_of element)) (operands_of element) ≡ has_form element && has_values element && has_kinds element && has_numbers element
+pub pointwise-fits : (element : Element) → pointwise fits (slots_of (name_of element)) (operands_of element) ≡ has_form element
+    && has_values element && has_kinds element && has_numbers element
 pointwise-fits element =
     let slots = slots_of (name_of element) in
     let operands = operands_of element in
-    let references : list_all is_named (names_of element) ≡ has_kinds element && has_numbers element = list_all-and (λ (named : Named). takes named.kind named.at.kind) (λ (named : Named). has_number named.at) (names_of element) in
+    let references : list_all is_named (names_of element) ≡ has_kinds element && has_numbers element =
+    list_all-and (λ (named : Named). takes named.kind named.at.kind) (λ (named : Named). has_number named.at) (names_of element) in
     pointwise-and (λ slot operand. fits_form slot operand && fits_value slot operand) fits_reference slots operands
     ∙ ap (λ b. b && pointwise fits_reference slots operands) (pointwise-and fits_form fits_value slots operands)
     ∙ under_first (has_form element) (has_values element) _ _ (λ h. references_are_named (length_of element) slots operands h ∙ references)

@@ -60,11 +60,13 @@ words_of-join (word ∷ next ∷ words) h =
     words_of-word word (join_with_byte 32 (next ∷ words)) here ∙ ap (λ ws. word ∷ ws) (words_of-join (next ∷ words) more)
 
 -- a word, and the operands behind it, each behind a blank
-join-operands : (word : List ℕ) (operands : List Operand) → join_with_byte 32 (word ∷ map operand_text operands) ≡ word ++ flat_map (λ operand. 32 ∷ operand_text operand) operands
+join-operands : (word : List ℕ) (operands : List Operand) → join_with_byte 32 (word ∷ map operand_text operands) ≡ word
+    ++ flat_map (λ operand. 32 ∷ operand_text operand) operands
 join-operands word [] = sym (append-nil word)
 join-operands word (operand ∷ operands) = ap (λ rest. word ++ 32 ∷ rest) (join-operands (operand_text operand) operands)
 
 -- a position and a name that are written first, and then the operands
 pub written-parts : (place : ℕ × ℕ) (name : List ℕ) (operands : List Operand)
-    → (decimal place.0 ++ (44 ∷ (decimal place.1 ++ (32 ∷ name)))) ++ flat_map (λ operand. 32 ∷ operand_text operand) operands ≡ join_with_byte 32 (position_text place ∷ name ∷ map operand_text operands)
+    → (decimal place.0 ++ (44 ∷ (decimal place.1 ++ (32 ∷ name)))) ++ flat_map (λ operand. 32 ∷ operand_text operand) operands
+    ≡ join_with_byte 32 (position_text place ∷ name ∷ map operand_text operands)
 written-parts place name operands = simp (join-operands, append_assoc)

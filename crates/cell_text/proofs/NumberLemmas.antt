@@ -41,7 +41,8 @@ numerals : IsNumeralModel (λ ds. list_all is_digit ds ≡ true) value_of
 numerals = numerals_by_fold (λ ds. list_all is_digit ds ≡ true) (search rules) (λ n ds. fold (λ value digit. value * 10 + (digit - 48)) n ds) (search rules)
 
 -- one to four bytes without a zero in front have the form of a number
-number_front : (word : List ℕ) → 0 < length word → length word ≤ 4 → (48 < get_or word 0 0 ⊎ (length word ≡ 1)) → (nat_le 1 (length word) && nat_le (length word) 4) && ((length word == 1) || not (slice_index word 0 == 48)) ≡ true
+number_front : (word : List ℕ) → 0 < length word → length word ≤ 4 → (48 < get_or word 0 0 ⊎ (length word ≡ 1))
+    → (nat_le 1 (length word) && nat_le (length word) 4) && ((length word == 1) || not (slice_index word 0 == 48)) ≡ true
 number_front word some few front = grind (arith, nat_tests)
 
 -- a number below 10,000 is written in the form of one
@@ -51,7 +52,8 @@ is_number-decimal (suc n) few =
     let small : suc n < 2 ^ 64 = omega arith in
     let below : suc n < 10 ^ 4 = omega arith in
     let read : list_all is_digit (decimal (suc n)) ≡ true = digits_decimal numerals (suc n) small in
-    let front = number_front (decimal (suc n)) (decimal_nonempty (suc n) small) (length-decimal-le 4 (suc n) (omega arith) below small) (inl (first_decimal (suc n) (omega arith) small)) in
+    let front = number_front (decimal (suc n)) (decimal_nonempty (suc n) small) (length-decimal-le 4 (suc n) (omega arith) below small)
+    (inl (first_decimal (suc n) (omega arith) small)) in
     rw (read, front) refl
 
 -- what is written of a number reads as the number
@@ -102,7 +104,15 @@ position_of-text place r k =
     let row = from_row place.0 r in
     let column = from_column place.1 k in
     let digits = decimal_digits place.0 row in
-    rw (position_parts place, before-comma (decimal place.0) (decimal place.1) digits, after-comma (decimal place.0) (decimal place.1) digits, number_of-decimal place.0 row, number_of-decimal place.1 column, r, k) refl
+    rw (
+      position_parts place,
+      before-comma (decimal place.0) (decimal place.1) digits,
+      after-comma (decimal place.0) (decimal place.1) digits,
+      number_of-decimal place.0 row,
+      number_of-decimal place.1 column,
+      r,
+      k,
+    ) refl
 
 -- a length above 0, as a test
 some_byte : (n : ℕ) → 0 < n → nat_lt 0 n ≡ true
@@ -114,7 +124,8 @@ position_word place r k =
     let row = digits_solid (decimal place.0) (decimal_digits place.0 (from_row place.0 r)) in
     let column = digits_solid (decimal place.1) (decimal_digits place.1 (from_column place.1 k)) in
     let solid = solid-append (decimal place.0 ++ codes ",") (decimal place.1) (solid-append (decimal place.0) (codes ",") row refl) column in
-    let some = some_byte (length (position_text place)) (omega (arith, ap length (position_parts place), length-append (decimal place.0) (44 ∷ decimal place.1))) in
+    let some = some_byte (length (position_text place))
+    (omega (arith, ap length (position_parts place), length-append (decimal place.0) (44 ∷ decimal place.1))) in
     rw (some, solid) refl
 
 -- so is that of a constant
@@ -134,7 +145,13 @@ decimal_no_reference n h =
 -- five digits of a reference
 five : (k n : ℕ) → k ≤ 9 → n ≤ 9999 → decimal k ++ four_digits n ≡ (48 + k) ∷ (48 + n / 1000) ∷ (48 + n / 100 % 10) ∷ (48 + n / 10 % 10) ∷ (48 + n % 10) ∷ []
 five k n small few =
-    rw (decimal_digit k (omega arith), decimal_digit (n / 1000) (omega arith), decimal_digit (n / 100 % 10) (omega arith), decimal_digit (n / 10 % 10) (omega arith), decimal_digit (n % 10) (omega arith)) refl
+    rw (
+      decimal_digit k (omega arith),
+      decimal_digit (n / 1000) (omega arith),
+      decimal_digit (n / 100 % 10) (omega arith),
+      decimal_digit (n / 10 % 10) (omega arith),
+      decimal_digit (n % 10) (omega arith),
+    ) refl
 
 -- the code of a digit is a digit
 digit_up : (d : ℕ) → d ≤ 9 → is_digit (48 + d) ≡ true
@@ -153,7 +170,8 @@ four_parts n =
 
 -- the text of a reference has five digits
 record Five (at : Ref) : Type 0 where
-  text : reference_text at ≡ (48 + leading_digit at.kind) ∷ (48 + at.number / 1000) ∷ (48 + at.number / 100 % 10) ∷ (48 + at.number / 10 % 10) ∷ (48 + at.number % 10) ∷ []
+  text : reference_text at ≡ (48 + leading_digit at.kind) ∷ (48 + at.number / 1000) ∷ (48 + at.number / 100 % 10) ∷
+      (48 + at.number / 10 % 10) ∷ (48 + at.number % 10) ∷ []
   digits : list_all is_digit (reference_text at) ≡ true
   count : length (reference_text at) ≡ 5
 
@@ -175,7 +193,14 @@ five_of at h =
     let text = five (leading_digit at.kind) at.number (small_digit at.kind) few in
     record {
       text = text;
-      digits = rw (text, digit_up (leading_digit at.kind) (small_digit at.kind), digit_up (at.number / 1000) (omega arith), digit_up (at.number / 100 % 10) (omega arith), digit_up (at.number / 10 % 10) (omega arith), digit_up (at.number % 10) (omega arith)) refl;
+      digits = rw (
+        text,
+        digit_up (leading_digit at.kind) (small_digit at.kind),
+        digit_up (at.number / 1000) (omega arith),
+        digit_up (at.number / 100 % 10) (omega arith),
+        digit_up (at.number / 10 % 10) (omega arith),
+        digit_up (at.number % 10) (omega arith),
+      ) refl;
       count = rw text refl;
     }
 
@@ -195,7 +220,8 @@ pub reference_of-text : (at : Ref) → has_number at ≡ true → reference_of (
 reference_of-text at h =
     let f = five_of at h in
     let first : slice_index (reference_text at) 0 ≡ 48 + leading_digit at.kind = rw f.text refl in
-    let value : value_of (drop 1 (reference_text at)) ≡ at.number = rw f.text (four_value (at.number / 1000) (at.number / 100 % 10) (at.number / 10 % 10) (at.number % 10) ∙ four_parts at.number) in
+    let value : value_of (drop 1 (reference_text at)) ≡ at.number =
+    rw f.text (four_value (at.number / 1000) (at.number / 100 % 10) (at.number / 10 % 10) (at.number % 10) ∙ four_parts at.number) in
     rw (reference_word at h, first, kind_back at.kind, value, h) refl
 
 -- the text of a reference is a word

@@ -62,7 +62,8 @@ position_of-has : (word : List ℕ) (place : ℕ × ℕ) → position_of word �
 position_of-has word place h =
     let before = number_of (before_first (λ byte. byte == 44) word) in
     let behind = number_of (after_first (λ byte. byte == 44) word) in
-    let row = some-step (λ (row : ℕ). option_and_then (λ (column : ℕ). if is_row row && is_column column then Some (row, column) else None) behind) before place h in
+    let row = some-step (λ (row : ℕ). option_and_then (λ (column : ℕ). if is_row row
+    && is_column column then Some (row, column) else None) behind) before place h in
     let column = some-step (λ (column : ℕ). if is_row row.0 && is_column column then Some (row.0, column) else None) behind place row.1.1 in
     let within = some-guard (is_row row.0 && is_column column.0) (Some (row.0, column.0)) place column.1.1 in
     let same : (row.0, column.0) ≡ place = some_value (row.0, column.0) place within.1 in
@@ -105,7 +106,8 @@ test_from_le m n h = grind (arith, nat_tests)
 number_of-le : (word : List ℕ) (n : ℕ) → number_of word ≡ Some n → nat_le n 9999 ≡ true
 number_of-le word n h =
     let (number, some) = some-guard (is_number word) (Some (value_of word)) n h in
-    let (digits, lengths) = and_parts (list_all is_digit word) ((nat_le 1 (length word) && nat_le (length word) 4) && ((length word == 1) || not (slice_index word 0 == 48))) number in
+    let (digits, lengths) = and_parts (list_all is_digit word) ((nat_le 1 (length word) && nat_le (length word) 4)
+    && ((length word == 1) || not (slice_index word 0 == 48))) number in
     let (few, front) = and_parts (nat_le 1 (length word) && nat_le (length word) 4) ((length word == 1) || not (slice_index word 0 == 48)) lengths in
     let (one, four) = and_parts (nat_le 1 (length word)) (nat_le (length word) 4) few in
     let same : value_of word ≡ n = some_value (value_of word) n some in
@@ -121,7 +123,8 @@ form_of_kind (Target run) at h = refl
 form_of_kind (Constant most) at h = cc
 
 -- a reference that is taken fits
-reference-fits : (slot : Slot) (found : Option Ref) (operand : Operand) → ((at : Ref) → found ≡ Some at → has_number at ≡ true) → option_and_then (taken_reference slot) found ≡ Some operand → fits slot operand ≡ true
+reference-fits : (slot : Slot) (found : Option Ref) (operand : Operand) → ((at : Ref) → found ≡ Some at → has_number at ≡ true)
+    → option_and_then (taken_reference slot) found ≡ Some operand → fits slot operand ≡ true
 reference-fits slot None operand has h = cc
 reference-fits slot (Some at) operand has h =
     let (kind, some) = some-guard (takes_kind slot at.kind) (Some (At at)) operand h in
@@ -147,23 +150,27 @@ constant_value (Target run) word n h value = number_of-le word n h
 constant_value (Constant most) word n h value = sym (ap (λ (o : Option ℕ). option_map_or (is_length most) o false) h) ∙ value
 
 -- a constant that passes the tests of a slot fits it
-constant-fits : (slot : Slot) (word : List ℕ) (operand : Operand) → is_reference_word word ≡ false → takes_form slot word ≡ true → takes_value slot word ≡ true → option_map Const (number_of word) ≡ Some operand → fits slot operand ≡ true
+constant-fits : (slot : Slot) (word : List ℕ) (operand : Operand) → is_reference_word word ≡ false → takes_form slot word ≡ true
+    → takes_value slot word ≡ true → option_map Const (number_of word) ≡ Some operand → fits slot operand ≡ true
 constant-fits slot word operand five form value h =
     let (n, (number, same)) = some-map Const (number_of word) operand h in
     rw (← same) (and_both _ _ (and_both _ _ (constant_form slot word n five form) (constant_value slot word n number value)) refl)
 
 -- an operand fits, whether it is a reference or a constant
-fits-by : (slot : Slot) (word : List ℕ) (operand : Operand) (five : Bool) → is_reference_word word ≡ five → takes_form slot word ≡ true → takes_value slot word ≡ true
+fits-by : (slot : Slot) (word : List ℕ) (operand : Operand) (five : Bool) → is_reference_word word ≡ five → takes_form slot word ≡ true
+    → takes_value slot word ≡ true
     → (if five then option_and_then (taken_reference slot) (reference_of word) else option_map Const (number_of word)) ≡ Some operand → fits slot operand ≡ true
 fits-by slot word operand true five form value h = reference-fits slot (reference_of word) operand (reference_of-has word) h
 fits-by slot word operand false five form value h = constant-fits slot word operand five form value h
 
 -- a word that passes the tests of a slot stands for an operand that fits it
-word-fits : (slot : Slot) (word : List ℕ) (operand : Operand) → takes_form slot word ≡ true → takes_value slot word ≡ true → operand_in slot word ≡ Some operand → fits slot operand ≡ true
+word-fits : (slot : Slot) (word : List ℕ) (operand : Operand) → takes_form slot word ≡ true → takes_value slot word ≡ true
+    → operand_in slot word ≡ Some operand → fits slot operand ≡ true
 word-fits slot word operand form value h = fits-by slot word operand (is_reference_word word) refl form value h
 
 -- so do the words of all slots
-words-fit : (slots : List Slot) (words : List (List ℕ)) (operands : List Operand) → pointwise takes_form slots words ≡ true → pointwise takes_value slots words ≡ true → operands_in slots words ≡ Some operands → pointwise fits slots operands ≡ true
+words-fit : (slots : List Slot) (words : List (List ℕ)) (operands : List Operand) → pointwise takes_form slots words ≡ true
+    → pointwise takes_value slots words ≡ true → operands_in slots words ≡ Some operands → pointwise fits slots operands ≡ true
 unfolding operands_in
 words-fit [] [] operands form value h = let same : [] ≡ operands = some_value [] operands h in rw (← same) refl
 words-fit [] (word ∷ words) operands form value h = cc
@@ -177,22 +184,28 @@ words-fit (slot ∷ slots) (word ∷ words) operands form value h =
     rw (← same) (and_both _ _ (word-fits slot word first.0 form1 value1 first.1.0) (words-fit slots words rest.0 forms values rest.1.0))
 
 -- operands that were read fit the slots
-read_operands-fit : (slots : List Slot) (words : List (List ℕ)) (operands : List Operand) → read_operands slots words ≡ Ok operands → pointwise fits slots operands ≡ true
+read_operands-fit : (slots : List Slot) (words : List (List ℕ)) (operands : List Operand) → read_operands slots words ≡ Ok operands
+    → pointwise fits slots operands ≡ true
 unfolding read_operands
 read_operands-fit slots words operands h =
-    let form = unless-ok (pointwise takes_form slots words) BadCell (λ forms. unless (pointwise takes_value slots words) BadValue >>= λ values. or_fault BadRef (operands_in slots words)) operands h in
+    let form = unless-ok (pointwise takes_form slots words) BadCell
+    (λ forms. unless (pointwise takes_value slots words) BadValue >>= λ values. or_fault BadRef (operands_in slots words)) operands h in
     let value = unless-ok (pointwise takes_value slots words) BadValue (λ values. or_fault BadRef (operands_in slots words)) operands form.1 in
     words-fit slots words operands form.0 value.0 (or_fault-some BadRef (operands_in slots words) operands value.1)
 
 -- an element of operands that fit is one that has a text
-element-has : (name : ElementName) (operands : List Operand) (element : Element) → pointwise fits (slots_of name) operands ≡ true → element_of name operands ≡ Some element → has_form element && has_values element && has_kinds element && has_numbers element ≡ true
+element-has : (name : ElementName) (operands : List Operand) (element : Element) → pointwise fits (slots_of name) operands ≡ true
+    → element_of name operands ≡ Some element → has_form element && has_values element && has_kinds element && has_numbers element ≡ true
 element-has name operands element h e =
     let made = element_of-made name operands element e in
-    sym (pointwise-fits element) ∙ ap (λ n. pointwise fits (slots_of n) (operands_of element)) made.names ∙ ap (λ o. pointwise fits (slots_of name) o) made.takes ∙ h
+    sym (pointwise-fits element) ∙ ap (λ n. pointwise fits (slots_of n) (operands_of element)) made.names
+    ∙ ap (λ o. pointwise fits (slots_of name) o) made.takes ∙ h
 
 -- a cell of operands that fit has a text
-cell-has : (row column : ℕ) (name : ElementName) (operands : List Operand) (piece : Piece) → is_row row ≡ true → is_column column ≡ true → pointwise fits (slots_of name) operands ≡ true
-    → option_map (λ element. pieces.Cell (record { row = row; column = column; element = element })) (element_of name operands) ≡ Some piece → has_text piece ≡ true
+cell-has : (row column : ℕ) (name : ElementName) (operands : List Operand) (piece : Piece) → is_row row ≡ true → is_column column ≡ true
+    → pointwise fits (slots_of name) operands ≡ true
+    → option_map (λ element. pieces.Cell (record { row = row; column = column; element = element })) (element_of name operands) ≡ Some piece
+    → has_text piece ≡ true
 cell-has row column name operands piece r k fit h =
     let found = some-map (λ element. pieces.Cell (record { row = row; column = column; element = element })) (element_of name operands) piece h in
     let same : pieces.Cell (record { row = row; column = column; element = found.0 }) ≡ piece = found.1.1 in
@@ -207,7 +220,8 @@ short-has row column piece r k h =
     rw (← same) (and_both _ _ (and_both _ _ above.0 low) k)
 
 -- a piece of operands that fit has a text
-piece_at-has : (row column : ℕ) (name : PieceName) (operands : List Operand) (piece : Piece) → is_row row ≡ true → is_column column ≡ true → pointwise fits (slots_of_piece name) operands ≡ true → piece_at row column name operands ≡ Some piece → has_text piece ≡ true
+piece_at-has : (row column : ℕ) (name : PieceName) (operands : List Operand) (piece : Piece) → is_row row ≡ true → is_column column ≡ true
+    → pointwise fits (slots_of_piece name) operands ≡ true → piece_at row column name operands ≡ Some piece → has_text piece ≡ true
 piece_at-has row column names.Short operands piece r k fit h = short-has row column piece r k h
 piece_at-has row column (names.Element name) operands piece r k fit h = cell-has row column name operands piece r k fit h
 
@@ -217,11 +231,16 @@ unfolding piece_of
 piece_of-has [] piece h = cc
 piece_of-has (position ∷ []) piece h = cc
 piece_of-has (position ∷ word ∷ words) piece h =
-    let place = or_fault-ok BadCell (position_of position) (λ place. or_fault BadCell (name_of word) >>= λ name. read_operands (slots_of_piece name) words >>= λ operands. or_fault BadCell (piece_at place.0 place.1 name operands)) piece h in
-    let name = or_fault-ok BadCell (name_of word) (λ name. read_operands (slots_of_piece name) words >>= λ operands. or_fault BadCell (piece_at place.0.0 place.0.1 name operands)) piece place.1.1 in
-    let operands = step-ok (read_operands (slots_of_piece name.0) words) (λ operands. or_fault BadCell (piece_at place.0.0 place.0.1 name.0 operands)) piece name.1.1 in
+    let place = or_fault-ok BadCell (position_of position) (λ place. or_fault BadCell (name_of word) >>= λ name. read_operands
+    (slots_of_piece name) words >>= λ operands. or_fault BadCell (piece_at place.0 place.1 name operands)) piece h in
+    let name = or_fault-ok BadCell (name_of word) (λ name. read_operands (slots_of_piece name) words >>= λ operands. or_fault BadCell
+    (piece_at place.0.0 place.0.1 name operands)) piece place.1.1 in
+    let operands = step-ok (read_operands (slots_of_piece name.0) words)
+    (λ operands. or_fault BadCell (piece_at place.0.0 place.0.1 name.0 operands)) piece name.1.1 in
     let within = position_of-has position place.0 place.1.0 in
-    piece_at-has place.0.0 place.0.1 name.0 operands.0 piece within.0 within.1 (read_operands-fit (slots_of_piece name.0) words operands.0 operands.1.0) (or_fault-some BadCell (piece_at place.0.0 place.0.1 name.0 operands.0) piece operands.1.1)
+    piece_at-has place.0.0 place.0.1 name.0 operands.0 piece within.0 within.1
+    (read_operands-fit (slots_of_piece name.0) words operands.0 operands.1.0)
+    (or_fault-some BadCell (piece_at place.0.0 place.0.1 name.0 operands.0) piece operands.1.1)
 
 -- so it is with what reading answered
 pub gives-has_text : (words : List (List ℕ)) (r : Result Piece CellFault) → r ≡ piece_of words → IfOk r (λ piece. has_text piece ≡ true)
@@ -229,7 +248,8 @@ gives-has_text words (Ok piece) e = piece_of-has words piece (sym e)
 gives-has_text words (Err fault) e = tt
 
 -- a piece has the name that it was read by
-piece_at-named : (row column : ℕ) (name : PieceName) (operands : List Operand) (piece : Piece) → piece_at row column name operands ≡ Some piece → name ≡ piece_name piece
+piece_at-named : (row column : ℕ) (name : PieceName) (operands : List Operand) (piece : Piece)
+    → piece_at row column name operands ≡ Some piece → name ≡ piece_name piece
 piece_at-named row column names.Short operands piece h =
     let (low, some) = some-guard (nat_le row 6) (Some (pieces.Short (record { row = row; column = column }))) piece h in
     let same : pieces.Short (record { row = row; column = column }) ≡ piece = some_value _ _ some in
@@ -246,8 +266,12 @@ unfolding piece_of
 piece_of-named [] piece h = cc
 piece_of-named (position ∷ []) piece h = cc
 piece_of-named (position ∷ word ∷ words) piece h =
-    let place = or_fault-ok BadCell (position_of position) (λ place. or_fault BadCell (name_of word) >>= λ name. read_operands (slots_of_piece name) words >>= λ operands. or_fault BadCell (piece_at place.0 place.1 name operands)) piece h in
-    let name = or_fault-ok BadCell (name_of word) (λ name. read_operands (slots_of_piece name) words >>= λ operands. or_fault BadCell (piece_at place.0.0 place.0.1 name operands)) piece place.1.1 in
-    let operands = step-ok (read_operands (slots_of_piece name.0) words) (λ operands. or_fault BadCell (piece_at place.0.0 place.0.1 name.0 operands)) piece name.1.1 in
-    let same = piece_at-named place.0.0 place.0.1 name.0 operands.0 piece (or_fault-some BadCell (piece_at place.0.0 place.0.1 name.0 operands.0) piece operands.1.1) in
+    let place = or_fault-ok BadCell (position_of position) (λ place. or_fault BadCell (name_of word) >>= λ name. read_operands
+    (slots_of_piece name) words >>= λ operands. or_fault BadCell (piece_at place.0 place.1 name operands)) piece h in
+    let name = or_fault-ok BadCell (name_of word) (λ name. read_operands (slots_of_piece name) words >>= λ operands. or_fault BadCell
+    (piece_at place.0.0 place.0.1 name operands)) piece place.1.1 in
+    let operands = step-ok (read_operands (slots_of_piece name.0) words)
+    (λ operands. or_fault BadCell (piece_at place.0.0 place.0.1 name.0 operands)) piece name.1.1 in
+    let same = piece_at-named place.0.0 place.0.1 name.0 operands.0 piece
+    (or_fault-some BadCell (piece_at place.0.0 place.0.1 name.0 operands.0) piece operands.1.1) in
     name.1.0 ∙ ap Some same

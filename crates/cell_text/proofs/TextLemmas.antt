@@ -108,7 +108,8 @@ or_true true = refl
 or_true false = refl
 
 -- the text of a reference passes the tests of a slot that takes it
-reference_form : (slot : Slot) (at : Ref) → fits_form slot (At at) ≡ true → is_reference_word (reference_text at) ≡ true → (takes_form slot (reference_text at) ≡ true) × (takes_value slot (reference_text at) ≡ true)
+reference_form : (slot : Slot) (at : Ref) → fits_form slot (At at) ≡ true → is_reference_word (reference_text at) ≡ true
+    → (takes_form slot (reference_text at) ≡ true) × (takes_value slot (reference_text at) ≡ true)
 reference_form Discrete at fit five = (five, refl)
 reference_form Driven at fit five = (five, refl)
 reference_form (Number run) at fit five = (ap (λ b. is_number (reference_text at) || b) five ∙ or_true (is_number (reference_text at)), refl)
@@ -127,7 +128,9 @@ reference_reads slot at h =
     record {
       form = tests.0;
       value = tests.1;
-      back = ap (λ (b : Bool). if b then option_and_then (taken_reference slot) (reference_of (reference_text at)) else option_map Const (number_of (reference_text at))) five ∙ ap (option_and_then (taken_reference slot)) (reference_of-text at number) ∙ ap (λ (b : Bool). if b then Some (At at) else None) kind;
+      back = ap (λ (b : Bool). if b then option_and_then (taken_reference slot) (reference_of (reference_text at)) else option_map Const
+          (number_of (reference_text at))) five ∙ ap (option_and_then (taken_reference slot)) (reference_of-text at number)
+          ∙ ap (λ (b : Bool). if b then Some (At at) else None) kind;
       word = reference_text_word at number;
     }
 
@@ -154,13 +157,17 @@ fits-le (Target run) n small h = constant_le n h
 fits-le (Constant most) n small h = length_le most n small h
 
 -- the text of a constant passes the tests of a slot that takes it
-constant_form : (slot : Slot) (n : ℕ) → fits_form slot (Const n) ≡ true → fits_value slot (Const n) ≡ true → n ≤ 9999 → (takes_form slot (decimal n) ≡ true) × (takes_value slot (decimal n) ≡ true)
+constant_form : (slot : Slot) (n : ℕ) → fits_form slot (Const n) ≡ true → fits_value slot (Const n) ≡ true → n ≤ 9999
+    → (takes_form slot (decimal n) ≡ true) × (takes_value slot (decimal n) ≡ true)
 constant_form Discrete n form value few = cc
 constant_form Driven n form value few = cc
 constant_form (Number run) n form value few = (ap (λ b. b || is_reference_word (decimal n)) (is_number-decimal n few), refl)
 constant_form (Source run) n form value few = cc
 constant_form (Target run) n form value few = cc
-constant_form (Constant most) n form value few = (is_number-decimal n few, ap (λ (o : Option ℕ). option_map_or (is_length most) o false) (number_of-decimal n few) ∙ value)
+constant_form (Constant most) n form value few = (
+  is_number-decimal n few,
+  ap (λ (o : Option ℕ). option_map_or (is_length most) o false) (number_of-decimal n few) ∙ value,
+)
 
 -- the text of a constant that fits reads as the constant
 constant_reads : (slot : Slot) (n : ℕ) → is_small slot ≡ true → fits slot (Const n) ≡ true → Reads slot (Const n)
@@ -240,7 +247,8 @@ unfolding read_operands
 read_operands-back slots operands all = rw (all.forms, all.values, all.back) refl
 
 -- the name and the operands of an element make the element
-cell_back : (row column : ℕ) (element : Element) → piece_at row column (piece_names.Element (element_name element)) (operands_of element) ≡ Some (pieces.Cell (record { row = row; column = column; element = element }))
+cell_back : (row column : ℕ) (element : Element) → piece_at row column (piece_names.Element (element_name element)) (operands_of element)
+    ≡ Some (pieces.Cell (record { row = row; column = column; element = element }))
 cell_back row column (elements.Open at) = refl
 cell_back row column (elements.Closed at) = refl
 cell_back row column (elements.Rise at) = refl
@@ -260,7 +268,8 @@ cell_back row column elements.Return = refl
 cell_back row column (elements.Mstr control area length) = refl
 
 -- the place, the name and the operands of a piece make the piece
-piece_at-back : (piece : Piece) → has_text piece ≡ true → piece_at (piece_place piece).0 (piece_place piece).1 (piece_name piece) (piece_operands piece) ≡ Some piece
+piece_at-back : (piece : Piece) → has_text piece ≡ true → piece_at (piece_place piece).0 (piece_place piece).1 (piece_name piece)
+    (piece_operands piece) ≡ Some piece
 piece_at-back (pieces.Cell cell) h = cell_back cell.row cell.column cell.element
 piece_at-back (pieces.Short short) h =
     let (rows, column) = and_parts (nat_le 1 short.row && nat_le short.row 6) (is_column short.column) h in
@@ -283,7 +292,8 @@ six_rows row h =
 -- so it is with each piece that has a text
 fitting : (piece : Piece) → has_text piece ≡ true → Fitting piece
 fitting (pieces.Cell cell) h =
-    let (place, operands) = and_parts (has_cell_place cell) (has_form cell.element && has_values cell.element && has_kinds cell.element && has_numbers cell.element) h in
+    let (place, operands) = and_parts (has_cell_place cell) (has_form cell.element && has_values cell.element && has_kinds cell.element
+    && has_numbers cell.element) h in
     let (row, column) = and_parts (is_row cell.row) (is_column cell.column) place in
     record { row = row; column = column; operands = pointwise-fits cell.element ∙ operands }
 fitting (pieces.Short short) h =
@@ -309,9 +319,13 @@ piece_of-words piece h =
     let place = position_of-text (piece_place piece) f.row f.column in
     let name = (named (piece_name piece)).found in
     let operands = read_operands-back (slots_of_piece (piece_name piece)) (piece_operands piece) (piece_all_read piece f) in
-    ap (λ (o : Option (ℕ × ℕ)). or_fault {E = CellFault} BadCell o >>= λ at. or_fault BadCell (name_of (name_text (piece_name piece))) >>= λ name. read_operands (slots_of_piece name) words >>= λ operands. or_fault BadCell (piece_at at.0 at.1 name operands)) place
-    ∙ ap (λ (o : Option PieceName). or_fault {E = CellFault} BadCell o >>= λ name. read_operands (slots_of_piece name) words >>= λ operands. or_fault BadCell (piece_at (piece_place piece).0 (piece_place piece).1 name operands)) name
-    ∙ ap (λ (r : Result (List Operand) CellFault). r >>= λ operands. or_fault BadCell (piece_at (piece_place piece).0 (piece_place piece).1 (piece_name piece) operands)) operands
+    ap (λ (o : Option (ℕ × ℕ)). or_fault {E = CellFault} BadCell o >>= λ at. or_fault BadCell
+    (name_of (name_text (piece_name piece))) >>= λ name. read_operands (slots_of_piece name) words >>= λ operands. or_fault BadCell
+    (piece_at at.0 at.1 name operands)) place
+    ∙ ap (λ (o : Option PieceName). or_fault {E = CellFault} BadCell o >>= λ name. read_operands
+    (slots_of_piece name) words >>= λ operands. or_fault BadCell (piece_at (piece_place piece).0 (piece_place piece).1 name operands)) name
+    ∙ ap (λ (r : Result (List Operand) CellFault). r >>= λ operands. or_fault BadCell
+    (piece_at (piece_place piece).0 (piece_place piece).1 (piece_name piece) operands)) operands
     ∙ ap (λ (o : Option Piece). or_fault {E = CellFault} BadCell o) (piece_at-back piece h)
 
 -- the text of a piece reads as the piece
@@ -319,6 +333,7 @@ pub piece_of-text : (piece : Piece) → has_text piece ≡ true → piece_of (wo
 piece_of-text piece h = ap piece_of (words_of-join (piece_words piece) (piece_words-are piece h)) ∙ piece_of-words piece h
 
 -- so it is with a text that was written
-pub gives-reads_back : (piece : Piece) (r : Result (String Global) AllocError) → has_text piece ≡ true → IfOk r (λ text. string_bytes text ≡ piece_text piece) → IfOk r (λ text. piece_of (words_of (string_bytes text)) ≡ Ok piece)
+pub gives-reads_back : (piece : Piece) (r : Result (String Global) AllocError) → has_text piece ≡ true
+    → IfOk r (λ text. string_bytes text ≡ piece_text piece) → IfOk r (λ text. piece_of (words_of (string_bytes text)) ≡ Ok piece)
 gives-reads_back piece (Ok text) h e = ap (λ bytes. piece_of (words_of bytes)) e ∙ piece_of-text piece h
 gives-reads_back piece (Err end) h e = tt

@@ -99,15 +99,19 @@ some_byte : (n : ℕ) → not (suc n == 0) ≡ true
 some_byte n = grind (arith, nat_tests)
 
 -- a first part that has a byte is a word
-some_first : (word : List ℕ) (others rest : List (List ℕ)) (b : ℕ) (bs : List ℕ) → word ≡ b ∷ bs → filter is_some_byte others ≡ rest → filter is_some_byte (word ∷ others) ≡ word ∷ rest
+some_first : (word : List ℕ) (others rest : List (List ℕ)) (b : ℕ) (bs : List ℕ) → word ≡ b ∷ bs → filter is_some_byte others ≡ rest
+    → filter is_some_byte (word ∷ others) ≡ word ∷ rest
 some_first word others rest b bs same h = rw (same, h, some_byte (length bs)) refl
 
 -- a text that begins with a word has that word first
-words_of-first : (b : ℕ) (bs : List ℕ) → is_blank b ≡ false → words_of (b ∷ bs) ≡ take (position_or_len is_blank (b ∷ bs)) (b ∷ bs) ∷ words_of (drop (position_or_len is_blank (b ∷ bs)) (b ∷ bs))
+words_of-first : (b : ℕ) (bs : List ℕ) → is_blank b ≡ false → words_of (b ∷ bs)
+    ≡ take (position_or_len is_blank (b ∷ bs)) (b ∷ bs) ∷ words_of (drop (position_or_len is_blank (b ∷ bs)) (b ∷ bs))
 words_of-first b bs h =
     let c = cut (b ∷ bs) in
     let word : take (position_or_len is_blank (b ∷ bs)) (b ∷ bs) ≡ b ∷ take (position_or_len is_blank bs) bs = rw (h, take-front) refl in
-    sym (words_as_filter (b ∷ bs)) ∙ ap (filter is_some_byte) c.parts ∙ some_first (take (position_or_len is_blank (b ∷ bs)) (b ∷ bs)) c.others (words_of (drop (position_or_len is_blank (b ∷ bs)) (b ∷ bs))) b (take (position_or_len is_blank bs) bs) word c.behind
+    sym (words_as_filter (b ∷ bs)) ∙ ap (filter is_some_byte) c.parts
+    ∙ some_first (take (position_or_len is_blank (b ∷ bs)) (b ∷ bs)) c.others
+    (words_of (drop (position_or_len is_blank (b ∷ bs)) (b ∷ bs))) b (take (position_or_len is_blank bs) bs) word c.behind
 
 -- a test that does not hold
 pub not_blank : (v : Bool) → not v ≡ true → v ≡ false
@@ -115,7 +119,8 @@ not_blank true h = sym h
 not_blank false h = refl
 
 -- the parts of a text behind its first blanks
-pub words_of-split : (t rest word behind : List ℕ) (start end : ℕ) → Some start ≡ position is_word_byte t → rest ≡ drop start t → end ≡ position_or_len is_blank rest → word ≡ take end rest → behind ≡ drop end rest
+pub words_of-split : (t rest word behind : List ℕ) (start end : ℕ) → Some start ≡ position is_word_byte t → rest ≡ drop start t
+    → end ≡ position_or_len is_blank rest → word ≡ take end rest → behind ≡ drop end rest
     → words_of t ≡ word ∷ words_of behind
 words_of-split t rest word behind start end found r e w b =
     let s = position-Some is_word_byte t start 0 (sym found) in

@@ -51,6 +51,10 @@ position_of word =
 abbrev pub is_reference_word : List ℕ → Bool
 is_reference_word word = list_all is_digit word && (length word == 5)
 
+-- The number that the last four of five digits stand for. This project's own.
+abbrev pub reference_number : List ℕ → Option ℕ
+reference_number word = if is_reference_word word then Some (value_of (drop 1 word)) else None
+
 -- The kind that the first digit of a reference tells. Modicon Ladder Logic Block Library User
 -- Guide.
 abbrev pub kind_of : ℕ → Option RefKind
@@ -75,5 +79,6 @@ numbered kind number =
 abbrev pub reference_of : List ℕ → Option Ref
 reference_of word =
     if is_reference_word word
-    then option_and_then (λ kind. numbered kind (value_of (drop 1 word))) (kind_of (slice_index word 0))
+    then option_and_then (λ kind. numbered kind (value_of (drop 1 word)))
+    (kind_of (slice_index word 0))
     else None

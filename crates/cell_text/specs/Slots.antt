@@ -67,7 +67,8 @@ operand_in slot word =
 unfoldable pub operands_in : List Slot → List (List ℕ) → Option (List Operand)
 operands_in [] [] = Some []
 operands_in (slot ∷ slots) (word ∷ words) =
-    option_and_then (λ operand. option_map (λ operands. operand ∷ operands) (operands_in slots words))
+    option_and_then (λ operand. option_map (λ operands. operand ∷ operands)
+    (operands_in slots words))
     (operand_in slot word)
 operands_in _ _ = None
 

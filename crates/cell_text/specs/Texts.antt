@@ -30,7 +30,8 @@ has_numbers element = list_all (λ named. has_number named.at) (names_of element
 abbrev pub has_text : Piece → Bool
 has_text (Cell cell) =
     has_cell_place cell
-    && (has_form cell.element && has_values cell.element && has_kinds cell.element && has_numbers cell.element)
+    && (has_form cell.element && has_values cell.element && has_kinds cell.element
+    && has_numbers cell.element)
 has_text (Short short) = has_short_place short
 
 -- The text of a position: row and column, parted by a comma. This project's own.

@@ -1,7 +1,7 @@
 //! The numbers, places and references that words stand for.
 ghost use Rattle.std.specs.Prelude.{◌≡◌, ◌≤◌, ◌==◌, true, length};
 ghost use Rattle.std.specs.List.{list_all, position, before_first, after_first};
-ghost use Rattle.cell_text.specs.Numbers.{is_digit, value_of, is_number, number_of, position_of, is_reference_word, kind_of, reference_of};
+ghost use Rattle.cell_text.specs.Numbers.{is_digit, value_of, is_number, number_of, position_of, is_reference_word, reference_number, kind_of, reference_of};
 
 use plant_types::{Ref, RefKind};
 
@@ -97,6 +97,17 @@ pub fn is_reference_word(word: &[u8]) -> bool
     ensures { result ≡ is_reference_word word.now }
 {
     are_digits(word) && word.len() == 5
+}
+
+/// The number of a word of five digits, whether or not it is a reference: its last four.
+pub fn reference_number(word: &[u8]) -> Option<u16>
+    ensures { result ≡ reference_number word.now }
+{
+    if is_reference_word(word) {
+        Some(value_of(&word[1..]))
+    } else {
+        None
+    }
 }
 
 fn kind_of(digit: u8) -> Option<RefKind>

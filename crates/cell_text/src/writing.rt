@@ -76,7 +76,8 @@ impl fmt::Display for Piece {
 pub fn cell_text(alloc: Global, piece: &Piece) -> Result<String, AllocError>
     requires { has_text piece.now ≡ true }
     ensures text { IfOk result (λ text. string_bytes text ≡ piece_text piece.now) }
-    ensures reads_back { IfOk result (λ text. piece_of (words_of (string_bytes text)) ≡ Ok piece.now) }
+    ensures reads_back { IfOk result (λ text. piece_of (words_of (string_bytes text))
+        ≡ Ok piece.now) }
 {
     piece.to_string(alloc)
 }

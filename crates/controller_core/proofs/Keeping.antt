@@ -1,26 +1,33 @@
 -- What one more step keeps.
-use Rattle.std.proofs.Common.{◌≡◌, ◌≤◌, ◌<◌, ℕ, suc, ◌+◌, ◌-◌, Bool, true, false, ◌&&◌, List, [], ◌∷◌, ◌++◌, length, drop, Option, Some, None, refl, sym, ap, ◌∙◌, subst, arith, append_assoc, length-append}
-use Rattle.std.specs.Prelude.{fold, not}
+use Rattle.std.proofs.Common.{◌≡◌, ◌≤◌, ◌<◌, ◌==◌, ℕ, suc, ◌+◌, ◌-◌, Bool, true, false, ◌&&◌, List, [], ◌∷◌, ◌++◌, length, drop, Option, Some, None, refl, sym, ap, ◌∙◌, subst, arith, append_assoc, append-nil, length-append}
+use Rattle.std.specs.Prelude.{fold, not, if◌then◌else◌}
 use Rattle.std.specs.List.{flat_map, range_with_len}
 use Rattle.std.proofs.lemmas.List.Elements.{filter_map-append}
 use Rattle.std.proofs.Math.Seq.{drop-append_seam}
 use Rattle.plant_types.specs.declared.drops.IoDrop.{IoDrop}
+use Rattle.plant_types.specs.declared.network.Segment.{Segment}
+use Rattle.plant_types.specs.declared.plan.OrderRow.{OrderRow}
+use Rattle.ladder_solver.specs.Segment.{segment_after}
 use Rattle.plant_types.specs.declared.plan.ControllerPlan.{ControllerPlan}
 use Rattle.scan_order.specs.declared.due.ScanPlace.{ScanPlace}
 use Rattle.scan_order.specs.declared.due.ScanPlace.TheVariants as places
 use Rattle.scan_order.specs.declared.due.ScanStep.{ScanStep}
 use Rattle.scan_order.specs.declared.due.ScanStep.TheVariants as steps
-use Rattle.scan_order.specs.Due.{output_steps, row_steps, rows_from, due_after, rest_after, place_after, IsStep}
+use Rattle.scan_order.specs.Due.{output_steps, row_of, row_steps, rows_from, due_after, rest_after, place_after, IsStep}
 use Rattle.controller_core.specs.declared.fixed.Fixed.{Fixed}
+use Rattle.mstr_block.specs.declared.call.CallId.{CallId}
+use Rattle.modbus_exec.specs.Answer.{answer_of}
 use Rattle.controller_core.specs.declared.entry.Entry.{Entry}
+use Rattle.controller_core.specs.declared.entry.Entry.TheVariants as entries
+use Rattle.controller_core.specs.declared.entry.Maker.TheVariants as makers
 use Rattle.controller_core.specs.declared.entry.StepEnd.TheVariants as ends
 use Rattle.controller_core.specs.declared.machine.Machine.{Machine}
-use Rattle.controller_core.specs.Replay.{State, apply, read_in, start}
-use Rattle.controller_core.specs.Event.{entry_of, scan_steps, step_of}
-use Rattle.controller_core.specs.Machine.{state_is, Does, IsSound, IsTimely}
-use Rattle.controller_core.specs.Scans.{all_due, ended_after, ends_scan, is_done, remaining, scans_at, scans_from}
-use Rattle.controller_core.specs.Controller.{ControllerIs, EachFits, Fits, IsLegal, answered, due_step, first_of, grown, has_ended, is_none, made, step_end, stepped}
-use Rattle.controller_core.specs.Kept.{IsKept}
+use Rattle.controller_core.specs.Replay.{State, apply, control_is_on, read_in, replay, segment_solved, solved, start, watchdog_stop}
+use Rattle.controller_core.specs.Event.{entry_of, maker_of, scan_steps, step_of}
+use Rattle.controller_core.specs.Machine.{state_is, CanSolve, Does, IsSound, IsTimely, Serves}
+use Rattle.controller_core.specs.Scans.{all_due, closes_scan, ended_after, is_done, is_over, remaining, scans_at, scans_from}
+use Rattle.controller_core.specs.Controller.{ControllerIs, EachFits, Fits, GoesOn, IsLegal, WentOn, answered, due_step, first_of, grown, left_of, state_of, has_ended, is_none, made, step_end, stepped}
+use Rattle.controller_core.specs.Kept.{IsKept, IsWatched}
 use Rattle.controller_core.proofs.Lengths.{scans_few}
 
 -- ---- one more entry
@@ -41,27 +48,108 @@ one_step f s (steps.Solve row) = refl
 one_step f s (steps.Out row) = refl
 one_step f s steps.End = refl
 
-scan_steps-more : (f : Fixed) (s : State) (h : List Entry) (step : ScanStep) → scan_steps (h ++ entry_of f s step ∷ []) ≡ scan_steps h ++ (step ∷ [])
+pub scan_steps-more : (f : Fixed) (s : State) (h : List Entry) (step : ScanStep) → scan_steps (h ++ entry_of f s step ∷ []) ≡ scan_steps h ++ (step ∷ [])
 scan_steps-more f s h step =
     filter_map-append step_of h (entry_of f s step ∷ []) ∙ ap (λ (l : List ScanStep). scan_steps h ++ l) (one_step f s step)
 
-fits_made : (f : Fixed) (s : State) (step : ScanStep) → Fits f s (entry_of f s step)
-fits_made f s steps.Begin = tt
-fits_made f s (steps.In row) = tt
-fits_made f s (steps.Solve row) = tt
-fits_made f s (steps.Out row) = refl
-fits_made f s steps.End = tt
+pub fits_made : (f : Fixed) (s : State) (step : ScanStep) → GoesOn s → Fits f s (entry_of f s step)
+fits_made f s steps.Begin goes = goes
+fits_made f s (steps.In row) goes = goes
+fits_made f s (steps.Solve row) goes = goes
+fits_made f s (steps.Out row) goes = (goes, refl)
+fits_made f s steps.End goes = goes
 
 read_ended : (drops : List IoDrop) (drop : Option ℕ) (s : State) → (read_in drops drop s).ended ≡ s.ended
 read_ended drops None s = refl
 read_ended drops (Some drop) s = refl
 
+solved_ended : (segments : List Segment) (row : Option OrderRow) (s : State) → (solved segments row s).ended ≡ s.ended
+solved_ended segments None s = refl
+solved_ended segments (Some row) s = either_ended (control_is_on s.solving.map row.control)
+  where
+    either_ended : (b : Bool) → (if b then segment_solved segments row.segment s else s).ended ≡ s.ended
+    either_ended true = refl
+    either_ended false = refl
+
 ended_made : (f : Fixed) (s : State) (step : ScanStep) → (apply f s (entry_of f s step)).ended ≡ ended_after step s.ended
 ended_made f s steps.Begin = refl
 ended_made f s (steps.In row) = read_ended f.plan.drops _ s
-ended_made f s (steps.Solve row) = refl
+ended_made f s (steps.Solve row) = solved_ended f.plan.segments (row_of f.plan row) s
 ended_made f s (steps.Out row) = refl
 ended_made f s steps.End = refl
+
+-- an answer to another node is no step
+pub scan_steps-peer : (h : List Entry) (id : CallId) (request reply : List ℕ) → scan_steps (h ++ entries.Peer id request reply ∷ []) ≡ scan_steps h
+scan_steps-peer h id request reply =
+    filter_map-append step_of h (entries.Peer id request reply ∷ []) ∙ append-nil (scan_steps h)
+
+-- ---- the watchdog
+
+read_left : (drops : List IoDrop) (drop : Option ℕ) (s : State) → (read_in drops drop s).solving.left ≡ s.solving.left
+read_left drops None s = refl
+read_left drops (Some drop) s = refl
+
+segment_left : (stop left : ℕ) (b : Bool) → (left == 0) ≡ b → (if b then watchdog_stop else stop) ≡ 0 → 0 < left
+segment_left stop left true none goes = absurd cc
+segment_left stop left false some goes = grind arith
+
+solved_left : (segments : List Segment) (row : Option OrderRow) (s : State) → 0 < s.solving.left → (solved segments row s).stop ≡ 0
+    → 0 < (solved segments row s).solving.left
+solved_left segments None s left goes = left
+solved_left segments (Some row) s left goes = either_left (control_is_on s.solving.map row.control) goes
+  where
+    either_left : (b : Bool) → (if b then segment_solved segments row.segment s else s).stop ≡ 0
+        → 0 < (if b then segment_solved segments row.segment s else s).solving.left
+    either_left true goes =
+        let after = segment_after segments row.segment s.solving in segment_left s.stop after.left (after.left == 0) refl goes
+    either_left false goes = left
+
+-- a step but Begin and End is made where networks are left to the watchdog
+abbrev WasWatched : ScanStep → State → Type 0
+WasWatched steps.Begin s = Unit {0}
+WasWatched step s = 0 < s.solving.left
+
+was_of : (step : ScanStep) (s : State) → 0 < s.solving.left → WasWatched step s
+was_of steps.Begin s left = tt
+was_of (steps.In row) s left = left
+was_of (steps.Solve row) s left = left
+was_of (steps.Out row) s left = left
+was_of steps.End s left = left
+
+first_same : {x y : ScanStep} {xs ys : List ScanStep} → x ∷ xs ≡ y ∷ ys → x ≡ y
+first_same is = cc
+
+left_made : (f : Fixed) (s : State) (step : ScanStep) → 1 ≤ f.watchdog → WasWatched step s → (apply f s (entry_of f s step)).stop ≡ 0
+    → 0 < (apply f s (entry_of f s step)).solving.left
+left_made f s steps.Begin watchdog left goes = watchdog
+left_made f s (steps.In row) watchdog left goes = subst (λ n. 0 < n) (sym (read_left f.plan.drops _ s)) left
+left_made f s (steps.Solve row) watchdog left goes = solved_left f.plan.segments (row_of f.plan row) s left goes
+left_made f s (steps.Out row) watchdog left goes = left
+left_made f s steps.End watchdog left goes = left
+
+watched_at : (step : ScanStep) (m : Machine) → (m.stop ≡ 0 → 0 < m.watch.left) → IsWatched (place_after step) m
+watched_at steps.Begin m watched = watched
+watched_at (steps.In row) m watched = watched
+watched_at (steps.Solve row) m watched = watched
+watched_at (steps.Out row) m watched = watched
+watched_at steps.End m watched = tt
+
+-- what is due at a place is watched there
+due_watched : (f : Fixed) (m : Machine) (at : ScanPlace) (step : ScanStep) → due_after f.plan at ≡ step ∷ rest_after f.plan step → m.stop ≡ 0
+    → IsWatched at m → WasWatched step (state_is m)
+due_watched f m places.Start step next goes watched = subst (λ (x : ScanStep). WasWatched x (state_is m)) (first_same next) tt
+due_watched f m places.Began step next goes watched = was_of step (state_is m) (watched goes)
+due_watched f m (places.DidIn row) step next goes watched = was_of step (state_is m) (watched goes)
+due_watched f m (places.DidSolve row) step next goes watched = was_of step (state_is m) (watched goes)
+due_watched f m (places.DidOut row) step next goes watched = was_of step (state_is m) (watched goes)
+
+pub can_solve : (f : Fixed) (m : Machine) (at : ScanPlace) (step : ScanStep) → due_after f.plan at ≡ step ∷ rest_after f.plan step → m.stop ≡ 0
+    → IsWatched at m → CanSolve step m
+can_solve f m at steps.Begin next goes watched = tt
+can_solve f m at (steps.In row) next goes watched = tt
+can_solve f m at (steps.Solve row) next goes watched = due_watched f m at (steps.Solve row) next goes watched
+can_solve f m at (steps.Out row) next goes watched = tt
+can_solve f m at steps.End next goes watched = tt
 
 -- ---- what is left
 
@@ -114,13 +202,14 @@ within_after (steps.Solve row) ended scans lt = omega arith
 within_after (steps.Out row) ended scans lt = omega arith
 within_after steps.End ended scans lt = omega arith
 
-pub kept_step : (f : Fixed) (m n : Machine) (h : List Entry) (at : ScanPlace) (step : ScanStep) → IsKept f m h at → m.ended < f.scans
+pub kept_step : (f : Fixed) (m n : Machine) (h : List Entry) (at : ScanPlace) (step : ScanStep) → IsKept f m h at → m.stop ≡ 0 → m.ended < f.scans
     → due_after f.plan at ≡ step ∷ rest_after f.plan step → IsStep f.plan step → Does (entry_of f (state_is m) step) m n
     → IsKept f n (h ++ entry_of f (state_is m) step ∷ []) (place_after step)
-kept_step f m n h at step k lt next is does =
+kept_step f m n h at step k goes lt next is does =
     let s = state_is m in
     let e = entry_of f s step in
     let later = scans_from f (m.ended + 1 + 1) (f.scans - suc m.ended) in
+    let watchdog : 1 ≤ f.watchdog = subst (λ (g : Fixed). 1 ≤ g.watchdog) k.fixed_is k.sound.runs.watchdog in
     let now : state_is n ≡ apply f s e = does.state ∙ ap (λ (g : Fixed). apply g s e) k.fixed_is in
     let ended : n.ended ≡ ended_after step m.ended = ap (λ (t : State). t.ended) now ∙ ended_made f s step in
     let more = scan_steps-more f s h step in
@@ -128,7 +217,7 @@ kept_step f m n h at step k lt next is does =
     record {
       fixed_is = does.fixed ∙ k.fixed_is;
       sound = does.sound;
-      each = EachFits-more f (start f.plan) h e k.each (subst (λ (t : State). Fits f t e) k.state (fits_made f s step));
+      each = EachFits-more f (start f.plan) h e k.each (subst (λ (t : State). Fits f t e) k.state (fits_made f s step goes));
       state = now ∙ ap (λ (t : State). apply f t e) k.state ∙ sym (replay_more f (start f.plan) h e);
       steps = ap (λ x. scan_steps (h ++ e ∷ []) ++ remaining f x (place_after step)) ended
           ∙ ap (λ (l : List ScanStep). scan_steps (h ++ e ∷ []) ++ l) (after_step f m.ended step)
@@ -136,8 +225,35 @@ kept_step f m n h at step k lt next is does =
           ∙ append_assoc (scan_steps h) (step ∷ []) (rest_after f.plan step ++ later)
           ∙ in_front f m h at step k lt next;
       place = is;
+      watched = watched_at step n (λ stop. subst (λ x. 0 < x) (sym (ap (λ (t : State). t.solving.left) now))
+          (left_made f s step watchdog (due_watched f m at step next goes k.watched) (sym (ap (λ (t : State). t.stop) now) ∙ stop)));
       within = subst (λ x. scans_at (place_after step) x ≤ f.scans) (sym ended) (within_after step m.ended f.scans lt);
       timely = subst (IsTimely n) long (does.timely (length (scan_steps h)) k.timely);
+    }
+
+watched_peer : (at : ScanPlace) (m n : Machine) → n.stop ≡ m.stop → n.watch.left ≡ m.watch.left → IsWatched at m → IsWatched at n
+watched_peer places.Start m n stop left watched = tt
+watched_peer places.Began m n stop left watched = λ goes. subst (λ x. 0 < x) (sym left) (watched (sym stop ∙ goes))
+watched_peer (places.DidIn row) m n stop left watched = λ goes. subst (λ x. 0 < x) (sym left) (watched (sym stop ∙ goes))
+watched_peer (places.DidSolve row) m n stop left watched = λ goes. subst (λ x. 0 < x) (sym left) (watched (sym stop ∙ goes))
+watched_peer (places.DidOut row) m n stop left watched = λ goes. subst (λ x. 0 < x) (sym left) (watched (sym stop ∙ goes))
+
+pub kept_peer : (f : Fixed) (m n : Machine) (h : List Entry) (at : ScanPlace) (id : CallId) (request reply : List ℕ) → IsKept f m h at
+    → Serves request m n → reply ≡ (answer_of request m.ram).reply → IsKept f n (h ++ entries.Peer id request reply ∷ []) at
+kept_peer f m n h at id request reply k serves is =
+    let e = entries.Peer id request reply in
+    let same = scan_steps-peer h id request reply in
+    let ended : n.ended ≡ m.ended = ap (λ (t : State). t.ended) serves.state in
+    record {
+      fixed_is = serves.fixed ∙ k.fixed_is;
+      sound = serves.sound;
+      each = EachFits-more f (start f.plan) h e k.each (is ∙ ap (λ (t : State). (answer_of request t.solving.map).reply) k.state);
+      state = serves.state ∙ ap (λ (t : State). apply f t e) k.state ∙ sym (replay_more f (start f.plan) h e);
+      steps = ap (λ (l : List ScanStep). l ++ remaining f n.ended at) same ∙ ap (λ x. scan_steps h ++ remaining f x at) ended ∙ k.steps;
+      place = k.place;
+      watched = watched_peer at m n (ap (λ (t : State). t.stop) serves.state) (ap (λ (t : State). t.solving.left) serves.state) k.watched;
+      within = subst (λ x. scans_at at x ≤ f.scans) (sym ended) k.within;
+      timely = subst (λ (l : List ScanStep). IsTimely n (length l)) (sym same) (serves.timely (length (scan_steps h)) k.timely);
     }
 
 pub legal_of : (f : Fixed) (m : Machine) (h : List Entry) (at : ScanPlace) → IsKept f m h at → IsLegal f h
@@ -171,36 +287,125 @@ kept_as f g n h l at to fixed items place k =
     let R : Fixed → Type 0 = λ x. IsKept x n h at in
     subst P (sym items) (subst Q (sym place) (subst R (sym fixed) k))
 
+-- what a step leaves is kept, in what its calls answer
+pub kept_made : (f : Fixed) (m n : Machine) (h l : List Entry) (at to : ScanPlace) (step : ScanStep) → IsKept f m h at → m.stop ≡ 0 → m.ended < f.scans
+    → due_after f.plan at ≡ step ∷ rest_after f.plan step → IsStep f.plan step → Does (entry_of f (state_is m) step) m n
+    → l ≡ h ++ entry_of f (state_is m) step ∷ [] → to ≡ place_after step → IsKept n.fixed n l to
+kept_made f m n h l at to step k goes lt next is does items place =
+    let after = kept_step f m n h at step k goes lt next is does in
+    kept_as f n.fixed n (h ++ entry_of f (state_is m) step ∷ []) l (place_after step) to after.fixed_is items place after
+
+-- ---- what each call says of itself
+
+maker_of_made : (f : Fixed) (s : State) (step : ScanStep) → maker_of (entry_of f s step) ≡ makers.Scan
+maker_of_made f s steps.Begin = refl
+maker_of_made f s (steps.In row) = refl
+maker_of_made f s (steps.Solve row) = refl
+maker_of_made f s (steps.Out row) = refl
+maker_of_made f s steps.End = refl
+
+pub went_on_step : (f : Fixed) (m n : Machine) (h l : List Entry) (at to : ScanPlace) (r after : Bool) (step : ScanStep) (v : ControllerIs)
+    → record { fixed = f; history = h; reserved = r } ≡ v → IsKept f m h at → IsKept n.fixed n l to → n.fixed ≡ f
+    → l ≡ h ++ entry_of f (state_is m) step ∷ []
+    → WentOn makers.Scan (entry_of v.fixed (state_of v) step ∷ []) v (record { fixed = n.fixed; history = l; reserved = after })
+went_on_step f m n h l at to r after step v is k new fixed items = record {
+  fixed = fixed ∙ ap (λ (u : ControllerIs). u.fixed) is;
+  history = items ∙ ap (λ (t : State). h ++ entry_of f t step ∷ []) k.state
+      ∙ ap (λ (u : ControllerIs). u.history ++ entry_of u.fixed (state_of u) step ∷ []) is;
+  made = (maker_of_made v.fixed (state_of v) step, tt);
+  legal = legal_of n.fixed n l to new;
+}
+
+pub went_on_peer : (f : Fixed) (m n : Machine) (h l : List Entry) (at : ScanPlace) (r : Bool) (id : CallId) (request reply : List ℕ)
+    (v : ControllerIs) → record { fixed = f; history = h; reserved = r } ≡ v → IsKept n.fixed n l at → n.fixed ≡ f
+    → l ≡ h ++ entries.Peer id request reply ∷ []
+    → WentOn makers.Communication (entries.Peer id request reply ∷ []) v (record { fixed = n.fixed; history = l; reserved = r })
+went_on_peer f m n h l at r id request reply v is new fixed items = record {
+  fixed = fixed ∙ ap (λ (u : ControllerIs). u.fixed) is;
+  history = items ∙ ap (λ (u : ControllerIs). u.history ++ entries.Peer id request reply ∷ []) is;
+  made = (refl, tt);
+  legal = legal_of n.fixed n l at new;
+}
+
 -- ---- what a step gives
 
-pub step_made : (f : Fixed) (m : Machine) (h : List Entry) (at : ScanPlace) (r : Bool) (step : ScanStep) (v : ControllerIs)
-    → record { fixed = f; history = h; reserved = r } ≡ v → IsKept f m h at → m.ended < f.scans → due_after f.plan at ≡ step ∷ rest_after f.plan step
-    → (stepped v ≡ record { fixed = f; history = h ++ entry_of f (state_is m) step ∷ []; reserved = r && not (ends_scan step) })
+-- the step that is due in a controller that goes on, and in one that has stopped
+goes_due : (f : Fixed) (m : Machine) (h : List Entry) (at : ScanPlace) (r : Bool) → IsKept f m h at → m.stop ≡ 0
+    → due_step (record { fixed = f; history = h; reserved = r }) ≡ first_of (left_of f h)
+goes_due f m h at r k goes =
+    let stop : (replay f h).stop ≡ 0 = ap (λ (t : State). t.stop) (sym k.state) ∙ goes in
+    ap (λ n. if n == 0 then first_of (left_of f h) else None) stop
+
+pub step_made : (f : Fixed) (m n : Machine) (h : List Entry) (at : ScanPlace) (r : Bool) (step : ScanStep) (v : ControllerIs)
+    → record { fixed = f; history = h; reserved = r } ≡ v → IsKept f m h at → m.stop ≡ 0 → m.ended < f.scans
+    → due_after f.plan at ≡ step ∷ rest_after f.plan step → state_is n ≡ apply f (state_is m) (entry_of f (state_is m) step)
+    → (stepped v ≡ record { fixed = f; history = h ++ entry_of f (state_is m) step ∷ []; reserved = r && not (closes_scan step n.stop) })
     × (step_end v ≡ ends.Did step) × (has_ended v ≡ false)
-step_made f m h at r step v is k lt next =
+step_made f m n h at r step v is k goes lt next after =
     let w : ControllerIs = record { fixed = f; history = h; reserved = r } in
-    let due : due_step w ≡ Some step = due_first f m h at step k lt next in
+    let due : due_step w ≡ Some step = goes_due f m h at r k goes ∙ due_first f m h at step k lt next in
     let one : stepped w ≡ made w (Some step) = ap (made w) due in
-    let two : made w (Some step) ≡ grown w (entry_of f (state_is m) step ∷ []) (r && not (ends_scan step)) =
-    ap (λ (t : State). grown w (entry_of f t step ∷ []) (r && not (ends_scan step))) (sym k.state) in
+    let two : made w (Some step) ≡ grown w (entry_of f (state_is m) step ∷ [])
+    (r && not (closes_scan step (apply f (state_is m) (entry_of f (state_is m) step)).stop)) =
+    ap (λ (t : State). grown w (entry_of f t step ∷ []) (r && not (closes_scan step (apply f t (entry_of f t step)).stop))) (sym k.state) in
+    let three : grown w (entry_of f (state_is m) step ∷ []) (r && not (closes_scan step (apply f (state_is m) (entry_of f (state_is m) step)).stop))
+    ≡ grown w (entry_of f (state_is m) step ∷ []) (r && not (closes_scan step n.stop)) =
+    ap (λ (t : State). grown w (entry_of f (state_is m) step ∷ []) (r && not (closes_scan step t.stop))) (sym after) in
     let P : ControllerIs
-    → Type 0 = λ u. (stepped u ≡ grown w (entry_of f (state_is m) step ∷ []) (r && not (ends_scan step))) × (step_end u ≡ ends.Did step) ×
+    → Type 0 = λ u. (stepped u ≡ grown w (entry_of f (state_is m) step ∷ []) (r && not (closes_scan step n.stop))) × (step_end u ≡ ends.Did step) ×
     (has_ended u ≡ false) in
-    subst P is (one ∙ two, ap answered due, ap is_none due)
+    subst P is (one ∙ two ∙ three, ap (answered (state_of w).stop) due, ap is_none due)
 
 pub step_none : (f : Fixed) (m : Machine) (h : List Entry) (at : ScanPlace) (r : Bool) (v : ControllerIs)
-    → record { fixed = f; history = h; reserved = r } ≡ v → IsKept f m h at → is_done f.scans at m.ended ≡ true
+    → record { fixed = f; history = h; reserved = r } ≡ v → IsKept f m h at → m.stop ≡ 0 → is_done f.scans at m.ended ≡ true
     → (stepped v ≡ v) × (step_end v ≡ ends.Ended)
-step_none f m h places.Start r v is k done =
+step_none f m h places.Start r v is k goes done =
     let w : ControllerIs = record { fixed = f; history = h; reserved = r } in
     let all : m.ended ≡ f.scans = grind arith in
-    let due : due_step w ≡ None = due_none f m h k all in
+    let due : due_step w ≡ None = goes_due f m h places.Start r k goes ∙ due_none f m h k all in
+    let stop : (state_of w).stop ≡ 0 = ap (λ (t : State). t.stop) (sym k.state) ∙ goes in
     let P : ControllerIs → Type 0 = λ u. (stepped u ≡ u) × (step_end u ≡ ends.Ended) in
-    subst P is (ap (made w) due, ap answered due)
-step_none f m h places.Began r v is k done = absurd cc
-step_none f m h (places.DidIn row) r v is k done = absurd cc
-step_none f m h (places.DidSolve row) r v is k done = absurd cc
-step_none f m h (places.DidOut row) r v is k done = absurd cc
+    subst P is (ap (made w) due, ap (answered (state_of w).stop) due ∙ ap (λ n. answered n None) stop)
+step_none f m h places.Began r v is k goes done = absurd cc
+step_none f m h (places.DidIn row) r v is k goes done = absurd cc
+step_none f m h (places.DidSolve row) r v is k goes done = absurd cc
+step_none f m h (places.DidOut row) r v is k goes done = absurd cc
+
+not_over : (scans : ℕ) (at : ScanPlace) (ended : ℕ) (b : Bool) → (if b then is_done scans at ended else true) ≡ false
+    → (b ≡ true) × (is_done scans at ended ≡ false)
+not_over scans at ended true is = (refl, is)
+not_over scans at ended false is = absurd cc
+
+pub due_is : (f : Fixed) (m : Machine) (h : List Entry) (at : ScanPlace) (r : Bool) (v : ControllerIs) (step : ScanStep)
+    → record { fixed = f; history = h; reserved = r } ≡ v → IsKept f m h at → is_over m.stop f.scans at m.ended ≡ false
+    → due_after f.plan at ≡ step ∷ rest_after f.plan step → due_step v ≡ Some step
+due_is f m h at r v step is k over next =
+    let two = not_over f.scans at m.ended (m.stop == 0) over in
+    let none : m.stop ≡ 0 = let e = two.0 in grind arith in
+    let lt = not_done f.scans at m.ended k.within two.1 in
+    let P : ControllerIs → Type 0 = λ u. due_step u ≡ Some step in
+    subst P is (goes_due f m h at r k none ∙ due_first f m h at step k lt next)
+
+-- a controller that has stopped
+stopped_due : (f : Fixed) (h : List Entry) (r : Bool) (stop : ℕ) → (replay f h).stop ≡ stop → (stop == 0) ≡ false
+    → (due_step (record { fixed = f; history = h; reserved = r }) ≡ None)
+    × (step_end (record { fixed = f; history = h; reserved = r }) ≡ ends.Stopped stop)
+stopped_due f h r stop is not =
+    let w : ControllerIs = record { fixed = f; history = h; reserved = r } in
+    let no : ((replay f h).stop == 0) ≡ false = ap (λ n. n == 0) is ∙ not in
+    let due : due_step w ≡ None = ap (λ b. if b then first_of (left_of f h) else None) no in
+    let told : answered (replay f h).stop None ≡ ends.Stopped (replay f h).stop =
+    ap (λ b. if b then ends.Ended else ends.Stopped (replay f h).stop) no in
+    (due, ap (answered (replay f h).stop) due ∙ told ∙ ap ends.Stopped is)
+
+pub step_stopped : (f : Fixed) (m : Machine) (h : List Entry) (at : ScanPlace) (r : Bool) (v : ControllerIs)
+    → record { fixed = f; history = h; reserved = r } ≡ v → IsKept f m h at → (m.stop == 0) ≡ false
+    → (stepped v ≡ v) × (step_end v ≡ ends.Stopped m.stop) × (has_ended v ≡ true)
+step_stopped f m h at r v is k not =
+    let w : ControllerIs = record { fixed = f; history = h; reserved = r } in
+    let both = stopped_due f h r m.stop (ap (λ (t : State). t.stop) (sym k.state)) not in
+    let P : ControllerIs → Type 0 = λ u. (stepped u ≡ u) × (step_end u ≡ ends.Stopped m.stop) × (has_ended u ≡ true) in
+    subst P is (ap (made w) both.0, both.1, ap is_none both.0)
 
 -- ---- whether all scans are done
 
@@ -249,20 +454,28 @@ done_either : (f : Fixed) (m : Machine) (h : List Entry) (at : ScanPlace) → Is
 done_either f m h at k true e = sym (all_ended f m h at k e)
 done_either f m h at k false e = sym (goes_on f m h at k (not_done f.scans at m.ended k.within e))
 
-pub ended_is : (f : Fixed) (m : Machine) (h : List Entry) (at : ScanPlace) (r : Bool) (v : ControllerIs)
-    → record { fixed = f; history = h; reserved = r } ≡ v → IsKept f m h at → is_done f.scans at m.ended ≡ has_ended v
-ended_is f m h at r v is k =
-    let P : ControllerIs → Type 0 = λ u. is_done f.scans at m.ended ≡ has_ended u in
-    subst P is (done_either f m h at k (is_done f.scans at m.ended) refl)
+ended_by : (f : Fixed) (m : Machine) (h : List Entry) (at : ScanPlace) (r : Bool) → IsKept f m h at → (b : Bool) → (m.stop == 0) ≡ b
+    → (if b then is_done f.scans at m.ended else true) ≡ has_ended (record { fixed = f; history = h; reserved = r })
+ended_by f m h at r k true is =
+    let none : m.stop ≡ 0 = grind arith in
+    done_either f m h at k (is_done f.scans at m.ended) refl ∙ sym (ap is_none (goes_due f m h at r k none))
+ended_by f m h at r k false is =
+    let both = stopped_due f h r m.stop (ap (λ (t : State). t.stop) (sym k.state)) is in sym (ap is_none both.0)
 
-pub room_step : (r : Bool) (plan : ControllerPlan) (at : ScanPlace) (step : ScanStep) → (r && not (ends_scan step)) ≡ true
+pub ended_is : (f : Fixed) (m : Machine) (h : List Entry) (at : ScanPlace) (r : Bool) (v : ControllerIs)
+    → record { fixed = f; history = h; reserved = r } ≡ v → IsKept f m h at → is_over m.stop f.scans at m.ended ≡ has_ended v
+ended_is f m h at r v is k =
+    let P : ControllerIs → Type 0 = λ u. is_over m.stop f.scans at m.ended ≡ has_ended u in
+    subst P is (ended_by f m h at r k (m.stop == 0) refl)
+
+pub room_step : (r : Bool) (plan : ControllerPlan) (at : ScanPlace) (step : ScanStep) (stop : ℕ) → (r && not (closes_scan step stop)) ≡ true
     → due_after plan at ≡ step ∷ rest_after plan step → (r ≡ true) × (length (due_after plan at) ≡ suc (length (due_after plan (place_after step))))
-room_step false plan at step is next = cc
-room_step true plan at steps.Begin is next = (refl, ap length next)
-room_step true plan at (steps.In row) is next = (refl, ap length next)
-room_step true plan at (steps.Solve row) is next = (refl, ap length next)
-room_step true plan at (steps.Out row) is next = (refl, ap length next)
-room_step true plan at steps.End is next = cc
+room_step false plan at step stop is next = cc
+room_step true plan at steps.Begin stop is next = (refl, ap length next)
+room_step true plan at (steps.In row) stop is next = (refl, ap length next)
+room_step true plan at (steps.Solve row) stop is next = (refl, ap length next)
+room_step true plan at (steps.Out row) stop is next = (refl, ap length next)
+room_step true plan at steps.End stop is next = cc
 
 -- a controller when it starts
 pub kept_new : (f : Fixed) (m : Machine) (h : List Entry) → m.fixed ≡ f → state_is m ≡ start f.plan → h ≡ [] → IsTimely m 0
@@ -281,6 +494,7 @@ kept_new f m h fixed state none timely sound =
       state = state;
       steps = first;
       place = tt;
+      watched = tt;
       within = omega arith;
       timely = timely;
     })

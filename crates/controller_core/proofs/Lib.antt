@@ -1,3 +1,5 @@
 pub mod MachineLemmas
 pub mod Lengths
 pub mod Keeping
+pub mod RunLemmas
+pub mod NextEntry

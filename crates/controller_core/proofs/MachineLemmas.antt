@@ -7,9 +7,10 @@ use Rattle.plant_types.specs.declared.reference.Ref.{Ref}
 use Rattle.plant_types.specs.declared.drops.IoDrop.{IoDrop}
 use Rattle.plant_types.specs.declared.plan.OrderRow.{OrderRow}
 use Rattle.plant_types.specs.declared.plan.ControllerPlan.{ControllerPlan}
-use Rattle.plant_types.specs.Checks.{sizes_of, CheckedPlansFindAll, KeptStoresFindAll, HasSegmentOperands, HasSegmentPast}
+use Rattle.plant_types.specs.Checks.{sizes_of, CheckedPlansFindAll, KeptStoresFindAll, HasSegmentPast}
 use Rattle.plant_types.specs.Sizes.{cleared, discretes, discretes_of, DiscretesFollow}
 use Rattle.plant_types.specs.Store.{Contents, Keeps}
+use Rattle.ladder_solver.specs.Conditions.{HasGridOperands, HasGridPast, GridsAskNoMore}
 use Rattle.ladder_solver.proofs.Stored.{all_at_item}
 use Rattle.scan_order.specs.Due.{row_of}
 use Rattle.traffic_cop.specs.Drops.{IsReady}
@@ -17,15 +18,16 @@ use Rattle.traffic_cop.proofs.ModuleLemmas.{HasModules-kept}
 use Rattle.controller_core.specs.declared.entry.Entry.{Entry}
 use Rattle.controller_core.specs.declared.machine.Machine.{Machine}
 use Rattle.controller_core.specs.Replay.{apply}
-use Rattle.controller_core.specs.Machine.{CanRun, Does, FitsRow, HasControl, IsSound, IsTimely, state_is}
+use Rattle.traffic_cop.specs.Rows.{FitsPlan, HasControl}
+use Rattle.controller_core.specs.Machine.{CanRun, Does, IsSound, IsTimely, state_is}
 
 -- a row of a plan that can be run fits it
-pub row_fits : (plan : ControllerPlan) (number : ℕ) (row : OrderRow) → CanRun plan → row_of plan number ≡ Some row → FitsRow plan row
+pub row_fits : (plan : ControllerPlan) (number : ℕ) (row : OrderRow) → CanRun plan → row_of plan number ≡ Some row → FitsPlan plan row
 row_fits plan number row runs is =
     let within = slice_get_within plan.orders (number - 1) row is in
     let got = slice_get-get_or plan.orders (number - 1) row within in
     let same : row ≡ get_or plan.orders (number - 1) row = cc (is, got) in
-    all_at_item (FitsRow plan) plan.orders (number - 1) row within same runs.rows
+    all_at_item (FitsPlan plan) plan.orders (number - 1) row within same runs.rows
 
 -- a drop whose modules a store has, each store that keeps its references has too
 pub ready-kept : (drops : List IoDrop) (number : ℕ) (m n : Contents) → Keeps m n → IsReady drops number m → IsReady drops number n
@@ -41,24 +43,25 @@ control-kept m n None keeps has = tt
 control-kept m n (Some at) keeps has = (keeps at has.0, has.1)
 
 -- what a segment asks of the stores of a machine is there
-pub operands_there : (machine : Machine) → CheckedPlansFindAll → KeptStoresFindAll → IsSound machine
-    → HasSegmentOperands machine.ram machine.ladder.segments
-operands_there machine checked kept sound =
+pub operands_there : (machine : Machine) → GridsAskNoMore → CheckedPlansFindAll → KeptStoresFindAll → IsSound machine
+    → HasGridOperands machine.ram machine.ladder.grids
+operands_there machine law checked kept sound =
     let plan = machine.fixed.plan in
     let found = checked plan sound.runs.plan.passes in
-    subst (HasSegmentOperands machine.ram) (sym sound.segments)
-    (kept.operands (cleared (sizes_of plan)) machine.ram plan.segments sound.keeps found.operands)
+    subst (HasGridOperands machine.ram) sound.grids
+    (law.operands machine.ram plan.segments (kept.operands (cleared (sizes_of plan)) machine.ram plan.segments sound.keeps found.operands))
 
-pub past_there : (machine : Machine) → CheckedPlansFindAll → KeptStoresFindAll → DiscretesFollow → IsSound machine
-    → HasSegmentPast machine.past machine.ladder.segments
-past_there machine checked kept follow sound =
+pub past_there : (machine : Machine) → GridsAskNoMore → CheckedPlansFindAll → KeptStoresFindAll → DiscretesFollow → IsSound machine
+    → HasGridPast machine.past machine.ladder.grids
+past_there machine law checked kept follow sound =
     let plan = machine.fixed.plan in
     let sizes = sizes_of plan in
     let found = checked plan sound.runs.plan.passes in
     let there = follow.kept sizes sound.past.store sound.past.keeps in
-    subst (HasSegmentPast machine.past) (sym sound.segments)
+    subst (HasGridPast machine.past) sound.grids
+    (law.past machine.past plan.segments
     (subst (λ (past : Contents). HasSegmentPast past plan.segments) (sym sound.past.is)
-    (kept.past (cleared (discretes_of sizes)) (discretes sizes sound.past.store) plan.segments there found.past))
+    (kept.past (cleared (discretes_of sizes)) (discretes sizes sound.past.store) plan.segments there found.past)))
 
 -- a machine that is in time still is a step later
 pub later : (machine : Machine) (steps : ℕ) → IsTimely machine steps → IsTimely machine (steps + 1)

@@ -1,15 +1,19 @@
 -- What contracts see of a controller, which histories are legal, and what a step does.
-use Rattle.std.specs.Prelude.{◌≡◌, Bool, true, false, ◌&&◌, not, List, [], ◌∷◌, ◌++◌, length, drop, Option, Some, None}
+use Rattle.std.specs.Prelude.{◌≡◌, ℕ, ◌==◌, Bool, true, false, ◌&&◌, not, if◌then◌else◌, List, [], ◌∷◌, ◌++◌, length, drop, Option, Some, None, Result, Ok, Err}
+use Rattle.std.specs.List.{AllByRecursion}
 use Rattle.plant_types.specs.Store.{Contents}
+use Rattle.mstr_block.specs.declared.call.CallId.{CallId}
+use Rattle.modbus_exec.specs.Answer.{answer_of}
 use Rattle.scan_order.specs.declared.due.ScanStep.{ScanStep}
 use Rattle.controller_core.specs.declared.fixed.Fixed.{Fixed}
 use Rattle.controller_core.specs.declared.entry.Entry.{Entry}
 use Rattle.controller_core.specs.declared.entry.Entry.TheVariants as entries
+use Rattle.controller_core.specs.declared.entry.Maker.{Maker}
 use Rattle.controller_core.specs.declared.entry.StepEnd.{StepEnd}
 use Rattle.controller_core.specs.declared.entry.StepEnd.TheVariants as ends
 use Rattle.controller_core.specs.Replay.{State, apply, replay, start}
-use Rattle.controller_core.specs.Event.{entry_of, outputs_at, scan_steps}
-use Rattle.controller_core.specs.Scans.{all_due, ends_scan}
+use Rattle.controller_core.specs.Event.{entry_of, maker_of, outputs_at, scan_steps}
+use Rattle.controller_core.specs.Scans.{all_due, closes_scan}
 
 -- The fixed part, the history, and whether the steps of the scan that runs have their memory.
 -- This project's own.
@@ -18,11 +22,17 @@ pub record ControllerIs : Type 0 where
   pub history : List Entry
   pub reserved : Bool
 
--- What holds of an entry where it is made: the words of an Output are those of the row's drop.
--- This project's own.
+-- A controller goes on: it has not stopped. This project's own.
+abbrev pub GoesOn : State → Type 0
+GoesOn s = s.stop ≡ 0
+
+-- What holds of an entry where it is made: an event of a scan is made where the controller has
+-- not stopped; the words of an Output are those of the row's drop, and the reply of a Peer is the
+-- answer to its request, also where the controller has stopped. This project's own.
 abbrev pub Fits : Fixed → State → Entry → Type 0
-Fits fixed s (entries.Output row words) = words ≡ outputs_at fixed s row
-Fits fixed s _ = Unit {0}
+Fits fixed s (entries.Peer id request reply) = reply ≡ (answer_of request s.solving.map).reply
+Fits fixed s (entries.Output row words) = GoesOn s × (words ≡ outputs_at fixed s row)
+Fits fixed s _ = GoesOn s
 
 -- Each entry fits the state that those before it leave. This project's own.
 unfoldable pub EachFits : Fixed → State → List Entry → Type 0
@@ -48,37 +58,92 @@ abbrev pub first_of : List ScanStep → Option ScanStep
 first_of [] = None
 first_of (step ∷ steps) = Some step
 
--- The step that is due: the first of all scans behind those of the history. This project's own.
+-- What is due in all scans behind the steps of a history. This project's own.
+abbrev pub left_of : Fixed → List Entry → List ScanStep
+left_of fixed history = drop (length (scan_steps history)) (all_due fixed)
+
+-- The step that is due: the first that is left of all scans; none in a controller that has
+-- stopped. This project's own.
 abbrev pub due_step : ControllerIs → Option ScanStep
-due_step v = first_of (drop (length (scan_steps v.history)) (all_due v.fixed))
+due_step v = if (state_of v).stop == 0 then first_of (left_of v.fixed v.history) else None
 
 -- The fixed part stays, and the history grows by these entries. This project's own.
 abbrev pub grown : ControllerIs → List Entry → Bool → ControllerIs
 grown v added reserved =
     record { fixed = v.fixed; history = v.history ++ added; reserved = reserved }
 
+-- The stop code behind a step. This project's own.
+abbrev pub stop_after : ControllerIs → ScanStep → ℕ
+stop_after v step = (apply v.fixed (state_of v) (entry_of v.fixed (state_of v) step)).stop
+
+-- The entry of the step that is due. This project's own.
+abbrev pub entry_for : ControllerIs → Option ScanStep → Option Entry
+entry_for v None = None
+entry_for v (Some step) = Some (entry_of v.fixed (state_of v) step)
+
+abbrev pub due_entry : ControllerIs → Option Entry
+due_entry v = entry_for v (due_step v)
+
 -- A controller after the step that is due: its history grows by the entry of that step, and the
--- memory of a scan is kept until its End. This project's own.
+-- memory of a scan is kept until its End or its stop. This project's own.
 abbrev pub made : ControllerIs → Option ScanStep → ControllerIs
 made v None = v
 made v (Some step) =
-    grown v (entry_of v.fixed (state_of v) step ∷ []) (v.reserved && not (ends_scan step))
+    grown v (entry_of v.fixed (state_of v) step ∷ [])
+    (v.reserved && not (closes_scan step (stop_after v step)))
 
 abbrev pub stepped : ControllerIs → ControllerIs
 stepped v = made v (due_step v)
 
-abbrev pub answered : Option ScanStep → StepEnd
-answered None = ends.Ended
-answered (Some step) = ends.Did step
+-- What a step answers, by the stop code and the step that is due. This project's own.
+abbrev pub answered : ℕ → Option ScanStep → StepEnd
+answered stop None = if stop == 0 then ends.Ended else ends.Stopped stop
+answered stop (Some step) = ends.Did step
 
--- What a step answers. This project's own.
 abbrev pub step_end : ControllerIs → StepEnd
-step_end v = answered (due_step v)
+step_end v = answered (state_of v).stop (due_step v)
 
 abbrev pub is_none : Option ScanStep → Bool
 is_none None = true
 is_none (Some step) = false
 
--- All scans are done. This project's own.
+-- All scans are done, or the controller has stopped. This project's own.
 abbrev pub has_ended : ControllerIs → Bool
 has_ended v = is_none (due_step v)
+
+-- The reply to a request. This project's own.
+abbrev pub reply_to : ControllerIs → List ℕ → List ℕ
+reply_to v request = (answer_of request (store_of v)).reply
+
+-- A controller after it answered a request. This project's own.
+abbrev pub answering : ControllerIs → CallId → List ℕ → ControllerIs
+answering v id request = grown v (entries.Peer id request (reply_to v request) ∷ []) v.reserved
+
+-- The entries that a step made, by what it answered. This project's own.
+abbrev pub step_entries : ControllerIs → StepEnd → List Entry
+step_entries v (ends.Did step) = entry_of v.fixed (state_of v) step ∷ []
+step_entries v _ = []
+
+-- The entries that answering a request made: one, with the reply that was given. This project's
+-- own.
+abbrev pub peer_entries : {E : Type 0} → CallId → List ℕ → Result (List ℕ) E → List Entry
+peer_entries id request (Ok reply) = entries.Peer id request reply ∷ []
+peer_entries id request (Err end) = []
+
+-- A call is there that was started and not yet collected: no block starts one, of those that a
+-- plan that can be run has. This project's own.
+abbrev pub has_started : ControllerIs → Bool
+has_started v = false
+
+-- Entries of one maker. This project's own.
+abbrev pub AreOf : Maker → List Entry → Type 0
+AreOf maker added = AllByRecursion (λ entry. maker_of entry ≡ maker) added
+
+-- What each call that may change a controller says of it, whatever it answers: the fixed part
+-- stays; the history grows by the entries that it added, each of its maker; and it is legal. This
+-- project's own.
+pub record WentOn (maker : Maker) (added : List Entry) (old new : ControllerIs) : Type 0 where
+  pub fixed : new.fixed ≡ old.fixed
+  pub history : new.history ≡ old.history ++ added
+  pub made : AreOf maker added
+  pub legal : IsLegal new.fixed new.history

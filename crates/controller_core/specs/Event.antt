@@ -10,6 +10,8 @@ use Rattle.traffic_cop.specs.Drops.{outputs_of}
 use Rattle.controller_core.specs.declared.fixed.Fixed.{Fixed}
 use Rattle.controller_core.specs.declared.entry.Entry.{Entry}
 use Rattle.controller_core.specs.declared.entry.Entry.TheVariants as entries
+use Rattle.controller_core.specs.declared.entry.Maker.{Maker}
+use Rattle.controller_core.specs.declared.entry.Maker.TheVariants as makers
 use Rattle.controller_core.specs.Replay.{State}
 
 -- The output words of the drop that a row names; none where it names no drop. This project's own.
@@ -29,14 +31,20 @@ entry_of fixed s (steps.Solve row) = entries.Solve row
 entry_of fixed s (steps.Out row) = entries.Output row (outputs_at fixed s row)
 entry_of fixed s steps.End = entries.End
 
--- The step of the scan that an entry is. This project's own.
+-- The step of the scan that an entry is; none of an answer to another node. This project's own.
 abbrev pub step_of : Entry → Option ScanStep
 step_of entries.Begin = Some steps.Begin
 step_of (entries.Input row) = Some (steps.In row)
 step_of (entries.Solve row) = Some (steps.Solve row)
 step_of (entries.Output row words) = Some (steps.Out row)
 step_of entries.End = Some steps.End
+step_of (entries.Peer id request reply) = None
 
 -- The steps of the scans in a history. This project's own.
 abbrev pub scan_steps : List Entry → List ScanStep
 scan_steps history = filter_map step_of history
+
+-- Who makes an entry. This project's own.
+abbrev pub maker_of : Entry → Maker
+maker_of (entries.Peer id request reply) = makers.Communication
+maker_of _ = makers.Scan

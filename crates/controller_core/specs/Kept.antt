@@ -1,6 +1,7 @@
 -- What the fields of a controller keep.
-use Rattle.std.specs.Prelude.{◌≡◌, ◌≤◌, ◌+◌, ℕ, Bool, true, List, ◌++◌, length}
+use Rattle.std.specs.Prelude.{◌≡◌, ◌≤◌, ◌<◌, ◌+◌, ℕ, Bool, true, List, ◌++◌, length}
 use Rattle.scan_order.specs.declared.due.ScanPlace.{ScanPlace}
+use Rattle.scan_order.specs.declared.due.ScanPlace.TheVariants as places
 use Rattle.scan_order.specs.Due.{due_after, IsPlace}
 use Rattle.controller_core.specs.declared.fixed.Fixed.{Fixed}
 use Rattle.controller_core.specs.declared.entry.Entry.{Entry}
@@ -11,9 +12,16 @@ use Rattle.controller_core.specs.Machine.{state_is, IsSound, IsTimely}
 use Rattle.controller_core.specs.Scans.{all_due, remaining, scans_at}
 use Rattle.controller_core.specs.Controller.{EachFits}
 
+-- While a scan runs and the controller goes on, networks are left to the watchdog. This project's
+-- own.
+abbrev pub IsWatched : ScanPlace → Machine → Type 0
+IsWatched places.Start machine = Unit {0}
+IsWatched at machine = machine.stop ≡ 0 → 0 < machine.watch.left
+
 -- The machine is in the state of the history, each of whose entries fits, and at the place behind
 -- its last step. This project's own.
-pub record IsKept (fixed : Fixed) (machine : Machine) (history : List Entry) (at : ScanPlace) : Type 0 where
+pub record IsKept (fixed : Fixed) (machine : Machine) (history : List Entry)
+    (at : ScanPlace) : Type 0 where
   pub fixed_is : machine.fixed ≡ fixed
   pub sound : IsSound machine
   pub each : EachFits fixed (start fixed.plan) history
@@ -21,10 +29,12 @@ pub record IsKept (fixed : Fixed) (machine : Machine) (history : List Entry) (at
   pub steps : scan_steps history ++ remaining fixed machine.ended at ≡ all_due fixed
   pub place : IsPlace fixed.plan at
   pub within : scans_at at machine.ended ≤ fixed.scans
+  pub watched : IsWatched at machine
   pub timely : IsTimely machine (length (scan_steps history))
 
 -- The same, with room for the rest of a scan whose memory is reserved. This project's own.
-pub record IsWhole (machine : Machine) (history : List Entry) (at : ScanPlace) (reserved : Bool) (capacity : ℕ) : Type 0 where
+pub record IsWhole (machine : Machine) (history : List Entry) (at : ScanPlace) (reserved : Bool)
+    (capacity : ℕ) : Type 0 where
   pub kept : IsKept machine.fixed machine history at
   pub room : reserved ≡ true
       → length history + length (due_after machine.fixed.plan at) ≤ capacity

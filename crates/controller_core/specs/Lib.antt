@@ -4,3 +4,6 @@ pub mod Machine
 pub mod Scans
 pub mod Controller
 pub mod Kept
+pub mod Panel
+pub mod Run
+pub mod Following

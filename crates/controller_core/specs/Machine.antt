@@ -1,44 +1,23 @@
 -- What the fields of a machine stand for, and what they keep.
-use Rattle.std.specs.Prelude.{◌≡◌, ◌≤◌, ℕ, ◌+◌, ◌*◌, true, length, Option, Some, None, slice_index}
+use Rattle.std.specs.Prelude.{◌≡◌, ◌≤◌, ◌<◌, ℕ, ◌+◌, ◌*◌, true, List, length, slice_index}
 use Rattle.std.specs.List.{AllByRecursion}
-use Rattle.plant_types.specs.declared.reference.Ref.{Ref}
-use Rattle.plant_types.specs.declared.plan.OrderRow.{OrderRow}
 use Rattle.plant_types.specs.declared.plan.ControllerPlan.{ControllerPlan}
 use Rattle.plant_types.specs.Checks.{passes_check, sizes_of}
 use Rattle.plant_types.specs.Plain.{ArePlain}
-use Rattle.plant_types.specs.Sizes.{Sizes, cleared, discretes}
-use Rattle.plant_types.specs.Store.{Contents, HasDiscrete, Keeps}
+use Rattle.plant_types.specs.declared.sizes.Sizes.{Sizes}
+use Rattle.plant_types.specs.Sizes.{cleared, discretes}
+use Rattle.plant_types.specs.Store.{Contents, Keeps}
+use Rattle.grid_compile.specs.Layout.{grids_of}
 use Rattle.ladder_solver.specs.State.{state_of}
-use Rattle.ladder_solver.specs.Segment.{segment_after}
-use Rattle.traffic_cop.specs.Drops.{IsReady}
+use Rattle.ladder_solver.specs.declared.watch.SolveEnd.{SolveEnd}
+use Rattle.ladder_solver.specs.declared.watch.SolveEnd.TheVariants as ends
+use Rattle.scan_order.specs.declared.due.ScanStep.{ScanStep}
+use Rattle.scan_order.specs.declared.due.ScanStep.TheVariants as steps
+use Rattle.traffic_cop.specs.Rows.{FitsPlan}
 use Rattle.controller_core.specs.declared.entry.Entry.{Entry}
 use Rattle.controller_core.specs.declared.fixed.Fixed.{Fixed}
 use Rattle.controller_core.specs.declared.machine.Machine.{Machine}
-use Rattle.controller_core.specs.Replay.{State, apply, exchanged}
-
--- A control is a discrete of the store; a row may have none. This project's own.
-abbrev pub HasControl : Contents → Option Ref → Type 0
-HasControl m None = Unit {0}
-HasControl m (Some at) = HasDiscrete m at
-
--- A drop of the plan, whose modules are in its map. This project's own.
-pub record HasDrop (plan : ControllerPlan) (number : ℕ) : Type 0 where
-  pub from : 1 ≤ number
-  pub to : number ≤ 32
-  pub ready : IsReady plan.drops number (cleared (sizes_of plan))
-
-abbrev pub NamesDrop : ControllerPlan → Option ℕ → Type 0
-NamesDrop plan None = Unit {0}
-NamesDrop plan (Some number) = HasDrop plan number
-
--- A row of the order of solve names a segment of the plan, a control of its map, and drops of
--- it. This project's own.
-pub record FitsRow (plan : ControllerPlan) (row : OrderRow) : Type 0 where
-  pub from : 1 ≤ row.segment
-  pub to : row.segment ≤ length plan.segments
-  pub control : HasControl (cleared (sizes_of plan)) row.control
-  pub input : NamesDrop plan row.input
-  pub output : NamesDrop plan row.output
+use Rattle.controller_core.specs.Replay.{State, apply, exchanged, segment_solved, served, watchdog_stop}
 
 -- A plan that can be run: it passes its tests, and each row of its order of solve fits it. This
 -- project's own.
@@ -46,21 +25,24 @@ pub record CanRun (plan : ControllerPlan) : Type 0 where
   pub passes : passes_check plan ≡ true
   pub plain : ArePlain plan.segments
   pub count : length plan.orders ≤ 32
-  pub rows : AllByRecursion (FitsRow plan) plan.orders
+  pub rows : AllByRecursion (FitsPlan plan) plan.orders
 
--- A fixed part that can be run: its plan, its scan time and its number of scans. This project's
--- own limits.
+-- A fixed part that can be run: its plan, its scan time, its watchdog and its number of scans.
+-- This project's own limits.
 pub record IsRunnable (fixed : Fixed) : Type 0 where
   pub plan : CanRun fixed.plan
   pub scan_time : fixed.scan_time ≤ 1000
+  pub watchdog : 1 ≤ fixed.watchdog
   pub scans : fixed.scans ≤ 2000
 
 -- The state that a machine's fields stand for. This project's own.
 abbrev pub state_is : Machine → State
 state_is machine = record {
-  solving = state_of machine.ram machine.past machine.ladder.edges machine.clock;
+  solving =
+      state_of machine.ram machine.past machine.ladder.edges machine.clock machine.watch.left;
   exchanges = machine.exchanges.items;
   ended = machine.ended;
+  stop = machine.stop;
 }
 
 -- The discretes of some store with the references of these sizes. This project's own.
@@ -73,7 +55,7 @@ pub record IsPast (sizes : Sizes) (past : Contents) : Type 0 where
 -- of it. This project's own.
 pub record IsSound (machine : Machine) : Type 0 where
   pub runs : IsRunnable machine.fixed
-  pub segments : machine.ladder.segments ≡ machine.fixed.plan.segments
+  pub grids : grids_of machine.fixed.plan.segments ≡ machine.ladder.grids
   pub drops : machine.cop ≡ machine.fixed.plan.drops
   pub keeps : Keeps (cleared (sizes_of machine.fixed.plan)) machine.ram
   pub past : IsPast (sizes_of machine.fixed.plan) machine.past
@@ -103,9 +85,23 @@ pub record Exchanges (drop : ℕ) (old new : Machine) : Type 0 where
 -- A call solves a segment. This project's own.
 pub record Solves (segment : ℕ) (old new : Machine) : Type 0 where
   pub fixed : new.fixed ≡ old.fixed
-  pub solving : (state_is new).solving
-      ≡ segment_after old.fixed.plan.segments segment (state_is old).solving
-  pub exchanges : new.exchanges ≡ old.exchanges
-  pub ended : new.ended ≡ old.ended
+  pub state : state_is new ≡ segment_solved old.fixed.plan.segments segment (state_is old)
   pub clock : new.clock ≡ old.clock
   pub sound : IsSound new
+
+-- The stop code behind the solve of a segment. This project's own.
+abbrev pub stop_by : SolveEnd → ℕ → ℕ
+stop_by ends.Done stop = stop
+stop_by ends.Watchdog stop = watchdog_stop
+
+-- A step that solves has networks left to the watchdog. This project's own.
+abbrev pub CanSolve : ScanStep → Machine → Type 0
+CanSolve (steps.Solve row) machine = 0 < machine.watch.left
+CanSolve _ machine = Unit {0}
+
+-- A call answers a request, once, and keeps what a machine's fields keep. This project's own.
+pub record Serves (request : List ℕ) (old new : Machine) : Type 0 where
+  pub fixed : new.fixed ≡ old.fixed
+  pub state : state_is new ≡ served request (state_is old)
+  pub sound : IsSound new
+  pub timely : (steps : ℕ) → IsTimely old steps → IsTimely new steps

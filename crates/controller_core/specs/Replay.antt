@@ -1,5 +1,5 @@
 -- The state of a controller, what each event does to it, and the state after a history.
-use Rattle.std.specs.Prelude.{ℕ, ◌+◌, ◌-◌, Bool, true, List, replicate, Option, Some, None, if◌then◌else◌, fold, slice_index, slice_set}
+use Rattle.std.specs.Prelude.{ℕ, ◌+◌, ◌-◌, ◌==◌, Bool, true, List, replicate, Option, Some, None, if◌then◌else◌, fold, slice_index, slice_set}
 use Rattle.std.specs.FinSet.{empty}
 use Rattle.plant_types.specs.declared.reference.Ref.{Ref}
 use Rattle.plant_types.specs.declared.network.Segment.{Segment}
@@ -7,25 +7,29 @@ use Rattle.plant_types.specs.declared.drops.IoDrop.{IoDrop}
 use Rattle.plant_types.specs.declared.plan.OrderRow.{OrderRow}
 use Rattle.plant_types.specs.declared.plan.ControllerPlan.{ControllerPlan}
 use Rattle.plant_types.specs.Checks.{sizes_of}
-use Rattle.plant_types.specs.Sizes.{Sizes, cleared, discretes, discretes_of}
+use Rattle.plant_types.specs.declared.sizes.Sizes.{Sizes}
+use Rattle.plant_types.specs.Sizes.{cleared, discretes, discretes_of}
 use Rattle.plant_types.specs.Store.{Contents, is_on}
 use Rattle.ladder_solver.specs.State.{State as Solving}
 use Rattle.ladder_solver.specs.Segment.{segment_after}
 use Rattle.scan_order.specs.Due.{row_of, input_of}
 use Rattle.traffic_cop.specs.Drops.{input_after}
+use Rattle.modbus_exec.specs.Answer.{answer_of}
 use Rattle.controller_core.specs.declared.fixed.Fixed.{Fixed}
 use Rattle.controller_core.specs.declared.entry.Entry.{Entry}
 use Rattle.controller_core.specs.declared.entry.Entry.TheVariants as entries
 
 -- The state of a controller: what a solve reads and changes, how many input exchanges each drop
--- had, by its number from 1, and how many scans have ended. This project's own.
+-- had, by its number from 1, how many scans have ended, and the code with which it stopped, which
+-- is 0 while it goes on. This project's own.
 pub record State : Type 0 where
   pub solving : Solving
   pub exchanges : List ℕ
   pub ended : ℕ
+  pub stop : ℕ
 
 -- A controller when it starts: each reference is 0 and each discrete was off before, no edge
--- bit is on, the clock stands at 0, and nothing was exchanged. This project's own.
+-- bit is on, the clock stands at 0, nothing was exchanged, and it goes on. This project's own.
 abbrev pub start : ControllerPlan → State
 start plan = record {
   solving = record {
@@ -33,25 +37,29 @@ start plan = record {
     past = cleared (discretes_of (sizes_of plan));
     edges = empty;
     clock = record { before = 0; now = 0 };
+    left = 0;
   };
   exchanges = replicate 32 0;
   ended = 0;
+  stop = 0;
 }
 
--- Begin: the clock goes on by the scan time, and keeps when the scan before began. This
--- project's own.
-abbrev pub begun : ℕ → Solving → Solving
-begun scan_time s =
-    record s { clock = record { before = s.clock.now; now = s.clock.now + scan_time } }
+-- Begin: the clock goes on by the scan time, and keeps when the scan before began; the watchdog
+-- has all its networks. This project's own.
+abbrev pub begun : Fixed → Solving → Solving
+begun fixed s =
+    record s {
+      clock = record { before = s.clock.now; now = s.clock.now + fixed.scan_time };
+      left = fixed.watchdog;
+    }
 
 -- Input: the next exchange of the drop that the row names. This project's own.
 abbrev pub exchanged : List IoDrop → ℕ → State → State
 exchanged drops drop s =
     let k = slice_index s.exchanges (drop - 1) + 1 in
-    record {
+    record s {
       solving = record s.solving { map = input_after drops drop k s.solving.map };
       exchanges = slice_set s.exchanges (drop - 1) k;
-      ended = s.ended;
     }
 
 abbrev pub read_in : List IoDrop → Option ℕ → State → State
@@ -64,30 +72,47 @@ abbrev pub control_is_on : Contents → Option Ref → Bool
 control_is_on m None = true
 control_is_on m (Some at) = is_on m at
 
--- Solve: the row's segment, once as a whole, where its control is on. This project's own.
-abbrev pub solved : List Segment → Option OrderRow → Solving → Solving
+-- The code with which the watchdog stops a controller. This project's own.
+abbrev pub watchdog_stop : ℕ
+watchdog_stop = 1
+
+-- A segment is solved, once as a whole. Where no network is left to the watchdog then, the
+-- controller has stopped. This project's own.
+abbrev pub segment_solved : List Segment → ℕ → State → State
+segment_solved segments number s =
+    let after = segment_after segments number s.solving in
+    record s { solving = after; stop = if after.left == 0 then watchdog_stop else s.stop }
+
+-- Solve: the row's segment where its control is on. This project's own.
+abbrev pub solved : List Segment → Option OrderRow → State → State
 solved segments None s = s
 solved segments (Some row) s =
-    if control_is_on s.map row.control then segment_after segments row.segment s else s
+    if control_is_on s.solving.map row.control then segment_solved segments row.segment s else s
 
 -- End: the coils and inputs are kept as they stand, and transitional contacts of the next scan
 -- compare with them. This project's own.
 abbrev pub ended : Sizes → Solving → Solving
 ended sizes s = record s { past = discretes sizes s.map }
 
+-- Peer: the store that the answer to the request leaves. This project's own.
+abbrev pub served : List ℕ → State → State
+served request s =
+    record s {
+      solving = record s.solving { map = (answer_of request s.solving.map).stored };
+    }
+
 -- What an event does. This project's own.
 abbrev pub apply : Fixed → State → Entry → State
-apply fixed s entries.Begin = record s { solving = begun fixed.scan_time s.solving }
+apply fixed s entries.Begin = record s { solving = begun fixed s.solving }
 apply fixed s (entries.Input row) =
     read_in fixed.plan.drops (input_of (row_of fixed.plan row)) s
-apply fixed s (entries.Solve row) =
-    record s { solving = solved fixed.plan.segments (row_of fixed.plan row) s.solving }
+apply fixed s (entries.Solve row) = solved fixed.plan.segments (row_of fixed.plan row) s
 apply fixed s (entries.Output row words) = s
-apply fixed s entries.End = record {
+apply fixed s entries.End = record s {
   solving = ended (sizes_of fixed.plan) s.solving;
-  exchanges = s.exchanges;
   ended = s.ended + 1;
 }
+apply fixed s (entries.Peer id request reply) = served request s
 
 -- The state after a history: that of all its events, one after another, from the start. This
 -- project's own.

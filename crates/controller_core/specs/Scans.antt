@@ -1,5 +1,5 @@
 -- What is due in all scans, and what of it is left.
-use Rattle.std.specs.Prelude.{ℕ, suc, ◌+◌, ◌-◌, ◌==◌, Bool, true, false, List, ◌++◌}
+use Rattle.std.specs.Prelude.{ℕ, suc, ◌+◌, ◌-◌, ◌==◌, Bool, true, false, not, if◌then◌else◌, List, ◌++◌}
 use Rattle.std.specs.List.{flat_map, range_with_len}
 use Rattle.scan_order.specs.declared.due.ScanPlace.{ScanPlace}
 use Rattle.scan_order.specs.declared.due.ScanPlace.TheVariants as places
@@ -33,9 +33,16 @@ abbrev pub is_done : ℕ → ScanPlace → ℕ → Bool
 is_done scans places.Start ended = ended == scans
 is_done scans _ ended = false
 
-abbrev pub ends_scan : ScanStep → Bool
-ends_scan steps.End = true
-ends_scan _ = false
+-- Nothing is due any more: the controller has stopped, or all scans are done. This project's own.
+abbrev pub is_over : ℕ → ℕ → ScanPlace → ℕ → Bool
+is_over stop scans at ended = if stop == 0 then is_done scans at ended else true
+
+-- A step after which its scan is over, by the stop code behind it: End, or a solve that stopped
+-- the controller. This project's own.
+abbrev pub closes_scan : ScanStep → ℕ → Bool
+closes_scan steps.End stop = true
+closes_scan (steps.Solve row) stop = not (stop == 0)
+closes_scan _ stop = false
 
 -- How many scans have ended behind a step. This project's own.
 abbrev pub ended_after : ScanStep → ℕ → ℕ

@@ -1,16 +1,27 @@
 //! The controller: its machine, its place in the scan and its history.
-ghost use Rattle.std.specs.Prelude.{◌≡◌, ◌+◌, ◌<◌, ◌≤◌, ◌&&◌, true, false, not, [], ◌∷◌, ◌++◌};
-ghost use Rattle.std.specs.Prelude.{IfOk, OnErr, OnOk, vec_capacity, vec_len};
+ghost use Rattle.std.specs.Prelude.{◌≡◌, ◌+◌, ◌*◌, length, ◌<◌, ◌≤◌, ◌&&◌, true, false, not, [], ◌∷◌, ◌++◌};
+ghost use Rattle.std.specs.Prelude.{IfOk, IfSome, OnErr, OnOk, vec_capacity, vec_len};
 ghost use Rattle.std.specs.FinMap.{contains_key};
+ghost use Rattle.plant_types.specs.Checks.{HasPanel};
 ghost use Rattle.plant_types.specs.Store.{value_at};
-ghost use Rattle.controller_core.specs.Controller.{has_ended, step_end, stepped, store_of, IsLegal};
+ghost use Rattle.controller_core.specs.Controller.{answering, has_ended, reply_to, state_of};
+ghost use Rattle.controller_core.specs.Controller.{step_end, step_entries, stepped, store_of};
+ghost use Rattle.controller_core.specs.Controller.{due_step, has_started, peer_entries};
+ghost use Rattle.controller_core.specs.Controller.{IsLegal, WentOn};
+ghost use Rattle.controller_core.specs.Following.{HasWords, IsRowOf};
 ghost use Rattle.controller_core.specs.Machine.{IsRunnable};
-ghost use Rattle.controller_core.specs.Scans.{ends_scan, is_done};
+ghost use Rattle.scan_order.specs.Due.{IsStep};
+ghost use Rattle.controller_core.specs.Scans.{closes_scan, is_done, is_over};
+ghost use Rattle.controller_core.specs.Panel.{has_line};
 
-use crate::entry::{Entry, StepEnd};
+use crate::entry::{Entry, Maker, StepEnd};
 use crate::fixed::Fixed;
 use crate::machine::Machine;
-use plant_types::{ControllerPlan, Copied, Ref, RefKind, RefStore};
+use mstr_block::CallId;
+use plant_types::{
+    ControllerPlan, Copied, List, Pdu, Ref, RefKind, RefStore, checked_plans_find_all,
+    kept_stores_find_all,
+};
 use scan_order::{ScanPlace, ScanStep, next_due, place_after};
 use state_ram::PackedRam;
 use std::alloc::{AllocError, Global};
@@ -62,13 +73,36 @@ fn is_done(scans: u32, at: ScanPlace, ended: u32) -> bool
     }
 }
 
-/// Whether the room of a scan is kept behind a step.
-fn keeps_room(reserved: bool, step: ScanStep) -> bool
-    ensures { result ≡ (reserved && not (ends_scan step)) }
+/// Whether nothing is due any more.
+fn is_over(stop: u16, scans: u32, at: ScanPlace, ended: u32) -> bool
+    ensures { result ≡ is_over stop scans at ended }
+{
+    if stop == 0 {
+        is_done(scans, at, ended)
+    } else {
+        true
+    }
+}
+
+/// Whether a step is the last of its scan, by the stop code behind it.
+fn closes_scan(step: ScanStep, stop: u16) -> bool
+    ensures { result ≡ closes_scan step stop }
 {
     match step {
-        ScanStep::End => false,
-        _ => reserved,
+        ScanStep::End => true,
+        ScanStep::Solve(_) => stop != 0,
+        _ => false,
+    }
+}
+
+/// Whether the room of a scan is kept behind a step.
+fn keeps_room(reserved: bool, step: ScanStep, stop: u16) -> bool
+    ensures { result ≡ (reserved && not (closes_scan step stop)) }
+{
+    if closes_scan(step, stop) {
+        false
+    } else {
+        reserved
     }
 }
 
@@ -133,9 +167,36 @@ impl Controller {
 
     /// The store, which is that of the replay of the history. Takes no memory.
     pub fn ram(&self) -> &PackedRam
-        ensures { result.now ≡ store_of self.now }
+        ensures value { result.now ≡ store_of self.now }
+        ensures panel { HasPanel result.now self.now.fixed.plan.panel }
     {
+        checked_plans_find_all();
+        kept_stores_find_all();
         self.machine.ram()
+    }
+
+    /// How many scans have ended.
+    pub fn scans_ended(&self) -> u32
+        ensures { result ≡ (state_of self.now).ended }
+    {
+        self.machine.ended
+    }
+
+    /// The code with which it stopped; 0 while it goes on.
+    pub fn stop_code(&self) -> u16
+        ensures { result ≡ (state_of self.now).stop }
+    {
+        self.machine.stop
+    }
+
+    /// Whether what a step answered was the last event of its scan, which has a panel line then.
+    pub fn has_line(&self, end: StepEnd) -> bool
+        ensures { result ≡ has_line end (state_of self.now) }
+    {
+        match end {
+            StepEnd::Did(step) => closes_scan(step, self.machine.stop),
+            StepEnd::Ended | StepEnd::Stopped(_) => false,
+        }
     }
 
     /// Whether the store has a reference.
@@ -156,19 +217,68 @@ impl Controller {
         }
     }
 
-    /// Whether all scans are done.
+    /// Whether all scans are done, or it has stopped.
     pub fn has_ended(&self) -> bool
         ensures { result ≡ has_ended self.now }
     {
-        is_done(self.machine.fixed.scans, self.at, self.machine.ended)
+        let scans = self.machine.fixed.scans;
+        is_over(self.machine.stop, scans, self.at, self.machine.ended)
     }
 
-    /// Until the next End all steps have their memory.
+    /// The most events of a scan: Begin, three of each row, and End.
+    fn longest_scan(&self) -> usize
+        ensures { result ≡ 3 * length self.now.fixed.plan.orders + 2 }
+    {
+        3 * self.machine.fixed.plan.orders.as_slice().len() + 2
+    }
+
+    /// The history alone; takes no memory.
+    pub fn into_history(self) -> List<Entry>
+        ensures history { result ≡ self.history }
+        ensures legal { IsLegal self.fixed self.history }
+    {
+        List::from_vec(self.history)
+    }
+
+    /// Whether a call was started and not yet collected; no block starts one.
+    pub fn has_started(&self) -> bool
+        ensures { result ≡ has_started self.now }
+    {
+        false
+    }
+
+    /// The step that is due; none where all scans are done or it has stopped.
+    pub fn due(&self) -> Option<ScanStep>
+        ensures due { result ≡ due_step self.now }
+        ensures step { IfSome result (IsStep self.now.fixed.plan) }
+    {
+        let scans = self.machine.fixed.scans;
+        if is_over(self.machine.stop, scans, self.at, self.machine.ended) {
+            return None;
+        }
+        Some(next_due(&self.machine.fixed.plan, self.at))
+    }
+
+    /// Whether the words of an Output are those that its row gives now.
+    pub(crate) fn has_words(&self, entry: &Entry) -> bool
+        requires { IsRowOf self.now entry.now }
+        ensures same { result ≡ true → HasWords self.now.fixed (state_of self.now) entry.now }
+        ensures other { result ≡ false
+            → ¬ HasWords self.now.fixed (state_of self.now) entry.now }
+    {
+        match entry {
+            Entry::Output { row, words } => self.machine.output(*row).words() == words.words(),
+            _ => true,
+        }
+    }
+
+    /// Until the next End, or a stop, all steps have their memory.
     pub fn reserve_scan(&mut self) -> Result<(), AllocError>
         ensures ok { OnOk result (self.new ≡ record self.old { reserved = true }) }
         ensures err { OnErr result (self.new ≡ self.old) }
+        ensures went_on { WentOn Maker.Scan [] self.old self.new }
     {
-        let most = 3 * self.machine.fixed.plan.orders.as_slice().len() + 2;
+        let most = self.longest_scan();
         self.history.try_reserve(most)?;
         self.reserved = true;
         Ok(())
@@ -179,17 +289,44 @@ impl Controller {
         requires { has_ended self.old ≡ false → self.old.reserved ≡ true }
         ensures grows { self.new ≡ stepped self.old }
         ensures answer { result ≡ step_end self.old }
+        ensures went_on { WentOn Maker.Scan (step_entries self.old result) self.old self.new }
     {
+        if self.machine.stop != 0 {
+            return StepEnd::Stopped(self.machine.stop);
+        }
         if is_done(self.machine.fixed.scans, self.at, self.machine.ended) {
             return StepEnd::Ended;
         }
         let step = next_due(&self.machine.fixed.plan, self.at);
         let entry = self.machine.perform(step);
         let at = place_after(step);
-        let reserved = keeps_room(self.reserved, step);
+        let reserved = keeps_room(self.reserved, step, self.machine.stop);
         note(&mut self.history, entry);
         self.at = at;
         self.reserved = reserved;
         StepEnd::Did(step)
+    }
+
+    /// Answers a request of another node, named by who asked: the bytes of the reply, which may be
+    /// those of an exception. Answers too where all scans are done or the controller has stopped.
+    pub fn peer(&mut self, alloc: Global, id: CallId, request: &Pdu) -> Result<Pdu, AllocError>
+        ensures ok { OnOk result (self.new ≡ answering self.old id request.now) }
+        ensures reply { IfOk result (λ reply. reply ≡ reply_to self.old request.now) }
+        ensures err { OnErr result (self.new ≡ self.old) }
+        ensures went_on { WentOn Maker.Communication (peer_entries id request.now result)
+            self.old self.new }
+    {
+        // What is left of a scan keeps its room behind this entry.
+        let most = self.longest_scan() + 1;
+        self.history.try_reserve(most)?;
+        let kept = request.copied(alloc)?;
+        let (reply, copy) = self.machine.serve(alloc, request)?;
+        let entry = Entry::Peer {
+            id,
+            request: kept,
+            reply: copy,
+        };
+        note(&mut self.history, entry);
+        Ok(reply)
     }
 }

@@ -1,5 +1,9 @@
 //! The entries of a history, and what a step answers.
-use plant_types::Block;
+ghost use Rattle.std.specs.Prelude.{◌≡◌};
+ghost use Rattle.controller_core.specs.Event.{maker_of, step_of};
+
+use mstr_block::CallId;
+use plant_types::{Block, Pdu};
 use scan_order::ScanStep;
 
 /// One event of a controller; rows of its order of solve count from 1. This project's own.
@@ -12,9 +16,54 @@ pub enum Entry {
     /// A row's segment was solved, or skipped where its control is off.
     Solve(u16),
     /// A row's output drop was given these words.
-    Output { row: u16, words: Block },
+    Output {
+        row: u16,
+        words: Block,
+    },
     /// A scan ended.
     End,
+    /// A request of another node was answered; it is named by who asked.
+    Peer {
+        id: CallId,
+        request: Pdu,
+        reply: Pdu,
+    },
+}
+
+/// Who makes events of a controller. This project's own.
+#[derive(Clone, Copy, Debug, PartialEq, Eq)]
+pub enum Maker {
+    /// The scan of its order of solve.
+    Scan,
+    /// The communication with other nodes.
+    Communication,
+}
+
+impl Entry {
+    /// The step of the scan that it is; none of an answer to another node.
+    pub fn step(&self) -> Option<ScanStep>
+        ensures { result ≡ step_of self.now }
+    {
+        match self {
+            Entry::Begin => Some(ScanStep::Begin),
+            Entry::Input(row) => Some(ScanStep::In(*row)),
+            Entry::Solve(row) => Some(ScanStep::Solve(*row)),
+            Entry::Output { row, .. } => Some(ScanStep::Out(*row)),
+            Entry::End => Some(ScanStep::End),
+            Entry::Peer { .. } => None,
+        }
+    }
+
+    /// Who made it.
+    pub fn maker(&self) -> Maker
+        ensures { result ≡ maker_of self.now }
+    {
+        match self {
+            Entry::Begin | Entry::Input(_) | Entry::Solve(_) | Entry::End => Maker::Scan,
+            Entry::Output { .. } => Maker::Scan,
+            Entry::Peer { .. } => Maker::Communication,
+        }
+    }
 }
 
 /// How a step ended.
@@ -24,4 +73,6 @@ pub enum StepEnd {
     Did(ScanStep),
     /// All scans are done, and no event was made.
     Ended,
+    /// The controller had stopped with this code, and no event was made.
+    Stopped(u16),
 }

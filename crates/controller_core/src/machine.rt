@@ -1,16 +1,21 @@
 //! The state of a controller, with what each event of a scan does to it.
-ghost use Rattle.std.specs.Prelude.{◌≡◌, ◌≤◌, length, IfOk};
+ghost use Rattle.std.specs.Prelude.{◌≡◌, ◌≤◌, ◌<◌, length, IfOk, OnErr, OnOk};
+ghost use Rattle.modbus_exec.specs.Answer.{answer_of};
 ghost use Rattle.scan_order.specs.Due.{IsRow, IsStep};
 ghost use Rattle.controller_core.specs.Event.{entry_of, outputs_at};
 ghost use Rattle.controller_core.specs.Replay.{control_is_on, start};
-ghost use Rattle.controller_core.specs.Machine.{state_is, Does, Exchanges, HasControl, HasDrop};
-ghost use Rattle.controller_core.specs.Machine.{IsRunnable, IsSound, IsTimely, Solves};
+ghost use Rattle.traffic_cop.specs.Rows.{HasControl, HasDrop};
+ghost use Rattle.controller_core.specs.Machine.{state_is, Does, Exchanges};
+ghost use Rattle.controller_core.specs.Machine.{CanSolve, IsRunnable, IsSound, IsTimely};
+ghost use Rattle.controller_core.specs.Machine.{Serves, Solves, stop_by};
 
 use crate::entry::Entry;
 use crate::fixed::Fixed;
-use ladder_solver::Ladder;
+use grid_compile::grids_of;
+use ladder_solver::{Ladder, SolveEnd, Watch, grids_ask_no_more};
+use modbus_exec::answer_twice;
 use plant_types::{
-    Block, Ref, RefStore, checked_plans_find_all, discretes_follow, kept_stores_find_all,
+    Block, Pdu, Ref, RefStore, checked_plans_find_all, discretes_follow, kept_stores_find_all,
 };
 use scan_order::{ScanStep, row_of};
 use state_ram::PackedRam;
@@ -20,6 +25,9 @@ use traffic_cop::Cop;
 
 /// The drops of a controller have numbers from 1 to this.
 const DROP_LIMIT: usize = 32;
+
+/// The code with which the watchdog stops a controller.
+const WATCHDOG_STOP: u16 = 1;
 
 /// The store of a controller and all that its events change beside it.
 #[derive(Drop)]
@@ -31,10 +39,24 @@ pub(crate) struct Machine {
     /// The discretes as the scan before ended.
     past: PackedRam,
     clock: Clock,
+    /// The networks that are left to the watchdog.
+    watch: Watch,
     /// How many input exchanges each drop had, by its number.
     exchanges: Vec<u32>,
     /// How many scans have ended.
     pub(crate) ended: u32,
+    /// The code with which the controller stopped; 0 while it goes on.
+    pub(crate) stop: u16,
+}
+
+/// The stop code behind a solve.
+fn stop_behind(end: SolveEnd, stop: u16) -> u16
+    ensures { result ≡ stop_by end stop }
+{
+    match end {
+        SolveEnd::Done => stop,
+        SolveEnd::Watchdog => WATCHDOG_STOP,
+    }
 }
 
 impl Machine {
@@ -46,11 +68,14 @@ impl Machine {
         ensures state { IfOk result (λ machine. state_is machine ≡ start fixed.plan) }
         ensures timely { IfOk result (λ machine. IsTimely machine 0) }
     {
+        checked_plans_find_all();
         discretes_follow();
+        grids_ask_no_more();
         let plan = &fixed.plan;
         let (coils, inputs) = (plan.coils, plan.inputs);
         let (input_registers, registers) = (plan.input_registers, plan.registers);
-        let ladder = Ladder::new(alloc, plan)?;
+        let grids = grids_of(alloc, plan.segments.as_slice())?;
+        let ladder = Ladder::new(alloc, grids)?;
         let cop = Cop::new(alloc, plan.drops.as_slice())?;
         let ram = PackedRam::new(alloc, coils, inputs, input_registers, registers)?;
         let past = PackedRam::new(alloc, coils, inputs, 0, 0)?;
@@ -62,8 +87,10 @@ impl Machine {
             ram,
             past,
             clock: Clock { before: 0, now: 0 },
+            watch: Watch { left: 0 },
             exchanges,
             ended: 0,
+            stop: 0,
         })
     }
 
@@ -82,6 +109,9 @@ impl Machine {
         self.clock = Clock {
             before: self.clock.now,
             now: self.clock.now + u64::from(self.fixed.scan_time),
+        };
+        self.watch = Watch {
+            left: self.fixed.watchdog,
         };
     }
 
@@ -128,18 +158,27 @@ impl Machine {
         requires sound { IsSound self.old }
         requires first { 1 ≤ segment }
         requires last { segment ≤ length self.old.fixed.plan.segments }
+        requires watch { 0 < self.old.watch.left }
         ensures { Solves segment self.old self.new }
     {
         checked_plans_find_all();
         kept_stores_find_all();
         discretes_follow();
-        self.ladder
-            .solve(segment, self.clock, &mut self.ram, &self.past);
+        grids_ask_no_more();
+        let end = self.ladder.solve(
+            segment,
+            self.clock,
+            &mut self.ram,
+            &self.past,
+            &mut self.watch,
+        );
+        self.stop = stop_behind(end, self.stop);
     }
 
     fn solve(&mut self, row: u16)
         requires sound { IsSound self.old }
         requires row { IsRow self.old.fixed.plan row }
+        requires watch { 0 < self.old.watch.left }
         ensures { Does (Entry.Solve row) self.old self.new }
     {
         let Some(found) = row_of(&self.fixed.plan, row) else {
@@ -152,7 +191,7 @@ impl Machine {
     }
 
     /// The words that a row gives its output drop.
-    fn output(&self, row: u16) -> Block
+    pub(crate) fn output(&self, row: u16) -> Block
         requires sound { IsSound self.now }
         requires row { IsRow self.now.fixed.plan row }
         ensures { result ≡ outputs_at self.now.fixed (state_is self.now) row }
@@ -176,11 +215,25 @@ impl Machine {
         self.ended += 1;
     }
 
+    /// Executes a request of another node, and answers the bytes of its reply twice. Their memory
+    /// is taken before anything changes.
+    pub(crate) fn serve(&mut self, alloc: Global, request: &Pdu) -> Result<(Pdu, Pdu), AllocError>
+        requires { IsSound self.old }
+        ensures serves { OnOk result (Serves request.now self.old self.new) }
+        ensures reply { IfOk result (λ pair.
+            pair.0 ≡ (answer_of request.now self.old.ram).reply) }
+        ensures same { IfOk result (λ pair. pair.1 ≡ pair.0) }
+        ensures unchanged { OnErr result (self.new ≡ self.old) }
+    {
+        answer_twice(alloc, request.bytes(), &mut self.ram)
+    }
+
     /// Makes an event, and answers its entry. Takes no memory.
     pub(crate) fn perform(&mut self, step: ScanStep) -> Entry
         requires sound { IsSound self.old }
         requires timely { IsTimely self.old 196000 }
         requires step { IsStep self.old.fixed.plan step }
+        requires watch { CanSolve step self.old }
         ensures entry { result ≡ entry_of self.old.fixed (state_is self.old) step }
         ensures does { Does (entry_of self.old.fixed (state_is self.old) step) self.old self.new }
     {

@@ -31,7 +31,8 @@ impl TapeCell {
 
     /// Lends the tape.
     pub fn get_mut(&mut self) -> &mut Tape
-        ensures* writes_back { sem 𝓛 (Lends the_row tape_row self.entry result (with_tape self.old)) }
+        ensures* writes_back { sem 𝓛 (Lends the_row tape_row self.entry result
+            (with_tape self.old)) }
         ensures value { result.now ≡ tape_in self.old }
     {
         &mut self.tape

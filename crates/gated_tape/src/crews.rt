@@ -119,7 +119,8 @@ fn gather<'a, R: Wait>(
     (passes, ended)
 }
 
-/// Lets the writers put their marks through the gates. Where there is no room for them, none writes.
+/// Lets the writers put their marks through the gates. Where there is no room for them, none
+/// writes.
 fn through_gates<R: Threads + Wait + Sync>(
     rt: &R,
     alloc: Global,
@@ -143,7 +144,8 @@ fn through_gates<R: Threads + Wait + Sync>(
     gather(one, two, passes, crew.count, writers)
 }
 
-/// How many writers put how many marks each on either of two tapes, how many marks a tape takes, and how many threads there may be.
+/// How many writers put how many marks each on either of two tapes, how many marks a tape takes,
+/// and how many threads there may be.
 #[derive(Clone, Copy)]
 pub struct Crew {
     pub writers: u32,
@@ -160,7 +162,8 @@ pub struct Written {
     pub ended: Result<(), PutNo>,
 }
 
-/// Lets writers 1 and up put their marks on two new tapes, each through a pass of either gate. With too little memory for the gates there is no tape.
+/// Lets writers 1 and up put their marks on two new tapes, each through a pass of either gate. With
+/// too little memory for the gates there is no tape.
 pub fn write_in_turns<R: Threads + Wait + Sync>(
     rt: &R,
     alloc: Global,

@@ -1,6 +1,9 @@
-//! Tapes of marks, each alone or behind a gate: how a worker with two sides is written and proved over `turn_gate`.
+//! Tapes of marks, each alone or behind a gate: how a worker with two sides is written and proved
+//! over `turn_gate`.
 //!
-//! A side is a plain tape, or goes through a pass of a gate. The worker puts each mark on the first tape and then on the second, and is proved once, over sides. `write_in_turns` runs many of them in threads, each through a pass of each gate.
+//! A side is a plain tape, or goes through a pass of a gate. The worker puts each mark on the first
+//! tape and then on the second, and is proved once, over sides. `write_in_turns` runs many of them
+//! in threads, each through a pass of each gate.
 #![tactic(auto)]
 
 mod cells;

@@ -6,7 +6,8 @@ ghost use Rattle.gated_tape.specs.Sides.{WentOn, Serves};
 use crate::refusals::PutNo;
 use crate::tapes::Tape;
 
-/// A tape by itself, or a pass of a gate round one. Others may write between two calls, so each call says what is known afterwards.
+/// A tape by itself, or a pass of a gate round one. Others may write between two calls, so each
+/// call says what is known afterwards.
 pub trait Side {
     ghost use Rattle.gated_tape.specs.declared.tapes.Mark.{Mark};
     ghost use Rattle.gated_tape.specs.Sides.{Frame};

@@ -13,7 +13,8 @@ pub struct Mark {
     pub word: u64,
 }
 
-/// At most `limit` marks, in the order in which they were put. The words of each node count up from 0.
+/// At most `limit` marks, in the order in which they were put. The words of each node count up from
+/// 0.
 #[derive(Drop)]
 pub struct Tape {
     limit: u64,
@@ -56,7 +57,8 @@ impl Tape {
         self.marks.iter().filter(|mark| mark.node == node).count() as u64
     }
 
-    /// Puts a mark at the end, whose word is the number of the node's marks so far. A tape with `limit` marks is full.
+    /// Puts a mark at the end, whose word is the number of the node's marks so far. A tape with
+    /// `limit` marks is full.
     pub fn put(&mut self, node: u32, word: u64) -> Result<(), PutNo>
         requires { IsNext node word self.old.marks }
         ensures marks { let added = added_on result (mark node word) in

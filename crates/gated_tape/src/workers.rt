@@ -7,7 +7,8 @@ ghost use Rattle.gated_tape.specs.Workers.{Worked, Ended};
 use crate::refusals::PutNo;
 use crate::sides::Side;
 
-/// Puts the node's words up to below `count`, each on the first side and then on the second. It begins where the tapes stand, and stops at the first refusal.
+/// Puts the node's words up to below `count`, each on the first side and then on the second. It
+/// begins where the tapes stand, and stops at the first refusal.
 pub fn write_both<A: Side, B: Side>(
     one: &mut A,
     two: &mut B,

@@ -65,7 +65,8 @@ impl GlobalBook {
 
     /// The words that went with a member's latest token; None exactly where it is no member.
     pub fn get(&self, node: u8) -> Option<&[u16]>
-        ensures words { IfSome result (λ words. heard_at (place_at self.now node) ≡ Some words.now) }
+        ensures words { IfSome result (λ words. heard_at (place_at self.now node)
+            ≡ Some words.now) }
         ensures fits { IfSome result (λ words. length words.now ≤ word_limit) }
         ensures none { result ≡ None → place_at self.now node ≡ None }
     {
@@ -77,7 +78,8 @@ impl GlobalBook {
 
     /// The words that go with a member's next token; None exactly where it is no member.
     pub fn waiting(&self, node: u8) -> Option<&[u16]>
-        ensures words { IfSome result (λ words. waiting_at (place_at self.now node) ≡ Some words.now) }
+        ensures words { IfSome result (λ words. waiting_at (place_at self.now node)
+            ≡ Some words.now) }
         ensures none { result ≡ None → place_at self.now node ≡ None }
     {
         match &self.places[node as usize] {

@@ -8,7 +8,7 @@ use Rattle.plant_types.specs.declared.network.Segment.{Segment}
 use Rattle.grid_compile.specs.Cells.{cell_at, before, cells_from}
 use Rattle.grid_compile.specs.Layout.{op_of, columns_from, grid_of, grids_of}
 use Rattle.grid_compile.specs.Bounds.{IsWithin, IsColumn, IsGrid}
-use Rattle.grid_compile.proofs.Listing.{cell_at-row, marks-small}
+use Rattle.grid_compile.proofs.Listing.{cell_at-row, rises_from, marks-small}
 
 within_before : (row : ℕ) (o : Option Cell) (cells : List Cell) → 1 ≤ row → row ≤ 7 → ((cell : Cell) → o ≡ Some cell → cell.row ≡ row)
     → AllByRecursion IsWithin (map op_of cells) → AllByRecursion IsWithin (map op_of (before o cells))
@@ -28,7 +28,11 @@ within_columns : (network : Network) (column count : ℕ) → AllByRecursion IsC
 unfolding columns_from
 within_columns network column zero = tt
 within_columns network column (suc count) = (
-  record { rows = within_rows network.cells column 1 7 (omega arith) (omega arith); shorts = marks-small network.shorts column },
+  record {
+    rows = within_rows network.cells column 1 7 (omega arith) (omega arith);
+    rises = rises_from network.cells column 1 7 (omega arith);
+    shorts = marks-small network.shorts column;
+  },
   within_columns network
       (column + 1) count,
 )

@@ -4,15 +4,18 @@ use Rattle.std.specs.List.{AllByRecursion}
 use Rattle.grid_compile.specs.declared.grid.Op.{Op}
 use Rattle.grid_compile.specs.declared.grid.Column.{Column}
 use Rattle.grid_compile.specs.declared.grid.Grid.{Grid}
+use Rattle.grid_compile.specs.Lists.{Rises}
 
 -- A cell stands in one of the seven rows. This project's own.
 pub record IsWithin (op : Op) : Type 0 where
   pub first : 1 ≤ op.row
   pub last : op.row ≤ 7
 
--- So does each cell of a column, and shorts join neighbours among them. This project's own.
+-- So does each cell of a column, in strictly rising rows, and shorts join neighbours among them.
+-- This project's own.
 pub record IsColumn (laid : Column) : Type 0 where
   pub rows : AllByRecursion IsWithin laid.ops
+  pub rises : Rises 1 laid.ops
   pub shorts : laid.shorts < 64
 
 -- There are eleven such columns. This project's own.

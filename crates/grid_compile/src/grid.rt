@@ -5,6 +5,7 @@ ghost use Rattle.plant_types.specs.Power.{bit_of};
 ghost use Rattle.plant_types.specs.Wire.{is_shorted};
 ghost use Rattle.grid_compile.specs.Cells.{cell_at, cells_from, marks_of};
 ghost use Rattle.grid_compile.specs.Lists.{EachColumnListed};
+ghost use Rattle.grid_compile.specs.Listed.{EachGridListed};
 ghost use Rattle.grid_compile.specs.Layout.{op_of, column_of, grid_of, grids_of};
 
 use plant_types::{Cell, Element, List, Network, Segment, Short};
@@ -135,7 +136,13 @@ fn column_of(alloc: Global, network: &Network, column: u8) -> Result<Column, All
     })
 }
 
-/// A column lists the network's cells at it, in strictly rising row, and its shorts, and nothing else.
+/// A column lists the network's cells at it, in strictly rising row, and its shorts, and nothing
+/// else.
 pub fn each_column_listed()
     ensures { EachColumnListed }
+{}
+
+/// A grid in its form is that of the network that it lists.
+pub fn each_grid_listed()
+    ensures { EachGridListed }
 {}

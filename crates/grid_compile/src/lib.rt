@@ -6,5 +6,5 @@ mod joining;
 #[cfg(test)]
 mod tests;
 
-pub use grid::{Column, Grid, Op, each_column_listed, grids_of};
+pub use grid::{Column, Grid, Op, each_column_listed, each_grid_listed, grids_of};
 pub use joining::column_join;

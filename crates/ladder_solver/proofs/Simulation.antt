@@ -7,18 +7,16 @@ use Rattle.grid_compile.proofs.MaskLemmas.{row_on-past}
 use Rattle.plant_types.specs.declared.network.Short.{Short}
 use Rattle.plant_types.specs.declared.power.NodePower.{NodePower}
 use Rattle.plant_types.specs.Network.{is_row}
-use Rattle.plant_types.specs.Store.{Contents}
-use Rattle.timer_ops.specs.declared.Clock.{Clock}
-use Rattle.ladder_solver.specs.State.{State, with_place}
-use Rattle.ladder_solver.specs.Network.{Power, Place, is_live, is_fed, inputs_at, place_in, with_output, with_outputs, element_at}
+use Rattle.ladder_solver.specs.State.{State}
+use Rattle.ladder_solver.specs.declared.flow.Solved.{Solved}
+use Rattle.ladder_solver.specs.Flow.{Flow, Calls, Left, solved_element}
+use Rattle.ladder_solver.specs.Network.{Power, Place, Site, is_live, is_fed, inputs_at, place_in, with_output, with_outputs, element_at}
 use Rattle.grid_compile.specs.Cells.{marks_of}
 use Rattle.grid_compile.proofs.Listing.{marks-small}
 use Rattle.ladder_solver.specs.Rows.{flag_of, flags_at, reaches_of, three_from, fed_rows, reaches, FeedsAll}
 use Rattle.grid_compile.specs.Masks.{are_linked}
-use Rattle.ladder_solver.specs.Agreement.{AgreesPower, AgreesState, GivesEffect, SolvesSpot, is_in_column}
-use Rattle.ladder_solver.specs.Edges.{row_bit}
+use Rattle.ladder_solver.specs.Agreement.{AgreesPower, AgreesSolved}
 use Rattle.ladder_solver.proofs.Spread.{are_linked-joined, fed_rows-feeds, fed_rows-small}
-use Rattle.ladder_solver.proofs.States.{edge_at, AgreesState-cell}
 
 -- a column is no other column
 other_column : (a b : ℕ) → a < b → (a == b) ≡ false
@@ -124,11 +122,11 @@ same_or_other a b = elim (three_ways a b) [
     three_ways k n = grind arith
 
 -- the outputs of a block
-AgreesPower-outputs : (shorts : List Short) (column row : ℕ) (live : List ℕ) (next : ℕ) (p : Power) (outputs : NodePower) (s : State)
+AgreesPower-outputs : (shorts : List Short) (column row : ℕ) (live : List ℕ) (next : ℕ) (p : Power) (outputs : NodePower) (s : State) (flow : Flow)
     → 1 ≤ column → column < length live → 1 ≤ row → next < 128
     → AgreesPower shorts live p → FeedsAll outputs (marks_of shorts column) row (get_or live column 0) next
-    → AgreesPower shorts (set live column next) (record { state = s; on = with_outputs outputs column row p.on })
-AgreesPower-outputs shorts column row live next p outputs s first within low small h feeds = record {
+    → AgreesPower shorts (set live column next) (record { state = s; on = with_outputs outputs column row p.on; flow = flow })
+AgreesPower-outputs shorts column row live next p outputs s flow first within low small h feeds = record {
   start = get_or-set_other live column 0 next 0 (λ e. omega arith) ∙ h.start;
   small = λ c. elim (same_or_other c column) [
     | inl e ↦ subst (λ n. n < 128) (sym (ap (λ k. get_or (set live column next) k 0) e ∙ get_or-set_same live column next 0 within)) small
@@ -177,31 +175,33 @@ inputs_at-flags shorts column row live p first low h =
     λ i. record { top = fed row low i; middle = fed (row + 1) (omega arith) i; bottom = fed (row + 2) (omega arith) i }
 
 -- a whole cell
-pub SolvesSpot-done : (spot : Spot) (live : List ℕ) (next : ℕ) (clock : Clock) (past : Contents) (edges : List Bool) (edge_after : Bool) (old new : Contents)
-    (outputs : NodePower)
-    → 1 ≤ spot.column → spot.column < length live → 1 ≤ spot.row → spot.row ≤ 7 → length edges ≡ 7
-    → GivesEffect spot.element (flags_at (get_or live (spot.column - 1) 0) spot.row) clock past (get_or edges (spot.row - 1) false) edge_after old new outputs
-    → next ≡ bit_or (get_or live spot.column 0) (fed_rows outputs spot.reaches)
-    → SolvesSpot spot live (set live spot.column next) clock past edges (set edges (spot.row - 1) edge_after) old new
-SolvesSpot-done spot live next clock past edges edge_after old new outputs first within low high seven effect fed shorts site start p same power state =
+pub spot-done : (calls : Calls) (spot : Spot) (site : Site) (live : List ℕ) (next : ℕ) (s after : State) (solved : Solved)
+    → 1 ≤ spot.column → spot.column < length live → 1 ≤ spot.row → spot.row ≤ 7
+    → solved_element calls spot.element (place_in site spot.column spot.row) (flags_at (get_or live (spot.column - 1) 0) spot.row) s
+    ≡ ((solved.outputs, after), solved.flow)
+    → next ≡ bit_or (get_or live spot.column 0) (fed_rows solved.outputs spot.reaches)
+    → (shorts : List Short) (p : Power) → spot.reaches ≡ three_from (reaches_of (marks_of shorts spot.column)) spot.row
+    → AgreesPower shorts live p → p.state ≡ s
+    → AgreesSolved shorts (set live spot.column next) after solved.flow (element_at calls shorts site spot.column spot.row spot.element p)
+spot-done calls spot site live next s after solved first within low high does fed shorts p same power state =
     let column = spot.column in
     let row = spot.row in
+    let outputs = solved.outputs in
     let marks = marks_of shorts column in
     let was = get_or live column 0 in
     let place = place_in site column row in
-    let s : State = record p.state { map = new; edges = with_place p.state.edges place edge_after } in
     let is : next ≡ bit_or was (fed_rows outputs (three_from (reaches_of marks) row)) = fed ∙ ap (λ xs. bit_or was (fed_rows outputs xs)) same in
     let small : next < 128 = subst (λ n. n < 128) (sym is) (fed_rows-small outputs marks row was (marks-small shorts column) low high (power.small column)) in
     let feeds : FeedsAll outputs marks row was next = subst (λ n. FeedsAll outputs marks row was n) (sym is)
     (fed_rows-feeds outputs marks row was (marks-small shorts column) low high) in
-    let e : element_at shorts site column row spot.element p ≡ record { state = s; on = with_outputs outputs column row p.on } =
-    rw (
-      inputs_at-flags shorts column row live p first low power,
-      effect place p.state state.map state.past state.clock
-          (edge_at site column row edges start old past clock p.state low state),
-    ) refl in (
-      subst (λ q. AgreesPower shorts (set live column next) q) (sym e)
-          (AgreesPower-outputs shorts column row live next p outputs s first within low small power feeds),
-      subst (λ (q : Power). AgreesState (is_in_column site column) (row_bit (set edges (row - 1) edge_after)) start new past clock q.state) (sym e)
-          (AgreesState-cell site column row edges start old past clock p.state edge_after new low (omega arith) state),
-    )
+    let done : solved_element calls spot.element place (inputs_at shorts p.on column row) p.state ≡ ((outputs, after), solved.flow) =
+    (λ i. solved_element calls spot.element place (inputs_at-flags shorts column row live p first low power i) (state i)) ∙ does in
+    let e : element_at calls shorts site column row spot.element p
+    ≡ record { state = after; on = with_outputs outputs column row p.on; flow = solved.flow } =
+    ap (λ (d : Left). record { state = d.0.1; on = with_outputs d.0.0 column row p.on; flow = d.1 }) done in
+    record {
+      power = subst (λ q. AgreesPower shorts (set live column next) q) (sym e)
+          (AgreesPower-outputs shorts column row live next p outputs after solved.flow first within low small power feeds);
+      state = ap (λ (q : Power). q.state) e;
+      flow = ap (λ (q : Power). q.flow) e;
+    }

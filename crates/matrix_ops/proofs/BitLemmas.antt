@@ -14,8 +14,8 @@ use Rattle.std.proofs.lemmas.Nat.Bits.{bit_at-lt, bit_at_set_same, bit_at_set_ot
 use Rattle.std.proofs.Math.Nat.{pow-suc}
 use Rattle.plant_types.specs.Power.{bit_of}
 use Rattle.plant_types.proofs.DiscretesLemmas.{length-bits_high_first, get_or-bits_high_first}
-use Rattle.plant_types.specs.Discretes.{bits_high_first, word_bits}
-use Rattle.matrix_ops.specs.Bits.{matrix_bits, number_of_bits, matrix_words}
+use Rattle.plant_types.specs.Discretes.{bits_high_first, word_bits, number_of_bits}
+use Rattle.matrix_ops.specs.Bits.{matrix_bits, matrix_words}
 
 bit_again : (b : ℕ) → b < 2 → bit_of (b == 1) ≡ b
 bit_again b h = grind (arith, nat_tests)

@@ -1,11 +1,12 @@
 -- One bit of a matrix in registers is one bit of the list of all its bits.
-use Rattle.std.proofs.Common.{◌≡◌, ℕ, zero, suc, ◌+◌, ◌-◌, ◌*◌, ◌/◌, ◌%◌, ◌^◌, ◌<◌, Bool, true}
-use Rattle.std.proofs.Common.{false, ◌==◌, List, [], ◌∷◌, ◌++◌, length, get_or, set, fold}
+use Rattle.std.proofs.Common.{◌≡◌, ℕ, zero, suc, ◌+◌, ◌-◌, ◌*◌, ◌/◌, ◌%◌, ◌^◌, ◌<◌, ◌≤◌, Bool, true}
+use Rattle.std.proofs.Common.{false, ◌==◌, List, [], ◌∷◌, ◌++◌, length, get_or, set, take, drop, fold}
 use Rattle.std.proofs.Common.{unwrap_or, refl, sym, ap, ◌∙◌, inl, inr, arith}
 use Rattle.std.specs.Int.{bit_at}
 use Rattle.std.specs.FinMap.{insert}
 use Rattle.std.proofs.lemmas.Bool.{cases_eq}
-use Rattle.std.proofs.lemmas.List.{length-set, get_or-set_same, get_or-set_other, set-append_left, set-append_right}
+use Rattle.std.proofs.lemmas.List.{length-set, get_or-set_same, get_or-set_other, set-append_left, set-append_right, ext_get_or}
+use Rattle.std.proofs.lemmas.List.FromFn.{get_or-map-range_with_len}
 use Rattle.std.proofs.lemmas.Nat.Bits.{bit_at_cat_low, bit_at_cat_high}
 use Rattle.std.proofs.Math.Nat.{pow-suc}
 use Rattle.plant_types.specs.declared.reference.Ref.{Ref}
@@ -13,9 +14,11 @@ use Rattle.plant_types.specs.Power.{bit_of}
 use Rattle.plant_types.specs.Reference.{ref_from}
 use Rattle.plant_types.specs.Store.{Contents, word_at, words_from}
 use Rattle.plant_types.proofs.RunLemmas.{length-words_from, get_or-words_from, words_from-by_place, ref_from-apart, get-insert_same, get-insert_other}
-use Rattle.plant_types.specs.Discretes.{bits_high_first, word_bits}
-use Rattle.matrix_ops.specs.Bits.{matrix_bits, number_of_bits}
-use Rattle.matrix_ops.specs.Matrices.{SetsOneBit}
+use Rattle.plant_types.specs.Discretes.{bits_high_first, word_bits, number_of_bits}
+use Rattle.matrix_ops.specs.Bits.{matrix_bits, matrix_words}
+use Rattle.matrix_ops.specs.Matrices.{with_matrix_bit, SetsOneBit}
+use Rattle.matrix_ops.proofs.BitLemmas.{length-matrix_bits, get_or-matrix_bits}
+use Rattle.matrix_ops.proofs.TurnLemmas.{length-piece, get_or-piece}
 use Rattle.plant_types.proofs.DiscretesLemmas.{length-bits_high_first}
 
 -- the number that bits make behind others
@@ -109,6 +112,45 @@ words_from-insert m at n i word h =
           ∙ sym (ap (λ o. unwrap_or o 0) (get-insert_other m (ref_from at i) word (ref_from at k) (ref_from-apart at i k (λ e. apart (sym e)))))
     ]))
 
+-- the bits of one word of a matrix
+word_of_matrix : (ws : List ℕ) (i : ℕ) → i < length ws → take 16 (drop (16 * i) (matrix_bits ws)) ≡ word_bits (get_or ws i 0)
+word_of_matrix ws i h =
+    let whole = length-matrix_bits ws in
+    let size = length-piece (matrix_bits ws) i (length ws) whole h in
+    ext_get_or false (take 16 (drop (16 * i) (matrix_bits ws))) (word_bits (get_or ws i 0)) (size ∙ sym (length-bits_high_first 16 (get_or ws i 0)))
+    (λ j l. get_or-piece (matrix_bits ws) i j false (omega arith) ∙ get_or-matrix_bits ws i j false h (omega arith))
+
+-- a word that a matrix with one bit set has in its place is the word with that bit set
+pub matrix_words-set : (ws : List ℕ) (i j : ℕ) (on : Bool) → i < length ws → j < 16
+    → get_or (matrix_words (set (matrix_bits ws) (16 * i + j) on)) i 0 ≡ number_of_bits (set (word_bits (get_or ws i 0)) j on)
+unfolding matrix_words
+matrix_words-set ws i j on h l =
+    let bits = set (matrix_bits ws) (16 * i + j) on in
+    let changed = set (word_bits (get_or ws i 0)) j on in
+    let word = number_of_bits changed in
+    let again : bits ≡ matrix_bits (set ws i word) = sym (matrix_bits-set ws i j on h l) in
+    let size : length bits ≡ 16 * length ws = length-set (matrix_bits ws) (16 * i + j) on ∙ length-matrix_bits ws in
+    let sixteen : length changed ≡ 16 = length-set (word_bits (get_or ws i 0)) j on ∙ length-bits_high_first 16 (get_or ws i 0) in
+    let still : length (set ws i word) ≡ length ws = length-set ws i word in
+    get_or-map-range_with_len (λ place. number_of_bits (take 16 (drop (16 * place) bits))) 0 (length bits / 16) i i 0 (omega arith) (omega arith)
+    ∙ ap (λ b. number_of_bits (take 16 (drop (16 * i) b))) again
+    ∙ ap number_of_bits (word_of_matrix (set ws i word) i (omega arith) ∙ ap word_bits (get_or-set_same ws i word 0 h) ∙ word_bits-number changed sixteen)
+
+-- the register that holds a bit takes its word with that bit set
+pub with_matrix_bit-word : (m : Contents) (matrix : Ref) (n k : ℕ) (on : Bool) → 1 ≤ k → k ≤ 16 * n
+    → with_matrix_bit m matrix n k on ≡ insert m (ref_from matrix ((k - 1) / 16))
+    (number_of_bits (set (word_bits (word_at m (ref_from matrix ((k - 1) / 16)))) ((k - 1) % 16) on))
+with_matrix_bit-word m matrix n k on from_one within =
+    let place = k - 1 in
+    let at = ref_from matrix (place / 16) in
+    let inside : place / 16 < n = omega arith in
+    let size = length-words_from m matrix n in
+    let ws = words_from m matrix n in
+    let whole : 16 * (place / 16) + place % 16 ≡ place = omega arith in
+    ap (λ p. insert m at (get_or (matrix_words (set (matrix_bits ws) p on)) (place / 16) 0)) (sym whole)
+    ∙ ap (insert m at) (matrix_words-set ws (place / 16) (place % 16) on (omega arith) (omega arith))
+    ∙ ap (λ v. insert m at (number_of_bits (set (word_bits v) (place % 16) on))) (get_or-words_from m matrix n (place / 16) 0 inside)
+
 -- to set one bit changes it and no other
 pub sets_one_bit : SetsOneBit
 sets_one_bit m matrix n k on from_one within =
@@ -118,7 +160,8 @@ sets_one_bit m matrix n k on from_one within =
     let ws = words_from m matrix n in
     let word = word_at m (ref_from matrix (place / 16)) in
     let whole : 16 * (place / 16) + place % 16 ≡ place = omega arith in
-    ap matrix_bits
+    ap (λ new. matrix_bits (words_from new matrix n)) (with_matrix_bit-word m matrix n k on from_one within)
+    ∙ ap matrix_bits
     (words_from-insert m matrix n (place / 16) (number_of_bits (set (word_bits word) (place % 16) on)) inside
     ∙ ap (λ v. set ws (place / 16) (number_of_bits (set (word_bits v) (place % 16) on))) (sym (get_or-words_from m matrix n (place / 16) 0 inside)))
     ∙ matrix_bits-set ws (place / 16) (place % 16) on (omega arith) (omega arith)

@@ -9,8 +9,9 @@ use Rattle.std.proofs.lemmas.Nat.{or_shifted, shr_split}
 use Rattle.std.proofs.lemmas.Nat.Bits.{bit_at-lt, bit_at-suc, bit_at_cat_low, bit_at_cat_high, shr_and_one}
 use mir.Val.{bool_byte}
 use Rattle.plant_types.specs.Power.{bit_of}
-use Rattle.matrix_ops.specs.Bits.{matrix_bits, number_of_bits}
+use Rattle.matrix_ops.specs.Bits.{matrix_bits}
 use Rattle.matrix_ops.specs.Matrices.{left_turned, right_turned}
+use Rattle.plant_types.specs.Discretes.{number_of_bits}
 use Rattle.matrix_ops.proofs.BitLemmas.{length-matrix_bits, get_or-matrix_bits_at, number_of_bits-of_word}
 
 -- a bit of the low bits of a number is that of the number
@@ -59,12 +60,12 @@ byte_of_bit true = refl
 byte_of_bit false = refl
 
 -- 16 bits from a place on
-length-piece : (bits : List Bool) (p n : ℕ) → length bits ≡ 16 * n → p < n → length (take 16 (drop (16 * p) bits)) ≡ 16
+pub length-piece : (bits : List Bool) (p n : ℕ) → length bits ≡ 16 * n → p < n → length (take 16 (drop (16 * p) bits)) ≡ 16
 length-piece bits p n e h =
     let d = length-drop (16 * p) bits in
     length-take-le 16 (drop (16 * p) bits) (omega arith)
 
-get_or-piece : (bits : List Bool) (p j : ℕ) (d : Bool) → j < 16 → get_or (take 16 (drop (16 * p) bits)) j d ≡ get_or bits (16 * p + j) d
+pub get_or-piece : (bits : List Bool) (p j : ℕ) (d : Bool) → j < 16 → get_or (take 16 (drop (16 * p) bits)) j d ≡ get_or bits (16 * p + j) d
 get_or-piece bits p j d h = get_or-take 16 (drop (16 * p) bits) j d h ∙ get_or-drop (16 * p) bits j d
 
 pub length-left_turned : (bits : List Bool) (n : ℕ) (on : Bool) → length bits ≡ 16 * n → 0 < n → length (left_turned bits on) ≡ 16 * n

@@ -1,9 +1,8 @@
 -- The bits of a matrix of registers.
 use Rattle.std.specs.Prelude.{ℕ, ◌+◌, ◌-◌, ◌*◌, ◌/◌, Bool, false}
-use Rattle.std.specs.Prelude.{List, [], ◌∷◌, ◌++◌, length, take, drop, slice_index_or, map, fold}
+use Rattle.std.specs.Prelude.{List, [], ◌∷◌, ◌++◌, length, take, drop, slice_index_or, map}
 use Rattle.std.specs.List.{range_with_len}
-use Rattle.plant_types.specs.Discretes.{word_bits}
-use Rattle.plant_types.specs.Power.{bit_of}
+use Rattle.plant_types.specs.Discretes.{word_bits, number_of_bits}
 
 -- The bits of a matrix: those of its registers, one after another. Modicon Ladder Logic Block
 -- Library User Guide.
@@ -14,10 +13,6 @@ matrix_bits (word ∷ words) = word_bits word ++ matrix_bits words
 -- The bit of a number that counts from 1. Modicon Ladder Logic Block Library User Guide.
 abbrev pub bit_number : List Bool → ℕ → Bool
 bit_number bits k = slice_index_or bits (k - 1) false
-
--- The number that has these bits, the highest first. This project's own.
-abbrev pub number_of_bits : List Bool → ℕ
-number_of_bits bits = fold (λ n on. 2 * n + bit_of on) 0 bits
 
 -- The registers that have these bits, 16 in each. Modicon Ladder Logic Block Library User Guide.
 unfoldable pub matrix_words : List Bool → List ℕ

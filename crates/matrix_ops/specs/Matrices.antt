@@ -1,6 +1,6 @@
 -- What each block that works on the bits of a matrix does when it is solved.
-use Rattle.std.specs.Prelude.{◌≡◌, ◌≤◌, ℕ, ◌+◌, ◌-◌, ◌*◌, ◌/◌, ◌%◌, Bool, false, not, ◌&&◌, nat_le}
-use Rattle.std.specs.Prelude.{if◌then◌else◌, List, [], ◌∷◌, ◌++◌, take, drop, map, zip, slice_set}
+use Rattle.std.specs.Prelude.{◌≡◌, ◌≤◌, ℕ, ◌+◌, ◌-◌, ◌*◌, ◌/◌, Bool, false, not, ◌&&◌, nat_le}
+use Rattle.std.specs.Prelude.{if◌then◌else◌, List, [], ◌∷◌, ◌++◌, take, drop, map, zip, slice_index_or, slice_set}
 use Rattle.std.specs.Prelude.{Option, is_some, option_map, unwrap_or}
 use Rattle.std.specs.Int.{bit_not, w16}
 use Rattle.std.specs.List.{position_from}
@@ -9,12 +9,11 @@ use Rattle.plant_types.specs.declared.element.Operand.{Operand}
 use Rattle.plant_types.specs.declared.element.Operand.TheVariants.{Const, At}
 use Rattle.plant_types.specs.declared.power.NodePower.{NodePower}
 use Rattle.plant_types.specs.declared.reference.Ref.{Ref}
-use Rattle.plant_types.specs.Discretes.{word_bits}
 use Rattle.plant_types.specs.Effect.{Effect}
 use Rattle.plant_types.specs.Operands.{number_of}
 use Rattle.plant_types.specs.Reference.{ref_from, is_holding}
 use Rattle.plant_types.specs.Store.{Contents, word_at, words_from, with_words}
-use Rattle.matrix_ops.specs.Bits.{matrix_bits, bit_number, number_of_bits, matrix_words}
+use Rattle.matrix_ops.specs.Bits.{matrix_bits, bit_number, matrix_words}
 
 -- Two matrices put together word by word. This project's own.
 abbrev pub word_by_word : (ℕ → ℕ → ℕ) → List ℕ → List ℕ → List ℕ
@@ -104,20 +103,26 @@ with_pointer m (At at) value = if is_holding at.kind then insert m at value else
 abbrev pub is_bit_of : ℕ → ℕ → Bool
 is_bit_of length k = nat_le 1 k && nat_le k (16 * length)
 
--- The contents after one bit of a matrix is set on or off, in the register that holds it.
--- Modicon Ladder Logic Block Library User Guide.
-abbrev pub with_matrix_bit : Contents → Ref → ℕ → Bool → Contents
-with_matrix_bit m matrix k on =
-    let at = ref_from matrix ((k - 1) / 16) in
-    insert m at (number_of_bits (slice_set (word_bits (word_at m at)) ((k - 1) % 16) on))
+-- The matrix with one of its bits, counted from 1, set on or off. Modicon Ladder Logic Block
+-- Library User Guide.
+abbrev pub with_bit_number : List Bool → ℕ → Bool → List Bool
+with_bit_number bits k on = slice_set bits (k - 1) on
+
+-- The contents after one bit of a matrix is set on or off: the register that holds it takes its
+-- word of the matrix with that bit set. Modicon Ladder Logic Block Library User Guide.
+abbrev pub with_matrix_bit : Contents → Ref → ℕ → ℕ → Bool → Contents
+with_matrix_bit m matrix length k on =
+    let bits = with_bit_number (matrix_bits (words_from m matrix length)) k on in
+    let register = (k - 1) / 16 in
+    insert m (ref_from matrix register) (slice_index_or (matrix_words bits) register 0)
 
 -- To set one bit of a matrix changes it in the list of all bits, and no other. Modicon Ladder
 -- Logic Block Library User Guide.
 abbrev pub SetsOneBit : Type 0
 SetsOneBit =
     (m : Contents) (matrix : Ref) (length k : ℕ) (on : Bool) → 1 ≤ k → k ≤ 16 * length
-    → matrix_bits (words_from (with_matrix_bit m matrix k on) matrix length)
-    ≡ slice_set (matrix_bits (words_from m matrix length)) (k - 1) on
+    → matrix_bits (words_from (with_matrix_bit m matrix length k on) matrix length)
+    ≡ with_bit_number (matrix_bits (words_from m matrix length)) k on
 
 -- MBIT: a bit of a matrix becomes the power of the middle node, and a pointer to it can move
 -- on. Modicon Ladder Logic Block Library User Guide; the exact inputs and outputs are this
@@ -125,7 +130,7 @@ SetsOneBit =
 abbrev pub mbit_effect : Operand → Ref → ℕ → NodePower → Contents → Effect
 mbit_effect top mid length inputs m =
     let k = number_of m top in
-    let changed = with_matrix_bit m mid k inputs.middle in
+    let changed = with_matrix_bit m mid length k inputs.middle in
     record {
       outputs = record {
         top = inputs.top;

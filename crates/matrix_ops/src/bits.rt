@@ -1,7 +1,7 @@
 //! Bits of words and of matrices; places count from 0, from the highest bit on.
 ghost use Rattle.std.specs.Prelude.{◌≡◌, ◌<◌, ◌*◌, false, length, slice_index_or, slice_set};
-ghost use Rattle.plant_types.specs.Discretes.{word_bits};
-ghost use Rattle.matrix_ops.specs.Bits.{matrix_bits, number_of_bits};
+ghost use Rattle.plant_types.specs.Discretes.{word_bits, number_of_bits};
+ghost use Rattle.matrix_ops.specs.Bits.{matrix_bits};
 
 /// The bit at a place of a word.
 pub(crate) fn word_bit(word: u16, place: u16) -> bool

@@ -58,7 +58,7 @@ fn set_bit<R: RefStore>(matrix: Ref, length: u16, k: u16, on: bool, ram: &mut R)
     requires matrix { HasRegisters (R.contents ram.old) matrix length }
     requires from_one { 1 ≤ k }
     requires within { k ≤ 16 * length }
-    ensures stored { R.contents ram.new ≡ with_matrix_bit (R.contents ram.old) matrix k on }
+    ensures stored { R.contents ram.new ≡ with_matrix_bit (R.contents ram.old) matrix length k on }
     ensures keeps { Keeps (R.contents ram.old) (R.contents ram.new) }
 {
     let at = ref_after(matrix, (k - 1) / 16);

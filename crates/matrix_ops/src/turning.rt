@@ -4,7 +4,8 @@ ghost use Rattle.plant_types.specs.Effect.{Does};
 ghost use Rattle.plant_types.specs.Power.{nodes_of};
 ghost use Rattle.plant_types.specs.Slots.{matrix_limit};
 ghost use Rattle.plant_types.specs.Store.{HasRegisters};
-ghost use Rattle.matrix_ops.specs.Bits.{matrix_bits, number_of_bits, matrix_words};
+ghost use Rattle.matrix_ops.specs.Bits.{matrix_bits, matrix_words};
+ghost use Rattle.plant_types.specs.Discretes.{number_of_bits};
 ghost use Rattle.matrix_ops.specs.Matrices.{left_turned, right_turned, brot_effect};
 
 use crate::MATRIX_LIMIT;

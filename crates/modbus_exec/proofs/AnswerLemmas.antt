@@ -1,27 +1,26 @@
 -- What every answer of a request to a map keeps to.
-use Rattle.std.proofs.Common.{◌≡◌, ◌≢◌, ℕ, ◌+◌, ◌<◌, ◌≤◌, Bool, true, false, ◌&&◌, List, length}
+use Rattle.std.proofs.Common.{◌≡◌, ◌≢◌, ℕ, ◌+◌, ◌<◌, Bool, true, false, length}
 use Rattle.std.proofs.Common.{Result, Ok, Err, refl, ap, subst, sym, ◌∙◌, inl, inr, cond, arith}
 use Rattle.std.specs.Prelude.{IfOk}
-use Rattle.std.specs.FinMap.{get, insert}
+use Rattle.std.specs.FinMap.{get}
 use Rattle.plant_types.specs.declared.reference.Ref.{Ref}
 use Rattle.plant_types.specs.declared.reference.RefKind.{RefKind}
 use Rattle.plant_types.specs.declared.reference.RefKind.TheVariants as kinds
 use Rattle.plant_types.specs.Reference.{ref_from}
-use Rattle.plant_types.specs.Store.{Contents, Keeps, word_at, words_from, with_words}
+use Rattle.plant_types.specs.Store.{Contents, Keeps, word_at, with_words}
 use Rattle.plant_types.proofs.RunLemmas.{length-words_from, get-insert_other, get-with_words_other, Keeps-insert, Keeps-with_words}
 use Rattle.modbus_pdu.specs.Spelling.{IsInRange, IsReplyInRange, IsReplyTo}
 use Rattle.modbus_pdu.specs.declared.request.Request.{Request}
 use Rattle.modbus_pdu.specs.declared.request.Request.TheVariants.{ReadCoils, ReadInputs}
 use Rattle.modbus_pdu.specs.declared.request.Request.TheVariants.{ReadRegisters, ReadInputRegisters}
-use Rattle.modbus_pdu.specs.declared.request.Request.TheVariants.{WriteCoil, WriteRegister, Echo}
+use Rattle.modbus_pdu.specs.declared.request.Request.TheVariants.{WriteCoil, WriteRegister}
 use Rattle.modbus_pdu.specs.declared.request.Request.TheVariants.{Stats, WriteCoils, WriteRegisters}
 use Rattle.modbus_pdu.specs.declared.request.Request.TheVariants.{Mask, ReadWrite}
 use Rattle.modbus_pdu.specs.declared.reply.Reply.{Reply}
-use Rattle.modbus_pdu.specs.declared.reply.Reply.TheVariants as replies
 use Rattle.modbus_exec.specs.declared.end.ExecEnd.{ExecEnd}
 use Rattle.modbus_exec.specs.declared.end.ExecEnd.TheVariants.{Exception, NoMemory}
-use Rattle.plant_types.specs.Discretes.{bits_from, bit_words, with_bits}
-use Rattle.modbus_exec.specs.Runs.{reference_at, is_in_map, are_in_map}
+use Rattle.plant_types.specs.Discretes.{bit_words}
+use Rattle.modbus_exec.specs.Runs.{reference_at}
 use Rattle.modbus_exec.specs.Answer.{Outcome, outcome_of, has_references, reply_by, stored_by, masked, IsOneOf, Writes}
 use Rattle.modbus_exec.specs.Executing.{Executes}
 use Rattle.plant_types.proofs.DiscretesLemmas.{length-bits_from, length-bit_words}

@@ -1,13 +1,12 @@
 -- The answer to bytes follows their spelling.
-use Rattle.std.proofs.Common.{◌≡◌, ℕ, ◌≤◌, Bool, true, false, List, [], ◌∷◌, length, slice_index}
-use Rattle.std.proofs.Common.{Option, Some, None, Result, Ok, Err, refl, ap, subst, sym, ◌∙◌, inl, inr, cond}
+use Rattle.std.proofs.Common.{◌≡◌, ℕ, true, List, slice_index}
+use Rattle.std.proofs.Common.{Result, Ok, Err, refl, ap, sym, ◌∙◌, inl, inr}
 use Rattle.plant_types.specs.Store.{Contents}
 use Rattle.std.specs.Prelude.{IfErr, IsErrOf, ◌↔◌}
 use Rattle.modbus_pdu.specs.Decoding.{IsUnlisted, IsMisformed, IsDecodeEnd}
 use Rattle.modbus_pdu.specs.declared.end.DecodeEnd.{DecodeEnd}
 use Rattle.modbus_pdu.specs.declared.end.DecodeEnd.TheVariants.{Exception, NoMemory}
 use Rattle.modbus_pdu.specs.Exceptions.{illegal_function, illegal_value}
-use Rattle.modbus_pdu.specs.Reading.{request_of}
 use Rattle.modbus_pdu.specs.Spelling.{Spells, is_listed, function_of, reply_bytes}
 use Rattle.modbus_pdu.specs.declared.request.Request.{Request}
 use Rattle.modbus_pdu.specs.declared.request.Request.TheVariants.{ReadCoils, ReadInputs}
@@ -17,8 +16,8 @@ use Rattle.modbus_pdu.specs.declared.request.Request.TheVariants.{Stats, WriteCo
 use Rattle.modbus_pdu.specs.declared.request.Request.TheVariants.{Mask, ReadWrite}
 use Rattle.modbus_pdu.specs.declared.reply.Reply.TheVariants as replies
 use Rattle.modbus_pdu.proofs.Reading.{code_first, request_found, none_found}
-use Rattle.modbus_exec.specs.Answer.{Outcome, Answer, answer_of, answer_to, answer_with, outcome_of, refusal}
-use Rattle.modbus_exec.specs.Executing.{Answers, ComesTo}
+use Rattle.modbus_exec.specs.Answer.{Outcome, answer_of, answer_with, outcome_of, refusal}
+use Rattle.modbus_exec.specs.Executing.{Answers}
 
 -- The function of each request is listed.
 function_listed : (request : Request) → is_listed (function_of request) ≡ true

@@ -1,5 +1,5 @@
 -- What a read of references of a kind comes to.
-use Rattle.std.proofs.Common.{◌≡◌, ℕ, Bool, true, false, arith, ◌≤◌, Ok, Err, refl, ap, ◌∙◌, sym}
+use Rattle.std.proofs.Common.{◌≡◌, ℕ, true, false, arith, ◌≤◌, refl}
 use Rattle.plant_types.specs.declared.reference.RefKind.{RefKind}
 use Rattle.plant_types.specs.declared.reference.RefKind.TheVariants.{Coil, Input, InputRegister, Register}
 use Rattle.plant_types.specs.Reference.{is_discrete}
@@ -7,7 +7,7 @@ use Rattle.plant_types.specs.Store.{Contents, words_from}
 use Rattle.modbus_pdu.specs.Quantities.{most_discretes_read, most_registers_read}
 use Rattle.modbus_pdu.specs.Steps.{most_read, read_request, reading_function}
 use Rattle.modbus_pdu.specs.declared.reply.Reply.TheVariants as replies
-use Rattle.modbus_exec.specs.Answer.{Outcome, reply_by, stored_by, outcome_of}
+use Rattle.modbus_exec.specs.Answer.{reply_by, stored_by, outcome_of}
 use Rattle.plant_types.specs.Discretes.{bits_from}
 use Rattle.modbus_exec.specs.Runs.{reference_at, are_in_map}
 use Rattle.modbus_exec.proofs.Outcomes.{chosen}

@@ -2,7 +2,7 @@
 use Rattle.std.proofs.Common.{◌≡◌, ℕ, zero, suc, ◌+◌, ◌<◌, ◌≤◌, Bool, true, false, ◌&&◌, List, []}
 use Rattle.std.proofs.Common.{◌∷◌, ◌++◌, length, take, get_or, cond, refl, sym, ap, ◌∙◌, below_more}
 use Rattle.std.proofs.Common.{arith}
-use Rattle.std.specs.Prelude.{nat_le, nat_lt, if◌then◌else◌, map}
+use Rattle.std.specs.Prelude.{nat_le, nat_lt, if◌then◌else◌}
 use Rattle.std.specs.Cmp.{first_so, second_so}
 use Rattle.std.specs.Cmp.Derive.{both_true}
 use Rattle.std.proofs.lemmas.Bool.{leb-true, le-leb}
@@ -10,7 +10,7 @@ use Rattle.std.proofs.lemmas.List.{take_more, length-take-le, get_or-map, length
 use Rattle.std.specs.FinMap.{contains_key, insert}
 use Rattle.plant_types.specs.declared.reference.Ref.{Ref}
 use Rattle.plant_types.specs.Reference.{ref_from}
-use Rattle.plant_types.specs.Store.{Contents, is_on, word_at, words_from, with_words}
+use Rattle.plant_types.specs.Store.{Contents, is_on, words_from, with_words}
 use Rattle.plant_types.proofs.RunLemmas.{ref_from-zero, ref_from-ref_from, length-words_from, get_or-words_from, with_words-push}
 use Rattle.plant_types.specs.Discretes.{bits_from, bit_words}
 use Rattle.modbus_exec.specs.Runs.{last_number, is_in_map, are_in_map, HasRun}

@@ -1,6 +1,6 @@
 -- What a request does to a map, and its reply.
 use Rattle.std.specs.Prelude.{◌≡◌, ◌≤◌, ◌<◌, ℕ, ◌+◌, ◌-◌, Bool, true, ◌&&◌, if◌then◌else◌}
-use Rattle.std.specs.Prelude.{List, [], ◌∷◌, length, slice_index, Option, Some, None}
+use Rattle.std.specs.Prelude.{List, length, slice_index, Option, Some, None}
 use Rattle.std.specs.Prelude.{Result, Ok, Err, bit_and, bit_or}
 use Rattle.std.specs.FinMap.{insert}
 use Rattle.plant_types.specs.declared.reference.Ref.{Ref}

@@ -1,13 +1,13 @@
 -- What executing a request answers and leaves.
-use Rattle.std.specs.Prelude.{◌≡◌, ℕ, List, Result, Ok, Err}
+use Rattle.std.specs.Prelude.{◌≡◌, ℕ, true, List, Option, Some, None, Result, Ok, Err}
 use Rattle.std.specs.FinMap.{get}
 use Rattle.plant_types.specs.declared.reference.Ref.{Ref}
-use Rattle.plant_types.specs.Store.{Contents}
+use Rattle.plant_types.specs.Store.{Contents, Keeps}
 use Rattle.modbus_pdu.specs.declared.request.Request.{Request}
 use Rattle.modbus_pdu.specs.declared.reply.Reply.{Reply}
 use Rattle.modbus_exec.specs.declared.end.ExecEnd.{ExecEnd}
 use Rattle.modbus_exec.specs.declared.end.ExecEnd.TheVariants as ends
-use Rattle.modbus_exec.specs.Answer.{Outcome, outcome_of, stored_by, Answer, answer_of, Writes}
+use Rattle.modbus_exec.specs.Answer.{Outcome, outcome_of, stored_by, answer_of, Writes, has_references}
 
 -- The outcome of a request is this reply and these contents. This project's own.
 abbrev pub ComesTo : Request → Contents → Contents → Reply → Type 0
@@ -36,3 +36,21 @@ Executes request old (Err (ends.Exception code)) new =
     (outcome_of request old ≡ Err code) × (new ≡ old)
 Executes request old (Err ends.NoMemory) new =
     ((outcome : Outcome) × (outcome_of request old ≡ Ok outcome)) × (new ≡ old)
+
+-- What is left to be written of an answer: nothing of an exception. This project's own.
+abbrev pub written_by : Option Request → Contents → Contents
+written_by None m = m
+written_by (Some request) m = stored_by request m
+
+-- A map has the references of what is left to be written. This project's own.
+abbrev pub HasToWrite : Contents → Option Request → Type 0
+HasToWrite m None = Unit {0}
+HasToWrite m (Some request) = has_references m request ≡ true
+
+-- The bytes of an answer, and what is left to be written of it, for which the map has the
+-- references. This project's own.
+pub record IsPrepared (bytes : List ℕ) (m : Contents) (reply : List ℕ)
+    (request : Option Request) : Type 0 where
+  pub answers : Answers bytes m (written_by request m) reply
+  pub has : HasToWrite m request
+  pub keeps : Keeps m (written_by request m)

@@ -10,7 +10,7 @@ mod runs;
 mod storing;
 mod writing;
 
-pub use answering::answer;
+pub use answering::{answer, answer_twice};
 pub use end::ExecEnd;
 pub use executing::exec;
 pub use laws::answers_follow_the_grammar;

@@ -1,4 +1,7 @@
 //! Calls, their names and their results.
+ghost use Rattle.std.specs.Prelude.{◌≡◌};
+ghost use Rattle.mstr_block.specs.Call.{is_same};
+
 use plant_types::{Block, Copied};
 use std::alloc::{AllocError, Global};
 
@@ -50,52 +53,78 @@ pub enum MstrResult {
     Bad(u16),
 }
 
+impl CallId {
+    pub(crate) fn is_same(self, other: CallId) -> bool
+        ensures { result ≡ is_same self other }
+    {
+        self.node == other.node && (self.path == other.path && self.seq == other.seq)
+    }
+}
+
 impl Copied for CallId {
     fn copied(&self, _: Global) -> Result<Self, AllocError> {
         Ok(*self)
     }
 }
 
-impl Copied for MstrAsk {
-    fn copied(&self, alloc: Global) -> Result<Self, AllocError> {
+// Copies that take no memory.
+
+impl MstrAsk {
+    pub(crate) fn again(&self) -> MstrAsk
+        ensures { result ≡ self.now }
+    {
         match self {
-            MstrAsk::Write { to, start, words } => Ok(MstrAsk::Write {
+            MstrAsk::Write { to, start, words } => MstrAsk::Write {
                 to: *to,
                 start: *start,
-                words: words.copied(alloc)?,
-            }),
-            MstrAsk::Read { to, start, length } => Ok(MstrAsk::Read {
+                words: Block::of(words.words()),
+            },
+            MstrAsk::Read { to, start, length } => MstrAsk::Read {
                 to: *to,
                 start: *start,
                 length: *length,
-            }),
-            MstrAsk::LocalStats => Ok(MstrAsk::LocalStats),
-            MstrAsk::ClearLocal => Ok(MstrAsk::ClearLocal),
-            MstrAsk::PutGlobal(words) => Ok(MstrAsk::PutGlobal(words.copied(alloc)?)),
-            MstrAsk::GetGlobal { node, length } => Ok(MstrAsk::GetGlobal {
+            },
+            MstrAsk::LocalStats => MstrAsk::LocalStats,
+            MstrAsk::ClearLocal => MstrAsk::ClearLocal,
+            MstrAsk::PutGlobal(words) => MstrAsk::PutGlobal(Block::of(words.words())),
+            MstrAsk::GetGlobal { node, length } => MstrAsk::GetGlobal {
                 node: *node,
                 length: *length,
-            }),
-            MstrAsk::RemoteStats { to } => Ok(MstrAsk::RemoteStats { to: *to }),
-            MstrAsk::ClearRemote { to } => Ok(MstrAsk::ClearRemote { to: *to }),
+            },
+            MstrAsk::RemoteStats { to } => MstrAsk::RemoteStats { to: *to },
+            MstrAsk::ClearRemote { to } => MstrAsk::ClearRemote { to: *to },
         }
     }
 }
 
+impl MstrResult {
+    pub(crate) fn again(&self) -> MstrResult
+        ensures { result ≡ self.now }
+    {
+        match self {
+            MstrResult::Good(words) => MstrResult::Good(Block::of(words.words())),
+            MstrResult::Bad(word) => MstrResult::Bad(*word),
+        }
+    }
+}
+
+impl Copied for MstrAsk {
+    fn copied(&self, _: Global) -> Result<Self, AllocError> {
+        Ok(self.again())
+    }
+}
+
 impl Copied for MstrCall {
-    fn copied(&self, alloc: Global) -> Result<Self, AllocError> {
+    fn copied(&self, _: Global) -> Result<Self, AllocError> {
         Ok(MstrCall {
             id: self.id,
-            ask: self.ask.copied(alloc)?,
+            ask: self.ask.again(),
         })
     }
 }
 
 impl Copied for MstrResult {
-    fn copied(&self, alloc: Global) -> Result<Self, AllocError> {
-        match self {
-            MstrResult::Good(words) => Ok(MstrResult::Good(words.copied(alloc)?)),
-            MstrResult::Bad(word) => Ok(MstrResult::Bad(*word)),
-        }
+    fn copied(&self, _: Global) -> Result<Self, AllocError> {
+        Ok(self.again())
     }
 }

@@ -1,3 +1,4 @@
-pub mod WordsLemmas
+pub mod Positionals
+pub mod OneNumber
 pub mod RunLemmas
 pub mod DueLemmas

@@ -1,57 +1,38 @@
--- The run of a plant, scan by scan.
-use Rattle.std.specs.Prelude.{ℕ, zero, suc, ◌+◌, List, map}
-use Rattle.std.specs.FinSet.{empty}
+-- The run of a plant, and the panel that is written of it: this project's own.
+use Rattle.std.specs.Prelude.{ℕ, ◌++◌, List, [], fold, get_or, length, map, max}
 use Rattle.std.specs.List.{flat_map, range_with_len}
 use Rattle.plant_types.specs.declared.plan.ControllerPlan.{ControllerPlan}
 use Rattle.plant_types.specs.declared.plan.Plant.{Plant}
-use Rattle.plant_types.specs.Checks.{sizes_of}
-use Rattle.plant_types.specs.Sizes.{cleared, discretes_of, discretes}
-use Rattle.plant_types.specs.Store.{Contents}
-use Rattle.ladder_solver.specs.State.{State}
-use Rattle.ladder_solver.specs.Segment.{segment_after}
+use Rattle.controller_core.specs.declared.fixed.Fixed.{Fixed}
+use Rattle.controller_core.specs.Panel.{panel_lines}
+use Rattle.controller_core.specs.Run.{run_of}
 
--- A controller when it starts: each reference is 0 and each discrete was off before, no edge bit is on, and the clock stands at 0. This project's own.
-abbrev pub start : ControllerPlan → State
-start controller = record {
-  map = cleared (sizes_of controller);
-  past = cleared (discretes_of (sizes_of controller));
-  edges = empty;
-  clock = record { before = 0; now = 0 };
+-- A controller of a plant that makes so many scans.
+abbrev pub fixed_of : Plant → ℕ → ControllerPlan → Fixed
+fixed_of plant scans controller = record {
+  plan = controller;
+  scan_time = plant.scan_time;
+  watchdog = plant.watchdog;
+  scans = scans;
 }
 
--- Begin: the clock goes on by the scan time, and keeps when the scan before began. This project's own.
-abbrev pub begun : ℕ → State → State
-begun scan_time s = record s { clock = record { before = s.clock.now; now = s.clock.now + scan_time } }
+-- The panel lines of a controller's run, one for each of its scans.
+abbrev pub lines_of : Fixed → List (List ℕ)
+lines_of fixed = panel_lines fixed (run_of fixed)
 
--- Solve: segment 1, once as a whole. Modicon Ladder Logic Block Library User Guide.
-abbrev pub solved : ControllerPlan → State → State
-solved controller s = segment_after controller.segments 1 s
+-- How many scans the longest run has.
+abbrev pub longest : List (List (List ℕ)) → ℕ
+longest runs = fold max 0 (map length runs)
 
--- End: the coils and inputs are kept as they stand, and transitional contacts of the next scan compare with them. Modicon Ladder Logic Block Library User Guide; the order of a scan is this project's own.
-abbrev pub ended : ControllerPlan → State → State
-ended controller s = record s { past = discretes (sizes_of controller) s.map }
+-- The lines of a scan, counted from 0: that of each controller that came so far.
+abbrev pub scan_lines : List (List (List ℕ)) → ℕ → List ℕ
+scan_lines runs scan = flat_map (λ lines. get_or lines scan []) runs
 
--- A scan: Begin, Solve and End. This project's own.
-abbrev pub scan_after : ControllerPlan → ℕ → State → State
-scan_after controller scan_time s = ended controller (solved controller (begun scan_time s))
+-- Some runs scan by scan, each scan with the lines of all controllers in their order.
+abbrev pub by_scan : List (List (List ℕ)) → List ℕ
+by_scan runs = flat_map (scan_lines runs) (range_with_len 0 (longest runs))
 
--- A controller after so many scans. This project's own.
-unfoldable pub state_after : ControllerPlan → ℕ → ℕ → State
-state_after controller scan_time zero = start controller
-state_after controller scan_time (suc scans) =
-    scan_after controller scan_time (state_after controller scan_time scans)
-
--- The end of one scan of a controller: the number of the scan, counted from 1, and the store right after it. This project's own.
-pub record ScanEnd : Type 0 where
-  pub scan : ℕ
-  pub controller : ControllerPlan
-  pub store : Contents
-
--- How a controller ends a scan. This project's own.
-abbrev pub end_of : ℕ → ℕ → ControllerPlan → ScanEnd
-end_of scan_time scan controller =
-    record { scan = scan; controller = controller; store = (state_after controller scan_time scan).map }
-
--- The serial run: in each scan from 1 on each controller of the plant, in rising address, ends its scan. This project's own.
-abbrev pub serial : Plant → ℕ → List ScanEnd
-serial plant scans = flat_map (λ scan. map (end_of plant.scan_time scan) plant.controllers) (range_with_len 1 scans)
+-- The panel of a plant: scan by scan the lines of its controllers, in rising address.
+abbrev pub panel : Plant → ℕ → List ℕ
+panel plant scans =
+    by_scan (map (λ controller. lines_of (fixed_of plant scans controller)) plant.controllers)

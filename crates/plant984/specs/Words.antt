@@ -1,22 +1,38 @@
--- The words of the command line, as bytes.
-use Rattle.std.specs.Prelude.{◌≡◌, ℕ, ◌≤◌, List, [], ◌∷◌, codes}
+-- The words of the command line, as bytes. This project's own.
+use Rattle.std.specs.Prelude.{◌≡◌, ℕ, ◌≤◌, if◌then◌else◌, List, [], ◌∷◌, bytes_eq, codes}
 use Rattle.std.specs.Fmt.{decimal}
 use Rattle.plant984.specs.declared.words.Command.{Command}
 use Rattle.plant984.specs.declared.words.Command.TheVariants.{Run}
 
--- A command as its name and its number in decimal digits. This project's own.
-abbrev pub words_of : Command → List (List ℕ)
-words_of (Run scans) = codes "run" ∷ decimal scans ∷ []
+-- The words without the first that is exactly `--`, wherever it stands.
+abbrev pub without_dashes : List (List ℕ) → List (List ℕ)
+without_dashes [] = []
+without_dashes (word ∷ words) =
+    if bytes_eq word (codes "--") then words else word ∷ without_dashes words
 
--- A run has 1 to 2000 scans. This project's own.
+-- The word that names a command.
+abbrev pub name_of : Command → List ℕ
+name_of (Run scans) = codes "run"
+
+-- The numbers of a command, in decimal digits with no sign and no leading zero.
+abbrev pub numbers_of : Command → List (List ℕ)
+numbers_of (Run scans) = decimal scans ∷ []
+
+-- A run has 1 to 2000 scans.
+abbrev pub IsNumberOfScans : ℕ → Type 0
+IsNumberOfScans scans = (1 ≤ scans) × (scans ≤ 2000)
+
 abbrev pub IsInRange : Command → Type 0
-IsInRange (Run scans) = (1 ≤ scans) × (scans ≤ 2000)
+IsInRange (Run scans) = IsNumberOfScans scans
 
--- The words are those of this command. This project's own.
+-- The words are those of this command: its name, and behind it its numbers, among which one `--`
+-- may stand.
 pub record Spells (words : List (List ℕ)) (command : Command) : Type 0 where
-  pub spelled : words ≡ words_of command
+  pub behind : List (List ℕ)
+  pub named : words ≡ name_of command ∷ behind
+  pub numbers : without_dashes behind ≡ numbers_of command
   pub in_range : IsInRange command
 
--- The words are those of some command. This project's own.
+-- The words are those of some command.
 abbrev pub IsCommand : List (List ℕ) → Type 0
 IsCommand words = (command : Command) × Spells words command

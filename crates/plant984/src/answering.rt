@@ -31,7 +31,7 @@ fn answer_to_run(alloc: Global, scans: u32, input: &[u8]) -> Result<Answer, Allo
     match load(alloc, input) {
         Ok(plant) => {
             let controller = &plant.controllers.as_slice()[0];
-            let text = panel_of(alloc, controller, plant.scan_time, scans)?;
+            let text = panel_of(alloc, controller, plant.scan_time, plant.watchdog, scans)?;
             Ok(Answer {
                 status: Status::Ok,
                 text,

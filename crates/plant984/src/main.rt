@@ -2,6 +2,7 @@
 #![tactic(auto)]
 
 mod answering;
+mod arguments;
 mod panel;
 #[cfg(test)]
 mod rows;
@@ -18,7 +19,7 @@ use status::Status;
 use std::io::ErrorKind;
 use std::process::ExitCode;
 use std::{env, io};
-use top::plant_top;
+use top::exit_of;
 
 /// The words after the program's name.
 fn command_line(rt: &HostRuntime) -> Result<Vec<String>, Status> {
@@ -33,13 +34,12 @@ fn command_line(rt: &HostRuntime) -> Result<Vec<String>, Status> {
 }
 
 fn main(rt: HostRuntime) -> ExitCode {
-    let status = match command_line(&rt) {
+    match command_line(&rt) {
         Ok(words) => {
             let mut source = StdSource::new(rt.reader());
             let mut sink = StdSink::new(io::writer(&rt));
-            plant_top(rt.alloc(), &words, &mut source, &mut sink)
+            exit_of(rt.alloc(), &words, &mut source, &mut sink)
         }
-        Err(status) => status,
-    };
-    ExitCode::from(status)
+        Err(status) => ExitCode::from(status),
+    }
 }

@@ -4,8 +4,11 @@ ghost use Rattle.std.specs.FinMap.{contains_key};
 ghost use Rattle.std.specs.List.{flat_map};
 ghost use Rattle.plant_types.specs.Checks.{HasPanel};
 ghost use Rattle.plant_types.specs.Store.{value_at};
-ghost use Rattle.plant984.specs.Panel.{label_of, line_text, value_text};
+ghost use Rattle.controller_core.specs.Controller.{state_of};
+ghost use Rattle.controller_core.specs.Panel.{label_of, panel_line, scan_over, told_of};
+ghost use Rattle.controller_core.specs.Panel.{value_text};
 
+use controller_core::Controller;
 use itoa::Buffer;
 use plant_types::{Ref, RefKind, RefStore};
 use std::alloc::{AllocError, Global};
@@ -64,19 +67,51 @@ fn push_values<R: RefStore>(
     Ok(())
 }
 
-/// Adds the line of a scan that has just ended.
-pub fn push_line<R: RefStore>(
+/// The number of the scan that is over.
+fn scan_over(controller: &Controller) -> u64
+    ensures { result ≡ scan_over (state_of controller.now) }
+{
+    let ended = u64::from(controller.scans_ended());
+    if controller.stop_code() == 0 {
+        ended
+    } else {
+        ended + 1
+    }
+}
+
+/// Adds the values, or the code with which the controller stopped.
+fn push_told(
     text: &mut String,
-    scan: u32,
+    readings: &[Reading],
+    controller: &Controller,
+) -> Result<(), AllocError>
+    requires { map (λ reading. reading.at) readings.now ≡ controller.now.fixed.plan.panel }
+    ensures { OnOk result (string_bytes text.new ≡ string_bytes text.old
+        ++ told_of controller.now.fixed.plan (state_of controller.now)) }
+{
+    let stop = controller.stop_code();
+    if stop == 0 {
+        push_values(text, readings, controller.ram())
+    } else {
+        write!(text, " STOP {stop}")
+    }
+}
+
+/// Adds the line of a scan that is over.
+pub fn push_line(
+    text: &mut String,
     node: u8,
     readings: &[Reading],
-    ram: &R,
+    controller: &Controller,
 ) -> Result<(), AllocError>
-    requires { HasPanel (R.contents ram.now) (map (λ reading. reading.at) readings.now) }
+    requires node { controller.now.fixed.plan.node ≡ node }
+    requires readings { map (λ reading. reading.at) readings.now
+        ≡ controller.now.fixed.plan.panel }
     ensures { OnOk result (string_bytes text.new ≡ string_bytes text.old
-        ++ line_text scan node (flat_map (value_text (R.contents ram.now)) (map (λ reading. reading.at) readings.now))) }
+        ++ panel_line controller.now.fixed.plan (state_of controller.now)) }
 {
+    let scan = scan_over(controller);
     write!(text, "S {scan} N {node}")?;
-    push_values(text, readings, ram)?;
+    push_told(text, readings, controller)?;
     text.push_str("\n")
 }

@@ -27,7 +27,7 @@ struct Row {
     text: &'static str,
 }
 
-const ROWS: [Row; 11] = [
+const ROWS: [Row; 13] = [
     // The contact of column 2 sees the old state, that of column 4 the new one.
     Row {
         top: "",
@@ -157,6 +157,32 @@ S 3 N 1 40001=2 00001=1 40011=1 00002=1 40030=0 00004=0
         status: Status::Ok,
         text: "S 1 N 1 40100=1 00001=1 00002=0 00003=0 00004=1\n",
     },
+    // A skip ends its network at once; a skip of 1 skips no further one, and a skip of 0 all the
+    // rest.
+    Row {
+        top: "",
+        controller: r#"panel = ["00001", "00002", "00003", "00004"]"#,
+        networks: r#"
+"1,1 SKP 1; 2,1 H; 2,2 CO 00001",
+"1,1 H; 1,2 CO 00002",
+"1,1 SKP 0; 2,1 H; 2,2 CO 00003",
+"1,1 H; 1,2 CO 00004"
+"#,
+        words: "run 1",
+        status: Status::Ok,
+        text: "S 1 N 1 00001=0 00002=1 00003=0 00004=0\n",
+    },
+    // A subroutine that calls itself begins one network after another until the watchdog stops it.
+    Row {
+        top: "watchdog = 50",
+        controller: "",
+        networks: r#""1,1 JSR 1"]
+[[controller.segment]]
+networks = ["1,1 LAB 1; 2,1 H; 2,2 JSR 1""#,
+        words: "run 2",
+        status: Status::Ok,
+        text: "S 1 N 1 STOP 1\n",
+    },
     // Two coils of one reference.
     Row {
         top: "",
@@ -167,6 +193,93 @@ S 3 N 1 40001=2 00001=1 40011=1 00002=1 40030=0 00004=0
         text: "refused 8 CoilTwice controller 1 segment 1 network 1 cell 4\n",
     },
 ];
+
+// A plant whose drops are read and written, by its own order of solve.
+struct DropRow {
+    controller: &'static str,
+    networks: &'static str,
+    words: &'static str,
+    text: &'static str,
+}
+
+const DROP_ROWS: [DropRow; 3] = [
+    // An input that stays on is no transition.
+    DropRow {
+        controller: r#"panel = ["00001"]
+orders = ["1 - 1 -"]
+[[controller.drop]]
+number = 1
+modules = ["in 10001"]
+script = ["8000"]"#,
+        networks: r#""1,1 PT 10001; 1,2 CO 00001""#,
+        words: "run 3",
+        text: "S 1 N 1 00001=1\nS 2 N 1 00001=0\nS 3 N 1 00001=0\n",
+    },
+    // A counter at its preset stays there.
+    DropRow {
+        controller: r#"panel = ["40001", "00001"]
+orders = ["1 - 1 -"]
+[[controller.drop]]
+number = 1
+modules = ["in 10001"]
+script = ["8000", "0000", "8000"]"#,
+        networks: r#""1,1 NO 10001; 2,1 H; 1,2 UCTR 1 40001; 1,3 CO 00001""#,
+        words: "run 3",
+        text: "S 1 N 1 40001=1 00001=1\nS 2 N 1 40001=1 00001=1\nS 3 N 1 40001=1 00001=1\n",
+    },
+    // A silent drop leaves its inputs as they were, and the last row of a script goes on.
+    DropRow {
+        controller: r#"panel = ["00001"]
+orders = ["1 - 1 -"]
+[[controller.drop]]
+number = 1
+modules = ["in 10001"]
+script = ["8000", "X"]"#,
+        networks: r#""1,1 NO 10001; 1,2 CO 00001""#,
+        words: "run 3",
+        text: "S 1 N 1 00001=1\nS 2 N 1 00001=1\nS 3 N 1 00001=1\n",
+    },
+];
+
+const SIZES: &str = r#"version = 1
+[[controller]]
+node = 1
+coils = 16
+inputs = 16
+registers = 100
+"#;
+
+#[test]
+fn plays_each_script(rt: HostRuntime) -> Result<(), Fail> {
+    let alloc = rt.alloc();
+    for row in &DROP_ROWS {
+        let words = words_of(alloc, row.words)?;
+        let mut plant = Vec::new(alloc);
+        for piece in [SIZES, row.controller, "\n", SEGMENT, row.networks, "]\n"] {
+            plant.extend_from_slice(piece.as_bytes())?;
+        }
+        let mut source = MemSource::new(plant, 64, Vec::new(alloc));
+        let mut sink = MemSink::new(alloc, 64, Vec::new(alloc));
+        let status = plant_serial(alloc, &words, &mut source, &mut sink);
+        assert_eq!(rt; status, Status::Ok, "{}", row.networks);
+        assert_eq!(rt; sink.bytes(), row.text.as_bytes(), "{}", row.networks);
+    }
+    Ok(())
+}
+
+// A controller with no order of solve, no segments and no panel.
+#[test]
+fn a_scan_of_nothing_has_its_line(rt: HostRuntime) -> Result<(), Fail> {
+    let alloc = rt.alloc();
+    let words = words_of(alloc, "run 2")?;
+    let plant = Vec::from_slice(alloc, b"version = 1\n[[controller]]\nnode = 1\n".as_slice())?;
+    let mut source = MemSource::new(plant, 64, Vec::new(alloc));
+    let mut sink = MemSink::new(alloc, 64, Vec::new(alloc));
+    let status = plant_serial(alloc, &words, &mut source, &mut sink);
+    assert_eq!(rt; status, Status::Ok);
+    assert_eq!(rt; sink.bytes(), b"S 1 N 1\nS 2 N 1\n".as_slice());
+    Ok(())
+}
 
 fn plant_of(alloc: Global, row: &Row) -> Result<Vec<u8>, AllocError> {
     let mut text = Vec::new(alloc);

@@ -1,5 +1,6 @@
 // The serial top call: the whole input is read, and then the whole text is written.
-ghost use Rattle.std.specs.Prelude.{◌≡◌, ◌≤◌, ◌<◌, ◌+◌, ◌↔◌, ◌⊎◌, ℕ, List, Some, length, map, string_bytes};
+ghost use Rattle.std.specs.Prelude.{◌≡◌, ◌≢◌, ◌≤◌, ◌<◌, ◌+◌, ◌↔◌, ◌⊎◌, ℕ, List, Some, length, map};
+ghost use Rattle.std.specs.Prelude.{string_bytes};
 ghost use Rattle.plant_io.specs.Causes.{Rose};
 ghost use Rattle.plant_io.specs.Streams.{GaveFront, IsTooLong};
 ghost use Rattle.plant984.specs.declared.words.Command.{Command};
@@ -31,8 +32,9 @@ fn serial_call<S: Source, K: Sink>(
         (S.left source.old) (S.left source.new) (K.taken sink.old) (K.taken sink.new) }
 
     // Words that are no command are told before anything is read.
-    ensures usage { (result ≡ Status.Usage) ↔ (¬ IsCommand (map string_bytes words.now)) }
-    ensures usage_reads_nothing { result ≡ Status.Usage → source.new ≡ source.old }
+    ensures usage { result ≢ Status.NoMemory
+        → (result ≡ Status.Usage) ↔ (¬ IsCommand (map string_bytes words.now)) }
+    ensures reads_nothing { ¬ IsCommand (map string_bytes words.now) → source.new ≡ source.old }
 
     // Each fault of the outside has its cause.
     ensures read_fault { result ≡ Status.ReadFault
@@ -65,7 +67,10 @@ fn serial_call<S: Source, K: Sink>(
         → ¬ (Rose (S.faults source.old) (S.faults source.new))
         → (result ≡ Status.TooLong) ⊎ (result ≡ Status.NoMemory) }
 {
-    let Some(command) = command_of(words) else {
+    let Ok(asked) = command_of(alloc, words) else {
+        return Status::NoMemory;
+    };
+    let Some(command) = asked else {
         return Status::Usage;
     };
     match read_all(alloc, source, INPUT_LIMIT) {
@@ -95,7 +100,7 @@ pub fn plant_serial<S: Source, K: Sink>(
         (side (S.left source.new) (S.faults source.new))
         (side (K.taken sink.old) (K.faults sink.old))
         (side (K.taken sink.new) (K.faults sink.new)) }
-    ensures usage_reads_nothing { result ≡ Status.Usage → source.new ≡ source.old }
+    ensures reads_nothing { ¬ IsCommand (map string_bytes words.now) → source.new ≡ source.old }
     ensures nothing_written { WritesNothing result → sink.new ≡ sink.old }
 {
     serial_call(alloc, words, source, sink)

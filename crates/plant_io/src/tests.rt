@@ -2,49 +2,157 @@ use super::*;
 use std::io;
 use std::test::Fail;
 
-// A reading: the input, the most bytes a read, the failing calls and the limit; what comes of it,
-// and of a second reading of the rest.
-type Reading = (
-    &'static str,
-    u8,
-    &'static [u64],
-    usize,
-    Result<&'static str, ReadEnd>,
-    Result<&'static str, ReadEnd>,
-);
+// A reading up to a limit, from a source that gives so many bytes at a time and fails at some
+// calls; what comes of it, and of a second reading of what is left then.
+struct Reading {
+    input: &'static str,
+    piece: u8,
+    failing: &'static [u64],
+    limit: usize,
+    first: Result<&'static str, ReadEnd>,
+    second: Result<&'static str, ReadEnd>,
+}
+
+// A limit that no rest comes to.
+const AMPLE: usize = 100;
 
 const READINGS: [Reading; 17] = [
-    ("", 3, &[], 0, Ok(""), Ok("")),
-    ("", 3, &[], 5, Ok(""), Ok("")),
-    ("", 3, &[1], 5, Err(ReadEnd::Fault), Ok("")),
-    ("abcde", 1, &[], 5, Ok("abcde"), Ok("")),
-    ("abcde", 9, &[], 5, Ok("abcde"), Ok("")),
-    ("abcdef", 1, &[], 5, Err(ReadEnd::TooLong), Ok("")),
-    ("abcdef", 9, &[], 5, Err(ReadEnd::TooLong), Ok("")),
-    ("abcdefgh", 4, &[], 5, Err(ReadEnd::TooLong), Ok("gh")),
-    ("ab", 2, &[], 0, Err(ReadEnd::TooLong), Ok("b")),
-    ("abcde", 2, &[], usize::MAX, Ok("abcde"), Ok("")),
-    ("abcdef", 2, &[1], 9, Err(ReadEnd::Fault), Ok("abcdef")),
-    ("abcdef", 2, &[2], 9, Err(ReadEnd::Fault), Ok("cdef")),
-    ("abcdef", 2, &[3], 9, Err(ReadEnd::Fault), Ok("ef")),
-    ("abcdef", 2, &[4], 9, Err(ReadEnd::Fault), Ok("")),
-    ("abcdef", 2, &[5], 9, Ok("abcdef"), Err(ReadEnd::Fault)),
-    (
-        "abcdef",
-        2,
-        &[2, 3],
-        9,
-        Err(ReadEnd::Fault),
-        Err(ReadEnd::Fault),
-    ),
-    (
-        "abcdef",
-        2,
-        &[3],
-        3,
-        Err(ReadEnd::TooLong),
-        Err(ReadEnd::Fault),
-    ),
+    Reading {
+        input: "",
+        piece: 3,
+        failing: &[],
+        limit: 0,
+        first: Ok(""),
+        second: Ok(""),
+    },
+    Reading {
+        input: "",
+        piece: 3,
+        failing: &[],
+        limit: 5,
+        first: Ok(""),
+        second: Ok(""),
+    },
+    Reading {
+        input: "",
+        piece: 3,
+        failing: &[1],
+        limit: 5,
+        first: Err(ReadEnd::Fault),
+        second: Ok(""),
+    },
+    Reading {
+        input: "abcde",
+        piece: 1,
+        failing: &[],
+        limit: 5,
+        first: Ok("abcde"),
+        second: Ok(""),
+    },
+    Reading {
+        input: "abcde",
+        piece: 9,
+        failing: &[],
+        limit: 5,
+        first: Ok("abcde"),
+        second: Ok(""),
+    },
+    Reading {
+        input: "abcdef",
+        piece: 1,
+        failing: &[],
+        limit: 5,
+        first: Err(ReadEnd::TooLong),
+        second: Ok(""),
+    },
+    Reading {
+        input: "abcdef",
+        piece: 9,
+        failing: &[],
+        limit: 5,
+        first: Err(ReadEnd::TooLong),
+        second: Ok(""),
+    },
+    Reading {
+        input: "abcdefgh",
+        piece: 4,
+        failing: &[],
+        limit: 5,
+        first: Err(ReadEnd::TooLong),
+        second: Ok("gh"),
+    },
+    Reading {
+        input: "ab",
+        piece: 2,
+        failing: &[],
+        limit: 0,
+        first: Err(ReadEnd::TooLong),
+        second: Ok("b"),
+    },
+    Reading {
+        input: "abcde",
+        piece: 2,
+        failing: &[],
+        limit: usize::MAX,
+        first: Ok("abcde"),
+        second: Ok(""),
+    },
+    Reading {
+        input: "abcdef",
+        piece: 2,
+        failing: &[1],
+        limit: 9,
+        first: Err(ReadEnd::Fault),
+        second: Ok("abcdef"),
+    },
+    Reading {
+        input: "abcdef",
+        piece: 2,
+        failing: &[2],
+        limit: 9,
+        first: Err(ReadEnd::Fault),
+        second: Ok("cdef"),
+    },
+    Reading {
+        input: "abcdef",
+        piece: 2,
+        failing: &[3],
+        limit: 9,
+        first: Err(ReadEnd::Fault),
+        second: Ok("ef"),
+    },
+    Reading {
+        input: "abcdef",
+        piece: 2,
+        failing: &[4],
+        limit: 9,
+        first: Err(ReadEnd::Fault),
+        second: Ok(""),
+    },
+    Reading {
+        input: "abcdef",
+        piece: 2,
+        failing: &[5],
+        limit: 9,
+        first: Ok("abcdef"),
+        second: Err(ReadEnd::Fault),
+    },
+    Reading {
+        input: "abcdef",
+        piece: 2,
+        failing: &[2, 3],
+        limit: 9,
+        first: Err(ReadEnd::Fault),
+        second: Err(ReadEnd::Fault),
+    },
+    Reading {
+        input: "abcdef",
+        piece: 2,
+        failing: &[3],
+        limit: 3,
+        first: Err(ReadEnd::TooLong),
+        second: Err(ReadEnd::Fault),
+    },
 ];
 
 // Whether a reading came out as wanted.
@@ -59,17 +167,18 @@ fn came(read: &Result<Vec<u8>, ReadEnd>, want: Result<&str, ReadEnd>) -> bool {
 #[test]
 fn reads_to_the_end_or_the_limit(rt: HostRuntime) -> Result<(), Fail> {
     let alloc = rt.alloc();
-    for (input, piece, fails, limit, want, rest) in READINGS {
-        assert!(rt; piece > 0);
-        let input = Vec::from_slice(alloc, input.as_bytes())?;
-        let fails = Vec::from_slice(alloc, fails)?;
-        let mut source = MemSource::new(input, usize::from(piece), fails);
-        let read = read_all(alloc, &mut source, limit);
-        assert!(rt; came(&read, want), "{read:?} in place of {want:?}");
-        let read = read_all(alloc, &mut source, 100);
+    for reading in &READINGS {
+        assert!(rt; reading.piece > 0);
+        let input = Vec::from_slice(alloc, reading.input.as_bytes())?;
+        let fails = Vec::from_slice(alloc, reading.failing)?;
+        let mut source = MemSource::new(input, usize::from(reading.piece), fails);
+        let first = read_all(alloc, &mut source, reading.limit);
+        assert!(rt; came(&first, reading.first), "{first:?}, {}", reading.input);
+        let second = read_all(alloc, &mut source, AMPLE);
         assert!(rt;
-            came(&read, rest),
-            "{read:?} in place of {rest:?}, after {want:?}"
+            came(&second, reading.second),
+            "{second:?}, {}",
+            reading.input
         );
     }
     Ok(())
@@ -77,28 +186,75 @@ fn reads_to_the_end_or_the_limit(rt: HostRuntime) -> Result<(), Fail> {
 
 const LETTERS: &[u8] = b"abcdefghijklmnopqrstuvwxyz";
 
-// A writing of the letters: the most bytes a write, the failing calls, whether all were written,
-// and how many.
-const WRITINGS: [(u8, &[u64], bool, usize); 8] = [
-    (1, &[], true, 26),
-    (1, &[1], false, 0),
-    (1, &[26], false, 25),
-    (1, &[27], true, 26),
-    (7, &[3], false, 14),
-    (7, &[4], false, 21),
-    (7, &[5], true, 26),
-    (99, &[2, 3], true, 26),
+// A writing of the letters to a sink that takes so many bytes at a time and fails at some calls;
+// whether all were written, and how many.
+struct Writing {
+    piece: u8,
+    failing: &'static [u64],
+    whole: bool,
+    count: usize,
+}
+
+const WRITINGS: [Writing; 8] = [
+    Writing {
+        piece: 1,
+        failing: &[],
+        whole: true,
+        count: 26,
+    },
+    Writing {
+        piece: 1,
+        failing: &[1],
+        whole: false,
+        count: 0,
+    },
+    Writing {
+        piece: 1,
+        failing: &[26],
+        whole: false,
+        count: 25,
+    },
+    Writing {
+        piece: 1,
+        failing: &[27],
+        whole: true,
+        count: 26,
+    },
+    Writing {
+        piece: 7,
+        failing: &[3],
+        whole: false,
+        count: 14,
+    },
+    Writing {
+        piece: 7,
+        failing: &[4],
+        whole: false,
+        count: 21,
+    },
+    Writing {
+        piece: 7,
+        failing: &[5],
+        whole: true,
+        count: 26,
+    },
+    Writing {
+        piece: 99,
+        failing: &[2, 3],
+        whole: true,
+        count: 26,
+    },
 ];
 
 #[test]
 fn writes_all_or_a_front(rt: HostRuntime) -> Result<(), Fail> {
     let alloc = rt.alloc();
-    for (piece, fails, whole, count) in WRITINGS {
-        assert!(rt; piece > 0);
-        let fails = Vec::from_slice(alloc, fails)?;
-        let mut sink = MemSink::new(alloc, usize::from(piece), fails);
-        assert_eq!(rt; write_all(&mut sink, LETTERS).is_ok(), whole);
-        assert_eq!(rt; Some(sink.bytes()), LETTERS.get(..count));
+    for writing in &WRITINGS {
+        assert!(rt; writing.piece > 0);
+        let fails = Vec::from_slice(alloc, writing.failing)?;
+        let mut sink = MemSink::new(alloc, usize::from(writing.piece), fails);
+        assert_eq!(rt; write_all(&mut sink, LETTERS).is_ok(), writing.whole);
+        assert_eq!(rt; Some(sink.bytes()), LETTERS.get(..writing.count));
     }
     Ok(())
 }

@@ -1,6 +1,6 @@
 -- Bytes that are text or not, tables with known keys, and arrays of few items.
-use Rattle.std.proofs.Common.{◌≡◌, ℕ, ◌≢◌, Bool, true, false, List, [], ◌∷◌, length, map, ap, suc, Bor, Option, None, refl, String, Global, string_bytes}
-use Rattle.std.specs.Prelude.{bytes_eq, if◌then◌else◌}
+use Rattle.std.proofs.Common.{◌≡◌, ℕ, ◌≢◌, Bool, true, false, List, [], ◌∷◌, length, map, ap, suc, le-leb, arith, Bor, Option, None, refl, String, Global, string_bytes}
+use Rattle.std.specs.Prelude.{bytes_eq, nat_lt, if◌then◌else◌}
 use Rattle.std.specs.List.{list_any, list_all}
 use Rattle.std.specs.Map.{keys_of}
 use Rattle.std.specs.Str.{is_utf8, IsUtf8}
@@ -9,12 +9,8 @@ use Rattle.toml.specs.Data.{Members}
 use Rattle.toml.specs.Parse.{parse_document}
 use Rattle.toml.specs.View.{members_view, items_view}
 use Rattle.toml.specs.declared.value.Value.{Value}
-use Rattle.toml.specs.Data.{Data, as_array}
-use Rattle.std.specs.Prelude.{nat_le}
-use Rattle.std.proofs.Common.{◌<◌, ◌≤◌, Some, arith, le-leb}
-use Rattle.std.proofs.lemmas.Bool.Decides.{nat_tests}
-use Rattle.plant_loader.specs.Keys.{has_only, only_item, item_count, items_up_to}
-use Rattle.plant_loader.specs.Plant.{document_of}
+use Rattle.plant_loader.specs.Keys.{has_only}
+use Rattle.plant_loader.specs.Plant.{document_of, has_more_items, only_table}
 
 -- a test that fails gives no document
 not_text : (b : Bool) (r : Option Members) → (b ≡ true → ⊥) → (if b then r else None) ≡ None
@@ -35,29 +31,19 @@ any_of_views [] key = refl
 any_of_views (k ∷ ks) key = rw (any_of_views ks key) refl
 
 -- the keys of a table are those of its members
-pub has_only-keys : (known : List (Bor (List ℕ))) (es : List (String Global × Value)) → list_all (λ key. list_any (λ k. bytes_eq k.now (string_bytes key)) known) (keys_of es) ≡ has_only (map (λ k. k.now) known) (members_view es)
+pub has_only-keys : (known : List (Bor (List ℕ))) (es : List (String Global × Value))
+    → list_all (λ key. list_any (λ k. bytes_eq k.now (string_bytes key)) known) (keys_of es) ≡ has_only (map (λ k. k.now) known) (members_view es)
 has_only-keys known [] = refl
 has_only-keys known (e ∷ es) = rw (any_of_views known (string_bytes e.0), has_only-keys known es) refl
 
--- an array of another length has no one item
-pub only_item-other : (vs : List Value) → length vs ≢ 1 → only_item (items_view vs) ≡ None
-only_item-other [] h = refl
-only_item-other (v ∷ []) h = absurd (h refl)
-only_item-other (v ∷ w ∷ vs) h = refl
+-- an array has more than one item where its values are more than one
+pub has_more_items_view : (vs : List Value) → has_more_items (items_view vs) ≡ nat_lt 1 (length vs)
+has_more_items_view [] = refl
+has_more_items_view (v ∷ []) = refl
+has_more_items_view (v ∷ w ∷ vs) = rw (le-leb 2 (suc (suc (length vs))) (omega arith)) refl
 
--- an array has as many items as its values
-pub item_count-view : (vs : List Value) → item_count (items_view vs) ≡ length vs
-item_count-view [] = refl
-item_count-view (v ∷ vs) = ap suc (item_count-view vs)
-
--- a number above another is not at most that
-le_false : (m n : ℕ) → n < m → nat_le m n ≡ false
-le_false m n h = grind (arith, nat_tests)
-
--- an array of few enough items gives them, and one of more gives none
-pub items_up_to-few : (most : ℕ) (d : Data) (vs : List Value) → Some (items_view vs) ≡ as_array d → length vs ≤ most → Some (items_view vs) ≡ items_up_to most d
-items_up_to-few most d vs h few = rw (← h, item_count-view vs, le-leb (length vs) most few) refl
-
--- so an array of too many gives none
-pub items_up_to-many : (most : ℕ) (d : Data) (vs : List Value) → Some (items_view vs) ≡ as_array d → most < length vs → None ≡ items_up_to most d
-items_up_to-many most d vs h many = rw (← h, item_count-view vs, le_false (length vs) most many) refl
+-- an array of another length has no one table
+pub only_table-other : (vs : List Value) → length vs ≢ 1 → only_table (items_view vs) ≡ None
+only_table-other [] h = refl
+only_table-other (v ∷ []) h = absurd (h refl)
+only_table-other (v ∷ w ∷ vs) h = refl

@@ -53,10 +53,12 @@ or_last false false = refl
 
 -- one more key is one more reference
 pub HoldsJust-gain : (old new : List Ref) (drives : Option Ref) (coil : Ref) → Some coil ≡ drives
-    → ((q : Ref) → list_any (is_at (derived.cmp-value.it q)) new ≡ cond (is_at (derived.cmp-value.it coil) q) true (list_any (is_at (derived.cmp-value.it q)) old))
+    → ((q : Ref) → list_any (is_at (derived.cmp-value.it q)) new
+    ≡ cond (is_at (derived.cmp-value.it coil) q) true (list_any (is_at (derived.cmp-value.it q)) old))
     → HoldsJust new (old ++ cons_option drives [])
 HoldsJust-gain old new drives coil e put = λ at.
-    sym (list_any-at at new) ∙ put at ∙ rw (is_at-same coil at, list_any-at at old, is_same-turned coil at) (or_last (is_same at coil) (list_any (is_same at) old))
+    sym (list_any-at at new) ∙ put at ∙ rw (is_at-same coil at, list_any-at at old, is_same-turned coil at)
+    (or_last (is_same at coil) (list_any (is_same at) old))
     ∙ sym (list_any-append (is_same at) old (coil ∷ [])) ∙ ap (λ (o : Option Ref). list_any (is_same at) (old ++ cons_option o [])) e
 
 -- the keys hold the coils of one more cell
@@ -65,8 +67,10 @@ pub HoldsJust-cell : (old new : List Ref) (read : ReadProgram) (cell : Cell) (dr
 HoldsJust-cell old new read cell drives d held gained = λ at.
     let before = flat_map coils_of_network (networks_in read.segments ++ read.networks) in
     let more = cons_option (driven_by cell.element) [] in
-    let same : driven_coils read ++ more ≡ driven_coils (added read (pieces.Cell cell)) = append_assoc before (coils_of_network (open_network read)) more ∙ ap (λ xs. before ++ xs) (sym (coils-push read.cells read.shorts cell)) in
-    gained at ∙ ap (λ (o : Option Ref). list_any (is_same at) (old ++ cons_option o [])) d ∙ list_any-append (is_same at) old more ∙ rw (held at) (sym (list_any-append (is_same at) (driven_coils read) more)) ∙ ap (list_any (is_same at)) same
+    let same : driven_coils read ++ more ≡ driven_coils (added read (pieces.Cell cell)) =
+    append_assoc before (coils_of_network (open_network read)) more ∙ ap (λ xs. before ++ xs) (sym (coils-push read.cells read.shorts cell)) in
+    gained at ∙ ap (λ (o : Option Ref). list_any (is_same at) (old ++ cons_option o [])) d ∙ list_any-append (is_same at) old more
+    ∙ rw (held at) (sym (list_any-append (is_same at) (driven_coils read) more)) ∙ ap (list_any (is_same at)) same
 
 -- the keys hold the coils of a network that is whole
 pub HoldsJust-network : (keys : List Ref) (read : ReadProgram) → HoldsJust keys (driven_coils read) → HoldsJust keys (driven_coils (with_network read))

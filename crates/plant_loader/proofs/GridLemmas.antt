@@ -34,7 +34,8 @@ same_equiv : IsEquivalence same_place
 same_equiv = record { refl = λ x. same_refl x.0 x.1; symm = λ x y. same_symm x.0 y.0 x.1 y.1; congr = same_congr }
 
 -- one more place, which none of them is
-pub AreApart-push : (places : List (ℕ × ℕ)) (place : ℕ × ℕ) → AreApart places → is_place place ≡ true → list_any (same_place place) places ≡ false → AreApart (places ++ place ∷ [])
+pub AreApart-push : (places : List (ℕ × ℕ)) (place : ℕ × ℕ) → AreApart places → is_place place ≡ true
+    → list_any (same_place place) places ≡ false → AreApart (places ++ place ∷ [])
 AreApart-push places place apart here other = record {
   within = list_all-append is_place places (place ∷ []) ∙ and_both _ _ apart.within (and_both _ _ here refl);
   distinct = IsDistinct-push same_equiv places place apart.distinct other;
@@ -65,7 +66,8 @@ number-other one other p q h = ne_eqb (number one) (number other) (λ e.
     true≢false (sym same ∙ h))
 
 -- so a place has another number than each other place
-numbers-other : (place : ℕ × ℕ) (places : List (ℕ × ℕ)) → is_place place ≡ true → list_all is_place places ≡ true → AllByRecursion (λ other. same_place place other ≡ false) places → AllByRecursion (λ n. nat_eq (number place) n ≡ false) (map number places)
+numbers-other : (place : ℕ × ℕ) (places : List (ℕ × ℕ)) → is_place place ≡ true → list_all is_place places ≡ true
+    → AllByRecursion (λ other. same_place place other ≡ false) places → AllByRecursion (λ n. nat_eq (number place) n ≡ false) (map number places)
 numbers-other place [] here all apart = tt
 numbers-other place (other ∷ places) here all apart =
     let parts = and_parts (is_place other) (list_all is_place places) all in
@@ -85,9 +87,15 @@ numbers-below [] all q h = cc
 numbers-below (place ∷ places) all q h =
     let parts = and_parts (is_place place) (list_all is_place places) all in
     let low = number-place place parts.0 in
-    elim (or_cases (nat_eq q (number place)) (list_any (nat_eq q) (map number places)) h) [ inl e ↦ (let same : q ≡ number place = eqb-true q (number place) e in omega arith) | inr e ↦ numbers-below places parts.1 q e ]
+    elim (or_cases (nat_eq q (number place)) (list_any (nat_eq q) (map number places)) h)
+    [ inl e ↦ (let same : q ≡ number place = eqb-true q (number place) e in omega arith) | inr e ↦ numbers-below places parts.1 q e ]
 
 -- places of the grid, no two of them one, are at most as many as the grid has
 pub AreApart-few : (places : List (ℕ × ℕ)) → AreApart places → length places ≤ 96
 AreApart-few places apart =
-    omega (arith, length-map places number, length-le_from_distinct_below (map number places) 96 (numbers-distinct places apart.within apart.distinct) (numbers-below places apart.within))
+    omega (
+      arith,
+      length-map places number,
+      length-le_from_distinct_below (map number places) 96
+          (numbers-distinct places apart.within apart.distinct) (numbers-below places apart.within),
+    )

@@ -3,29 +3,33 @@ use Rattle.std.proofs.Common.{◌≡◌, ℕ, ◌+◌, List, [], ◌∷◌, ◌+
 use Rattle.std.specs.List.{filter_map}
 use Rattle.std.proofs.lemmas.List.{append-nil}
 use Rattle.std.proofs.lemmas.List.Elements.{filter_map-append}
+use Rattle.toml.specs.Data.{Members}
 use Rattle.plant_types.specs.declared.network.Network.{Network}
 use Rattle.plant_types.specs.declared.network.Segment.{Segment}
 use Rattle.plant_types.specs.declared.fault.PlantFault.{PlantFault}
 use Rattle.plant_types.specs.declared.fault.Place.{Place}
-use Rattle.plant_types.specs.Sizes.{Sizes}
+use Rattle.plant_types.specs.declared.sizes.Sizes.{Sizes}
 use Rattle.cell_text.specs.declared.piece.Piece.{Piece}
 use Rattle.cell_text.specs.declared.piece.Piece.TheVariants as pieces
 use Rattle.cell_text.specs.Steps.{◌>>=◌}
 use Rattle.plant_loader.specs.declared.refusal.LoadEnd.{LoadEnd}
 use Rattle.plant_loader.specs.declared.refusal.LoadEnd.TheVariants as ends
 use Rattle.plant_loader.specs.Refusals.{Refusal, Stops, cell_place, at_place}
-use Rattle.plant_loader.specs.InOrder.{numbered_from, each_behind}
-use Rattle.plant_loader.specs.Pieces.{cell_in, short_in, network_of, before_in, piece_behind, placed_behind, pieces_of, network_behind, segment_behind, segments_of}
-use Rattle.plant_loader.specs.Program.{ReadProgram, nothing_read, added, with_tested, next_place, with_piece, with_pieces, with_network, with_text, with_texts, with_segment, with_segment_texts, with_segments}
+use Rattle.plant_loader.specs.InOrder.{numbered_from, numbered, each_behind}
+use Rattle.plant_loader.specs.Texts.{network_texts}
+use Rattle.plant_loader.specs.Pieces.{cell_in, short_in, network_of, before_in, piece_behind, placed_behind, pieces_of, network_behind, next_network, segment_behind, segments_of}
+use Rattle.plant_loader.specs.Program.{ReadProgram, nothing_read, added, with_tested, next_place, with_piece, with_pieces, with_network, with_text, with_texts, with_segment, with_segment_texts, with_table, with_tables}
 
 -- one item more
 length-more : {B : Type 0} (bs : List B) (b : B) → length (bs ++ b ∷ []) + 1 ≡ (length bs + 1) + 1
 length-more bs b = ap (λ n. n + 1) (length-append bs (b ∷ []))
 
 -- a step before others, and what is made of all of them
-step_behind : {A B E St : Type 0} (read : List B → ℕ × A → Result B E) (walk : St → List A → Result St E) (state : List B → St) (bs : List B) (x : A) (xs : List A) (first : Result B E)
+step_behind : {A B E St : Type 0} (read : List B → ℕ × A → Result B E) (walk : St → List A → Result St E) (state : List B → St)
+    (bs : List B) (x : A) (xs : List A) (first : Result B E)
     → ((b : B) → walk (state (bs ++ b ∷ [])) xs ≡ (each_behind read (bs ++ b ∷ []) (numbered_from ((length bs + 1) + 1) xs) >>= λ all. Ok (state all)))
-    → ((first >>= λ b. Ok (state (bs ++ b ∷ []))) >>= λ next. walk next xs) ≡ ((first >>= λ b. each_behind read (bs ++ b ∷ []) (numbered_from ((length bs + 1) + 1) xs)) >>= λ all. Ok (state all))
+    → ((first >>= λ b. Ok (state (bs ++ b ∷ []))) >>= λ next. walk next xs)
+    ≡ ((first >>= λ b. each_behind read (bs ++ b ∷ []) (numbered_from ((length bs + 1) + 1) xs)) >>= λ all. Ok (state all))
 step_behind read walk state bs x xs (Ok b) rest = rest b
 step_behind read walk state bs x xs (Err e) rest = refl
 
@@ -39,21 +43,33 @@ walk_behind read step walk state none more each [] bs = none (state bs)
 walk_behind read step walk state none more each (x ∷ xs) bs =
     more (state bs) x xs ∙ ap (λ r. r >>= λ next. walk next xs) (each bs x)
     ∙ step_behind read walk state bs x xs (read bs (length bs + 1, x)) (λ b.
-    walk_behind read step walk state none more each xs (bs ++ b ∷ []) ∙ ap (λ n. each_behind read (bs ++ b ∷ []) (numbered_from n xs) >>= λ all. Ok (state all)) (length-more bs b))
+    walk_behind read step walk state none more each xs (bs ++ b ∷ [])
+    ∙ ap (λ n. each_behind read (bs ++ b ∷ []) (numbered_from n xs) >>= λ all. Ok (state all)) (length-more bs b))
 
 -- what was read of a network's pieces behind segments and networks
-abbrev state_of : List Segment → List Network → List Piece → ReadProgram
-state_of segments networks ps = record { segments = segments; networks = networks; cells = filter_map cell_in ps; shorts = filter_map short_in ps }
+abbrev state_of : ℕ → List Segment → List Network → List Piece → ReadProgram
+state_of count segments networks ps = record {
+  count = count;
+  segments = segments;
+  networks = networks;
+  cells = filter_map cell_in ps;
+  shorts = filter_map short_in ps;
+}
 
 -- one piece more
-added-state : (segments : List Segment) (networks : List Network) (ps : List Piece) (piece : Piece) → added (state_of segments networks ps) piece ≡ state_of segments networks (ps ++ piece ∷ [])
-added-state segments networks ps (pieces.Cell cell) =
-    let cells : filter_map cell_in ps ++ cell ∷ [] ≡ filter_map cell_in (ps ++ pieces.Cell cell ∷ []) = sym (filter_map-append cell_in ps (pieces.Cell cell ∷ [])) in
-    let shorts : filter_map short_in ps ≡ filter_map short_in (ps ++ pieces.Cell cell ∷ []) = sym (filter_map-append short_in ps (pieces.Cell cell ∷ []) ∙ append-nil (filter_map short_in ps)) in
+added-state : (count : ℕ) (segments : List Segment) (networks : List Network) (ps : List Piece) (piece : Piece)
+    → added (state_of count segments networks ps) piece ≡ state_of count segments networks (ps ++ piece ∷ [])
+added-state count segments networks ps (pieces.Cell cell) =
+    let cells : filter_map cell_in ps ++ cell ∷ [] ≡ filter_map cell_in (ps ++ pieces.Cell cell ∷ []) =
+    sym (filter_map-append cell_in ps (pieces.Cell cell ∷ [])) in
+    let shorts : filter_map short_in ps ≡ filter_map short_in (ps ++ pieces.Cell cell ∷ []) =
+    sym (filter_map-append short_in ps (pieces.Cell cell ∷ []) ∙ append-nil (filter_map short_in ps)) in
     cc
-added-state segments networks ps (pieces.Short short) =
-    let cells : filter_map cell_in ps ≡ filter_map cell_in (ps ++ pieces.Short short ∷ []) = sym (filter_map-append cell_in ps (pieces.Short short ∷ []) ∙ append-nil (filter_map cell_in ps)) in
-    let shorts : filter_map short_in ps ++ short ∷ [] ≡ filter_map short_in (ps ++ pieces.Short short ∷ []) = sym (filter_map-append short_in ps (pieces.Short short ∷ [])) in
+added-state count segments networks ps (pieces.Short short) =
+    let cells : filter_map cell_in ps ≡ filter_map cell_in (ps ++ pieces.Short short ∷ []) =
+    sym (filter_map-append cell_in ps (pieces.Short short ∷ []) ∙ append-nil (filter_map cell_in ps)) in
+    let shorts : filter_map short_in ps ++ short ∷ [] ≡ filter_map short_in (ps ++ pieces.Short short ∷ []) =
+    sym (filter_map-append short_in ps (pieces.Short short ∷ [])) in
     cc
 
 -- each piece is a cell or a short
@@ -63,79 +79,131 @@ pieces_counted (pieces.Cell cell ∷ ps) = omega (arith, pieces_counted ps)
 pieces_counted (pieces.Short short ∷ ps) = omega (arith, pieces_counted ps)
 
 -- a piece at its place
-placed-each : (segments : List Segment) (networks : List Network) (ps : List Piece) (place other : Place) (r : Result Piece PlantFault) → place ≡ other
-    → at_place place (with_tested (state_of segments networks ps) r) ≡ (at_place other r >>= λ piece. Ok (state_of segments networks (ps ++ piece ∷ [])))
-placed-each segments networks ps place other (Ok piece) e = ap Ok (added-state segments networks ps piece)
-placed-each segments networks ps place other (Err fault) e = ap (λ p. Err (fault, p)) e
+placed-each : (count : ℕ) (segments : List Segment) (networks : List Network) (ps : List Piece) (place other : Place)
+    (r : Result Piece PlantFault) → place ≡ other
+    → at_place place (with_tested (state_of count segments networks ps) r)
+    ≡ (at_place other r >>= λ piece. Ok (state_of count segments networks (ps ++ piece ∷ [])))
+placed-each count segments networks ps place other (Ok piece) e = ap Ok (added-state count segments networks ps piece)
+placed-each count segments networks ps place other (Err fault) e = ap (λ p. Err (fault, p)) e
 
 -- pieces one after another
-pieces_in_order : (sizes : Sizes) (segments : List Segment) (networks : List Network) (texts : List (List ℕ)) (ps : List Piece)
-    → with_pieces sizes (state_of segments networks ps) texts
-    ≡ (each_behind (placed_behind (length segments + 1) (length networks + 1) (before_in sizes segments networks)) ps (numbered_from (length ps + 1) texts) >>= λ all. Ok (state_of segments networks all))
+pieces_in_order : (sizes : Sizes) (count : ℕ) (segments : List Segment) (networks : List Network) (texts : List (List ℕ)) (ps : List Piece)
+    → with_pieces sizes (state_of count segments networks ps) texts
+    ≡ (each_behind (placed_behind (length segments + 1) (length networks + 1) (before_in sizes count segments networks)) ps
+    (numbered_from (length ps + 1) texts) >>= λ all. Ok (state_of count segments networks all))
 unfolding with_pieces
-pieces_in_order sizes segments networks = walk_behind
-    (placed_behind (length segments + 1) (length networks + 1) (before_in sizes segments networks))
-    (λ read text. at_place (next_place read) (with_piece sizes read text)) (with_pieces sizes) (state_of segments networks) (λ read. refl) (λ read text texts. refl)
-    (λ ps text. placed-each segments networks ps (next_place (state_of segments networks ps)) (cell_place (length segments + 1) (length networks + 1) (length ps + 1)) (piece_behind (before_in sizes segments networks) (network_of ps) text)
+pieces_in_order sizes count segments networks = walk_behind
+    (placed_behind (length segments + 1) (length networks + 1) (before_in sizes count segments networks))
+    (λ read text. at_place (next_place read) (with_piece sizes read text)) (with_pieces sizes) (state_of count segments networks)
+    (λ read. refl) (λ read text texts. refl)
+    (λ ps text. placed-each count segments networks ps (next_place (state_of count segments networks ps))
+    (cell_place (length segments + 1) (length networks + 1) (length ps + 1)) (piece_behind (before_in sizes count segments networks) (network_of ps) text)
     (ap (λ n. cell_place (length segments + 1) (length networks + 1) (n + 1)) (pieces_counted ps)))
 
 -- two steps and two others that make the same
-two_steps : {A B C D E : Type 0} (r : Result A E) (f : A → B) (g : B → D) (h : A → C) (k : C → D) → ((a : A) → g (f a) ≡ k (h a)) → ((r >>= λ a. Ok (f a)) >>= λ b. Ok (g b)) ≡ ((r >>= λ a. Ok (h a)) >>= λ c. Ok (k c))
+two_steps : {A B C D E : Type 0} (r : Result A E) (f : A → B) (g : B → D) (h : A → C) (k : C → D) → ((a : A) → g (f a) ≡ k (h a))
+    → ((r >>= λ a. Ok (f a)) >>= λ b. Ok (g b)) ≡ ((r >>= λ a. Ok (h a)) >>= λ c. Ok (k c))
 two_steps (Ok a) f g h k same = ap Ok (same a)
 two_steps (Err e) f g h k same = refl
 
 -- one network more
-network_in_order : (sizes : Sizes) (segments : List Segment) (networks : List Network) (text : List ℕ)
-    → with_text sizes (state_of segments networks []) text ≡ (network_behind (length segments + 1) (before_in sizes segments networks) (length networks + 1, text) >>= λ network. Ok (state_of segments (networks ++ network ∷ []) []))
+network_in_order : (sizes : Sizes) (count : ℕ) (segments : List Segment) (networks : List Network) (text : List ℕ)
+    → with_text sizes (state_of count segments networks []) text
+    ≡ (network_behind (length segments + 1) (before_in sizes count segments networks) (length networks + 1, text) >>= λ network. Ok
+    (state_of count segments (networks ++ network ∷ []) []))
 unfolding with_text network_behind
-network_in_order sizes segments networks text =
-    ap (λ r. r >>= λ next. Ok (with_network next)) (pieces_in_order sizes segments networks (pieces_of text) [])
-    ∙ two_steps (each_behind (placed_behind (length segments + 1) (length networks + 1) (before_in sizes segments networks)) [] (numbered_from 1 (pieces_of text)))
-    (state_of segments networks) with_network network_of (λ network. state_of segments (networks ++ network ∷ []) []) (λ ps. refl)
+network_in_order sizes count segments networks text =
+    ap (λ r. r >>= λ next. Ok (with_network next)) (pieces_in_order sizes count segments networks (pieces_of text) [])
+    ∙ two_steps (each_behind (placed_behind (length segments + 1) (length networks + 1) (before_in sizes count segments networks)) []
+    (numbered_from 1 (pieces_of text)))
+    (state_of count segments networks) with_network network_of (λ network. state_of count segments (networks ++ network ∷ []) []) (λ ps. refl)
 
 -- networks one after another
-networks_in_order : (sizes : Sizes) (segments : List Segment) (texts : List (List ℕ)) (networks : List Network)
-    → with_texts sizes (state_of segments networks []) texts
-    ≡ (each_behind (λ earlier. network_behind (length segments + 1) (before_in sizes segments earlier)) networks (numbered_from (length networks + 1) texts) >>= λ all. Ok (state_of segments all []))
+networks_in_order : (sizes : Sizes) (count : ℕ) (segments : List Segment) (texts : List (List ℕ)) (networks : List Network)
+    → with_texts sizes (state_of count segments networks []) texts
+    ≡ (each_behind (λ earlier. network_behind (length segments + 1) (before_in sizes count segments earlier)) networks
+    (numbered_from (length networks + 1) texts) >>= λ all. Ok (state_of count segments all []))
 unfolding with_texts
-networks_in_order sizes segments = walk_behind (λ earlier. network_behind (length segments + 1) (before_in sizes segments earlier)) (with_text sizes) (with_texts sizes) (λ networks. state_of segments networks []) (λ read. refl) (λ read text texts. refl)
-    (λ networks text. network_in_order sizes segments networks text)
+networks_in_order sizes count segments =
+    walk_behind (λ earlier. network_behind (length segments + 1) (before_in sizes count segments earlier)) (with_text sizes)
+    (with_texts sizes) (λ networks. state_of count segments networks []) (λ read. refl) (λ read text texts. refl)
+    (λ networks text. network_in_order sizes count segments networks text)
 
--- one segment more
-segment_in_order : (sizes : Sizes) (segments : List Segment) (texts : List (List ℕ))
-    → with_segment_texts sizes (state_of segments [] []) texts ≡ (segment_behind sizes segments (length segments + 1, texts) >>= λ segment. Ok (state_of (segments ++ segment ∷ []) [] []))
-unfolding with_segment_texts segment_behind
-segment_in_order sizes segments texts =
-    let make = λ (networks : List Network). let segment : Segment = record { networks = networks } in segment in
-    ap (λ r. r >>= λ next. Ok (with_segment next)) (networks_in_order sizes segments texts [])
-    ∙ two_steps (each_behind (λ earlier. network_behind (length segments + 1) (before_in sizes segments earlier)) [] (numbered_from 1 texts))
-    (λ networks. state_of segments networks []) with_segment make (λ segment. state_of (segments ++ segment ∷ []) [] []) (λ networks. refl)
+-- a step that only hands on its value
+ok_again : {A B E : Type 0} (r : Result A E) (make : A → B) → ((r >>= λ a. Ok a) >>= λ a. Ok (make a)) ≡ (r >>= λ a. Ok (make a))
+ok_again (Ok a) make = refl
+ok_again (Err e) make = refl
+
+-- the segment of networks that are read
+segment_again : {S E : Type 0} (r : Result (List Network) E) (make : Segment → S)
+    → (r >>= λ all. Ok (make (record { networks = all }))) ≡ ((r >>= λ all. Ok (record { networks = all })) >>= λ segment. Ok (make segment))
+segment_again (Ok all) make = refl
+segment_again (Err e) make = refl
+
+-- the segment of networks, behind a step that gives their texts
+table_behind : {T S E : Type 0} (first : Result T E) (walk : T → Result S E) (networks : T → Result (List Network) E) (make : Segment → S)
+    → ((t : T) → walk t ≡ (networks t >>= λ all. Ok (make (record { networks = all }))))
+    → (first >>= walk) ≡ ((first >>= λ t. networks t >>= λ all. Ok (record { networks = all })) >>= λ segment. Ok (make segment))
+table_behind (Ok t) walk networks make same = same t ∙ segment_again (networks t) make
+table_behind (Err e) walk networks make same = refl
+
+-- one segment more, of these texts
+texts_in_order : (sizes : Sizes) (count : ℕ) (segments : List Segment) (texts : List (List ℕ))
+    → with_segment_texts sizes (state_of count segments [] []) texts
+    ≡ (each_behind (λ earlier. network_behind (length segments + 1) (before_in sizes count segments earlier)) []
+    (numbered_from 1 texts) >>= λ networks. Ok (state_of count (segments ++ record { networks = networks } ∷ []) [] []))
+unfolding with_segment_texts
+texts_in_order sizes count segments texts =
+    ap (λ r. r >>= λ next. Ok (with_segment next)) (networks_in_order sizes count segments texts [])
+    ∙ two_steps (each_behind (λ earlier. network_behind (length segments + 1) (before_in sizes count segments earlier)) [] (numbered_from 1 texts))
+    (λ networks. state_of count segments networks []) with_segment (λ networks. networks)
+    (λ networks. state_of count (segments ++ record { networks = networks } ∷ []) [] []) (λ networks. refl)
+    ∙ ok_again (each_behind (λ earlier. network_behind (length segments + 1) (before_in sizes count segments earlier)) []
+    (numbered_from 1 texts)) (λ networks. state_of count (segments ++ record { networks = networks } ∷ []) [] [])
+
+-- one segment more, by its table
+segment_in_order : (sizes : Sizes) (count : ℕ) (segments : List Segment) (table : Members)
+    → with_table sizes (state_of count segments [] []) table
+    ≡ (segment_behind sizes count segments (length segments + 1, table) >>= λ segment. Ok (state_of count (segments ++ segment ∷ []) [] []))
+unfolding with_table segment_behind
+segment_in_order sizes count segments table =
+    table_behind (network_texts (length segments + 1) table) (with_segment_texts sizes (state_of count segments [] []))
+    (λ texts. each_behind (next_network sizes count segments (length segments + 1)) [] (numbered texts))
+    (λ segment. state_of count (segments ++ segment ∷ []) [] []) (texts_in_order sizes count segments)
 
 -- segments one after another
-segments_in_order : (sizes : Sizes) (texts : List (List (List ℕ))) (segments : List Segment)
-    → with_segments sizes (state_of segments [] []) texts ≡ (each_behind (segment_behind sizes) segments (numbered_from (length segments + 1) texts) >>= λ all. Ok (state_of all [] []))
-unfolding with_segments
-segments_in_order sizes = walk_behind (segment_behind sizes) (with_segment_texts sizes) (with_segments sizes) (λ segments. state_of segments [] []) (λ read. refl) (λ read texts more. refl)
-    (λ segments texts. segment_in_order sizes segments texts)
+segments_in_order : (sizes : Sizes) (count : ℕ) (tables : List Members) (segments : List Segment)
+    → with_tables sizes (state_of count segments [] []) tables ≡
+    (each_behind (segment_behind sizes count) segments (numbered_from (length segments + 1) tables) >>= λ all. Ok (state_of count all [] []))
+unfolding with_tables
+segments_in_order sizes count = walk_behind (segment_behind sizes count) (with_table sizes) (with_tables sizes)
+    (λ segments. state_of count segments [] []) (λ read. refl) (λ read table more. refl)
+    (λ segments table. segment_in_order sizes count segments table)
 
 -- what is made of a value and taken out of it again
-taken_out : {A S E : Type 0} (r : Result A E) (make : A → S) (take : S → A) → ((a : A) → take (make a) ≡ a) → ((r >>= λ a. Ok (make a)) >>= λ s. Ok (take s)) ≡ r
+taken_out : {A S E : Type 0} (r : Result A E) (make : A → S) (take : S → A) → ((a : A) → take (make a) ≡ a)
+    → ((r >>= λ a. Ok (make a)) >>= λ s. Ok (take s)) ≡ r
 taken_out (Ok a) make take back = ap Ok (back a)
 taken_out (Err e) make take back = refl
 
--- the segments that are read one after another are those of the texts
-pub segments_of-read : (sizes : Sizes) (texts : List (List (List ℕ))) → (with_segments sizes nothing_read texts >>= λ read. Ok read.segments) ≡ segments_of sizes texts
-segments_of-read sizes texts =
-    ap (λ (r : Result ReadProgram Refusal). r >>= λ read. Ok read.segments) (segments_in_order sizes texts [])
-    ∙ taken_out (segments_of sizes texts) (λ segments. state_of segments [] []) (λ (read : ReadProgram). read.segments) (λ segments. refl)
+-- the segments that are read one after another are those of the tables
+pub segments_of-read : (sizes : Sizes) (tables : List Members) →
+    (with_tables sizes (nothing_read (length tables)) tables >>= λ read. Ok read.segments) ≡ segments_of sizes tables
+segments_of-read sizes tables =
+    ap (λ (r : Result ReadProgram Refusal). r >>= λ read. Ok read.segments) (segments_in_order sizes (length tables) tables [])
+    ∙ taken_out (segments_of sizes tables) (λ segments. state_of (length tables) segments [] []) (λ (read : ReadProgram). read.segments) (λ segments. refl)
 
 -- what was read from nothing gives the segments
-pub segments-given : (sizes : Sizes) (texts : List (List (List ℕ))) (start next : ReadProgram) (segments : List Segment) → start ≡ nothing_read → with_segments sizes start texts ≡ Ok next → segments ≡ next.segments → segments_of sizes texts ≡ Ok segments
-segments-given sizes texts start next segments none read out =
-    sym (segments_of-read sizes texts) ∙ ap (λ (s : ReadProgram). with_segments sizes s texts >>= λ read. Ok read.segments) (sym none) ∙ ap (λ (r : Result ReadProgram Refusal). r >>= λ read. Ok read.segments) read ∙ ap Ok (sym out)
+pub segments-given : (sizes : Sizes) (tables : List Members) (start next : ReadProgram) (segments : List Segment)
+    → start ≡ nothing_read (length tables) → with_tables sizes start tables ≡ Ok next → segments ≡ next.segments → segments_of sizes tables ≡ Ok segments
+segments-given sizes tables start next segments none read out =
+    sym (segments_of-read sizes tables) ∙ ap (λ (s : ReadProgram). with_tables sizes s tables >>= λ read. Ok read.segments) (sym none)
+    ∙ ap (λ (r : Result ReadProgram Refusal). r >>= λ read. Ok read.segments) read ∙ ap Ok (sym out)
 
 -- what stops the reading from nothing stops the segments
-pub segments-stop : (sizes : Sizes) (texts : List (List (List ℕ))) (start : ReadProgram) (end : LoadEnd) → start ≡ nothing_read → Stops end (with_segments sizes start texts) → Stops end (segments_of sizes texts)
-segments-stop sizes texts start ends.NoMemory none read = tt
-segments-stop sizes texts start (ends.Refused fault place) none read =
-    sym (segments_of-read sizes texts) ∙ ap (λ (s : ReadProgram). with_segments sizes s texts >>= λ read. Ok read.segments) (sym none) ∙ ap (λ (r : Result ReadProgram Refusal). r >>= λ read. Ok read.segments) read
+pub segments-stop : (sizes : Sizes) (tables : List Members) (start : ReadProgram) (end : LoadEnd) → start ≡ nothing_read (length tables)
+    → Stops end (with_tables sizes start tables) → Stops end (segments_of sizes tables)
+segments-stop sizes tables start ends.NoMemory none read = tt
+segments-stop sizes tables start (ends.Refused fault place) none read =
+    sym (segments_of-read sizes tables) ∙ ap (λ (s : ReadProgram). with_tables sizes s tables >>= λ read. Ok read.segments) (sym none)
+    ∙ ap (λ (r : Result ReadProgram Refusal). r >>= λ read. Ok read.segments) read

@@ -34,20 +34,24 @@ node_count-some _ = omega arith
 
 -- cells whose nodes share no place stand at two places
 apart_places : (row column other_row other_column count other_count : ℕ) → 1 ≤ count → 1 ≤ other_count
-    → (column == other_column) && (nat_lt row (other_row + other_count) && nat_lt other_row (row + count)) ≡ false → (row == other_row) && (column == other_column) ≡ false
+    → (column == other_column) && (nat_lt row (other_row + other_count) && nat_lt other_row (row + count)) ≡ false
+    → (row == other_row) && (column == other_column) ≡ false
 apart_places row column other_row other_column count other_count some more h = grind (arith, nat_tests)
 
 -- a cell that clashes with none stands at another place than each
-free_place : (cells : List Cell) (cell : Cell) → list_any (clashes cell) cells ≡ false → list_any (same_place (cell.row, cell.column)) (cell_places cells) ≡ false
+free_place : (cells : List Cell) (cell : Cell) → list_any (clashes cell) cells ≡ false
+    → list_any (same_place (cell.row, cell.column)) (cell_places cells) ≡ false
 free_place [] cell h = refl
 free_place (other ∷ cells) cell h =
     let parts = or_parts (clashes cell other) (list_any (clashes cell) cells) h in
     let apart = or_parts (overlaps cell other) (is_right_of_coil cell other || is_right_of_coil other cell) parts.0 in
-    let here = apart_places cell.row cell.column other.row other.column (node_count cell.element) (node_count other.element) (node_count-some cell.element) (node_count-some other.element) apart.0 in
+    let here = apart_places cell.row cell.column other.row other.column (node_count cell.element) (node_count other.element)
+    (node_count-some cell.element) (node_count-some other.element) apart.0 in
     rw (here, free_place cells cell parts.1) refl
 
 -- a short that is none of these stands at another place than each
-free_short : (shorts : List Short) (short : Short) → list_any (same_short short) shorts ≡ false → list_any (same_place (short.row, short.column)) (short_places shorts) ≡ false
+free_short : (shorts : List Short) (short : Short) → list_any (same_short short) shorts ≡ false
+    → list_any (same_place (short.row, short.column)) (short_places shorts) ≡ false
 free_short [] short h = refl
 free_short (other ∷ shorts) short h =
     let parts = or_parts (same_short short other) (list_any (same_short short) shorts) h in
@@ -62,7 +66,8 @@ short_is_place short h =
     and_both _ _ (and_both _ _ rows.0 low) parts.1
 
 -- one more cell that fits
-pub IsKept-cell : (old new : List Ref) (read : ReadProgram) (cell : Cell) (drives : Option Ref) → has_cell_place cell ≡ true → has_shape read.cells cell ≡ true → drives ≡ driven_by cell.element
+pub IsKept-cell : (old new : List Ref) (read : ReadProgram) (cell : Cell) (drives : Option Ref) → has_cell_place cell ≡ true
+    → has_shape read.cells cell ≡ true → drives ≡ driven_by cell.element
     → IsKept old read → HoldsJust new (old ++ cons_option drives []) → IsKept new (added read (pieces.Cell cell))
 IsKept-cell old new read cell drives place shape d kept gained =
     let clear = and_parts (is_within cell) (not (list_any (clashes cell) read.cells)) shape in
@@ -80,7 +85,8 @@ pub IsKept-short : (keys : List Ref) (read : ReadProgram) (short : Short) → ha
 IsKept-short keys read short place free kept = record {
   driven = kept.driven;
   cells = kept.cells;
-  shorts = rw map-append (AreApart-push (short_places read.shorts) (short.row, short.column) kept.shorts (short_is_place short place) (free_short read.shorts short free));
+  shorts = rw map-append (AreApart-push (short_places read.shorts) (short.row, short.column) kept.shorts (short_is_place short place)
+      (free_short read.shorts short free));
   segments = kept.segments;
   networks = kept.networks;
 }
@@ -107,9 +113,9 @@ IsKept-segment keys read few kept = record {
 }
 
 -- nothing yet
-pub IsKept-none : (keys : List Ref) → keys ≡ [] → IsKept keys nothing_read
+pub IsKept-none : (count : ℕ) (keys : List Ref) → keys ≡ [] → IsKept keys (nothing_read count)
 unfolding IsDistinct
-IsKept-none keys e = record {
+IsKept-none count keys e = record {
   driven = λ at. rw e refl;
   cells = record { within = refl; distinct = tt };
   shorts = record { within = refl; distinct = tt };
@@ -120,6 +126,11 @@ IsKept-none keys e = record {
 -- how many cells and shorts there are at most
 pub IsKept-few : (keys : List Ref) (read : ReadProgram) → IsKept keys read → (length read.cells ≤ 96) × (length read.shorts ≤ 96)
 IsKept-few keys read kept =
-    let cell_count : length read.cells ≤ 96 = omega (arith, length-map {B = ℕ × ℕ} read.cells (λ (cell : Cell). (cell.row, cell.column)), AreApart-few (cell_places read.cells) kept.cells) in
-    let short_count : length read.shorts ≤ 96 = omega (arith, length-map {B = ℕ × ℕ} read.shorts (λ (short : Short). (short.row, short.column)), AreApart-few (short_places read.shorts) kept.shorts) in
+    let cell_count : length read.cells ≤ 96 = omega (
+      arith,
+      length-map {B = ℕ × ℕ} read.cells (λ (cell : Cell). (cell.row, cell.column)),
+      AreApart-few (cell_places read.cells) kept.cells,
+    ) in
+    let short_count : length read.shorts ≤ 96 =
+    omega (arith, length-map {B = ℕ × ℕ} read.shorts (λ (short : Short). (short.row, short.column)), AreApart-few (short_places read.shorts) kept.shorts) in
     (cell_count, short_count)

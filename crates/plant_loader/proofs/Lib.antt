@@ -1,9 +1,14 @@
 pub mod Documents
 pub mod Checked
 pub mod DrivenLemmas
-pub mod PlantLemmas
 pub mod PieceSteps
 pub mod GridLemmas
 pub mod KeptLemmas
 pub mod InOrderLemmas
 pub mod RoomLemmas
+pub mod KeyLemmas
+pub mod ScriptLemmas
+pub mod DropLemmas
+pub mod OrderLemmas
+pub mod PlantLemmas
+pub mod LabelLemmas

@@ -12,4 +12,5 @@ pub named_by-each : (holds : Named → Bool) (length : ℕ) (slots : List Slot) 
 named_by-each holds length [] operands = refl
 named_by-each holds length (slot ∷ slots) [] = refl
 named_by-each holds length (slot ∷ slots) (operand ∷ operands) =
-    ap (λ b. list_all holds (named_at length slot operand) && b) (named_by-each holds length slots operands) ∙ sym (list_all-append holds (named_at length slot operand) (named_by length slots operands))
+    ap (λ b. list_all holds (named_at length slot operand) && b) (named_by-each holds length slots operands)
+    ∙ sym (list_all-append holds (named_at length slot operand) (named_by length slots operands))

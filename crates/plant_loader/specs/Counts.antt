@@ -1,7 +1,8 @@
 -- How many references of each kind a controller has.
 use Rattle.std.specs.Prelude.{ℕ, Bool, List}
 use Rattle.std.specs.List.{list_all}
-use Rattle.plant_types.specs.Sizes.{Sizes, has_run}
+use Rattle.plant_types.specs.declared.sizes.Sizes.{Sizes}
+use Rattle.plant_types.specs.Sizes.{has_run}
 use Rattle.plant_types.specs.declared.element.Operand.{Operand}
 use Rattle.plant_types.specs.declared.slot.Slot.{Slot}
 use Rattle.plant_types.specs.Operands.{Named, named_at}

@@ -5,10 +5,11 @@ pub mod Counts
 pub mod Keys
 pub mod Controller
 pub mod Texts
-pub mod Orders
+pub mod Drops
 pub mod Driven
 pub mod Grid
 pub mod Pieces
+pub mod Orders
 pub mod Program
 pub mod Kept
 pub mod Plant

@@ -14,3 +14,13 @@ order_limit = 32
 
 abbrev pub panel_limit : ℕ
 panel_limit = 64
+
+-- Drops, and modules and script rows of each.
+abbrev pub drop_limit : ℕ
+drop_limit = 32
+
+abbrev pub module_limit : ℕ
+module_limit = 16
+
+abbrev pub script_limit : ℕ
+script_limit = 10000

@@ -1,18 +1,21 @@
 -- The pieces of the texts of networks, and the segments that they make.
-use Rattle.std.specs.Prelude.{ℕ, Bool, true, false, not, ◌==◌, if◌then◌else◌, List, [], ◌++◌, filter, length, Option, Some, None, Result, Ok, Err}
+use Rattle.std.specs.Prelude.{ℕ, ◌+◌, ◌-◌, ◌&&◌, slice_get, Bool, true, false, not, ◌==◌, if◌then◌else◌, List, [], ◌++◌, filter, length, Option, Some, None, Result, Ok, Err}
 use Rattle.std.specs.List.{slice_split, flat_map, filter_map, list_any}
 use Rattle.std.specs.Str.Lines.{lines}
+use Rattle.toml.specs.Data.{Members}
 use Rattle.plant_types.specs.declared.reference.Ref.{Ref}
 use Rattle.plant_types.specs.declared.network.Network.{Network}
 use Rattle.plant_types.specs.declared.network.Segment.{Segment}
 use Rattle.plant_types.specs.declared.network.Cell as plain_cells
 use Rattle.plant_types.specs.declared.network.Short as plain_shorts
 use Rattle.plant_types.specs.declared.name.ElementName.{ElementName}
-use Rattle.plant_types.specs.declared.name.ElementName.TheVariants.{Skip, Label, Call, Return, Mstr}
+use Rattle.plant_types.specs.declared.name.ElementName.TheVariants.{Mstr}
 use Rattle.plant_types.specs.declared.fault.PlantFault.{PlantFault}
 use Rattle.plant_types.specs.declared.fault.PlantFault.TheVariants as faults
-use Rattle.plant_types.specs.Sizes.{Sizes}
+use Rattle.plant_types.specs.declared.sizes.Sizes.{Sizes}
 use Rattle.plant_types.specs.Network.{driven_by, same_short}
+use Rattle.plant_types.specs.FirstFault.{is_label, has_label_place}
+use Rattle.plant_types.specs.Standing.{cells_of_networks, repeats_label}
 use Rattle.plant_types.specs.Checks.{has_room, has_shape, coils_of_network, is_same}
 use Rattle.cell_text.specs.declared.piece.Piece.{Piece}
 use Rattle.cell_text.specs.declared.piece.Piece.TheVariants.{Cell, Short}
@@ -25,6 +28,7 @@ use Rattle.cell_text.specs.declared.names.PieceName.TheVariants as names
 use Rattle.cell_text.specs.Pieces.{piece_of, named_by}
 use Rattle.plant_loader.specs.Refusals.{Refusal, cell_place, at_place}
 use Rattle.plant_loader.specs.InOrder.{numbered, each_behind}
+use Rattle.plant_loader.specs.Texts.{network_texts}
 
 -- A piece that has no words is dropped. This project's own.
 abbrev pub has_word : List ℕ → Bool
@@ -52,10 +56,11 @@ abbrev pub network_of : List Piece → Network
 network_of pieces =
     record { cells = filter_map cell_in pieces; shorts = filter_map short_in pieces }
 
--- What stands before the pieces of a network: the map of their controller, and its networks
--- before theirs. This project's own.
+-- What stands before the pieces of a network: the map of their controller, whether their segment
+-- is its last one, and its networks before theirs. This project's own.
 pub record Before : Type 0 where
   pub sizes : Sizes
+  pub is_last : Bool
   pub networks : List Network
 
 -- The coils that the cells before a piece drive, in all networks of the controller. Modicon
@@ -74,12 +79,26 @@ abbrev pub drives_again : Before → Network → plain_cells.Cell → Bool
 drives_again before network cell =
     is_driven (coils_before before.networks network) (driven_by cell.element)
 
--- A cell is tested behind the pieces of its network so far: its references, its shape, its coil.
--- This project's own.
+-- A cell is no LAB, or stands at the first place of a network of the last segment and has a number
+-- that no LAB before it has. Modicon Ladder Logic Block Library User Guide; the place is this
+-- project's own.
+abbrev pub label_stands : Bool → List plain_cells.Cell → plain_cells.Cell → Bool
+label_stands is_last earlier cell =
+    has_label_place cell
+    && (not (is_label cell.element && not is_last) && not (repeats_label earlier cell.element))
+
+-- The cells before a piece, in all networks of the controller. This project's own.
+abbrev pub cells_behind : List Network → List plain_cells.Cell → List plain_cells.Cell
+cells_behind networks cells = cells_of_networks networks ++ cells
+
+-- A cell is tested behind the pieces of its network so far: its references, its shape, its label,
+-- its coil. This project's own.
 unfoldable pub cell_behind : Before → Network → plain_cells.Cell → Result Piece PlantFault
 cell_behind before network cell = do
   room ← unless (has_room before.sizes cell.element) faults.BadRef
   shape ← unless (has_shape network.cells cell) faults.BadShape
+  label ← unless (label_stands before.is_last
+      (cells_behind before.networks network.cells) cell) faults.BadShape
   coil ← unless (not (drives_again before network cell)) faults.CoilTwice
   Ok (Cell cell)
 
@@ -104,10 +123,6 @@ tested_behind before network (Err fault) = Err (plant_fault fault)
 
 -- The names of the elements that a later version of the program solves. This project's own.
 abbrev pub is_later : ElementName → Bool
-is_later Skip = true
-is_later Label = true
-is_later Call = true
-is_later Return = true
 is_later Mstr = true
 is_later _ = false
 
@@ -140,25 +155,44 @@ network_behind segment before text = do
 abbrev pub networks_in : List Segment → List Network
 networks_in segments = flat_map (λ segment. segment.networks) segments
 
--- What stands before the next network, behind segments and the earlier networks of its own. This
--- project's own.
-abbrev pub before_in : Sizes → List Segment → List Network → Before
-before_in sizes segments networks =
-    record { sizes = sizes; networks = networks_in segments ++ networks }
+-- What stands before the next network, behind segments of so many and the earlier networks of its
+-- own. This project's own.
+abbrev pub before_in : Sizes → ℕ → List Segment → List Network → Before
+before_in sizes count segments networks = record {
+  sizes = sizes;
+  is_last = length segments + 1 == count;
+  networks = networks_in segments ++ networks;
+}
 
 -- The network of a text in the segment of a number, behind segments and the earlier networks of
 -- its own. This project's own.
-abbrev pub next_network : Sizes → List Segment → ℕ → List Network → ℕ × List ℕ
+abbrev pub next_network : Sizes → ℕ → List Segment → ℕ → List Network → ℕ × List ℕ
     → Result Network Refusal
-next_network sizes segments number earlier text =
-    network_behind number (before_in sizes segments earlier) text
+next_network sizes count segments number earlier text =
+    network_behind number (before_in sizes count segments earlier) text
 
--- The segment of texts, or its first piece that fails. This project's own.
-unfoldable pub segment_behind : Sizes → List Segment → ℕ × List (List ℕ) → Result Segment Refusal
-segment_behind sizes segments texts = do
-  networks ← each_behind (next_network sizes segments texts.0) [] (numbered texts.1)
+-- The segment of a table behind those before it, of so many, or its first fault. This project's
+-- own.
+unfoldable pub segment_behind : Sizes → ℕ → List Segment → ℕ × Members → Result Segment Refusal
+segment_behind sizes count segments table = do
+  texts ← network_texts table.0 table.1
+  networks ← each_behind (next_network sizes count segments table.0) [] (numbered texts)
   Ok (record { networks = networks })
 
--- The segments of a controller, or its first piece that fails. This project's own.
-abbrev pub segments_of : Sizes → List (List (List ℕ)) → Result (List Segment) Refusal
-segments_of sizes texts = each_behind (segment_behind sizes) [] (numbered texts)
+-- The segments of a controller, or their first fault. This project's own.
+abbrev pub segments_of : Sizes → List Members → Result (List Segment) Refusal
+segments_of sizes tables = each_behind (segment_behind sizes (length tables)) [] (numbered tables)
+
+-- A segment has a LAB. Modicon Ladder Logic Block Library User Guide.
+abbrev pub has_label : Segment → Bool
+has_label segment =
+    list_any (λ network. list_any (λ cell. is_label cell.element) network.cells) segment.networks
+
+-- How many of these segments orders can name: all but the last one where it has a LAB, as then it
+-- has the subroutines. Modicon Ladder Logic Block Library User Guide.
+abbrev pub subroutines_in : Option Segment → ℕ
+subroutines_in None = 0
+subroutines_in (Some segment) = if has_label segment then 1 else 0
+
+abbrev pub callers_in : List Segment → ℕ
+callers_in segments = length segments - subroutines_in (slice_get segments (length segments - 1))

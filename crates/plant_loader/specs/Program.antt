@@ -1,6 +1,7 @@
 -- What was read of a controller's segments so far, and one more piece, network or segment behind
 -- it.
 use Rattle.std.specs.Prelude.{◌≡◌, ℕ, ◌+◌, List, [], ◌∷◌, ◌++◌, length, Result, Ok}
+use Rattle.toml.specs.Data.{Members}
 use Rattle.plant_types.specs.declared.reference.Ref.{Ref}
 use Rattle.plant_types.specs.declared.network.Cell as plain_cells
 use Rattle.plant_types.specs.declared.network.Short as plain_shorts
@@ -8,24 +9,26 @@ use Rattle.plant_types.specs.declared.network.Network.{Network}
 use Rattle.plant_types.specs.declared.network.Segment.{Segment}
 use Rattle.plant_types.specs.declared.fault.PlantFault.{PlantFault}
 use Rattle.plant_types.specs.declared.fault.Place.{Place}
-use Rattle.plant_types.specs.Sizes.{Sizes}
+use Rattle.plant_types.specs.declared.sizes.Sizes.{Sizes}
 use Rattle.cell_text.specs.declared.piece.Piece.{Piece}
 use Rattle.cell_text.specs.declared.piece.Piece.TheVariants.{Cell, Short}
 use Rattle.cell_text.specs.Steps.{◌>>=◌}
 use Rattle.plant_loader.specs.Refusals.{Refusal, cell_place, at_place}
-use Rattle.plant_loader.specs.Pieces.{Before, before_in, networks_in, coils_before, piece_behind, pieces_of}
+use Rattle.plant_loader.specs.Texts.{network_texts}
+use Rattle.plant_loader.specs.Pieces.{Before, before_in, networks_in, cells_behind, coils_before, piece_behind, pieces_of}
 
--- The segments that are whole, the networks that are whole of the next one, and the cells and
--- shorts so far of the network that is being read. This project's own.
+-- How many segments there are in all, those that are whole, the networks that are whole of the next
+-- one, and the cells and shorts so far of the network that is being read. This project's own.
 pub record ReadProgram : Type 0 where
+  pub count : ℕ
   pub segments : List Segment
   pub networks : List Network
   pub cells : List plain_cells.Cell
   pub shorts : List plain_shorts.Short
 
--- Nothing was read yet. This project's own.
-abbrev pub nothing_read : ReadProgram
-nothing_read = record { segments = []; networks = []; cells = []; shorts = [] }
+-- Nothing was read yet of so many segments. This project's own.
+abbrev pub nothing_read : ℕ → ReadProgram
+nothing_read count = record { count = count; segments = []; networks = []; cells = []; shorts = [] }
 
 -- The network that is being read. This project's own.
 abbrev pub open_network : ReadProgram → Network
@@ -33,7 +36,11 @@ open_network read = record { cells = read.cells; shorts = read.shorts }
 
 -- What stands before it. This project's own.
 abbrev pub before_open : Sizes → ReadProgram → Before
-before_open sizes read = before_in sizes read.segments read.networks
+before_open sizes read = before_in sizes read.count read.segments read.networks
+
+-- All cells so far. This project's own.
+abbrev pub cells_read : ReadProgram → List plain_cells.Cell
+cells_read read = cells_behind (networks_in read.segments ++ read.networks) read.cells
 
 -- The coils that all cells so far drive. Modicon Ladder Logic Block Library User Guide.
 abbrev pub driven_coils : ReadProgram → List Ref
@@ -77,7 +84,11 @@ with_network read =
 -- The segment whose networks were being read is whole. This project's own.
 abbrev pub with_segment : ReadProgram → ReadProgram
 with_segment read =
-    record read { segments = read.segments ++ record { networks = read.networks } ∷ []; networks = [] }
+    record read {
+      segments = read.segments ++ record { networks = read.networks } ∷ [];
+      networks =
+          [];
+    }
 
 -- One more network. This project's own.
 unfoldable pub with_text : Sizes → ReadProgram → List ℕ → Result ReadProgram Refusal
@@ -92,19 +103,24 @@ with_texts sizes read (text ∷ texts) = do
   next ← with_text sizes read text
   with_texts sizes next texts
 
--- One more segment. This project's own.
+-- One more segment, which has these texts. This project's own.
 unfoldable pub with_segment_texts : Sizes → ReadProgram → List (List ℕ) → Result ReadProgram Refusal
 with_segment_texts sizes read texts = do
   next ← with_texts sizes read texts
   Ok (with_segment next)
 
+-- One more segment by its table. This project's own.
+unfoldable pub with_table : Sizes → ReadProgram → Members → Result ReadProgram Refusal
+with_table sizes read table = do
+  texts ← network_texts (length read.segments + 1) table
+  with_segment_texts sizes read texts
+
 -- Segments, each behind those before it. This project's own.
-unfoldable pub with_segments : Sizes → ReadProgram → List (List (List ℕ))
-    → Result ReadProgram Refusal
-with_segments sizes read [] = Ok read
-with_segments sizes read (texts ∷ segments) = do
-  next ← with_segment_texts sizes read texts
-  with_segments sizes next segments
+unfoldable pub with_tables : Sizes → ReadProgram → List Members → Result ReadProgram Refusal
+with_tables sizes read [] = Ok read
+with_tables sizes read (table ∷ tables) = do
+  next ← with_table sizes read table
+  with_tables sizes next tables
 
 -- No network of the next segment was read yet. This project's own.
 pub record IsBetweenSegments (read : ReadProgram) : Type 0 where

@@ -1,20 +1,20 @@
-//! The table of a controller apart from the pieces of its networks.
-ghost use Rattle.std.specs.Prelude.{◌≡◌, ◌≢◌, Err};
-ghost use Rattle.toml.specs.View.{view, items_view, table_view};
+//! The sizes of a controller's map, and its panel.
+ghost use Rattle.std.specs.Prelude.{◌≡◌, ◌≢◌, ◌≤◌, length, map, Err};
+ghost use Rattle.toml.specs.View.{table_view};
 ghost use Rattle.plant_loader.specs.Counts.{sizes_of};
 ghost use Rattle.plant_loader.specs.Refusals.{Gives};
-ghost use Rattle.plant_loader.specs.Controller.{sizes_at, panel_item, panel_items, panel_in, panel_at};
+ghost use Rattle.plant_loader.specs.Controller.{sizes_at, panel_item, panel_of};
 
 use crate::counts::Counts;
-use crate::keys::{discrete_size_at, items_up_to, size_at, value_at};
-use crate::refusal::{LoadEnd, not_built};
+use crate::keys::{discrete_size_at, size_at};
+use crate::refusal::{LoadEnd, place_in};
 use cell_text::{only_word, reference_of};
-use plant_types::{List, Ref};
+use plant_types::{List, Part, PlantFault, Ref};
 use std::alloc::Global;
-use toml::{Table, Value};
+use toml::Table;
 
 /// The most references of a panel.
-const PANEL_LIMIT: usize = 64;
+pub const PANEL_LIMIT: usize = 64;
 
 /// How many references of each kind the controller has.
 #[tactic(auto, unfolding(crate::specs::Controller::sizes_at))]
@@ -22,18 +22,11 @@ pub fn counts_at(table: &Table) -> Result<Counts, LoadEnd>
     ensures read { Gives sizes_of result (sizes_at (table_view table.now)) }
     ensures no_memory { result ≢ Err LoadEnd.NoMemory }
 {
-    let Some(coils) = discrete_size_at(table, "coils") else {
-        return Err(not_built());
-    };
-    let Some(inputs) = discrete_size_at(table, "inputs") else {
-        return Err(not_built());
-    };
-    let Some(input_registers) = size_at(table, "input_registers") else {
-        return Err(not_built());
-    };
-    let Some(registers) = size_at(table, "registers") else {
-        return Err(not_built());
-    };
+    let place = place_in(Part::Controller, 0, 0, 0);
+    let coils = discrete_size_at(place, "coils", table)?;
+    let inputs = discrete_size_at(place, "inputs", table)?;
+    let input_registers = size_at(place, "input_registers", table)?;
+    let registers = size_at(place, "registers", table)?;
     Ok(Counts {
         coils,
         inputs,
@@ -43,46 +36,36 @@ pub fn counts_at(table: &Table) -> Result<Counts, LoadEnd>
 }
 
 #[tactic(auto, unfolding(crate::specs::Controller::panel_item))]
-fn panel_item(counts: Counts, value: &Value) -> Result<Ref, LoadEnd>
-    ensures read { Gives (λ at. at) result (panel_item (sizes_of counts) (view value.now)) }
+fn panel_item(counts: Counts, number: u32, text: &str) -> Result<Ref, LoadEnd>
+    ensures read { Gives (λ at. at) result (panel_item (sizes_of counts) number text.now) }
     ensures no_memory { result ≢ Err LoadEnd.NoMemory }
 {
-    let Some(text) = value.as_str() else {
-        return Err(not_built());
-    };
+    let refused = LoadEnd::Refused(PlantFault::BadRef, place_in(Part::Panel, number, 0, 0));
     let Some(word) = only_word(text.as_bytes()) else {
-        return Err(not_built());
+        return Err(refused);
     };
     let Some(at) = reference_of(word) else {
-        return Err(not_built());
+        return Err(refused);
     };
     if counts.has_reference(at) {
         Ok(at)
     } else {
-        Err(not_built())
+        Err(refused)
     }
 }
 
-fn panel_items(alloc: Global, counts: Counts, items: &[Value]) -> Result<List<Ref>, LoadEnd>
-    ensures { Gives (λ panel. panel) result (panel_items (sizes_of counts) (items_view items.now)) }
+/// The references of the panel.
+pub fn panel_of(alloc: Global, counts: Counts, texts: &[&str]) -> Result<List<Ref>, LoadEnd>
+    requires { length texts.now ≤ PANEL_LIMIT }
+    ensures { Gives (λ panel. panel) result (panel_of (sizes_of counts)
+        (map (λ t. t.now) texts.now)) }
 {
     let mut panel = List::new(alloc);
-    for item in items {
-        let at = panel_item(counts, item)?;
+    let mut number = 0;
+    for text in texts {
+        number += 1;
+        let at = panel_item(counts, number, text)?;
         panel.push(at)?;
     }
     Ok(panel)
-}
-
-/// The references of the panel, at most 64.
-pub fn panel_at(alloc: Global, counts: Counts, table: &Table) -> Result<List<Ref>, LoadEnd>
-    ensures { Gives (λ panel. panel) result (panel_at (sizes_of counts) (table_view table.now)) }
-{
-    let Some(value) = value_at(table, "panel") else {
-        return Ok(List::new(alloc));
-    };
-    match items_up_to(value, PANEL_LIMIT) {
-        Some(items) => panel_items(alloc, counts, items),
-        None => Err(not_built()),
-    }
 }

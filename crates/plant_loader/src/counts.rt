@@ -22,7 +22,8 @@ pub struct Counts {
 }
 
 impl Counts {
-    fn count_of(self, kind: RefKind) -> u16
+    /// How many references of a kind the controller has.
+    pub fn count_of(self, kind: RefKind) -> u16
         ensures { result ≡ count_of (sizes_of self) kind }
     {
         match kind {
@@ -70,7 +71,8 @@ impl Counts {
     }
 
     fn has_slots(self, length: u16, slots: &[Slot], operands: &[Operand]) -> bool
-        ensures { result ≡ list_all (has_room_at (sizes_of self) length) (zip slots.now operands.now) }
+        ensures { result ≡ list_all (has_room_at (sizes_of self) length)
+            (zip slots.now operands.now) }
     {
         slots
             .iter()

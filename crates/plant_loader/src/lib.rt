@@ -4,12 +4,15 @@
 mod cells;
 mod controller;
 mod counts;
+mod drops;
 mod keys;
+mod modules;
 mod orders;
 mod pieces;
 mod program;
 mod reading;
 mod refusal;
+mod scripts;
 #[cfg(test)]
 mod tests;
 mod texts;

@@ -1,17 +1,23 @@
 //! The pieces of the texts of networks.
-ghost use Rattle.std.specs.Prelude.{◌≡◌, ◌+◌, ◌<◌, ◌≤◌, [], length, map};
+ghost use Rattle.std.specs.Prelude.{◌≡◌, ◌+◌, ◌<◌, ◌≤◌, [], length, map, IfOk};
 ghost use Rattle.plant_loader.specs.Counts.{sizes_of};
 ghost use Rattle.plant_loader.specs.Refusals.{Gives, at_place};
+ghost use Rattle.std.specs.List.{list_any};
+ghost use Rattle.toml.specs.View.{table_view};
 ghost use Rattle.plant_loader.specs.Pieces.{is_later, has_later_name, plant_fault, has_word, pieces_of_line, pieces_of, segments_of};
-ghost use Rattle.plant_loader.specs.Program.{next_place, with_piece, with_pieces, with_text, with_texts, with_segment_texts, with_segments, IsBetweenSegments};
+ghost use Rattle.plant_loader.specs.Pieces.{has_label, callers_in};
+ghost use Rattle.plant_types.specs.FirstFault.{is_label};
+ghost use Rattle.plant_loader.specs.Program.{next_place, with_piece, with_pieces, with_text, with_texts};
+ghost use Rattle.plant_loader.specs.Program.{with_segment_texts, with_table, with_tables, IsBetweenSegments};
 
 use crate::counts::Counts;
 use crate::program::{NETWORK_LIMIT, Program, SEGMENT_LIMIT};
 use crate::refusal::LoadEnd;
-use crate::texts::NetworkTexts;
+use crate::texts::network_texts;
 use cell_text::{CellFault, Piece, PieceName, named_by, next_word, read_cell};
-use plant_types::{ElementName, List, Place, PlantFault, Segment};
+use plant_types::{ElementName, List, Network, Place, PlantFault, Segment, is_label};
 use std::alloc::Global;
+use toml::Table;
 
 fn plant_fault(fault: CellFault) -> PlantFault
     ensures { result ≡ plant_fault fault }
@@ -33,14 +39,7 @@ fn has_word(piece: &str) -> bool
 fn is_later(name: ElementName) -> bool
     ensures { result ≡ is_later name }
 {
-    matches!(
-        name,
-        ElementName::Skip
-            | ElementName::Label
-            | ElementName::Call
-            | ElementName::Return
-            | ElementName::Mstr
-    )
+    matches!(name, ElementName::Mstr)
 }
 
 fn has_later_name(name: Option<PieceName>) -> bool
@@ -59,7 +58,8 @@ fn with_piece(
     place: Place,
     piece: &str,
 ) -> Result<Program, LoadEnd>
-    ensures { Gives (λ p. p) result (at_place place (with_piece (sizes_of counts) program piece.now)) }
+    ensures { Gives (λ p. p) result (at_place place
+        (with_piece (sizes_of counts) program piece.now)) }
 {
     if has_later_name(named_by(piece.as_bytes())) {
         return Err(LoadEnd::Refused(PlantFault::NotBuilt, place));
@@ -80,7 +80,8 @@ fn with_next_piece(program: Program, counts: Counts, piece: &str) -> Result<Prog
 }
 
 fn with_line(mut program: Program, counts: Counts, line: &str) -> Result<Program, LoadEnd>
-    ensures { Gives (λ p. p) result (with_pieces (sizes_of counts) program (pieces_of_line line.now)) }
+    ensures { Gives (λ p. p) result (with_pieces (sizes_of counts) program
+        (pieces_of_line line.now)) }
 {
     for piece in line.split(';') {
         if has_word(piece) {
@@ -121,7 +122,8 @@ fn with_texts(
     texts: &[&str],
 ) -> Result<Program, LoadEnd>
     requires { length program.networks + length texts.now ≤ NETWORK_LIMIT }
-    ensures { Gives (λ p. p) result (with_texts (sizes_of counts) program (map (λ t. t.now) texts.now)) }
+    ensures { Gives (λ p. p) result (with_texts (sizes_of counts) program
+        (map (λ t. t.now) texts.now)) }
 {
     for text in texts {
         program = with_text(alloc, program, counts, text)?;
@@ -134,42 +136,97 @@ fn with_segment_texts(
     alloc: Global,
     program: Program,
     counts: Counts,
-    texts: &NetworkTexts,
+    texts: &[&str],
 ) -> Result<Program, LoadEnd>
     requires segments { length program.segments < SEGMENT_LIMIT }
     requires between { IsBetweenSegments program }
-    ensures { Gives (λ p. p) result (with_segment_texts (sizes_of counts) program texts.now) }
+    requires networks { length texts.now ≤ NETWORK_LIMIT }
+    ensures { Gives (λ p. p) result
+        (with_segment_texts (sizes_of counts) program (map (λ t. t.now) texts.now)) }
 {
-    let program = with_texts(alloc, program, counts, texts.as_slice())?;
+    let program = with_texts(alloc, program, counts, texts)?;
     program.with_segment(alloc)
 }
 
-#[tactic(auto, unfolding(crate::specs::Program::with_segments))]
-fn with_segments(
+#[tactic(auto, unfolding(crate::specs::Program::with_table))]
+fn with_table(
+    alloc: Global,
+    program: Program,
+    counts: Counts,
+    table: &Table,
+) -> Result<Program, LoadEnd>
+    requires segments { length program.segments < SEGMENT_LIMIT }
+    requires between { IsBetweenSegments program }
+    ensures { Gives (λ p. p) result
+        (with_table (sizes_of counts) program (table_view table.now)) }
+{
+    let texts = network_texts(alloc, program.segment_number(), table)?;
+    with_segment_texts(alloc, program, counts, texts.as_slice())
+}
+
+#[tactic(auto, unfolding(crate::specs::Program::with_tables))]
+fn with_tables(
     alloc: Global,
     mut program: Program,
     counts: Counts,
-    segments: &[NetworkTexts],
+    tables: &[&Table],
 ) -> Result<Program, LoadEnd>
-    requires few { length program.segments + length segments.now ≤ SEGMENT_LIMIT }
+    requires few { length program.segments + length tables.now ≤ SEGMENT_LIMIT }
     requires between { IsBetweenSegments program }
-    ensures { Gives (λ p. p) result (with_segments (sizes_of counts) program segments.now) }
+    ensures read { Gives (λ p. p) result
+        (with_tables (sizes_of counts) program (map (λ t. table_view t.now) tables.now)) }
+    ensures count { IfOk result
+        (λ p. length p.segments ≡ length program.segments + length tables.now) }
 {
-    for texts in segments {
-        program = with_segment_texts(alloc, program, counts, texts)?;
+    for table in tables {
+        program = with_table(alloc, program, counts, table)?;
     }
     Ok(program)
 }
 
-/// The segments that the texts of their networks stand for, or the first fault of a piece.
+/// The segments of a controller by their tables, or their first fault.
 pub fn segments_of(
     alloc: Global,
     counts: Counts,
-    segments: &[NetworkTexts],
+    tables: &[&Table],
 ) -> Result<List<Segment>, LoadEnd>
-    requires { length segments.now ≤ SEGMENT_LIMIT }
-    ensures { Gives (λ segments. segments) result (segments_of (sizes_of counts) segments.now) }
+    requires { length tables.now ≤ SEGMENT_LIMIT }
+    ensures read { Gives (λ segments. segments) result
+        (segments_of (sizes_of counts) (map (λ t. table_view t.now) tables.now)) }
+    ensures count { IfOk result (λ segments. length segments ≡ length tables.now) }
 {
-    let program = with_segments(alloc, Program::new(alloc), counts, segments)?;
+    let program = with_tables(alloc, Program::new(alloc, tables.len()), counts, tables)?;
     Ok(program.into_segments())
+}
+
+fn has_label_in(network: &Network) -> bool
+    ensures { result ≡ list_any (λ cell. is_label cell.element) network.now.cells }
+{
+    network
+        .cells
+        .as_slice()
+        .iter()
+        .any(|cell| is_label(cell.element))
+}
+
+fn has_label(segment: &Segment) -> bool
+    ensures { result ≡ has_label segment.now }
+{
+    segment
+        .networks
+        .as_slice()
+        .iter()
+        .any(|network| has_label_in(network))
+}
+
+/// How many of these segments orders can name.
+pub fn callers_in(segments: &[Segment]) -> u16
+    requires { length segments.now ≤ SEGMENT_LIMIT }
+    ensures { result ≡ callers_in segments.now }
+{
+    let count = segments.len();
+    match segments.get(count.saturating_sub(1)) {
+        Some(last) if has_label(last) => count as u16 - 1,
+        _ => count as u16,
+    }
 }

@@ -1,7 +1,7 @@
 //! How loading ends without a plant.
 ghost use Rattle.std.specs.Prelude.{◌≡◌};
 ghost use Rattle.plant_loader.specs.declared.refusal.LoadEnd.TheVariants.{NoMemory};
-ghost use Rattle.plant_loader.specs.Refusals.{plant_place, cell_place, not_built};
+ghost use Rattle.plant_loader.specs.Refusals.{plant_place, place_in, not_built};
 
 use plant_types::{Part, Place, PlantFault};
 use std::alloc::AllocError;
@@ -37,12 +37,12 @@ pub fn not_built() -> LoadEnd
     LoadEnd::Refused(PlantFault::NotBuilt, Place::PLANT)
 }
 
-/// The place of a piece of a network of a segment of the first controller.
-pub fn cell_place(segment: u32, network: u32, cell: u32) -> Place
-    ensures { result ≡ cell_place segment network cell }
+/// A part of the first controller by its numbers, which count from 1; 0 where it has none.
+pub fn place_in(part: Part, first: u32, second: u32, third: u32) -> Place
+    ensures { result ≡ place_in part first second third }
 {
     Place {
-        part: Part::Cell,
-        at: [1, segment, network, cell],
+        part,
+        at: [1, first, second, third],
     }
 }

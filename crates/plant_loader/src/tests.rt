@@ -1,6 +1,7 @@
 use super::*;
 use plant_types::{
-    Cell, ControllerPlan, Element, MoveOp, Network, OrderRow, Plant, Ref, RefKind, Short,
+    Cell, ControllerPlan, Element, Module, ModuleKind, MoveOp, Network, OrderRow, Plant, Ref,
+    RefKind, ScriptRow, Short,
 };
 use std::alloc::{AllocError, Global};
 use std::process::Abort;
@@ -231,10 +232,8 @@ const TAKEN: [&str; 23] = [
 // Texts of networks with their refusals. The tests of a piece go in the order of these tables.
 
 // A name that a later version takes, whatever else is wrong.
-const NOT_BUILT_PIECES: &str = r#"1,1 SKP 1 => 14 NotBuilt controller 1 segment 1 network 1 cell 1
-1,1 LAB 1 => 14 NotBuilt controller 1 segment 1 network 1 cell 1
-1,1 JSR 1 => 14 NotBuilt controller 1 segment 1 network 1 cell 1
-1,1 RET => 14 NotBuilt controller 1 segment 1 network 1 cell 1
+const NOT_BUILT_PIECES: &str =
+    r#"1,1 MSTR 40001 40010 1 => 14 NotBuilt controller 1 segment 1 network 1 cell 1
 8,1 MSTR x => 14 NotBuilt controller 1 segment 1 network 1 cell 1"#;
 
 // What does not read: a position, a name, the number of operands, a constant for a reference.
@@ -383,7 +382,7 @@ fn first_faults_are_answered(rt: HostRuntime) -> Result<(), Fail> {
 }
 
 // What stands between the version and the orders of a plant that is taken.
-const OF_THE_FORM: [&str; 8] = [
+const OF_THE_FORM: [&str; 9] = [
     "[[controller]]\nnode = 64\n",
     "watchdog = 500\n[[controller]]\nnode = 1\n",
     "watchdog = 1\n[[controller]]\nnode = 1\n",
@@ -392,112 +391,279 @@ const OF_THE_FORM: [&str; 8] = [
     "scan_time = 1000\n[[controller]]\nnode = 1\n",
     "[[controller]]\nnode = 1\ninput_registers = 9984\npanel = [\"39984\"]\n",
     "[[controller]]\nnode = 1\nregisters = 9984\ncoils = 9984\ninputs = 9984\npanel = []\n",
-];
-
-// What stands there in plants that are not built.
-const NOT_OF_THE_FORM: [&str; 31] = [
-    "scan_time = 0\n[[controller]]\nnode = 1\n",
-    "scan_time = 1001\n[[controller]]\nnode = 1\n",
-    "scan_time = -1\n[[controller]]\nnode = 1\n",
-    "scan_time = \"10\"\n[[controller]]\nnode = 1\n",
-    "scan_time = 10.0\n[[controller]]\nnode = 1\n",
-    "watchdog = 0\n[[controller]]\nnode = 1\n",
-    "watchdog = 10001\n[[controller]]\nnode = 1\n",
-    "[[controller]]\n",
-    "[[controller]]\nnode = 0\n",
-    "[[controller]]\nnode = 65\n",
-    "[[controller]]\nnode = -1\n",
-    "[[controller]]\nnode = 1.0\n",
-    "[[controller]]\nnode = 1\n[[controller]]\nnode = 2\n",
-    "[controller]\nnode = 1\n",
-    "[[controller]]\nnode = 1\ncoils = 9985\n",
-    "[[controller]]\nnode = 1\ncoils = 10000\n",
-    "[[controller]]\nnode = 1\ncoils = 17\n",
-    "[[controller]]\nnode = 1\ninputs = 8\n",
-    "[[controller]]\nnode = 1\ninput_registers = 9985\n",
-    "[[controller]]\nnode = 1\ninput_registers = -1\n",
-    "[[controller]]\nnode = 1\ninput_registers = \"1\"\n",
-    "[[controller]]\nnode = 1\nregisters = 9985\n",
     "[[controller]]\nnode = 1\ndrop = []\n",
-    "[[controller]]\nnode = 1\npanel = \"00001\"\n",
-    "[[controller]]\nnode = 1\npanel = [\"00001\"]\n",
-    "[[controller]]\nnode = 1\ncoils = 16\npanel = [\"00001 00002\"]\n",
-    "[[controller]]\nnode = 1\ncoils = 16\npanel = [\"00017\"]\n",
-    "[[controller]]\nnode = 1\ncoils = 16\npanel = [\"1\"]\n",
-    "[[controller]]\nnode = 1\ncoils = 16\npanel = [1]\n",
-    "[[controller]]\nnode = 1\npanel = [\"30001\"]\n",
-    "[[controller]]\nnode = 1\ninput_registers = 10\npanel = [\"30011\"]\n",
-];
-
-// What stands behind the table of a controller in plants that are not built.
-const BAD_ENDS: [&str; 13] = [
-    "",
-    "orders = []\n[[controller.segment]]\nnetworks = []\n",
-    "orders = [\"1 - -\"]\n[[controller.segment]]\nnetworks = []\n",
-    "orders = [\"1 - - - -\"]\n[[controller.segment]]\nnetworks = []\n",
-    "orders = [\"2 - - -\"]\n[[controller.segment]]\nnetworks = []\n",
-    "orders = [\"1 - - 1\"]\n[[controller.segment]]\nnetworks = []\n",
-    "orders = [\"1 - - -\", \"1 - - -\"]\n[[controller.segment]]\nnetworks = []\n",
-    "orders = [1]\n[[controller.segment]]\nnetworks = []\n",
-    "orders = \"1 - - -\"\n[[controller.segment]]\nnetworks = []\n",
-    "orders = [\"1 - - -\"]\n",
-    "orders = [\"1 - - -\"]\n[[controller.segment]]\n",
-    "orders = [\"1 - - -\"]\n[[controller.segment]]\nnetworks = []\nname = 1\n",
-    "orders = [\"1 - - -\"]\n[[controller.segment]]\nnetworks = []\n[[controller.segment]]\nnetworks = []\n",
 ];
 
 // The end of a plant: its orders, with blanks wherever they may stand, and its one segment.
 const END: &str = "orders = [\" 1\t- - - \"]\n[[controller.segment]]\nnetworks = []\n";
 
+// Each table below has a part of a plant and its refusal on a line, where `|` stands for a line
+// end.
+fn unfolded(alloc: Global, part: &str) -> Result<String, AllocError> {
+    let mut text = String::new(alloc);
+    for line in part.split('|') {
+        text.push_str(line)?;
+        text.push_str("\n")?;
+    }
+    Ok(text)
+}
+
+// Each part of a table, between these texts, is refused as it says.
+fn refuses_parts(
+    rt: &impl Abort,
+    alloc: Global,
+    start: &str,
+    table: &str,
+    end: &str,
+) -> Result<(), Fail> {
+    for line in table.lines() {
+        let (part, refusal) = line.split_once(" => ").ok_or("a refusal")?;
+        let middle = unfolded(alloc, part)?;
+        let text = format!(in alloc; "{start}{middle}{end}")?;
+        let answer = answer_to(alloc, text.as_bytes())?;
+        assert_eq!(rt; answer.as_str(), refusal, "{part}");
+    }
+    Ok(())
+}
+
+// What stands before the orders of plants, in the order of the tests: the version, what a later
+// version takes, the table of the plant and the table of its controller.
+const BAD_TABLES: &str = r#"name = 1|[[controller]]|node = 1 => 2 BadKey plant
+version = 0|name = 1|[[controller]]|node = 1 => 4 BadVersion plant
+version = 2|net = 1|[[controller]]|node = 1 => 4 BadVersion plant
+version = -1|[[controller]]|node = 1 => 4 BadVersion plant
+version = "1"|[[controller]]|node = 1 => 3 BadValue plant
+version = 1.0|[[controller]]|node = 1 => 3 BadValue plant
+version = 1|name = 1|net = 1|[[controller]]|node = 1 => 14 NotBuilt plant
+version = 1|host = []|[[controller]]|node = 0 => 14 NotBuilt plant
+version = 1|scan_time = 0|[[controller]]|node = 1|[[controller]]|node = 2 => 14 NotBuilt plant
+version = 1|name = 1|scan_time = 0|[[controller]]|node = 1 => 2 BadKey plant
+version = 1|scan_time = 0|[[controller]]|node = 1 => 3 BadValue plant
+version = 1|scan_time = 1001|[[controller]]|node = 1 => 3 BadValue plant
+version = 1|scan_time = -1|[[controller]]|node = 1 => 3 BadValue plant
+version = 1|scan_time = "10"|[[controller]]|node = 1 => 3 BadValue plant
+version = 1|scan_time = 10.0|[[controller]]|node = 1 => 3 BadValue plant
+version = 1|watchdog = 0|[[controller]]|node = 1 => 3 BadValue plant
+version = 1|watchdog = 10001|[[controller]]|node = 0 => 3 BadValue plant
+version = 1|[controller]|node = 1 => 3 BadValue plant
+version = 1|[[controller]]|name = 1 => 2 BadKey controller 1
+version = 1|[[controller]]|coils = 1 => 2 BadKey controller 1
+version = 1|[[controller]]|node = 0 => 12 BadNode controller 1
+version = 1|[[controller]]|node = 65|coils = 1 => 12 BadNode controller 1
+version = 1|[[controller]]|node = -1 => 12 BadNode controller 1
+version = 1|[[controller]]|node = 1.0 => 3 BadValue controller 1
+version = 1|[[controller]]|node = 1|coils = 9985 => 3 BadValue controller 1
+version = 1|[[controller]]|node = 1|coils = 10000 => 3 BadValue controller 1
+version = 1|[[controller]]|node = 1|coils = 17 => 3 BadValue controller 1
+version = 1|[[controller]]|node = 1|inputs = 8 => 3 BadValue controller 1
+version = 1|[[controller]]|node = 1|input_registers = 9985 => 3 BadValue controller 1
+version = 1|[[controller]]|node = 1|input_registers = -1 => 3 BadValue controller 1
+version = 1|[[controller]]|node = 1|input_registers = "1" => 3 BadValue controller 1
+version = 1|[[controller]]|node = 1|registers = 9985 => 3 BadValue controller 1
+version = 1|[[controller]]|node = 1|panel = "00001" => 3 BadValue controller 1
+version = 1|[[controller]]|node = 1|panel = ["00001", 1] => 3 BadValue controller 1
+version = 1|[[controller]]|node = 1|panel = ["00001"] => 5 BadRef controller 1 panel 1
+version = 1|[[controller]]|node = 1|coils = 16|panel = ["00016", "00017"] => 5 BadRef controller 1 panel 2
+version = 1|[[controller]]|node = 1|coils = 16|panel = ["00001 00002"] => 5 BadRef controller 1 panel 1
+version = 1|[[controller]]|node = 1|coils = 16|panel = ["1"] => 5 BadRef controller 1 panel 1
+version = 1|[[controller]]|node = 1|input_registers = 10|panel = ["30011"] => 5 BadRef controller 1 panel 1
+version = 1|[[controller]]|node = 1|drop = 1 => 3 BadValue controller 1
+version = 1|[[controller]]|node = 1|drop = [1] => 3 BadValue controller 1"#;
+
+// What stands behind the first keys of a controller in plants that are refused.
+const BAD_ENDS: &str = r#"orders = [1] => 3 BadValue controller 1
+orders = "1 - - -" => 3 BadValue controller 1
+orders = ["1 - -"]|[[controller.segment]]|networks = [] => 9 BadOrder controller 1 order 1
+orders = ["1 - - - -"]|[[controller.segment]]|networks = [] => 9 BadOrder controller 1 order 1
+orders = ["0 - - -"]|[[controller.segment]]|networks = [] => 9 BadOrder controller 1 order 1
+orders = ["01 - - -"]|[[controller.segment]]|networks = [] => 9 BadOrder controller 1 order 1
+orders = ["2 - - -"]|[[controller.segment]]|networks = [] => 9 BadOrder controller 1 order 1
+orders = ["1 - - -", "1 - - 1"]|[[controller.segment]]|networks = [] => 9 BadOrder controller 1 order 2
+orders = ["1 0001 - -"]|[[controller.segment]]|networks = [] => 9 BadOrder controller 1 order 1
+orders = ["1 40001 1 -"]|[[controller.segment]]|networks = [] => 9 BadOrder controller 1 order 1
+orders = ["1 00017 - -"]|[[controller.segment]]|networks = [] => 5 BadRef controller 1 order 1
+orders = ["1 40001 - -"]|[[controller.segment]]|networks = [] => 5 BadRef controller 1 order 1
+orders = ["1 20001 - -", ""]|[[controller.segment]]|networks = [] => 5 BadRef controller 1 order 1
+orders = ["1 - - -"]|panel = ["00000"] => 9 BadOrder controller 1 order 1
+orders = ["1 - - -"]|[[controller.segment]] => 2 BadKey controller 1 segment 1
+orders = ["x"]|[[controller.segment]]|networks = []|name = 1 => 2 BadKey controller 1 segment 1
+segment = [{ networks = [] }, 1] => 3 BadValue controller 1
+segment = [{ networks = 1 }] => 3 BadValue controller 1 segment 1
+segment = [{ networks = ["1,1 x", 1] }] => 3 BadValue controller 1 segment 1
+segment = [{ networks = ["1,1 x"] }, {}] => 6 BadCell controller 1 segment 1 network 1 cell 1
+segment = [{ networks = [] }, { networks = ["", "1,1 CO 00001; 2,1 x"] }] => 6 BadCell controller 1 segment 2 network 2 cell 2
+segment = [{ networks = ["1,1 CO 00001"] }, { networks = ["1,1 CO 00001"] }] => 8 CoilTwice controller 1 segment 2 network 1 cell 1
+segment = [{ networks = ["1,1 LAB 1"] }, { networks = [] }] => 7 BadShape controller 1 segment 1 network 1 cell 1
+segment = [{ networks = ["1,2 LAB 1"] }] => 7 BadShape controller 1 segment 1 network 1 cell 1
+segment = [{ networks = ["2,1 LAB 1"] }] => 7 BadShape controller 1 segment 1 network 1 cell 1
+segment = [{ networks = ["1,1 LAB 7", "1,2 H; 1,1 LAB 7"] }] => 7 BadShape controller 1 segment 1 network 2 cell 2
+orders = ["2 - - -"]|segment = [{ networks = [] }, { networks = ["1,1 LAB 1"] }] => 9 BadOrder controller 1 order 1"#;
+
+// What stands there in plants that are taken: no orders at all, several rows, a control, several
+// segments, and drops.
+const TAKEN_ENDS: [&str; 8] = [
+    "",
+    "orders = []|[[controller.segment]]|networks = []",
+    "orders = [\"1 - - -\", \"1 - - -\"]|[[controller.segment]]|networks = []",
+    "orders = [\"1 00016 - -\"]|[[controller.segment]]|networks = []",
+    "orders = [\"2 - - -\"]|segment = [{ networks = [] }, { networks = [] }]",
+    "orders = [\"1 - - -\"]|segment = [{ networks = [] }, { networks = [\"1,1 LAB 1\", \"1,1 LAB 2\"] }]",
+    "orders = [\"1 - 1 -\"]|segment = [{ networks = [] }]|drop = [{ number = 1, modules = [] }]",
+    "orders = [\"1 - 7 7\"]|segment = [{ networks = [] }]|drop = [{ number = 7, modules = [] }]",
+];
+
+// What stands before the ends of plants.
+const START: &str = "version = 1\n[[controller]]\nnode = 1\ncoils = 16\n";
+
 #[test]
-fn documents_are_taken_or_not_built(rt: HostRuntime) -> Result<(), Fail> {
+fn documents_are_taken(rt: HostRuntime) -> Result<(), Fail> {
     let alloc = rt.alloc();
     for middle in OF_THE_FORM {
         let text = format!(in alloc; "version = 1\n{middle}{END}")?;
         let answer = answer_to(alloc, text.as_bytes())?;
         assert_eq!(rt; answer.as_str(), "taken", "{middle}");
     }
-    for middle in NOT_OF_THE_FORM {
-        let text = format!(in alloc; "version = 1\n{middle}{END}")?;
+    for end in TAKEN_ENDS {
+        let end = unfolded(alloc, end)?;
+        let text = format!(in alloc; "{START}{end}")?;
         let answer = answer_to(alloc, text.as_bytes())?;
-        assert_eq!(rt; answer.as_str(), "14 NotBuilt plant", "{middle}");
-    }
-    for end in BAD_ENDS {
-        let text = format!(in alloc; "version = 1\n[[controller]]\nnode = 1\n{end}")?;
-        let answer = answer_to(alloc, text.as_bytes())?;
-        assert_eq!(rt; answer.as_str(), "14 NotBuilt plant", "{end}");
+        assert_eq!(rt; answer.as_str(), "taken", "{end}");
     }
     Ok(())
 }
 
-// What stands before the controller of plants of another version, or of none.
-const BAD_VERSIONS: [&str; 5] = [
-    "",
-    "version = 0\n",
-    "version = 2\n",
-    "version = \"1\"\n",
-    "version = 1.0\n",
-];
+#[test]
+fn tables_are_refused(rt: HostRuntime) -> Result<(), Fail> {
+    let alloc = rt.alloc();
+    assert_eq!(rt; answer_to(alloc, b"")?.as_str(), "2 BadKey plant");
+    refuses_parts(&rt, alloc, "", BAD_TABLES, END)?;
+    refuses_parts(&rt, alloc, START, BAD_ENDS, "")
+}
+
+// What stands before the tables of drops: 32 discretes and 20 registers of each kind.
+const BEFORE_DROPS: &str = "version = 1\n[[controller]]\nnode = 1\ncoils = 32\ninputs = 32\n\
+    input_registers = 20\nregisters = 20\norders = [\"1 - - -\"]\n[[controller.segment]]\n\
+    networks = []\n";
+
+// Drops that are refused.
+const BAD_DROPS: &str = r#"[[controller.drop]]|number = 1 => 2 BadKey controller 1 drop 1
+[[controller.drop]]|modules = [] => 2 BadKey controller 1 drop 1
+[[controller.drop]]|number = 1|modules = []|name = 1 => 2 BadKey controller 1 drop 1
+[[controller.drop]]|number = 0|modules = [] => 3 BadValue controller 1 drop 1
+[[controller.drop]]|number = 33|modules = [] => 3 BadValue controller 1 drop 1
+[[controller.drop]]|number = 1|modules = [1] => 3 BadValue controller 1 drop 1
+[[controller.drop]]|number = 1|modules = ["x"]|script = 1 => 3 BadValue controller 1 drop 1
+[[controller.drop]]|number = 7|modules = []|[[controller.drop]]|number = 7|modules = ["x"] => 10 BadDrop controller 1 drop 2
+[[controller.drop]]|number = 1|modules = [""] => 10 BadDrop controller 1 drop 1 module 1
+[[controller.drop]]|number = 1|modules = ["in 10001", "In 10001"] => 10 BadDrop controller 1 drop 1 module 2
+[[controller.drop]]|number = 1|modules = ["in 10001 1"] => 10 BadDrop controller 1 drop 1 module 1
+[[controller.drop]]|number = 1|modules = ["inw 30001"] => 10 BadDrop controller 1 drop 1 module 1
+[[controller.drop]]|number = 1|modules = ["inw 30001 1 1"] => 10 BadDrop controller 1 drop 1 module 1
+[[controller.drop]]|number = 1|modules = ["inw 30001 0"] => 10 BadDrop controller 1 drop 1 module 1
+[[controller.drop]]|number = 1|modules = ["inw 00001 17"] => 10 BadDrop controller 1 drop 1 module 1
+[[controller.drop]]|number = 1|modules = ["outw 40001 01"] => 10 BadDrop controller 1 drop 1 module 1
+[[controller.drop]]|number = 1|modules = ["in 1"] => 10 BadDrop controller 1 drop 1 module 1
+[[controller.drop]]|number = 1|modules = ["in 00002"] => 10 BadDrop controller 1 drop 1 module 1
+[[controller.drop]]|number = 1|modules = ["out 00016"] => 10 BadDrop controller 1 drop 1 module 1
+[[controller.drop]]|number = 1|modules = ["in 20001"] => 5 BadRef controller 1 drop 1 module 1
+[[controller.drop]]|number = 1|modules = ["in 00001"] => 5 BadRef controller 1 drop 1 module 1
+[[controller.drop]]|number = 1|modules = ["in 10033"] => 5 BadRef controller 1 drop 1 module 1
+[[controller.drop]]|number = 1|modules = ["in 19985"] => 5 BadRef controller 1 drop 1 module 1
+[[controller.drop]]|number = 1|modules = ["inw 30006 16"] => 5 BadRef controller 1 drop 1 module 1
+[[controller.drop]]|number = 1|modules = ["outw 30001 1"] => 5 BadRef controller 1 drop 1 module 1
+[[controller.drop]]|number = 1|modules = ["inw 30000 1"] => 5 BadRef controller 1 drop 1 module 1"#;
+
+// Scripts that are refused.
+const BAD_SCRIPTS: &str =
+    r#"[[controller.drop]]|number = 1|modules = ["in 10001"]|script = ["x"] => 11 BadScript controller 1 drop 1 script 1
+[[controller.drop]]|number = 1|modules = ["in 10001"]|script = ["X", "X X"] => 11 BadScript controller 1 drop 1 script 2
+[[controller.drop]]|number = 1|modules = ["in 10001"]|script = [""] => 11 BadScript controller 1 drop 1 script 1
+[[controller.drop]]|number = 1|modules = ["in 10001"]|script = ["8000 0"] => 11 BadScript controller 1 drop 1 script 1
+[[controller.drop]]|number = 1|modules = ["in 10001"]|script = ["800"] => 11 BadScript controller 1 drop 1 script 1
+[[controller.drop]]|number = 1|modules = ["in 10001"]|script = ["080000"] => 11 BadScript controller 1 drop 1 script 1
+[[controller.drop]]|number = 1|modules = ["in 10001"]|script = ["g000"] => 11 BadScript controller 1 drop 1 script 1
+[[controller.drop]]|number = 1|modules = ["out 00001"]|script = ["0000"] => 11 BadScript controller 1 drop 1 script 1
+[[controller.drop]]|number = 1|modules = ["inw 30001 3"]|script = ["0 0 0"] => 11 BadScript controller 1 drop 1 script 1
+[[controller.drop]]|number = 1|modules = ["inw 30001 3"]|script = ["0001 0002"] => 11 BadScript controller 1 drop 1 script 1"#;
+
+// Modules of so many words in and out: 64, and one more.
+const WORDS_IN: &str = "\"inw 30001 16\", \"inw 30001 16\", \"inw 30001 16\", \"inw 30001 ";
 
 #[test]
-fn form_comes_before_pieces(rt: HostRuntime) -> Result<(), Fail> {
+fn drops_are_refused(rt: HostRuntime) -> Result<(), Fail> {
     let alloc = rt.alloc();
-    assert_eq!(rt; answer_to(alloc, b"")?.as_str(), "14 NotBuilt plant");
-    for version in BAD_VERSIONS {
-        let text = format!(in alloc; "{version}[[controller]]\nnode = 1\n{END}")?;
+    refuses_parts(&rt, alloc, BEFORE_DROPS, BAD_DROPS, "")?;
+    refuses_parts(&rt, alloc, BEFORE_DROPS, BAD_SCRIPTS, "")?;
+    for (more, want) in [
+        ("", "taken"),
+        (", \"in 10001\"", "13 TooLarge controller 1 drop 1"),
+    ] {
+        let text = format!(in alloc;
+            "{BEFORE_DROPS}[[controller.drop]]\nnumber = 32\nmodules = [{WORDS_IN}16\"{more}]\n"
+        )?;
         let answer = answer_to(alloc, text.as_bytes())?;
-        assert_eq!(rt; answer.as_str(), "14 NotBuilt plant", "{version}");
+        assert_eq!(rt; answer.as_str(), want, "{more}");
     }
-    let text = plant_text(alloc, "panel = [\"00017\"]", "\"1,1 x\"")?;
-    assert_eq!(rt;
-        answer_to(alloc, text.as_bytes())?.as_str(),
-        "14 NotBuilt plant"
-    );
-    let text = plant_text(alloc, "", "\"1,1 x\", 1")?;
-    assert_eq!(rt;
-        answer_to(alloc, text.as_bytes())?.as_str(),
-        "14 NotBuilt plant"
-    );
+    Ok(())
+}
+
+// Two drops: one whose script has rows of both cases and a silent one, one without a script.
+const DROPS: &str = r#"[[controller.drop]]
+number = 2
+modules = ["in 10017", " outw\t40005  16 ", "inw 30019 2", "out 00001"]
+script = ["8000 00Ff 1234", " X "]
+[[controller.drop]]
+number = 1
+modules = ["inw 30001 1"]
+"#;
+
+const MODULES: [Module; 4] = [
+    Module {
+        kind: ModuleKind::In,
+        first: 17,
+        count: 1,
+    },
+    Module {
+        kind: ModuleKind::OutWords,
+        first: 5,
+        count: 16,
+    },
+    Module {
+        kind: ModuleKind::InWords,
+        first: 19,
+        count: 2,
+    },
+    Module {
+        kind: ModuleKind::Out,
+        first: 1,
+        count: 1,
+    },
+];
+
+fn has_row(row: Option<&ScriptRow>, words: &[u16]) -> bool {
+    match row {
+        Some(ScriptRow::Row(row)) => row.words() == words,
+        _ => false,
+    }
+}
+
+#[test]
+fn drops_are_read(rt: HostRuntime) -> Result<(), Fail> {
+    let alloc = rt.alloc();
+    let text = format!(in alloc; "{BEFORE_DROPS}{DROPS}")?;
+    let plant = load(alloc, text.as_bytes()).ok().ok_or("two drops")?;
+    let plan = only_controller(&plant).ok_or("one controller")?;
+    let [first, second] = plan.drops.as_slice() else {
+        return Err(Fail::from("two drops"));
+    };
+    assert_eq!(rt; first.number, 2);
+    assert_eq!(rt; first.modules.as_slice(), MODULES.as_slice());
+    let script = first.script.as_slice();
+    assert_eq!(rt; script.len(), 2);
+    assert!(rt; has_row(script.first(), &[0x8000, 0x00ff, 0x1234]));
+    assert!(rt; matches!(script.last(), Some(ScriptRow::Silent)));
+    assert_eq!(rt; second.number, 1);
+    assert!(rt; has_row(second.script.as_slice().first(), &[0]));
     Ok(())
 }
 
@@ -538,13 +704,16 @@ fn repeated(alloc: Global, item: &str, count: u16) -> Result<String, AllocError>
 #[test]
 fn limits_are_kept(rt: HostRuntime) -> Result<(), Fail> {
     let alloc = rt.alloc();
-    for (count, want) in [(499, "taken"), (500, "14 NotBuilt plant")] {
+    for (count, want) in [(499, "taken"), (500, "taken")] {
         let networks = repeated(alloc, "\"1,1 H\",", count)?;
         let text = plant_text(alloc, "", networks.as_str())?;
         let answer = answer_to(alloc, text.as_bytes())?;
         assert_eq!(rt; answer.as_str(), want, "{count} networks");
     }
-    for (count, want) in [(1000, "taken"), (1001, "14 NotBuilt plant")] {
+    for (count, want) in [
+        (1000, "taken"),
+        (1001, "13 TooLarge controller 1 segment 1"),
+    ] {
         let networks = repeated(alloc, "\"\",", count)?;
         let text = format!(in alloc;
             "version = 1\nwatchdog = 1002\n[[controller]]\nnode = 1\norders = [\"1 - - -\"]\n[[controller.segment]]\nnetworks = [{networks}]\n"
@@ -556,7 +725,7 @@ fn limits_are_kept(rt: HostRuntime) -> Result<(), Fail> {
             "{count} networks below the watchdog"
         );
     }
-    for (count, want) in [(64, "taken"), (65, "14 NotBuilt plant")] {
+    for (count, want) in [(64, "taken"), (65, "13 TooLarge controller 1")] {
         let panel = repeated(alloc, "\"40100\",", count)?;
         let lines = format!(in alloc; "panel = [{panel}]")?;
         let text = plant_text(alloc, lines.as_str(), "")?;

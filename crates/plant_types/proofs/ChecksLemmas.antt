@@ -21,8 +21,8 @@ use Rattle.plant_types.specs.Reference.{ref_from, is_coil, is_discrete, is_regis
 use Rattle.plant_types.specs.Store.{HasDiscrete, HasRegisters}
 use Rattle.plant_types.specs.Sizes.{Sizes, count_of, has_reference, has_run, discretes_of, cleared}
 use Rattle.plant_types.specs.Operands.{Kind, OnlyCoil, AnyDiscrete, AnyRegister, OnlyHolding, takes, Named, coil, discrete, target, named_in, named_as, named_at, named_by, names_of, has_form, has_values, has_kinds, HasKind, HasNamed, HasOperands, HasDiscreteKind, HasPast}
-use Rattle.plant_types.specs.Network.{has_cell_place}
-use Rattle.plant_types.specs.Checks.{has_room, element_passes, has_shape, cell_passes, cells_pass, shorts_pass, network_passes, segment_passes, sizes_of, is_size, is_discrete_size, numbers_pass, EachOfCells, EachOfNetworks, EachOfSegments, HasPanel, are_driven_once, coils_of, CheckedPlansFindAll}
+use Rattle.plant_types.specs.Network.{has_cell_place, is_within}
+use Rattle.plant_types.specs.Checks.{has_room, element_passes, cell_passes, cells_pass, shorts_pass, network_passes, segment_passes, sizes_of, is_size, is_discrete_size, numbers_pass, EachOfCells, EachOfNetworks, EachOfSegments, HasPanel, are_driven_once, coils_of, CheckedPlansFindAll}
 use Rattle.plant_types.proofs.SizesLemmas.{contains_key-cleared}
 
 -- no kind has more than 9984 references
@@ -77,7 +77,8 @@ discrete_found : (sizes : Sizes) (at : Ref) → is_discrete at.kind ≡ true →
 discrete_found sizes at kind room = (contains_key-cleared sizes at ∙ has_reference-first sizes at room, kind)
 
 -- registers with room are found
-registers_found : (sizes : Sizes) (at : Ref) (count : ℕ) → FitsKinds sizes → is_register at.kind ≡ true → has_run sizes at count ≡ true → HasRegisters (cleared sizes) at count
+registers_found : (sizes : Sizes) (at : Ref) (count : ℕ) → FitsKinds sizes → is_register at.kind ≡ true → has_run sizes at count ≡ true
+    → HasRegisters (cleared sizes) at count
 registers_found sizes at count fits kind room = record {
   kind = register_no_discrete at.kind kind;
   range =
@@ -111,7 +112,8 @@ abbrev AreAlone : List Named → Type 0
 AreAlone names = AllByRecursion (λ named. IsAlone named.kind named.count) names
 
 -- so is what an operand names
-as_alone : (name : Ref → Named) → ((at : Ref) → IsAlone (name at).kind (name at).count) → (operand : Operand) (rest : List Named) → AreAlone rest → AreAlone (named_as name operand ++ rest)
+as_alone : (name : Ref → Named) → ((at : Ref) → IsAlone (name at).kind (name at).count) → (operand : Operand) (rest : List Named)
+    → AreAlone rest → AreAlone (named_as name operand ++ rest)
 as_alone name alone (Const n) rest h = h
 as_alone name alone (At at) rest h = (alone at, h)
 
@@ -140,18 +142,21 @@ names_alone : (element : Element) → AreAlone (names_of element)
 names_alone element = named_alone (length_of element) (slots_of (name_of element)) (operands_of element)
 
 -- a discrete that is named alone, with room, is found
-discrete_alone : (sizes : Sizes) (at : Ref) (count : ℕ) → count ≡ 1 → is_discrete at.kind ≡ true → has_run sizes at count ≡ true → HasDiscrete (cleared sizes) at
+discrete_alone : (sizes : Sizes) (at : Ref) (count : ℕ) → count ≡ 1 → is_discrete at.kind ≡ true → has_run sizes at count ≡ true
+    → HasDiscrete (cleared sizes) at
 discrete_alone sizes at count alone kind room = discrete_found sizes at kind (ap (has_run sizes at) (sym alone) ∙ room)
 
 -- a named reference of the right kind, with room in the sizes, is found
-kind_found : (sizes : Sizes) (at : Ref) (count : ℕ) (kind : Kind) → FitsKinds sizes → IsAlone kind count → takes kind at.kind ≡ true → has_run sizes at count ≡ true → HasKind (cleared sizes) at count kind
+kind_found : (sizes : Sizes) (at : Ref) (count : ℕ) (kind : Kind) → FitsKinds sizes → IsAlone kind count → takes kind at.kind ≡ true
+    → has_run sizes at count ≡ true → HasKind (cleared sizes) at count kind
 kind_found sizes at count OnlyCoil fits alone kind room = discrete_alone sizes at count alone (discrete_from_coil at.kind kind) room
 kind_found sizes at count AnyDiscrete fits alone kind room = discrete_alone sizes at count alone kind room
 kind_found sizes at count AnyRegister fits alone kind room = registers_found sizes at count fits kind room
 kind_found sizes at count OnlyHolding fits alone kind room = registers_found sizes at count fits (register_from_holding at.kind kind) room
 
 -- a discrete that is found in all references is found among the discretes alone
-past_found : (sizes : Sizes) (at : Ref) (count : ℕ) (kind : Kind) → HasKind (cleared sizes) at count kind → HasDiscreteKind (cleared (discretes_of sizes)) at kind
+past_found : (sizes : Sizes) (at : Ref) (count : ℕ) (kind : Kind) → HasKind (cleared sizes) at count kind
+    → HasDiscreteKind (cleared (discretes_of sizes)) at kind
 past_found sizes at count OnlyCoil found = discretes_found sizes at found
 past_found sizes at count AnyDiscrete found = discretes_found sizes at found
 past_found sizes at count AnyRegister found = tt
@@ -168,7 +173,8 @@ names_found sizes (named ∷ names) fits alone kinds room =
     (kind_found sizes named.at named.count named.kind fits alone.0 kind.0 run.0, names_found sizes names fits alone.1 kind.1 run.1)
 
 -- and of the discretes among it
-pasts_found : (sizes : Sizes) (names : List Named) → AllByRecursion (HasNamed (cleared sizes)) names → AllByRecursion (λ (named : Named). HasDiscreteKind (cleared (discretes_of sizes)) named.at named.kind) names
+pasts_found : (sizes : Sizes) (names : List Named) → AllByRecursion (HasNamed (cleared sizes)) names
+    → AllByRecursion (λ (named : Named). HasDiscreteKind (cleared (discretes_of sizes)) named.at named.kind) names
 pasts_found sizes [] found = tt
 pasts_found sizes (named ∷ names) found = (past_found sizes named.at named.count named.kind found.0, pasts_found sizes names found.1)
 
@@ -185,27 +191,28 @@ element_finds sizes element fits passes =
     }
 
 -- an element that passes finds the discretes that it names as the scan before ended
-element_finds_past : (sizes : Sizes) (element : Element) → FitsKinds sizes → element_passes sizes element ≡ true → HasPast (cleared (discretes_of sizes)) element
+element_finds_past : (sizes : Sizes) (element : Element) → FitsKinds sizes → element_passes sizes element ≡ true
+    → HasPast (cleared (discretes_of sizes)) element
 element_finds_past sizes element fits passes = pasts_found sizes (names_of element) ((element_finds sizes element fits passes).references)
 
 -- what follows for each element that passes follows for all elements of cells, networks and segments that pass
 cells_such : (Such : Element → Type 0) (sizes : Sizes) → ((element : Element) → element_passes sizes element ≡ true → Such element)
-    → (earlier cells : List Cell) → cells_pass sizes earlier cells ≡ true → EachOfCells Such cells
-unfolding cells_pass
-cells_such Such sizes such earlier [] h = tt
-cells_such Such sizes such earlier (cell ∷ cells) h =
-    let parts = and_parts (cell_passes sizes earlier cell) _ h in
-    let shape = and_parts (has_cell_place cell && element_passes sizes cell.element) (has_shape earlier cell) parts.0 in
-    let element = and_parts (has_cell_place cell) (element_passes sizes cell.element) shape.0 in
-    (such cell.element element.1, cells_such Such sizes such (earlier ++ cell ∷ []) cells parts.1)
+    → (cells : List Cell) → list_all (cell_passes sizes) cells ≡ true → EachOfCells Such cells
+cells_such Such sizes such [] h = tt
+cells_such Such sizes such (cell ∷ cells) h =
+    let parts = and_parts (cell_passes sizes cell) _ h in
+    let within = and_parts (has_cell_place cell && element_passes sizes cell.element) (is_within cell) parts.0 in
+    let element = and_parts (has_cell_place cell) (element_passes sizes cell.element) within.0 in
+    (such cell.element element.1, cells_such Such sizes such cells parts.1)
 
 networks_such : (Such : Element → Type 0) (sizes : Sizes) → ((element : Element) → element_passes sizes element ≡ true → Such element)
     → (networks : List Network) → list_all (network_passes sizes) networks ≡ true → EachOfNetworks Such networks
 networks_such Such sizes such [] h = tt
 networks_such Such sizes such (network ∷ networks) h =
     let parts = and_parts (network_passes sizes network) _ h in
-    let cells = and_parts (cells_pass sizes [] network.cells) (shorts_pass [] network.shorts) parts.0 in
-    (cells_such Such sizes such [] network.cells cells.0, networks_such Such sizes such networks parts.1)
+    let cells = and_parts (cells_pass sizes network.cells) (shorts_pass network.shorts) parts.0 in
+    let each = and_parts (list_all (cell_passes sizes) network.cells) _ cells.0 in
+    (cells_such Such sizes such network.cells each.0, networks_such Such sizes such networks parts.1)
 
 segments_such : (Such : Element → Type 0) (sizes : Sizes) → ((element : Element) → element_passes sizes element ≡ true → Such element)
     → (segments : List Segment) → list_all (segment_passes sizes) segments ≡ true → EachOfSegments Such segments
@@ -241,7 +248,7 @@ checked-find_all plan h =
     let sizes = sizes_of plan in
     let numbers = and_parts (numbers_pass plan) _ h in
     let segments = and_parts (list_all (segment_passes sizes) plan.segments) _ numbers.1 in
-    let panel = and_parts (are_driven_once [] (coils_of plan)) (list_all (has_reference sizes) plan.panel) segments.1 in
+    let panel = and_parts (are_driven_once (coils_of plan)) (list_all (has_reference sizes) plan.panel) segments.1 in
     let fits = sizes_fit plan numbers.0 in
     record {
       operands = segments_such (HasOperands (cleared sizes)) sizes (λ element. element_finds sizes element fits) plan.segments segments.0;

@@ -20,7 +20,8 @@ use Rattle.plant_types.specs.Sizes.{zeros}
 pub exact_refs : CmpEqualImpliesEq ref_cmp
 exact_refs a b h =
     sym (ref_again a)
-    ∙ ap (λ (p : ℕ × ℕ). record { kind = kind_at p.0; number = p.1 }) (exact_pairs nat_cmp nat_cmp exact_unsigned exact_unsigned (rank_of a.kind, a.number) (rank_of b.kind, b.number) h)
+    ∙ ap (λ (p : ℕ × ℕ). record { kind = kind_at p.0; number = p.1 })
+    (exact_pairs nat_cmp nat_cmp exact_unsigned exact_unsigned (rank_of a.kind, a.number) (rank_of b.kind, b.number) h)
     ∙ ref_again b
 
 pub refs_total : IsTotalOrder ref_cmp
@@ -65,23 +66,28 @@ pub get_ref : (es : List (Ref × ℕ)) (q : Ref) → get (from_entries {R = ref_
 get_ref es q = get-from_entries refs_total es q ∙ find_ref es q
 
 -- entries that differ at one reference make maps that differ there
-pub one_set : (es fs : List (Ref × ℕ)) (s : Ref) (n : ℕ) → ((q : Ref) → found_at fs q ≡ cond (is_at (ref_cmp s) q) (Some n) (found_at es q)) → from_entries {R = ref_cmp} fs ≡ insert (from_entries es) s n
+pub one_set : (es fs : List (Ref × ℕ)) (s : Ref) (n : ℕ) → ((q : Ref) → found_at fs q ≡ cond (is_at (ref_cmp s) q) (Some n) (found_at es q))
+    → from_entries {R = ref_cmp} fs ≡ insert (from_entries es) s n
 one_set es fs s n h = same_map refs_total exact_refs _ _ (λ q.
     get_ref fs q ∙ h q ∙ ap (λ b. cond b (Some n) (found_at es q)) ((eq_by_cmp_equiv refs_total).symm s q)
     ∙ sym (get-insert refs_total (from_entries es) s n q ∙ ap (cond (is_at (ref_cmp q) s) (Some n)) (get_ref es q)))
 
 -- the same of the order that the derive makes
-pub one_written : (es fs : List (Ref × ℕ)) (s : Ref) (n : ℕ) → ((q : Ref) → lookup (is_at (derived.cmp-value.it q)) fs ≡ cond (is_at (derived.cmp-value.it s) q) (Some n) (lookup (is_at (derived.cmp-value.it q)) es)) → from_entries {R = ref_cmp} fs ≡ insert (from_entries es) s n
+pub one_written : (es fs : List (Ref × ℕ)) (s : Ref) (n : ℕ) → ((q : Ref)
+    → lookup (is_at (derived.cmp-value.it q)) fs ≡ cond (is_at (derived.cmp-value.it s) q) (Some n)
+    (lookup (is_at (derived.cmp-value.it q)) es)) → from_entries {R = ref_cmp} fs ≡ insert (from_entries es) s n
 one_written es fs s n h = one_set es fs s n (λ q.
     sym (found_by_code fs q) ∙ h q
     ∙ ap (λ o. cond (is_eq o) (Some n) (lookup (is_at (derived.cmp-value.it q)) es)) (derived_refs s q)
     ∙ ap (cond (is_at (ref_cmp s) q) (Some n)) (found_by_code es q))
 
 -- more entries on top of two lists that make one map
-pub from_entries-under : (xs a b : List (Ref × ℕ)) → from_entries {R = ref_cmp} a ≡ from_entries b → from_entries {R = ref_cmp} (xs ++ a) ≡ from_entries (xs ++ b)
+pub from_entries-under : (xs a b : List (Ref × ℕ)) → from_entries {R = ref_cmp} a ≡ from_entries b
+    → from_entries {R = ref_cmp} (xs ++ a) ≡ from_entries (xs ++ b)
 from_entries-under [] a b e = e
 from_entries-under (x ∷ xs) a b e = ap (λ m. insert m x.0 x.1) (from_entries-under xs a b e)
 
 -- the next reference of a kind
-pub zeros-next : (kind : RefKind) (n : ℕ) (rest : List (Ref × ℕ)) → insert (from_entries {R = ref_cmp} (zeros kind n ++ rest)) (record { kind = kind; number = n + 1 }) 0 ≡ from_entries (zeros kind (n + 1) ++ rest)
+pub zeros-next : (kind : RefKind) (n : ℕ) (rest : List (Ref × ℕ))
+    → insert (from_entries {R = ref_cmp} (zeros kind n ++ rest)) (record { kind = kind; number = n + 1 }) 0 ≡ from_entries (zeros kind (n + 1) ++ rest)
 zeros-next kind n rest = rw add-one refl

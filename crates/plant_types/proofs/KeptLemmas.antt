@@ -18,18 +18,23 @@ all_follow P Q each [] all = tt
 all_follow P Q each (x ∷ xs) all = (each x all.0, all_follow P Q each xs all.1)
 
 -- the same of the elements of cells
-pub EachOfCells-follow : (P Q : Element → Type 0) → ((element : Element) → P element → Q element) → (cells : List Cell) → EachOfCells P cells → EachOfCells Q cells
+pub EachOfCells-follow : (P Q : Element → Type 0) → ((element : Element) → P element → Q element) → (cells : List Cell)
+    → EachOfCells P cells → EachOfCells Q cells
 EachOfCells-follow P Q each cells = all_follow (λ (cell : Cell). P cell.element) (λ cell. Q cell.element) (λ cell. each cell.element) cells
 
 -- the same of networks
-pub EachOfNetworks-follow : (P Q : Element → Type 0) → ((element : Element) → P element → Q element) → (networks : List Network) → EachOfNetworks P networks → EachOfNetworks Q networks
+pub EachOfNetworks-follow : (P Q : Element → Type 0) → ((element : Element) → P element → Q element) → (networks : List Network)
+    → EachOfNetworks P networks → EachOfNetworks Q networks
 EachOfNetworks-follow P Q each networks =
-    all_follow (λ (network : Network). EachOfCells P network.cells) (λ network. EachOfCells Q network.cells) (λ network. EachOfCells-follow P Q each network.cells) networks
+    all_follow (λ (network : Network). EachOfCells P network.cells) (λ network. EachOfCells Q network.cells)
+    (λ network. EachOfCells-follow P Q each network.cells) networks
 
 -- the same of segments: whatever follows for each element follows for all
-pub EachOfSegments-follow : (P Q : Element → Type 0) → ((element : Element) → P element → Q element) → (segments : List Segment) → EachOfSegments P segments → EachOfSegments Q segments
+pub EachOfSegments-follow : (P Q : Element → Type 0) → ((element : Element) → P element → Q element) → (segments : List Segment)
+    → EachOfSegments P segments → EachOfSegments Q segments
 EachOfSegments-follow P Q each segments =
-    all_follow (λ (segment : Segment). EachOfNetworks P segment.networks) (λ segment. EachOfNetworks Q segment.networks) (λ segment. EachOfNetworks-follow P Q each segment.networks) segments
+    all_follow (λ (segment : Segment). EachOfNetworks P segment.networks) (λ segment. EachOfNetworks Q segment.networks)
+    (λ segment. EachOfNetworks-follow P Q each segment.networks) segments
 
 -- a discrete that stood still stands
 pub HasDiscrete-kept : (m n : Contents) (at : Ref) → Keeps m n → HasDiscrete m at → HasDiscrete n at
@@ -60,7 +65,8 @@ HasOperands-kept m n element keeps has = record {
 -- what an element asks of the discretes as the scan before ended
 pub HasPast-kept : (m n : Contents) (element : Element) → Keeps m n → HasPast m element → HasPast n element
 HasPast-kept m n element keeps has =
-    all_follow (λ (named : Named). HasDiscreteKind m named.at named.kind) (λ named. HasDiscreteKind n named.at named.kind) (λ named. HasDiscreteKind-kept m n named.at named.kind keeps) (names_of element) has
+    all_follow (λ (named : Named). HasDiscreteKind m named.at named.kind) (λ named. HasDiscreteKind n named.at named.kind)
+    (λ named. HasDiscreteKind-kept m n named.at named.kind keeps) (names_of element) has
 
 -- what a panel asks of a store
 pub HasPanel-kept : (m n : Contents) (panel : List Ref) → Keeps m n → HasPanel m panel → HasPanel n panel

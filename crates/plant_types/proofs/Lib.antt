@@ -5,3 +5,10 @@ pub mod ChecksLemmas
 pub mod PartLemmas
 pub mod KeptLemmas
 pub mod DiscretesLemmas
+pub mod PairsLemmas
+pub mod SlotLemmas
+pub mod FaultLemmas
+pub mod GridLemmas
+pub mod StandingLemmas
+pub mod PlanLemmas
+pub mod PassingLemmas

@@ -98,7 +98,8 @@ has_discrete : (sizes : Sizes) (m : Contents) (q : Ref) → Keeps (cleared sizes
 has_discrete sizes m q keeps h = keeps q (contains_key-cleared sizes q ∙ has_reference-discrete sizes q.kind q.number h)
 
 -- and its discretes are those of the sizes
-contains_key-discretes : (sizes : Sizes) (m : Contents) (q : Ref) → Keeps (cleared sizes) m → contains_key (discretes sizes m) q ≡ has_reference (discretes_of sizes) q
+contains_key-discretes : (sizes : Sizes) (m : Contents) (q : Ref) → Keeps (cleared sizes) m
+    → contains_key (discretes sizes m) q ≡ has_reference (discretes_of sizes) q
 contains_key-discretes sizes m q keeps =
     ap is_some (get-discretes sizes m q) ∙ held_or (has_reference (discretes_of sizes) q) (get m q) (has_discrete sizes m q keeps)
 
@@ -125,6 +126,7 @@ discretes-follow = record {
       get-part_at (discretes sizes m) n q
       ∙ ap (λ b. cond b (get n q) None) (contains_key-discretes sizes m q keeps)
       ∙ sym (get-discretes sizes n q));
-  held = λ sizes m n keeps q h. has_discrete sizes n q keeps (asked (has_reference (discretes_of sizes) q) (get m q) (ap is_some (sym (get-discretes sizes m q)) ∙ h));
+  held = λ sizes m n keeps q h. has_discrete sizes n q keeps (asked (has_reference (discretes_of sizes) q) (get m q)
+      (ap is_some (sym (get-discretes sizes m q)) ∙ h));
   kept = λ sizes m keeps q h. contains_key-discretes sizes m q keeps ∙ sym (contains_key-cleared (discretes_of sizes) q) ∙ h;
 }

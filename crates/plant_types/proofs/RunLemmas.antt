@@ -1,5 +1,5 @@
 -- Runs of registers: what stands in one, and what a store of words into one leaves.
-use Rattle.std.proofs.Common.{◌≡◌, ◌≢◌, ℕ, zero, suc, ◌+◌, ◌<◌, ◌≤◌, Bool, true, false, cond, List, [], ◌∷◌, ◌++◌, length, get_or, Option, Some, is_some, unwrap_or, refl, sym, ap, ◌∙◌, arith}
+use Rattle.std.proofs.Common.{◌≡◌, ◌≢◌, ℕ, zero, suc, ◌+◌, ◌<◌, ◌≤◌, Bool, true, false, cond, List, [], ◌∷◌, ◌++◌, length, get_or, Option, Some, is_some, refl, sym, ap, ◌∙◌, arith}
 use Rattle.std.specs.Ordering.{is_eq, eq_by_cmp}
 use Rattle.std.specs.declared.cmp.Ordering.{Ordering}
 use Rattle.std.specs.declared.cmp.Ordering.TheVariants.{Less, Equal, Greater}
@@ -40,7 +40,8 @@ get_or-words_from m at (suc n) zero d h = ap (word_at m) (sym (ref_from-zero at)
 get_or-words_from m at (suc n) (suc k) d h = get_or-words_from m (ref_from at 1) n k d (omega arith) ∙ ap (word_at m) (one_and at k)
 
 -- a list that has each register's word at its place is the run
-pub words_from-by_place : (m : Contents) (at : Ref) (n : ℕ) (xs : List ℕ) → length xs ≡ n → ((k : ℕ) → k < n → get_or xs k 0 ≡ word_at m (ref_from at k)) → xs ≡ words_from m at n
+pub words_from-by_place : (m : Contents) (at : Ref) (n : ℕ) (xs : List ℕ) → length xs ≡ n
+    → ((k : ℕ) → k < n → get_or xs k 0 ≡ word_at m (ref_from at k)) → xs ≡ words_from m at n
 words_from-by_place m at n xs e h =
     ext_get_or 0 xs (words_from m at n) (e ∙ sym (length-words_from m at n))
     (λ k b. let l : k < n = omega arith in h k l ∙ sym (get_or-words_from m at n k 0 l))
@@ -61,7 +62,8 @@ words_from-append m at (suc a) b =
 pub with_words-append : (m : Contents) (at : Ref) (xs ys : List ℕ) → with_words m at (xs ++ ys) ≡ with_words (with_words m at xs) (ref_from at (length xs)) ys
 unfolding with_words
 with_words-append m at [] ys = ap (λ r. with_words m r ys) (sym (ref_from-zero at))
-with_words-append m at (x ∷ xs) ys = with_words-append (insert m at x) (ref_from at 1) xs ys ∙ ap (λ r. with_words (with_words (insert m at x) (ref_from at 1) xs) r ys) (one_and at (length xs))
+with_words-append m at (x ∷ xs) ys = with_words-append (insert m at x) (ref_from at 1) xs ys
+    ∙ ap (λ r. with_words (with_words (insert m at x) (ref_from at 1) xs) r ys) (one_and at (length xs))
 
 -- one more word stored behind the others
 pub with_words-push : (m : Contents) (at : Ref) (xs : List ℕ) (x : ℕ) → with_words m at (xs ++ x ∷ []) ≡ insert (with_words m at xs) (ref_from at (length xs)) x
@@ -89,7 +91,8 @@ get-insert_same m at value =
     get-insert refs_total m at value at ∙ ap (λ o. cond (is_eq o) (Some value) (get m at)) (tied_itself refs_total at)
 
 -- words stored in a run leave every reference outside of it
-pub get-with_words_other : (m : Contents) (at : Ref) (xs : List ℕ) (q : Ref) → ((i : ℕ) → i < length xs → ref_from at i ≢ q) → get (with_words m at xs) q ≡ get m q
+pub get-with_words_other : (m : Contents) (at : Ref) (xs : List ℕ) (q : Ref) → ((i : ℕ) → i < length xs → ref_from at i ≢ q)
+    → get (with_words m at xs) q ≡ get m q
 unfolding with_words
 get-with_words_other m at [] q apart = refl
 get-with_words_other m at (x ∷ xs) q apart =
@@ -101,7 +104,8 @@ pub get-with_words_at : (m : Contents) (at : Ref) (xs : List ℕ) (i d : ℕ) �
 unfolding with_words
 get-with_words_at m at [] i d h = absurd (omega arith)
 get-with_words_at m at (x ∷ xs) zero d h =
-    get-with_words_other (insert m at x) (ref_from at 1) xs (ref_from at 0) (λ i l e. ref_from-apart at (suc i) 0 (λ n. absurd (omega arith)) (sym (one_and at i) ∙ e))
+    get-with_words_other (insert m at x) (ref_from at 1) xs (ref_from at 0)
+    (λ i l e. ref_from-apart at (suc i) 0 (λ n. absurd (omega arith)) (sym (one_and at i) ∙ e))
     ∙ ap (get (insert m at x)) (ref_from-zero at) ∙ get-insert_same m at x
 get-with_words_at m at (x ∷ xs) (suc i) d h =
     ap (get (with_words (insert m at x) (ref_from at 1) xs)) (sym (one_and at i))

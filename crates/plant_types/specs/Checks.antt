@@ -1,5 +1,5 @@
 -- The tests that a controller's cells, shorts and panel pass before they are solved or shown.
-use Rattle.std.specs.Prelude.{◌≡◌, ℕ, ◌%◌, Bool, true, ◌&&◌, ◌==◌, not, nat_le, List, [], ◌∷◌, ◌++◌}
+use Rattle.std.specs.Prelude.{◌≡◌, ℕ, ◌%◌, Bool, true, ◌&&◌, ◌==◌, not, nat_le, List}
 use Rattle.std.specs.List.{list_any, list_all, filter_map, flat_map, AllByRecursion}
 use Rattle.std.specs.FinMap.{contains_key}
 use Rattle.plant_types.specs.declared.reference.Ref.{Ref}
@@ -12,7 +12,10 @@ use Rattle.plant_types.specs.declared.plan.ControllerPlan.{ControllerPlan}
 use Rattle.plant_types.specs.Reference.{rank_of, most_references}
 use Rattle.plant_types.specs.Sizes.{Sizes, has_reference, has_run, discretes_of, cleared}
 use Rattle.plant_types.specs.Store.{Contents, Keeps}
-use Rattle.plant_types.specs.Operands.{names_of, has_form, has_values, has_kinds, HasOperands, HasPast}
+use Rattle.plant_types.specs.Pairs.{no_two}
+use Rattle.plant_types.specs.declared.element.Operand.{Operand}
+use Rattle.plant_types.specs.declared.slot.Slot.{Slot}
+use Rattle.plant_types.specs.Operands.{Named, named_at, names_of, has_form, has_values, has_kinds, HasOperands, HasPast}
 use Rattle.plant_types.specs.Network.{driven_by, has_cell_place, has_short_place, is_within, clashes, same_short}
 
 -- An element's references stand in a map of these sizes, with all that it uses from them on.
@@ -20,8 +23,18 @@ use Rattle.plant_types.specs.Network.{driven_by, has_cell_place, has_short_place
 abbrev pub has_room : Sizes → Element → Bool
 has_room sizes element = list_all (λ named. has_run sizes named.at named.count) (names_of element)
 
--- A cell stands at a place of the grid, within it, clear of the earlier cells of its network.
--- Modicon Ladder Logic Block Library User Guide.
+-- Each of these references stands in a map of these sizes, with all that is used from it on. This
+-- project's own.
+abbrev pub have_room : Sizes → List Named → Bool
+have_room sizes names = list_all (λ named. has_run sizes named.at named.count) names
+
+-- So it is with what an operand names in its slot, where the length operand is this. This
+-- project's own.
+abbrev pub has_room_at : Sizes → ℕ → Slot × Operand → Bool
+has_room_at sizes length at = have_room sizes (named_at length at.0 at.1)
+
+-- A cell stands within the seven rows, clear of the cells before it in its network. Modicon Ladder
+-- Logic Block Library User Guide.
 abbrev pub has_shape : List Cell → Cell → Bool
 has_shape earlier cell = is_within cell && not (list_any (clashes cell) earlier)
 
@@ -31,30 +44,24 @@ abbrev pub element_passes : Sizes → Element → Bool
 element_passes sizes element =
     has_form element && has_values element && has_kinds element && has_room sizes element
 
--- A cell passes: its place, its element and its shape. This project's own tests.
-abbrev pub cell_passes : Sizes → List Cell → Cell → Bool
-cell_passes sizes earlier cell =
-    has_cell_place cell && element_passes sizes cell.element && has_shape earlier cell
+-- A cell passes: it stands at a place of the grid and within it, and its element passes. This
+-- project's own tests.
+abbrev pub cell_passes : Sizes → Cell → Bool
+cell_passes sizes cell =
+    has_cell_place cell && element_passes sizes cell.element && is_within cell
 
--- Each cell passes behind those before it. This project's own tests.
-unfoldable pub cells_pass : Sizes → List Cell → List Cell → Bool
-cells_pass sizes earlier [] = true
-cells_pass sizes earlier (cell ∷ cells) =
-    cell_passes sizes earlier cell && cells_pass sizes (earlier ++ cell ∷ []) cells
+-- The cells of a network pass: each does, and no two clash. This project's own tests.
+abbrev pub cells_pass : Sizes → List Cell → Bool
+cells_pass sizes cells = list_all (cell_passes sizes) cells && no_two clashes cells
 
--- A short passes: its place, and no earlier one is the same. This project's own tests.
-abbrev pub short_passes : List Short → Short → Bool
-short_passes earlier short = has_short_place short && not (list_any (same_short short) earlier)
-
--- Each short passes behind those before it. This project's own tests.
-unfoldable pub shorts_pass : List Short → List Short → Bool
-shorts_pass earlier [] = true
-shorts_pass earlier (short ∷ shorts) =
-    short_passes earlier short && shorts_pass (earlier ++ short ∷ []) shorts
+-- The shorts of a network pass: each has its place, and no two are the same. This project's own
+-- tests.
+abbrev pub shorts_pass : List Short → Bool
+shorts_pass shorts = list_all has_short_place shorts && no_two same_short shorts
 
 -- A network passes: its cells and its shorts. This project's own tests.
 abbrev pub network_passes : Sizes → Network → Bool
-network_passes sizes network = cells_pass sizes [] network.cells && shorts_pass [] network.shorts
+network_passes sizes network = cells_pass sizes network.cells && shorts_pass network.shorts
 
 -- A segment passes: each of its networks does. This project's own tests.
 abbrev pub segment_passes : Sizes → Segment → Bool
@@ -75,17 +82,20 @@ coils_of plan = flat_map coils_of_segment plan.segments
 abbrev pub is_same : Ref → Ref → Bool
 is_same one other = (rank_of one.kind == rank_of other.kind) && (one.number == other.number)
 
--- No coil is driven that an earlier one is: a coil is driven at most once. Modicon Ladder Logic
--- Block Library User Guide.
-unfoldable pub are_driven_once : List Ref → List Ref → Bool
-are_driven_once earlier [] = true
-are_driven_once earlier (coil ∷ coils) =
-    not (list_any (is_same coil) earlier) && are_driven_once (earlier ++ coil ∷ []) coils
+-- No two of these coils are one: each is driven at most once. Modicon Ladder Logic Block Library
+-- User Guide.
+abbrev pub are_driven_once : List Ref → Bool
+are_driven_once coils = no_two is_same coils
 
 -- How many references of each kind a controller has. This project's own.
 abbrev pub sizes_of : ControllerPlan → Sizes
 sizes_of plan =
-    record { coils = plan.coils; inputs = plan.inputs; input_registers = plan.input_registers; registers = plan.registers }
+    record {
+      coils = plan.coils;
+      inputs = plan.inputs;
+      input_registers = plan.input_registers;
+      registers = plan.registers;
+    }
 
 -- A number of references, and one of discretes, which come in sixteens. This project's own.
 abbrev pub is_size : ℕ → Bool
@@ -99,14 +109,16 @@ is_discrete_size count = is_size count && (count % 16 == 0)
 abbrev pub numbers_pass : ControllerPlan → Bool
 numbers_pass plan =
     (nat_le 1 plan.node && nat_le plan.node 64)
-    && (is_discrete_size plan.coils && (is_discrete_size plan.inputs && (is_size plan.input_registers && is_size plan.registers)))
+    && (is_discrete_size plan.coils && (is_discrete_size plan.inputs
+    && (is_size plan.input_registers && is_size plan.registers)))
 
 -- A controller passes: its numbers, its segments, its coils, and each reference of its panel
 -- stands in its map. This project's own tests.
 abbrev pub passes_check : ControllerPlan → Bool
 passes_check plan =
     numbers_pass plan
-    && (list_all (segment_passes (sizes_of plan)) plan.segments && (are_driven_once [] (coils_of plan) && list_all (has_reference (sizes_of plan)) plan.panel))
+    && (list_all (segment_passes (sizes_of plan)) plan.segments
+    && (are_driven_once (coils_of plan) && list_all (has_reference (sizes_of plan)) plan.panel))
 
 -- Each element of these cells, networks or segments is such. This project's own.
 abbrev pub EachOfCells : (Element → Type 0) → List Cell → Type 0

@@ -1,7 +1,8 @@
 -- Discretes of a store one after another, and the bits of words.
-use Rattle.std.specs.Prelude.{ℕ, zero, suc, Bool, ◌==◌, nat_lt, if◌then◌else◌, List, [], ◌∷◌, map}
+use Rattle.std.specs.Prelude.{ℕ, zero, suc, ◌+◌, ◌*◌, Bool, ◌==◌, nat_lt, if◌then◌else◌, List, [], ◌∷◌, map, fold}
 use Rattle.std.specs.Int.{bit_at}
 use Rattle.plant_types.specs.declared.reference.Ref.{Ref}
+use Rattle.plant_types.specs.Power.{bit_of}
 use Rattle.plant_types.specs.Store.{Contents, words_from, with_words}
 
 -- Whether so many discretes from one on are on. This project's own.
@@ -24,3 +25,7 @@ bits_high_first (suc count) n = (bit_at n count == 1) ∷ bits_high_first count 
 -- The 16 bits of a word, the highest first. This project's own.
 abbrev pub word_bits : ℕ → List Bool
 word_bits word = bits_high_first 16 word
+
+-- The number that has these bits, the highest first. This project's own.
+abbrev pub number_of_bits : List Bool → ℕ
+number_of_bits bits = fold (λ n on. 2 * n + bit_of on) 0 bits

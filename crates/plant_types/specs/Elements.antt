@@ -97,7 +97,8 @@ numbers_and_low _ = None
 -- table of operands.
 abbrev pub table_operands : List Operand → Option (Operand × Ref × ℕ)
 table_operands (top ∷ mid ∷ length ∷ []) =
-    option_and_then (λ mid. option_map (λ length. (top, mid, length)) (constant_in length)) (reference_in mid)
+    option_and_then (λ mid. option_map (λ length. (top, mid, length)) (constant_in length))
+    (reference_in mid)
 table_operands _ = None
 
 -- The element of a name and operands. This project's own table of operands.
@@ -117,7 +118,8 @@ element_of (names.Counter up) operands =
 element_of (names.Math op) operands =
     option_map (λ o. Math op o.0 o.1 o.2) (numbers_and_low operands)
 element_of (names.Move op) operands =
-    option_and_then (λ o. option_map (λ top. Move op top o.1 o.2) (reference_in o.0)) (table_operands operands)
+    option_and_then (λ o. option_map (λ top. Move op top o.1 o.2) (reference_in o.0))
+    (table_operands operands)
 element_of (names.Matrix op) operands =
     option_map (λ o. Matrix op o.0 o.1 o.2) (table_operands operands)
 element_of names.Skip operands = option_map Skip (one_operand operands)
@@ -125,4 +127,5 @@ element_of names.Call operands = option_map Call (one_operand operands)
 element_of names.Label operands =
     option_map Label (option_and_then constant_in (one_operand operands))
 element_of names.Mstr operands =
-    option_and_then (λ o. option_map (λ control. Mstr control o.1 o.2) (reference_in o.0)) (table_operands operands)
+    option_and_then (λ o. option_map (λ control. Mstr control o.1 o.2) (reference_in o.0))
+    (table_operands operands)

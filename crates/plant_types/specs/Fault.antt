@@ -1,5 +1,5 @@
 -- The texts of faults and of places.
-use Rattle.std.specs.Prelude.{codes, ℕ, List, ◌++◌, slice_index_or}
+use Rattle.std.specs.Prelude.{codes, ℕ, List, [], ◌∷◌, ◌++◌, Result, Ok, Err, slice_index_or}
 use Rattle.std.specs.Fmt.{decimal}
 use Rattle.plant_types.specs.declared.fault.PlantFault.{PlantFault}
 use Rattle.plant_types.specs.declared.fault.PlantFault.TheVariants as faults
@@ -70,4 +70,31 @@ number_at place index = slice_index_or place.at index 0
 
 abbrev pub place_text : Place → List ℕ
 place_text place =
-    text_of place.part (number_at place 0) (number_at place 1) (number_at place 2) (number_at place 3)
+    text_of place.part (number_at place 0) (number_at place 1) (number_at place 2)
+    (number_at place 3)
+
+-- The table of a controller, one of its segments, a piece of a network of a segment, an order row
+-- and a panel reference. This project's own.
+abbrev pub controller_place : ℕ → Place
+controller_place controller = record { part = parts.Controller; at = controller ∷ 0 ∷ 0 ∷ 0 ∷ [] }
+
+abbrev pub segment_place : ℕ → ℕ → Place
+segment_place controller segment =
+    record { part = parts.Segment; at = controller ∷ segment ∷ 0 ∷ 0 ∷ [] }
+
+abbrev pub cell_place : ℕ → ℕ → ℕ → ℕ → Place
+cell_place controller segment network cell =
+    record { part = parts.Cell; at = controller ∷ segment ∷ network ∷ cell ∷ [] }
+
+abbrev pub order_place : ℕ → ℕ → Place
+order_place controller order =
+    record { part = parts.Order; at = controller ∷ order ∷ 0 ∷ 0 ∷ [] }
+
+abbrev pub panel_place : ℕ → ℕ → Place
+panel_place controller reference =
+    record { part = parts.Panel; at = controller ∷ reference ∷ 0 ∷ 0 ∷ [] }
+
+-- A fault comes at a place. This project's own.
+abbrev pub at_place : {A : Type 0} → Place → Result A PlantFault → Result A (PlantFault × Place)
+at_place place (Ok x) = Ok x
+at_place place (Err fault) = Err (fault, place)

@@ -10,7 +10,13 @@ pub mod Slots
 pub mod Elements
 pub mod Operands
 pub mod Network
+pub mod Pairs
 pub mod Checks
+pub mod Grid
+pub mod FirstFault
+pub mod Standing
+pub mod PlanTests
+pub mod Passing
 pub mod Effect
 pub mod Plain
 pub mod Discretes

@@ -31,7 +31,8 @@ ref_again at i = record { kind = kind_again at.kind i; number = at.number }
 -- References as pairs of numbers. This project's own.
 abbrev pub coded_ref : Coded Ref
 coded_ref =
-    code_by (ℕ × ℕ) (coded× coded_ℕ coded_ℕ) (λ r. (rank_of r.kind, r.number)) (λ p. record { kind = kind_at p.0; number = p.1 }) ref_again
+    code_by (ℕ × ℕ) (coded× coded_ℕ coded_ℕ) (λ r. (rank_of r.kind, r.number))
+    (λ p. record { kind = kind_at p.0; number = p.1 }) ref_again
 
 -- Contents as lists of numbers. This project's own.
 abbrev pub coded_contents : Coded Contents

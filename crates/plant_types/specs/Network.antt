@@ -64,7 +64,8 @@ is_within cell = nat_le (cell.row + node_count cell.element) 8
 abbrev pub overlaps : Cell → Cell → Bool
 overlaps one other =
     (one.column == other.column)
-    && (nat_lt one.row (other.row + node_count other.element) && nat_lt other.row (one.row + node_count one.element))
+    && (nat_lt one.row (other.row + node_count other.element)
+    && nat_lt other.row (one.row + node_count one.element))
 
 -- A node of a cell stands to the right of a coil in its row. Modicon Ladder Logic Block Library
 -- User Guide.

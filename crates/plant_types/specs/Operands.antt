@@ -1,5 +1,5 @@
 -- The operands of the elements: the references that each names, and its constants.
-use Rattle.std.specs.Prelude.{◌≡◌, ℕ, ◌+◌, Bool, true, false, ◌&&◌, nat_le, List, [], ◌∷◌, ◌++◌}
+use Rattle.std.specs.Prelude.{◌≡◌, ℕ, Bool, true, false, ◌&&◌, nat_le, List, [], ◌∷◌, ◌++◌}
 use Rattle.std.specs.List.{list_all, AllByRecursion}
 use lib.Pointwise.{pointwise}
 use Rattle.plant_types.specs.declared.reference.Ref.{Ref}
@@ -157,3 +157,12 @@ HasDiscreteKind m at OnlyHolding = Unit {0}
 abbrev pub HasPast : Contents → Element → Type 0
 HasPast m element =
     AllByRecursion (λ named. HasDiscreteKind m named.at named.kind) (names_of element)
+
+-- These references are of the kinds that they have to be. This project's own table of operands.
+abbrev pub have_kinds : List Named → Bool
+have_kinds names = list_all (λ named. takes named.kind named.at.kind) names
+
+-- So it is with what an operand names in its slot, where the length operand is this. This
+-- project's own table of operands.
+abbrev pub has_kinds_at : ℕ → Slot × Operand → Bool
+has_kinds_at length at = have_kinds (named_at length at.0 at.1)

@@ -4,14 +4,12 @@ use Rattle.std.specs.FinMap.{get, from_entries, retain_keys}
 use Rattle.plant_types.specs.declared.reference.RefKind.{RefKind}
 use Rattle.plant_types.specs.declared.reference.RefKind.TheVariants.{Coil, Input, InputRegister, Register}
 use Rattle.plant_types.specs.declared.reference.Ref.{Ref}
+use Rattle.plant_types.specs.declared.sizes.Sizes as declared
 use Rattle.plant_types.specs.Store.{Contents, Keeps, part_at}
 
 -- How many references of each kind there are. This project's own.
-pub record Sizes : Type 0 where
-  pub coils : ℕ
-  pub inputs : ℕ
-  pub input_registers : ℕ
-  pub registers : ℕ
+abbrev pub Sizes : Type 0
+Sizes = declared.Sizes
 
 -- How many of a kind there are. This project's own.
 abbrev pub count_of : Sizes → RefKind → ℕ
@@ -41,7 +39,8 @@ zeros kind (suc count) = (record { kind = kind; number = suc count }, 0) ∷ zer
 -- All references of a map of these sizes, each 0. This project's own.
 abbrev pub cleared : Sizes → Contents
 cleared sizes =
-    from_entries (zeros Coil sizes.coils ++ (zeros Input sizes.inputs ++ (zeros InputRegister sizes.input_registers ++ zeros Register sizes.registers)))
+    from_entries (zeros Coil sizes.coils ++ (zeros Input sizes.inputs
+    ++ (zeros InputRegister sizes.input_registers ++ zeros Register sizes.registers)))
 
 -- A store when it starts has the references of its sizes, each 0, and no others. This project's
 -- own.

@@ -19,4 +19,5 @@ are_shorted shorts column row (suc pairs) =
 -- Logic Block Library User Guide.
 abbrev pub is_joined : List Short → ℕ → ℕ → ℕ → Bool
 is_joined shorts column one other =
-    if nat_le one other then are_shorted shorts column one (other - one) else are_shorted shorts column other (one - other)
+    if nat_le one other then are_shorted shorts column one
+    (other - one) else are_shorted shorts column other (one - other)

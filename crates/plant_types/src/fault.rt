@@ -1,6 +1,6 @@
 //! Why a plant file is refused, and where.
 ghost use Rattle.std.specs.Prelude.{◌≡◌, Some};
-ghost use Rattle.plant_types.specs.Fault.{fault_number, fault_name, fault_text, place_text};
+ghost use Rattle.plant_types.specs.Fault.{fault_number, fault_name, fault_text, place_text, controller_place, segment_place, cell_place, order_place, panel_place, at_place};
 
 use std::fmt;
 
@@ -123,6 +123,66 @@ impl Place {
         part: Part::Plant,
         at: [0; 4],
     };
+
+    /// The table of a controller.
+    pub fn controller(controller: u32) -> Place
+        ensures { result ≡ controller_place controller }
+    {
+        Place {
+            part: Part::Controller,
+            at: [controller, 0, 0, 0],
+        }
+    }
+
+    /// The table of a segment.
+    pub fn segment(controller: u32, segment: u32) -> Place
+        ensures { result ≡ segment_place controller segment }
+    {
+        Place {
+            part: Part::Segment,
+            at: [controller, segment, 0, 0],
+        }
+    }
+
+    /// A piece of a network of a segment.
+    pub fn cell(controller: u32, segment: u32, network: u32, cell: u32) -> Place
+        ensures { result ≡ cell_place controller segment network cell }
+    {
+        Place {
+            part: Part::Cell,
+            at: [controller, segment, network, cell],
+        }
+    }
+
+    /// An order row.
+    pub fn order(controller: u32, order: u32) -> Place
+        ensures { result ≡ order_place controller order }
+    {
+        Place {
+            part: Part::Order,
+            at: [controller, order, 0, 0],
+        }
+    }
+
+    /// A panel reference.
+    pub fn panel(controller: u32, reference: u32) -> Place
+        ensures { result ≡ panel_place controller reference }
+    {
+        Place {
+            part: Part::Panel,
+            at: [controller, reference, 0, 0],
+        }
+    }
+
+    /// Where a test failed here, its fault and this place.
+    pub fn locate(self, tested: Result<(), PlantFault>) -> Result<(), (PlantFault, Place)>
+        ensures { result ≡ at_place self tested }
+    {
+        match tested {
+            Ok(()) => Ok(()),
+            Err(fault) => Err((fault, self)),
+        }
+    }
 }
 
 /// As in `controller 1 segment 1 network 1 cell 4`.

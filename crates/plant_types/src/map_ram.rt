@@ -50,7 +50,13 @@ impl MapRam {
         input_registers: u16,
         registers: u16,
     ) -> Result<MapRam, AllocError>
-        ensures { IfOk result (λ ram. ram ≡ cleared (record { coils = coils; inputs = inputs; input_registers = input_registers; registers = registers })) }
+        ensures { IfOk result (λ ram. ram ≡ cleared
+            (record {
+              coils = coils;
+              inputs = inputs;
+              input_registers = input_registers;
+              registers = registers;
+            })) }
     {
         let mut values = BTreeMap::new(alloc);
         add_zeros(&mut values, RefKind::Register, registers)?;

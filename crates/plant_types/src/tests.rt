@@ -8,6 +8,7 @@ use crate::{
 };
 use std::alloc::{AllocError, Global};
 
+mod checks;
 mod copies;
 
 const COIL_16: Ref = Ref {

@@ -8,8 +8,8 @@ use Rattle.relay_ops.specs.declared.ContactKind.TheVariants.{Open, Closed, Rise,
 -- Whether a contact passes power, by the store and by what it was when the last scan ended.
 -- Modicon Ladder Logic Block Library User Guide; with what a transitional contact compares is
 -- this project's own.
-abbrev pub passes : ContactKind → Ref → Contents → Contents → Bool
-passes Open at m past = is_on m at
-passes Closed at m past = not (is_on m at)
-passes Rise at m past = is_on m at && not (is_on past at)
-passes Fall at m past = not (is_on m at) && is_on past at
+abbrev pub passes_power : ContactKind → Ref → Contents → Contents → Bool
+passes_power Open at m past = is_on m at
+passes_power Closed at m past = not (is_on m at)
+passes_power Rise at m past = is_on m at && not (is_on past at)
+passes_power Fall at m past = not (is_on m at) && is_on past at

@@ -4,7 +4,7 @@
 
 ghost use Rattle.std.specs.Prelude.{◌≡◌};
 ghost use Rattle.plant_types.specs.Store.{HasDiscrete, Keeps, with_bit};
-ghost use Rattle.relay_ops.specs.Relay.{passes};
+ghost use Rattle.relay_ops.specs.Relay.{passes_power};
 
 use plant_types::{Ref, RefStore};
 
@@ -29,7 +29,7 @@ pub enum ContactKind {
 pub fn contact<R: RefStore, P: RefStore>(kind: ContactKind, at: Ref, ram: &R, past: &P) -> bool
     requires now { HasDiscrete (R.contents ram.now) at }
     requires before { HasDiscrete (P.contents past.now) at }
-    ensures { result ≡ passes kind at (R.contents ram.now) (P.contents past.now) }
+    ensures { result ≡ passes_power kind at (R.contents ram.now) (P.contents past.now) }
 {
     let is_on = ram.bit(at);
     match kind {

@@ -1,15 +1,15 @@
 -- The fields after one more entry.
-use Rattle.std.proofs.Common.{◌≡◌, ◌≢◌, ℕ, ◌<◌, ◌≤◌, ◌+◌, List, [], ◌∷◌, ◌++◌, length, get_or, replicate, All, None, false, sym, ap, ◌∙◌, subst, arith}
+use Rattle.std.proofs.Common.{◌≡◌, ◌≢◌, ℕ, ◌<◌, List, [], ◌∷◌, ◌++◌, length, get_or, All, None, false, sym, ap, ◌∙◌, subst, arith}
 use Rattle.std.proofs.lemmas.List.{length_push, get_or_read}
 use Rattle.std.proofs.lemmas.List.Elements.{All-contains}
 use Rattle.global_data.specs.Book.{Book, place_at, new_book}
 use Rattle.station_stats.specs.Counts.{StatsIs, words_of}
 use Rattle.ring_core.proofs.Noting.{stats-scratch, length-stats}
 use Rattle.ring_core.specs.Words.{NetPlan, RingEntry, Post, Send, Take, Local, GiveUp, Pass, Leave}
-use Rattle.ring_core.specs.Machine.{NodeIs, RingIs, after, ring_after, opening, addresses, least_from, node_at, fresh, opening_nodes}
-use Rattle.ring_core.specs.Scratch.{notes_of, put_words, heard_words, count_members, members_now, station_counts, statistics}
-use Rattle.ring_core.specs.Legal.{IsStep, IsMember, IsLegal}
-use Rattle.ring_core.specs.Kept.{IsKept, IsSoundRing, IsBook, RingLog, ring_of, grown, closed, stats_at, noted_all, stats_after, opening_stats, book_step}
+use Rattle.ring_core.specs.Machine.{NodeIs, RingIs, after, opening, addresses, least_from, node_at, fresh, opening_nodes}
+use Rattle.ring_core.specs.Scratch.{notes_of, heard_words, count_members, members_now, station_counts, statistics}
+use Rattle.ring_core.specs.Legal.{IsStep, IsMember}
+use Rattle.ring_core.specs.Kept.{IsKept, IsSoundRing, IsBook, RingLog, ring_of, grown, stats_at, noted_all, opening_stats, book_step}
 use Rattle.ring_core.proofs.Runs.{IsLegal-push, after_all-push, stats_after-push}
 use Rattle.ring_core.proofs.Sound.{after-sound, opening-sound}
 use Rattle.ring_core.proofs.Books.{IsTold, book-push, opening-book}
@@ -21,7 +21,8 @@ member-low net n all member = All-contains (λ m. m < addresses) net.members n a
 book-low : (n size : ℕ) → size ≡ 256 → n < addresses → n < size
 book-low n size is low = omega (arith, is, low)
 
-told : (net : NetPlan) (h : List RingEntry) (b : Book) (e : RingEntry) → All (λ m. m < addresses) net.members → length b ≡ 256 → IsStep net h e → IsTold net h b e
+told : (net : NetPlan) (h : List RingEntry) (b : Book) (e : RingEntry) → All (λ m. m < addresses) net.members → length b ≡ 256
+    → IsStep net h e → IsTold net h b e
 told net h b (Post n f) all size step = tt
 told net h b (Send n heard) all size step = tt
 told net h b (Take n f) all size step = tt
@@ -30,7 +31,8 @@ told net h b (GiveUp id word) all size step = tt
 told net h b (Pass n done words) all size step = (book-low n (length b) size (member-low net n all step.0), step.0, step.1.1)
 told net h b (Leave n cause) all size step = tt
 
-pub kept-push : (net : NetPlan) (h : List RingEntry) (r : RingIs) (s : List StatsIs) (b : Book) (e : RingEntry) → IsKept net h r s b → IsStep net h e → IsKept net (h ++ e ∷ []) (after net r e) (noted_all s (notes_of net r e)) (book_step b e)
+pub kept-push : (net : NetPlan) (h : List RingEntry) (r : RingIs) (s : List StatsIs) (b : Book) (e : RingEntry) → IsKept net h r s b
+    → IsStep net h e → IsKept net (h ++ e ∷ []) (after net r e) (noted_all s (notes_of net r e)) (book_step b e)
 kept-push net h r s b e k step = record {
   members = k.members;
   fates = k.fates;
@@ -42,7 +44,9 @@ kept-push net h r s b e k step = record {
 }
 
 -- the same for a call, whose step is said of the value
-pub kept-call : (w v : RingLog) (g : List RingEntry) (r r' : RingIs) (s s' : List StatsIs) (b b' : Book) (e : RingEntry) → w ≡ v → IsKept w.net w.history r s b → IsStep v.net v.history e → g ≡ w.history ++ e ∷ [] → r' ≡ after w.net r e → s' ≡ noted_all s (notes_of w.net r e) → b' ≡ book_step b e → IsKept w.net g r' s' b'
+pub kept-call : (w v : RingLog) (g : List RingEntry) (r r' : RingIs) (s s' : List StatsIs) (b b' : Book) (e : RingEntry) → w ≡ v
+    → IsKept w.net w.history r s b → IsStep v.net v.history e → g ≡ w.history ++ e ∷ [] → r' ≡ after w.net r e
+    → s' ≡ noted_all s (notes_of w.net r e) → b' ≡ book_step b e → IsKept w.net g r' s' b'
 kept-call w v g r r' s s' b b' e is k step grown ring stats book =
     let pushed = kept-push w.net w.history r s b e k (subst (λ (x : RingLog). IsStep x.net x.history e) (sym is) step) in
     subst (λ (x : Book). IsKept w.net g r' s' x) (sym book)
@@ -56,30 +60,40 @@ opened w v r s b is k = sym (k.state ∙ ap ring_of is)
 
 -- a member's part is there
 pub within : (w v : RingLog) (r : RingIs) (s : List StatsIs) (b : Book) (n : ℕ) → w ≡ v → IsKept w.net w.history r s b → IsMember v.net n → n < length r.nodes
-within w v r s b n is k m = subst (λ (size : ℕ). n < size) (sym k.sound.size) (member-low w.net n k.members (subst (λ (x : RingLog). IsMember x.net n) (sym is) m))
+within w v r s b n is k m = subst (λ (size : ℕ). n < size) (sym k.sound.size)
+    (member-low w.net n k.members (subst (λ (x : RingLog). IsMember x.net n) (sym is) m))
 
 -- what was read at a place of the nodes
-pub part : (w v : RingLog) (r : RingIs) (s : List StatsIs) (b : Book) (n : ℕ) (c : NodeIs) → w ≡ v → IsKept w.net w.history r s b → IsMember v.net n → c ≡ get_or r.nodes n c → c ≡ node_at r n
+pub part : (w v : RingLog) (r : RingIs) (s : List StatsIs) (b : Book) (n : ℕ) (c : NodeIs) → w ≡ v → IsKept w.net w.history r s b
+    → IsMember v.net n → c ≡ get_or r.nodes n c → c ≡ node_at r n
 part w v r s b n c is k m read = get_or_read r.nodes n c (within w v r s b n is k m) read (fresh false)
 
 -- a member has its place in the book
-pub has_place : (w v : RingLog) (r : RingIs) (s : List StatsIs) (b : Book) (n : ℕ) → w ≡ v → IsKept w.net w.history r s b → IsMember v.net n → place_at b n ≢ None
+pub has_place : (w v : RingLog) (r : RingIs) (s : List StatsIs) (b : Book) (n : ℕ) → w ≡ v → IsKept w.net w.history r s b → IsMember v.net n
+    → place_at b n ≢ None
 has_place w v r s b n is k m = k.said.members n (subst (λ (x : RingLog). IsMember x.net n) (sym is) m)
 
 -- a member's counters are there
 pub counted : (w v : RingLog) (r : RingIs) (s : List StatsIs) (b : Book) (n : ℕ) → w ≡ v → IsKept w.net w.history r s b → IsMember v.net n → n < length s
-counted w v r s b n is k m = subst (λ (size : ℕ). n < size) (sym (ap length k.counters ∙ length-stats w.net w.history)) (member-low w.net n k.members (subst (λ (x : RingLog). IsMember x.net n) (sym is) m))
+counted w v r s b n is k m = subst (λ (size : ℕ). n < size) (sym (ap length k.counters ∙ length-stats w.net w.history))
+    (member-low w.net n k.members (subst (λ (x : RingLog). IsMember x.net n) (sym is) m))
 
 -- the statistics of a member
-pub statistics-are : (w v : RingLog) (r : RingIs) (s : List StatsIs) (b : Book) (n members passed : ℕ) → w ≡ v → IsKept w.net w.history r s b → IsMember v.net n → members ≡ count_members r.nodes → passed ≡ length (heard_words n v.history) → words_of (stats_at s n) members passed ≡ statistics v.net v.history n
+pub statistics-are : (w v : RingLog) (r : RingIs) (s : List StatsIs) (b : Book) (n members passed : ℕ) → w ≡ v
+    → IsKept w.net w.history r s b → IsMember v.net n → members ≡ count_members r.nodes → passed ≡ length (heard_words n v.history)
+    → words_of (stats_at s n) members passed ≡ statistics v.net v.history n
 statistics-are w v r s b n members passed is k m members_is passed_is =
     let member : IsMember w.net n = subst (λ (x : RingLog). IsMember x.net n) (sym is) m in
-    let counts : stats_at s n ≡ record { node = n; counts = station_counts v.net v.history n } = ap (λ (l : List StatsIs). stats_at l n) k.counters ∙ (stats-scratch w.net w.history n (member-low w.net n k.members member) member ∙ ap (λ (x : RingLog). record { node = n; counts = station_counts x.net x.history n }) is) in
+    let counts : stats_at s n ≡ record { node = n; counts = station_counts v.net v.history n } =
+    ap (λ (l : List StatsIs). stats_at l n) k.counters ∙ (stats-scratch w.net w.history n (member-low w.net n k.members member) member
+    ∙ ap (λ (x : RingLog). record { node = n; counts = station_counts x.net x.history n }) is) in
     let here : members ≡ members_now (ring_of v) = members_is ∙ ap members_now (sym (opened w v r s b is k)) in
     λ i. words_of (counts i) (here i) (passed_is i)
 
 -- a fresh ring
-pub kept-opening : (net : NetPlan) (holder : ℕ) (nodes : List NodeIs) (stats : List StatsIs) (book : Book) → All (λ m. m < addresses) net.members → 0 < length net.fates → nodes ≡ opening_nodes net.members → holder ≡ least_from nodes 0 → stats ≡ opening_stats net.members → book ≡ new_book net.members → IsKept net [] (record { holder = holder; sent = 0; nodes = nodes }) stats book
+pub kept-opening : (net : NetPlan) (holder : ℕ) (nodes : List NodeIs) (stats : List StatsIs) (book : Book)
+    → All (λ m. m < addresses) net.members → 0 < length net.fates → nodes ≡ opening_nodes net.members → holder ≡ least_from nodes 0
+    → stats ≡ opening_stats net.members → book ≡ new_book net.members → IsKept net [] (record { holder = holder; sent = 0; nodes = nodes }) stats book
 kept-opening net holder nodes stats book members fates nodes_is holder_is stats_is book_is =
     let first : holder ≡ least_from (opening_nodes net.members) 0 = holder_is ∙ ap (λ (l : List NodeIs). least_from l 0) nodes_is in
     let state : record { holder = holder; sent = 0; nodes = nodes } ≡ opening net = λ i. record { holder = first i; sent = 0; nodes = nodes_is i } in

@@ -13,21 +13,26 @@ after_all-push net r (f ∷ es) e = after_all-push net (after net r f) es e
 
 IsRun-push : (net : NetPlan) (past es : List RingEntry) (e : RingEntry) → IsRun net past es → IsStep net (past ++ es) e → IsRun net past (es ++ e ∷ [])
 IsRun-push net past [] e run step = (subst (λ (h : List RingEntry). IsStep net h e) (append-nil past) step, tt)
-IsRun-push net past (f ∷ es) e run step = (run.0, IsRun-push net (past ++ f ∷ []) es e run.1 (subst (λ (h : List RingEntry). IsStep net h e) (sym (append_assoc past (f ∷ []) es)) step))
+IsRun-push net past (f ∷ es) e run step =
+    (run.0, IsRun-push net (past ++ f ∷ []) es e run.1 (subst (λ (h : List RingEntry). IsStep net h e) (sym (append_assoc past (f ∷ []) es)) step))
 
 pub IsLegal-push : (net : NetPlan) (h : List RingEntry) (e : RingEntry) → IsLegal net h → IsStep net h e → IsLegal net (h ++ e ∷ [])
 IsLegal-push net h e legal step = IsRun-push net [] h e legal step
 
-all_notes-push : (net : NetPlan) (r : RingIs) (es : List RingEntry) (e : RingEntry) → all_notes net r (es ++ e ∷ []) ≡ all_notes net r es ++ notes_of net (after_all net r es) e
+all_notes-push : (net : NetPlan) (r : RingIs) (es : List RingEntry) (e : RingEntry)
+    → all_notes net r (es ++ e ∷ []) ≡ all_notes net r es ++ notes_of net (after_all net r es) e
 all_notes-push net r [] e = append-nil (notes_of net r e)
-all_notes-push net r (f ∷ es) e = ap (λ (l : List Note). notes_of net r f ++ l) (all_notes-push net (after net r f) es e) ∙ sym (append_assoc (notes_of net r f) (all_notes net (after net r f) es) (notes_of net (after_all net (after net r f) es) e))
+all_notes-push net r (f ∷ es) e = ap (λ (l : List Note). notes_of net r f ++ l) (all_notes-push net (after net r f) es e)
+    ∙ sym (append_assoc (notes_of net r f) (all_notes net (after net r f) es) (notes_of net (after_all net (after net r f) es) e))
 
 noted_all-append : (stats : List StatsIs) (xs ys : List Note) → noted_all stats (xs ++ ys) ≡ noted_all (noted_all stats xs) ys
 noted_all-append stats [] ys = refl
 noted_all-append stats (x ∷ xs) ys = noted_all-append (noted_at stats x) xs ys
 
-pub stats_after-push : (net : NetPlan) (h : List RingEntry) (e : RingEntry) → stats_after net (h ++ e ∷ []) ≡ noted_all (stats_after net h) (notes_of net (ring_after net h) e)
-stats_after-push net h e = ap (noted_all (opening_stats net.members)) (all_notes-push net (opening net) h e) ∙ noted_all-append (opening_stats net.members) (all_notes net (opening net) h) (notes_of net (ring_after net h) e)
+pub stats_after-push : (net : NetPlan) (h : List RingEntry) (e : RingEntry)
+    → stats_after net (h ++ e ∷ []) ≡ noted_all (stats_after net h) (notes_of net (ring_after net h) e)
+stats_after-push net h e = ap (noted_all (opening_stats net.members)) (all_notes-push net (opening net) h e)
+    ∙ noted_all-append (opening_stats net.members) (all_notes net (opening net) h) (notes_of net (ring_after net h) e)
 
 pub noted_two : (stats : List StatsIs) (xs : List Note) (y : Note) → noted_at (noted_all stats xs) y ≡ noted_all stats (xs ++ y ∷ [])
 noted_two stats xs y = sym (noted_all-append stats xs (y ∷ []))
@@ -36,6 +41,7 @@ pub put_after-push : (n : ℕ) (put : List ℕ) (es : List RingEntry) (e : RingE
 put_after-push n put [] e = refl
 put_after-push n put (f ∷ es) e = put_after-push n (put_with n put f) es e
 
-pub heard_after-push : (n : ℕ) (heard : List ℕ) (es : List RingEntry) (e : RingEntry) → heard_after n heard (es ++ e ∷ []) ≡ heard_in n (heard_after n heard es) e
+pub heard_after-push : (n : ℕ) (heard : List ℕ) (es : List RingEntry) (e : RingEntry)
+    → heard_after n heard (es ++ e ∷ []) ≡ heard_in n (heard_after n heard es) e
 heard_after-push n heard [] e = refl
 heard_after-push n heard (f ∷ es) e = heard_after-push n (heard_in n heard f) es e

@@ -2,8 +2,8 @@
 use Rattle.std.proofs.Common.{◌≡◌, ℕ, zero, suc, ◌+◌, ◌≤◌, Bool, true, false, cond, List, [], ◌∷◌, ◌++◌, length, get_or, set, map, drop, replicate, nat_le, not, filter, Option, Some, None, refl, ◌∙◌, arith, leb-false}
 use Rattle.std.proofs.lemmas.Bool.{cond_both}
 use Rattle.std.proofs.lemmas.List.{length-set, length-map, length-replicate}
-use Rattle.ring_core.specs.Words.{NetPlan, RingEntry, Post, Send, Take, Local, GiveUp, Pass, Leave, Frame, FrameKind, Request, Reply, CallId, Heard, Acked, Silent, Busy, Fate, Await, Nothing, Out, Arrived, Failed, Path, Fell, AcceptedRequest, RepeatedRequest, CrowdedOut, AcceptedReply, DroppedReply, asks_for}
-use Rattle.ring_core.specs.Machine.{NodeIs, RingIs, part_of, node_at, path_of, no_path, fresh, passes_of, asked, posted, answered, took, passed, aged, aged_await, gone, gave_up, is_head, awaiting, with_frame, heard_by, sent_off, failed, arrived, arrival, sent_head, heard_of, fate_at, addresses, path_places, sources, opening, opening_nodes, joined, after, silence_word, busy_word}
+use Rattle.ring_core.specs.Words.{NetPlan, RingEntry, Post, Send, Take, Local, GiveUp, Pass, Leave, Frame, FrameKind, Request, Reply, CallId, Heard, Acked, Silent, Busy, Await, Nothing, Out, Arrived, Failed, Path, Fell, AcceptedRequest, RepeatedRequest, CrowdedOut, AcceptedReply, DroppedReply, asks_for}
+use Rattle.ring_core.specs.Machine.{NodeIs, RingIs, part_of, node_at, no_path, fresh, passes_of, asked, took, passed, aged, aged_await, gone, gave_up, is_head, with_frame, heard_by, sent_off, failed, arrived, arrival, sent_head, heard_of, fate_at, addresses, opening, joined, after, silence_word, busy_word}
 use Rattle.ring_core.specs.Kept.{IsSound, IsSoundRing}
 
 -- what holds at each place of a list, past its end too, after a write
@@ -14,7 +14,8 @@ each-set P (y ∷ ys) d zero x all it (suc n) = all (suc n)
 each-set P (y ∷ ys) d (suc m) x all it zero = all zero
 each-set P (y ∷ ys) d (suc m) x all it (suc n) = each-set P ys d m x (λ k. all (suc k)) it n
 
-pub each-map : {X : Type 0} (P Q : X → Type 0) (f : X → X) (xs : List X) (d : X) → ((x : X) → P x → Q (f x)) → Q d → ((n : ℕ) → P (get_or xs n d)) → (n : ℕ) → Q (get_or (map f xs) n d)
+pub each-map : {X : Type 0} (P Q : X → Type 0) (f : X → X) (xs : List X) (d : X) → ((x : X) → P x → Q (f x)) → Q d
+    → ((n : ℕ) → P (get_or xs n d)) → (n : ℕ) → Q (get_or (map f xs) n d)
 each-map P Q f [] d step it all n = it
 each-map P Q f (y ∷ ys) d step it all zero = step y (all zero)
 each-map P Q f (y ∷ ys) d step it all (suc n) = each-map P Q f ys d step it (λ k. all (suc k)) n
@@ -23,18 +24,37 @@ abbrev WaitsAtMost : ℕ → Path → Type 0
 WaitsAtMost k p = passes_of p.awaits ≤ k
 
 later : (k : ℕ) (c : NodeIs) → IsSound k c → IsSound (k + 1) c
-later k c s = record { tries = s.tries; passes = omega (arith, s.passes); done_run = omega (arith, s.done_run); paths = s.paths; accepted = s.accepted; waits = λ p. omega (arith, s.waits p) }
+later k c s = record {
+  tries = s.tries;
+  passes = omega (arith, s.passes);
+  done_run = omega (arith, s.done_run);
+  paths = s.paths;
+  accepted =
+      s.accepted;
+  waits = λ p. omega (arith, s.waits p);
+}
 
 -- new paths
 repathed : (k : ℕ) (c : NodeIs) (path : ℕ) (new : Path) → IsSound k c → passes_of new.awaits ≤ k → IsSound k (record c { paths = set c.paths path new })
-repathed k c path new s low = record { tries = s.tries; passes = s.passes; done_run = s.done_run; paths = length-set c.paths path new ∙ s.paths; accepted = s.accepted; waits = each-set (WaitsAtMost k) c.paths no_path path new s.waits low }
+repathed k c path new s low = record {
+  tries = s.tries;
+  passes = s.passes;
+  done_run = s.done_run;
+  paths = length-set c.paths path new
+      ∙ s.paths;
+  accepted = s.accepted;
+  waits = each-set (WaitsAtMost k) c.paths no_path path new s.waits low;
+}
 
 -- other boxes and tries
-reboxed : (k : ℕ) (c : NodeIs) (outbox inbox : List Frame) (tries : ℕ) → IsSound k c → tries ≤ 2 → IsSound k (record c { outbox = outbox; inbox = inbox; tries = tries })
+reboxed : (k : ℕ) (c : NodeIs) (outbox inbox : List Frame) (tries : ℕ) → IsSound k c → tries ≤ 2
+    → IsSound k (record c { outbox = outbox; inbox = inbox; tries = tries })
 reboxed k c outbox inbox tries s low = record { tries = low; passes = s.passes; done_run = s.done_run; paths = s.paths; accepted = s.accepted; waits = s.waits }
 
-posted-sound : (k : ℕ) (c : NodeIs) (f : Frame) (kind : FrameKind) → IsSound k c → IsSound k (record c { outbox = c.outbox ++ f ∷ []; paths = asked c kind f.id f.to })
-posted-sound k c f Request s = repathed k (record c { outbox = c.outbox ++ f ∷ [] }) f.id.path _ (reboxed k c (c.outbox ++ f ∷ []) c.inbox c.tries s s.tries) (omega arith)
+posted-sound : (k : ℕ) (c : NodeIs) (f : Frame) (kind : FrameKind) → IsSound k c
+    → IsSound k (record c { outbox = c.outbox ++ f ∷ []; paths = asked c kind f.id f.to })
+posted-sound k c f Request s = repathed k (record c { outbox = c.outbox ++ f ∷ [] }) f.id.path _
+    (reboxed k c (c.outbox ++ f ∷ []) c.inbox c.tries s s.tries) (omega arith)
 posted-sound k c f Reply s = reboxed k c (c.outbox ++ f ∷ []) c.inbox c.tries s s.tries
 
 took-sound : (k : ℕ) (c : NodeIs) (kind : FrameKind) (id : CallId) → IsSound k c → IsSound k (took c kind id)
@@ -49,7 +69,8 @@ gave_up-sound : (k : ℕ) (c : NodeIs) (id : CallId) → IsSound k c → IsSound
 gave_up-sound k c id s =
     let outbox = filter (λ f. not (asks_for id f)) c.outbox in
     let tries = cond (is_head id c.outbox) 0 c.tries in
-    repathed k (record c { outbox = outbox; tries = tries }) id.path _ (reboxed k c outbox c.inbox tries s (few_tries (is_head id c.outbox) c.tries s.tries)) (omega arith)
+    repathed k (record c { outbox = outbox; tries = tries }) id.path _
+    (reboxed k c outbox c.inbox tries s (few_tries (is_head id c.outbox) c.tries s.tries)) (omega arith)
 
 aged-waits : (k : ℕ) (a : Await) → passes_of a ≤ k → passes_of (aged_await a) ≤ k + 1
 aged-waits k Nothing h = omega arith
@@ -62,20 +83,38 @@ run-low k run true h = omega arith
 run-low k run false h = omega arith
 
 passed-sound : (k : ℕ) (c : NodeIs) (done : Bool) → IsSound k c → IsSound (k + 1) (passed c done)
-passed-sound k c done s = record { tries = s.tries; passes = omega (arith, s.passes); done_run = run-low k c.done_run done s.done_run; paths = length-map c.paths aged ∙ s.paths; accepted = s.accepted; waits = each-map (WaitsAtMost k) (WaitsAtMost (k + 1)) aged c.paths no_path (λ p h. aged-waits k p.awaits h) (omega arith) s.waits }
+passed-sound k c done s = record {
+  tries = s.tries;
+  passes = omega (arith, s.passes);
+  done_run = run-low k c.done_run done s.done_run;
+  paths = length-map c.paths aged ∙ s.paths;
+  accepted = s.accepted;
+  waits =
+      each-map (WaitsAtMost k) (WaitsAtMost (k + 1)) aged c.paths no_path (λ p h. aged-waits k p.awaits h) (omega arith) s.waits;
+}
 
 gone-sound : (k : ℕ) (c : NodeIs) → IsSound k c → IsSound k (gone c)
 gone-sound k c s = record { tries = s.tries; passes = s.passes; done_run = s.done_run; paths = s.paths; accepted = s.accepted; waits = s.waits }
 
 received-sound : (k : ℕ) (c : NodeIs) (fall : Fell) (f : Frame) → IsSound k c → IsSound k (with_frame c fall f)
-received-sound k c AcceptedRequest f s = record { tries = s.tries; passes = s.passes; done_run = s.done_run; paths = s.paths; accepted = length-set c.accepted _ _ ∙ s.accepted; waits = s.waits }
+received-sound k c AcceptedRequest f s = record {
+  tries = s.tries;
+  passes = s.passes;
+  done_run = s.done_run;
+  paths = s.paths;
+  accepted =
+      length-set c.accepted _ _ ∙ s.accepted;
+  waits = s.waits;
+}
 received-sound k c RepeatedRequest f s = s
 received-sound k c CrowdedOut f s = s
-received-sound k c AcceptedReply f s = repathed k (record c { inbox = c.inbox ++ f ∷ [] }) f.id.path _ (reboxed k c c.outbox (c.inbox ++ f ∷ []) c.tries s s.tries) (omega arith)
+received-sound k c AcceptedReply f s = repathed k (record c { inbox = c.inbox ++ f ∷ [] }) f.id.path _
+    (reboxed k c c.outbox (c.inbox ++ f ∷ []) c.tries s s.tries) (omega arith)
 received-sound k c DroppedReply f s = s
 
 failed-sound : (k : ℕ) (c : NodeIs) (kind : FrameKind) (id : CallId) (word : ℕ) → IsSound k c → IsSound k (sent_off c (failed c kind id word))
-failed-sound k c Request id word s = repathed k (record c { outbox = drop 1 c.outbox; tries = 0 }) id.path _ (reboxed k c (drop 1 c.outbox) c.inbox 0 s (omega arith)) (omega arith)
+failed-sound k c Request id word s = repathed k (record c { outbox = drop 1 c.outbox; tries = 0 }) id.path _
+    (reboxed k c (drop 1 c.outbox) c.inbox 0 s (omega arith)) (omega arith)
 failed-sound k c Reply id word s = reboxed k c (drop 1 c.outbox) c.inbox 0 s (omega arith)
 
 heard-sound : (k : ℕ) (c : NodeIs) (kind : FrameKind) (id : CallId) (there : Bool) (h : Heard) → IsSound k c → IsSound k (heard_by c kind id there h)
@@ -91,7 +130,11 @@ record AreSound (k : ℕ) (nodes : List NodeIs) : Type 0 where
 
 arrived-sound : (k : ℕ) (nodes : List NodeIs) (f : Frame) (fall : Option Fell) → AreSound k nodes → AreSound k (arrived nodes f fall)
 arrived-sound k nodes f None s = s
-arrived-sound k nodes f (Some fall) s = record { size = length-set nodes f.to _ ∙ s.size; each = each-set (IsSound k) nodes (fresh false) f.to _ s.each (received-sound k (part_of nodes f.to) fall f (s.each f.to)) }
+arrived-sound k nodes f (Some fall) s = record {
+  size = length-set nodes f.to _
+      ∙ s.size;
+  each = each-set (IsSound k) nodes (fresh false) f.to _ s.each (received-sound k (part_of nodes f.to) fall f (s.each f.to));
+}
 
 all-later : (k : ℕ) (nodes : List NodeIs) → ((n : ℕ) → IsSound k (part_of nodes n)) → (n : ℕ) → IsSound (k + 1) (part_of nodes n)
 all-later k nodes all n = later k (part_of nodes n) (all n)
@@ -103,11 +146,22 @@ sent-sound net k r n (f ∷ fs) s =
     let fall = arrival r.nodes fate f in
     let nodes = arrived r.nodes f fall in
     let a = arrived-sound k r.nodes f fall (record { size = s.size; each = s.each }) in
-    record { sent = omega (arith, s.sent); size = length-set nodes n _ ∙ a.size; each = all-later k _ (each-set (IsSound k) nodes (fresh false) n _ a.each (heard-sound k (part_of nodes n) f.kind f.id (node_at r f.to).here (heard_of fate fall) (a.each n))) }
+    record {
+      sent = omega (arith, s.sent);
+      size = length-set nodes n _
+          ∙ a.size;
+      each = all-later k _ (each-set (IsSound k) nodes (fresh false) n _ a.each
+          (heard-sound k (part_of nodes n) f.kind f.id (node_at r f.to).here (heard_of fate fall) (a.each n)));
+    }
 
 -- one node's part is written
 put-sound : (k : ℕ) (r : RingIs) (n : ℕ) (c : NodeIs) → IsSoundRing k r → IsSound k c → IsSoundRing (k + 1) (record r { nodes = set r.nodes n c })
-put-sound k r n c s it = record { sent = omega (arith, s.sent); size = length-set r.nodes n c ∙ s.size; each = all-later k (set r.nodes n c) (each-set (IsSound k) r.nodes (fresh false) n c s.each it) }
+put-sound k r n c s it = record {
+  sent = omega (arith, s.sent);
+  size = length-set r.nodes n c
+      ∙ s.size;
+  each = all-later k (set r.nodes n c) (each-set (IsSound k) r.nodes (fresh false) n c s.each it);
+}
 
 pub after-sound : (net : NetPlan) (k : ℕ) (r : RingIs) (e : RingEntry) → IsSoundRing k r → IsSoundRing (k + 1) (after net r e)
 after-sound net k r (Post n f) s = put-sound k r n _ s (posted-sound k (node_at r n) f f.kind (s.each n))
@@ -115,8 +169,18 @@ after-sound net k r (Send n heard) s = sent-sound net k r n (node_at r n).outbox
 after-sound net k r (Take n f) s = put-sound k r n _ s (took-sound k (node_at r n) f.kind f.id (s.each n))
 after-sound net k r (Local n id op result) s = record { sent = omega (arith, s.sent); size = s.size; each = all-later k r.nodes s.each }
 after-sound net k r (GiveUp id word) s = put-sound k r id.node _ s (gave_up-sound k (node_at r id.node) id (s.each id.node))
-after-sound net k r (Pass n done words) s = record { sent = omega (arith, s.sent); size = length-set r.nodes n _ ∙ s.size; each = each-set (IsSound (k + 1)) r.nodes (fresh false) n _ (all-later k r.nodes s.each) (passed-sound k (node_at r n) done (s.each n)) }
-after-sound net k r (Leave n cause) s = record { sent = omega (arith, s.sent); size = length-set r.nodes n _ ∙ s.size; each = all-later k _ (each-set (IsSound k) r.nodes (fresh false) n _ s.each (gone-sound k (node_at r n) (s.each n))) }
+after-sound net k r (Pass n done words) s = record {
+  sent = omega (arith, s.sent);
+  size = length-set r.nodes n _
+      ∙ s.size;
+  each = each-set (IsSound (k + 1)) r.nodes (fresh false) n _ (all-later k r.nodes s.each) (passed-sound k (node_at r n) done (s.each n));
+}
+after-sound net k r (Leave n cause) s = record {
+  sent = omega (arith, s.sent);
+  size = length-set r.nodes n _
+      ∙ s.size;
+  each = all-later k _ (each-set (IsSound k) r.nodes (fresh false) n _ s.each (gone-sound k (node_at r n) (s.each n)));
+}
 
 each-replicate : {X : Type 0} (P : X → Type 0) (n : ℕ) (x : X) → P x → (m : ℕ) → P (get_or (replicate n x) m x)
 each-replicate P zero x it m = it
@@ -124,13 +188,23 @@ each-replicate P (suc n) x it zero = it
 each-replicate P (suc n) x it (suc m) = each-replicate P n x it m
 
 fresh-sound : (here : Bool) → IsSound 0 (fresh here)
-fresh-sound here = record { tries = omega arith; passes = omega arith; done_run = omega arith; paths = refl; accepted = length-replicate {A = ℕ} 325 0; waits = each-replicate (WaitsAtMost 0) 5 no_path (omega arith) }
+fresh-sound here = record {
+  tries = omega arith;
+  passes = omega arith;
+  done_run = omega arith;
+  paths = refl;
+  accepted =
+      length-replicate {A = ℕ} 325 0;
+  waits = each-replicate (WaitsAtMost 0) 5 no_path (omega arith);
+}
 
 joined-sound : (nodes : List NodeIs) (ms : List ℕ) → AreSound 0 nodes → AreSound 0 (joined nodes ms)
 joined-sound nodes [] s = s
-joined-sound nodes (m ∷ ms) s = joined-sound (set nodes m (fresh true)) ms (record { size = length-set nodes m _ ∙ s.size; each = each-set (IsSound 0) nodes (fresh false) m _ s.each (fresh-sound true) })
+joined-sound nodes (m ∷ ms) s = joined-sound (set nodes m (fresh true)) ms
+    (record { size = length-set nodes m _ ∙ s.size; each = each-set (IsSound 0) nodes (fresh false) m _ s.each (fresh-sound true) })
 
 pub opening-sound : (net : NetPlan) → IsSoundRing 0 (opening net)
 opening-sound net =
-    let s = joined-sound (replicate addresses (fresh false)) net.members (record { size = length-replicate addresses (fresh false); each = each-replicate (IsSound 0) addresses (fresh false) (fresh-sound false) }) in
+    let s = joined-sound (replicate addresses (fresh false)) net.members
+    (record { size = length-replicate addresses (fresh false); each = each-replicate (IsSound 0) addresses (fresh false) (fresh-sound false) }) in
     record { sent = omega arith; size = s.size; each = s.each }

@@ -1,12 +1,12 @@
 -- What the entries of others leave as it was.
-use Rattle.std.proofs.Common.{◌≡◌, ◌≢◌, ℕ, zero, suc, ◌==◌, Bool, true, false, cond, nat_le, List, [], ◌∷◌, ◌++◌, get_or, set, Option, Some, None, refl, sym, ap, ◌∙◌, subst, ⊎_elim, append-nil, append_assoc}
+use Rattle.std.proofs.Common.{◌≡◌, ◌≢◌, ℕ, zero, suc, ◌==◌, Bool, true, false, cond, nat_le, List, [], ◌∷◌, ◌++◌, set, Option, Some, None, refl, sym, ap, ◌∙◌, subst, ⊎_elim, append-nil, append_assoc}
 use Rattle.std.proofs.lemmas.Bool.{eqb-true, ne_eqb, cases_eq, cond_both}
 use Rattle.std.proofs.lemmas.List.{get_or-set_other}
 use Rattle.ring_core.specs.Words.{NetPlan, RingEntry, Post, Send, Take, Local, GiveUp, Pass, Leave, maker, Frame, FrameKind, CallId, Fate, Fell, AcceptedRequest, RepeatedRequest, CrowdedOut, AcceptedReply, DroppedReply, Heard, Acked, Silent, Busy, RingNo, NotMember, NotHolder}
-use Rattle.ring_core.specs.Machine.{NodeIs, RingIs, part_of, node_at, fresh, after, opening, ring_after, posted, took, gave_up, passed, gone, arrives, reaches, arrival, arrived, fell, with_frame, heard_by, heard_of, fate_at, sent_head, sent_off, failed, silence_word}
-use Rattle.ring_core.specs.Refusals.{turn_no, free_no, or_no, quiet_for, least_done, least_of, or_zero}
-use Rattle.ring_core.specs.Legal.{IsStep, IsTimely, IsRun}
-use Rattle.ring_core.specs.Stability.{NoneBy, Stays, HolderStays, LeftStays, IsLeave, NoLeave, MemberStays}
+use Rattle.ring_core.specs.Machine.{NodeIs, RingIs, part_of, node_at, fresh, after, opening, ring_after, posted, gave_up, reaches, arrival, arrived, fell, with_frame, heard_by, heard_of, fate_at, sent_head, sent_off, failed, silence_word}
+use Rattle.ring_core.specs.Refusals.{turn_no, free_no, or_no, least_done, least_of, or_zero}
+use Rattle.ring_core.specs.Legal.{IsTimely}
+use Rattle.ring_core.specs.Stability.{Stays, HolderStays, LeftStays, IsLeave, MemberStays}
 use Rattle.ring_core.proofs.Runs.{after_all-push}
 
 first_none : (a b : Option RingNo) → or_no a b ≡ None → a ≡ None
@@ -35,12 +35,14 @@ free-left r n m e h other = let_out (node_at r m).here (r.holder == m) (NotHolde
 least-out : (nodes : List NodeIs) (m : ℕ) (c : NodeIs) → c.here ≡ false → (part_of nodes m).here ≡ false → least_done (set nodes m c) ≡ least_done nodes
 least-out [] m c gone_now left = refl
 least-out (d ∷ ds) zero c gone_now left =
-    ap (λ (b : Bool). cond b (Some (least_of c.done_run (least_done ds))) (least_done ds)) gone_now ∙ sym (ap (λ (b : Bool). cond b (Some (least_of d.done_run (least_done ds))) (least_done ds)) left)
+    ap (λ (b : Bool). cond b (Some (least_of c.done_run (least_done ds))) (least_done ds)) gone_now
+    ∙ sym (ap (λ (b : Bool). cond b (Some (least_of d.done_run (least_done ds))) (least_done ds)) left)
 least-out (d ∷ ds) (suc m) c gone_now left =
     ap (λ (l : Option ℕ). cond d.here (Some (least_of d.done_run l)) l) (least-out ds m c gone_now left)
 
 -- another that has left writes its own part
-put-stays : (r : RingIs) (n m : ℕ) (c : NodeIs) → c.here ≡ (node_at r m).here → (node_at r m).here ≡ false → (m ≡ n → ⊥) → Stays r (record r { nodes = set r.nodes m c }) n
+put-stays : (r : RingIs) (n m : ℕ) (c : NodeIs) → c.here ≡ (node_at r m).here → (node_at r m).here ≡ false → (m ≡ n → ⊥)
+    → Stays r (record r { nodes = set r.nodes m c }) n
 put-stays r n m c same left other =
     let part : part_of (set r.nodes m c) n ≡ part_of r.nodes n = get_or-set_other r.nodes m n c (fresh false) (λ q. other (sym q)) in
     record {
@@ -49,12 +51,14 @@ put-stays r n m c same left other =
       quiet = λ i. cond (part i).here (or_zero (least-out r.nodes m c (same ∙ left) left i)) 0;
     }
 
-step-stays : (net : NetPlan) (past : List RingEntry) (r : RingIs) (n : ℕ) (e : RingEntry) → IsTimely net past r e → r.holder ≡ n → maker e ≢ n → Stays r (after net r e) n
+step-stays : (net : NetPlan) (past : List RingEntry) (r : RingIs) (n : ℕ) (e : RingEntry) → IsTimely net past r e → r.holder ≡ n
+    → maker e ≢ n → Stays r (after net r e) n
 step-stays net past r n (Post m f) t h other = put-stays r n m (posted (node_at r m) f) refl (free-left r n m (first_none _ _ t.1) h other) other
 step-stays net past r n (Send m heard) t h other = absurd (other (sym (turn-holds r m (first_none _ _ t.0)) ∙ h))
 step-stays net past r n (Take m f) t h other = absurd (other (sym (turn-holds r m t.0) ∙ h))
 step-stays net past r n (Local m id op result) t h other = record { holder = refl; part = refl; quiet = refl }
-step-stays net past r n (GiveUp id word) t h other = put-stays r n id.node (gave_up (node_at r id.node) id) refl (free-left r n id.node (first_none _ _ t.0) h other) other
+step-stays net past r n (GiveUp id word) t h other = put-stays r n id.node (gave_up (node_at r id.node) id) refl
+    (free-left r n id.node (first_none _ _ t.0) h other) other
 step-stays net past r n (Pass m done words) t h other = absurd (other (sym (turn-holds r m (first_none _ _ t.0)) ∙ h))
 step-stays net past r n (Leave m cause) t h other = absurd (other (sym (turn-holds r m (first_none _ _ (first_none _ _ t))) ∙ h))
 
@@ -62,11 +66,14 @@ next_ring : (net : NetPlan) (past : List RingEntry) (e : RingEntry) → ring_aft
 next_ring net past e = after_all-push net (opening net) past e
 
 pub holder-stays : HolderStays
-holder-stays net past [] n run h none = subst (λ (l : List RingEntry). Stays (ring_after net past) (ring_after net l) n) (sym (append-nil past)) (record { holder = refl; part = refl; quiet = refl })
+holder-stays net past [] n run h none = subst (λ (l : List RingEntry). Stays (ring_after net past) (ring_after net l) n)
+    (sym (append-nil past)) (record { holder = refl; part = refl; quiet = refl })
 holder-stays net past (e ∷ es) n run h none =
     let r = ring_after net past in
-    let one : Stays r (ring_after net (past ++ e ∷ [])) n = subst (λ (x : RingIs). Stays r x n) (sym (next_ring net past e)) (step-stays net past r n e run.0.1 h none.0) in
-    let more : Stays (ring_after net (past ++ e ∷ [])) (ring_after net ((past ++ e ∷ []) ++ es)) n = holder-stays net (past ++ e ∷ []) es n run.1 (one.holder ∙ h) none.1 in
+    let one : Stays r (ring_after net (past ++ e ∷ [])) n = subst (λ (x : RingIs). Stays r x n) (sym (next_ring net past e))
+    (step-stays net past r n e run.0.1 h none.0) in
+    let more : Stays (ring_after net (past ++ e ∷ [])) (ring_after net ((past ++ e ∷ []) ++ es)) n =
+    holder-stays net (past ++ e ∷ []) es n run.1 (one.holder ∙ h) none.1 in
     subst (λ (l : List RingEntry). Stays r (ring_after net l) n) (append_assoc past (e ∷ []) es)
     (record { holder = more.holder ∙ one.holder; part = more.part ∙ one.part; quiet = more.quiet ∙ one.quiet })
 
@@ -81,13 +88,16 @@ settled-out : (nodes : List NodeIs) (n : ℕ) (f : Frame) (fall : Option Fell) �
 settled-out nodes n f None other = refl
 settled-out nodes n f (Some fall) other = out nodes n f.to _ other
 
-arrived-out : (nodes : List NodeIs) (n : ℕ) (fate : Fate) (f : Frame) → (part_of nodes n).here ≡ false → part_of (arrived nodes f (arrival nodes fate f)) n ≡ part_of nodes n
+arrived-out : (nodes : List NodeIs) (n : ℕ) (fate : Fate) (f : Frame) → (part_of nodes n).here ≡ false
+    → part_of (arrived nodes f (arrival nodes fate f)) n ≡ part_of nodes n
 arrived-out nodes n fate f left = ⊎_elim
-    (λ (e : f.to ≡ n). ap (λ (fall : Option Fell). part_of (arrived nodes f fall) n) (left-arrives nodes fate f (ap (λ (k : ℕ). (part_of nodes k).here) e ∙ left)))
+    (λ (e : f.to ≡ n). ap (λ (fall : Option Fell). part_of (arrived nodes f fall) n)
+    (left-arrives nodes fate f (ap (λ (k : ℕ). (part_of nodes k).here) e ∙ left)))
     (λ (no' : f.to ≡ n → ⊥). settled-out nodes n f (arrival nodes fate f) no')
     (cases_eq f.to n)
 
-sent-out : (net : NetPlan) (r : RingIs) (n m : ℕ) (box : List Frame) → (node_at r n).here ≡ false → (m ≡ n → ⊥) → node_at (sent_head net r m box) n ≡ node_at r n
+sent-out : (net : NetPlan) (r : RingIs) (n m : ℕ) (box : List Frame) → (node_at r n).here ≡ false → (m ≡ n → ⊥)
+    → node_at (sent_head net r m box) n ≡ node_at r n
 sent-out net r n m [] left other = refl
 sent-out net r n m (f ∷ fs) left other =
     let fate = fate_at net.fates r.sent in
@@ -105,7 +115,8 @@ step-left net r n (Leave m cause) left other = out r.nodes n m _ other
 pub left-stays : LeftStays
 left-stays net past [] n left none = ap (λ (l : List RingEntry). node_at (ring_after net l) n) (append-nil past)
 left-stays net past (e ∷ es) n left none =
-    let one : node_at (ring_after net (past ++ e ∷ [])) n ≡ node_at (ring_after net past) n = ap (λ (x : RingIs). node_at x n) (next_ring net past e) ∙ step-left net (ring_after net past) n e left none.0 in
+    let one : node_at (ring_after net (past ++ e ∷ [])) n ≡ node_at (ring_after net past) n =
+    ap (λ (x : RingIs). node_at x n) (next_ring net past e) ∙ step-left net (ring_after net past) n e left none.0 in
     let more = left-stays net (past ++ e ∷ []) es n (ap (λ (c : NodeIs). c.here) one ∙ left) none.1 in
     ap (λ (l : List RingEntry). node_at (ring_after net l) n) (sym (append_assoc past (e ∷ []) es)) ∙ (more ∙ one)
 
@@ -131,14 +142,16 @@ here-arrived nodes f (Some fall) k = here-set nodes f.to k _ (here-frame (part_o
 here-heard : (c : NodeIs) (kind : FrameKind) (id : CallId) (there : Bool) (h : Heard) → (heard_by c kind id there h).here ≡ c.here
 here-heard c kind id there Acked = refl
 here-heard c kind id there Busy = refl
-here-heard c kind id there Silent = cond_both (nat_le 2 c.tries) (sent_off c (failed c kind id (silence_word there))) _ (λ (x : NodeIs). x.here ≡ c.here) (λ _. refl) (λ _. refl)
+here-heard c kind id there Silent = cond_both (nat_le 2 c.tries) (sent_off c (failed c kind id (silence_word there))) _
+    (λ (x : NodeIs). x.here ≡ c.here) (λ _. refl) (λ _. refl)
 
 here-sent : (net : NetPlan) (r : RingIs) (m : ℕ) (box : List Frame) (k : ℕ) → (node_at (sent_head net r m box) k).here ≡ (node_at r k).here
 here-sent net r m [] k = refl
 here-sent net r m (f ∷ fs) k =
     let fall = arrival r.nodes (fate_at net.fates r.sent) f in
     let nodes = arrived r.nodes f fall in
-    here-set nodes m k _ (here-heard (part_of nodes m) f.kind f.id (node_at r f.to).here (heard_of (fate_at net.fates r.sent) fall)) ∙ here-arrived r.nodes f fall k
+    here-set nodes m k _ (here-heard (part_of nodes m) f.kind f.id (node_at r f.to).here (heard_of (fate_at net.fates r.sent) fall))
+    ∙ here-arrived r.nodes f fall k
 
 step-member : (net : NetPlan) (r : RingIs) (n : ℕ) (e : RingEntry) → (node_at r n).here ≡ true → (IsLeave n e → ⊥) → (node_at (after net r e) n).here ≡ true
 step-member net r n (Post m f) there no' = here-set r.nodes m n _ refl ∙ there
@@ -152,6 +165,7 @@ step-member net r n (Leave m cause) there no' = ap (λ (c : NodeIs). c.here) (ou
 pub member-stays : MemberStays
 member-stays net past [] n there none = ap (λ (l : List RingEntry). (node_at (ring_after net l) n).here) (append-nil past) ∙ there
 member-stays net past (e ∷ es) n there none =
-    let one : (node_at (ring_after net (past ++ e ∷ [])) n).here ≡ true = ap (λ (x : RingIs). (node_at x n).here) (next_ring net past e) ∙ step-member net (ring_after net past) n e there none.0 in
+    let one : (node_at (ring_after net (past ++ e ∷ [])) n).here ≡ true = ap (λ (x : RingIs). (node_at x n).here) (next_ring net past e)
+    ∙ step-member net (ring_after net past) n e there none.0 in
     let more = member-stays net (past ++ e ∷ []) es n one none.1 in
     ap (λ (l : List RingEntry). (node_at (ring_after net l) n).here) (sym (append_assoc past (e ∷ []) es)) ∙ more

@@ -1,5 +1,5 @@
 -- What a contract sees of a ring, and what its fields keep. This project's own.
-use Rattle.std.specs.Prelude.{◌+◌, ◌-◌, ◌≡◌, ◌≢◌, ℕ, ◌<◌, ◌≤◌, List, [], ◌∷◌, ◌++◌, length, get_or, set, replicate, All, Option, Some, None, Result, MatchResult, ◌⊎◌, Contains}
+use Rattle.std.specs.Prelude.{◌+◌, ◌-◌, ◌≡◌, ◌≢◌, ℕ, ◌<◌, ◌≤◌, List, [], ◌∷◌, ◌++◌, length, get_or, set, replicate, All, Option, Some, None, Result, MatchResult, ◌⊎◌}
 use Rattle.ring_core.specs.Words.{NetPlan, RingEntry, Local, Pass, RingNo, NoMemory, LocalOp, PutGlobal}
 use Rattle.ring_core.specs.Machine.{NodeIs, RingIs, ring_after, opening, addresses, path_places, sources, node_at, path_of, passes_of}
 use Rattle.ring_core.specs.Legal.{IsLegal, IsMember}
@@ -61,6 +61,7 @@ pub record IsBook (net : NetPlan) (history : List RingEntry) (book : Book) : Typ
   pub size : length book ≡ 256
   pub says : (n : ℕ) → Says (place_at book n) (put_words n history) (heard_words n history)
   pub members : (n : ℕ) → IsMember net n → place_at book n ≢ None
+  pub others : (n : ℕ) → place_at book n ≢ None → IsMember net n
 
 -- The book that runs along.
 abbrev pub book_put : Book → ℕ → LocalOp → Book

@@ -1,6 +1,6 @@
 -- Legal histories of the ring. This project's own.
-use Rattle.std.specs.Prelude.{◌≡◌, ◌≢◌, ℕ, ◌<◌, ◌≤◌, List, [], ◌∷◌, ◌++◌, length, Option, None, Contains}
-use Rattle.ring_core.specs.Words.{CallId, FrameKind, Request, Reply, Frame, MstrResult, Good, Bad, LocalOp, GetStats, ClearStats, PutGlobal, GetGlobal, RemoteGet, RemoteClear, Heard, Acked, Silent, Busy, LeaveCause, Ended, Spent, Fate, D, L, A, NetPlan, RingEntry, Post, Send, Take, Local, GiveUp, Pass, Leave, RingNo, NotMember, NotHolder, Unsent, Untaken, NotDue, NothingToSend, PathTaken, NotAwaited, NoMemory, Await, Nothing, Out, Arrived, Failed, Path}
+use Rattle.std.specs.Prelude.{◌≡◌, ◌≢◌, ℕ, ◌<◌, ◌≤◌, List, [], ◌∷◌, ◌++◌, length, None, Contains}
+use Rattle.ring_core.specs.Words.{CallId, FrameKind, Request, Reply, Frame, LocalOp, PutGlobal, Heard, NetPlan, RingEntry, Post, Send, Take, Local, GiveUp, Pass, Leave}
 use Rattle.ring_core.specs.Machine.{NodeIs, RingIs, node_at, path_of, fate_at, arrival, heard_of, ring_after}
 use Rattle.ring_core.specs.Refusals.{turn_no, free_no, post_no, send_no, pass_no, leave_no, give_up_no, word_of}
 use Rattle.ring_core.specs.Scratch.{put_words, local_result}

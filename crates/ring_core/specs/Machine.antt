@@ -1,8 +1,9 @@
 -- The ring as a machine: its state, and what each entry makes of it.
--- The token, the paths and the boxes are those of the Modbus Plus Network Planning and Installation Guide;
+-- The token, the paths and the boxes are those of the Modbus Plus Network Planning and Installation
+-- Guide;
 -- fates, tries, give-ups and leaving are this project's own.
-use Rattle.std.specs.Prelude.{◌≡◌, ℕ, zero, suc, ◌+◌, ◌*◌, ◌<◌, ◌%◌, ◌^◌, Bool, true, false, nat_le, ◌==◌, ◌&&◌, not, if◌then◌else◌, List, [], ◌∷◌, ◌++◌, length, get_or, set, map, drop, filter, replicate, count_by, Option, Some, None}
-use Rattle.ring_core.specs.Words.{CallId, FrameKind, Request, Reply, Frame, MstrResult, Good, Bad, LocalOp, GetStats, ClearStats, PutGlobal, GetGlobal, RemoteGet, RemoteClear, Heard, Acked, Silent, Busy, LeaveCause, Ended, Spent, Fate, D, L, A, NetPlan, RingEntry, Post, Send, Take, Local, GiveUp, Pass, Leave, RingNo, NotMember, NotHolder, Unsent, Untaken, NotDue, NothingToSend, PathTaken, NotAwaited, NoMemory, Await, Nothing, Out, Arrived, Failed, Path, Fell, AcceptedRequest, RepeatedRequest, CrowdedOut, AcceptedReply, DroppedReply, is_request, asks, asks_for}
+use Rattle.std.specs.Prelude.{ℕ, zero, suc, ◌+◌, ◌*◌, ◌<◌, ◌%◌, ◌^◌, Bool, true, false, nat_le, ◌==◌, not, if◌then◌else◌, List, [], ◌∷◌, ◌++◌, length, get_or, set, map, drop, filter, replicate, count_by, Option, Some, None}
+use Rattle.ring_core.specs.Words.{CallId, FrameKind, Request, Reply, Frame, Heard, Acked, Silent, Busy, Fate, D, L, A, NetPlan, RingEntry, Post, Send, Take, Local, GiveUp, Pass, Leave, Await, Nothing, Out, Arrived, Failed, Path, Fell, AcceptedRequest, RepeatedRequest, CrowdedOut, AcceptedReply, DroppedReply, is_request, asks_for}
 
 -- A node's part. A path is found by its number, and the greatest accepted number by its source.
 pub record NodeIs : Type 0 where
@@ -15,7 +16,8 @@ pub record NodeIs : Type 0 where
   pub paths : List Path
   pub accepted : List ℕ
 
--- The ring: who holds the token, how many transmissions there were, and each node's part at its address.
+-- The ring: who holds the token, how many transmissions there were, and each node's part at its
+-- address.
 pub record RingIs : Type 0 where
   pub holder : ℕ
   pub sent : ℕ

@@ -1,6 +1,6 @@
 -- Why a call is refused: the first reason that fits. This project's own.
-use Rattle.std.specs.Prelude.{ℕ, ◌==◌, ◌&&◌, Bool, true, false, nat_lt, min, if◌then◌else◌, List, [], ◌∷◌, length, Option, Some, None}
-use Rattle.ring_core.specs.Words.{CallId, FrameKind, Request, Reply, Frame, MstrResult, Good, Bad, LocalOp, GetStats, ClearStats, PutGlobal, GetGlobal, RemoteGet, RemoteClear, Heard, Acked, Silent, Busy, LeaveCause, Ended, Spent, Fate, D, L, A, NetPlan, RingEntry, Post, Send, Take, Local, GiveUp, Pass, Leave, RingNo, NotMember, NotHolder, Unsent, Untaken, NotDue, NothingToSend, PathTaken, NotAwaited, NoMemory, Await, Nothing, Out, Arrived, Failed, Path}
+use Rattle.std.specs.Prelude.{ℕ, ◌==◌, ◌&&◌, Bool, false, nat_lt, min, if◌then◌else◌, List, [], ◌∷◌, length, Option, Some, None}
+use Rattle.ring_core.specs.Words.{CallId, FrameKind, Request, Reply, Frame, LeaveCause, Ended, Spent, NetPlan, RingNo, NotMember, NotHolder, Unsent, Untaken, NotDue, NothingToSend, PathTaken, NotAwaited, Await, Nothing, Out, Arrived, Failed}
 use Rattle.ring_core.specs.Machine.{NodeIs, RingIs, node_at, path_of, silence_word}
 
 -- The first of two reasons.
@@ -122,7 +122,8 @@ give_up_no net r id =
     let due = if c.here then answer_after net.answer awaits else None in
     or_no (free_no r id.node) (or_no (awaited_no awaits id.seq) due)
 
--- The word of a call that is given up: its own, or 6103 for a caller that has left, or its target's.
+-- The word of a call that is given up: its own, or 6103 for a caller that has left, or its
+-- target's.
 abbrev pub end_word : RingIs → Bool → Await → ℕ
 end_word r here (Failed seq word) = word
 end_word r here Nothing = silence_word false

@@ -1,6 +1,6 @@
 -- Global words and statistics, from the whole history. This project's own.
-use Rattle.std.specs.Prelude.{◌≡◌, ℕ, ◌+◌, ◌==◌, Bool, true, false, nat_lt, if◌then◌else◌, List, [], ◌∷◌, ◌++◌, length, take, count_by, Option, Some, None}
-use Rattle.ring_core.specs.Words.{CallId, FrameKind, Request, Reply, Frame, MstrResult, Good, Bad, LocalOp, GetStats, ClearStats, PutGlobal, GetGlobal, RemoteGet, RemoteClear, Heard, Acked, Silent, Busy, LeaveCause, Ended, Spent, Fate, D, L, A, NetPlan, RingEntry, Post, Send, Take, Local, GiveUp, Pass, Leave, RingNo, NotMember, NotHolder, Unsent, Untaken, NotDue, NothingToSend, PathTaken, NotAwaited, NoMemory, Await, Nothing, Out, Arrived, Failed, Path, Fell, AcceptedRequest, RepeatedRequest, CrowdedOut, AcceptedReply, DroppedReply}
+use Rattle.std.specs.Prelude.{ℕ, ◌==◌, Bool, true, false, nat_lt, if◌then◌else◌, List, [], ◌∷◌, ◌++◌, length, take, count_by, Option, Some, None}
+use Rattle.ring_core.specs.Words.{CallId, FrameKind, Request, Reply, Frame, MstrResult, Good, Bad, LocalOp, GetStats, ClearStats, PutGlobal, GetGlobal, RemoteGet, RemoteClear, Heard, Acked, Silent, Busy, Fate, NetPlan, RingEntry, Post, Send, Take, Local, GiveUp, Pass, Leave, Fell, AcceptedRequest, RepeatedRequest, CrowdedOut, AcceptedReply, DroppedReply}
 use Rattle.ring_core.specs.Machine.{NodeIs, RingIs, node_at, fate_at, arrival, heard_of, after, opening, ring_after}
 use Rattle.station_stats.specs.declared.event.StatEvent.{StatEvent}
 use Rattle.station_stats.specs.declared.event.StatEvent.TheVariants as stat
@@ -110,7 +110,8 @@ all_notes net r (e ∷ es) = notes_of net r e ++ all_notes net (after net r e) e
 -- Those of one station.
 abbrev pub notes_at : ℕ → List Note → List StatNote
 notes_at n [] = []
-notes_at n (note ∷ notes) = if note.node == n then note.what ∷ notes_at n notes else notes_at n notes
+notes_at n (note ∷ notes) =
+    if note.node == n then note.what ∷ notes_at n notes else notes_at n notes
 
 -- The fifteen counts of a station since its last clear.
 abbrev pub station_counts : NetPlan → List RingEntry → ℕ → List ℕ

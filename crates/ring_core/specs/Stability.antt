@@ -1,6 +1,6 @@
 -- What the entries of others leave as it was. This project's own.
-use Rattle.std.specs.Prelude.{◌≡◌, ◌≢◌, ℕ, Bool, true, false, List, [], ◌∷◌, ◌++◌}
-use Rattle.ring_core.specs.Words.{NetPlan, RingEntry, Post, Send, Take, Local, GiveUp, Pass, Leave, maker}
+use Rattle.std.specs.Prelude.{◌≡◌, ◌≢◌, ℕ, true, false, List, [], ◌∷◌, ◌++◌}
+use Rattle.ring_core.specs.Words.{NetPlan, RingEntry, Leave, maker}
 use Rattle.ring_core.specs.Machine.{RingIs, node_at, ring_after}
 use Rattle.ring_core.specs.Refusals.{quiet_for}
 use Rattle.ring_core.specs.Legal.{IsRun}

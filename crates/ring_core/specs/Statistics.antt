@@ -1,4 +1,5 @@
--- The requests for statistics, by which a station asks another. Modicon Modbus Protocol Reference Guide.
+-- The requests for statistics, by which a station asks another. Modicon Modbus Protocol Reference
+-- Guide.
 use Rattle.std.specs.Prelude.{ℕ, ◌||◌, Bool, List, [], ◌∷◌}
 use Rattle.std.specs.Str.{bytes_eq}
 

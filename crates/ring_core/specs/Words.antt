@@ -1,5 +1,5 @@
 -- The words of the ring: frames, entries, refusals and paths.
-use Rattle.std.specs.Prelude.{ℕ, ◌==◌, ◌&&◌, Bool, true, false, List}
+use Rattle.std.specs.Prelude.{ℕ, ◌==◌, ◌&&◌, Bool, true, false}
 pub use Rattle.mstr_block.specs.declared.call.CallId.{CallId}
 pub use Rattle.mstr_block.specs.declared.call.MstrResult.{MstrResult}
 pub use Rattle.mstr_block.specs.declared.call.MstrResult.TheVariants.{Good, Bad}

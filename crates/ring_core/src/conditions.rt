@@ -1,5 +1,5 @@
 //! Tests of what the calls of a ring ask of their caller.
-ghost use Rattle.std.specs.Prelude.{◌≡◌, ◌<◌, true, length, All, Contains};
+ghost use Rattle.std.specs.Prelude.{◌≡◌, ◌<◌, true, length, All};
 ghost use Rattle.ring_core.specs.Machine.{addresses};
 ghost use Rattle.ring_core.specs.Legal.{IsPath, IsFrom};
 
@@ -9,15 +9,9 @@ use plant_types::NetPlan;
 // Addresses are below this.
 const ADDRESSES: u8 = 65;
 
-// Whether a node is in a list.
-pub(crate) fn has(members: &[u8], node: u8) -> bool
-    ensures { result ≡ true → Contains members.now node }
-{
-    members.contains(&node)
-}
-
 fn are_low(members: &[u8]) -> bool
-    ensures { result ≡ true → All (λ m. m < addresses) members.now }
+    ensures only { result ≡ true → All (λ m. m < addresses) members.now }
+    ensures all { All (λ m. m < addresses) members.now → result ≡ true }
 {
     for at in 0..members.len() {
         if members[at] >= ADDRESSES {
@@ -31,19 +25,23 @@ fn are_low(members: &[u8]) -> bool
 pub fn is_net(plan: &NetPlan) -> bool
     ensures members { result ≡ true → All (λ m. m < addresses) plan.now.members }
     ensures fates { result ≡ true → 0 < length plan.now.fates }
+    ensures all { All (λ m. m < addresses) plan.now.members → 0 < length plan.now.fates →
+        result ≡ true }
 {
     are_low(plan.members.as_slice()) && !plan.fates.as_slice().is_empty()
 }
 
 /// Whether it is one of the four paths of a node.
 pub fn is_path(path: u8) -> bool
-    ensures { result ≡ true → IsPath path }
+    ensures only { result ≡ true → IsPath path }
+    ensures all { IsPath path → result ≡ true }
 {
     path >= 1 && path <= 4
 }
 
 fn is_request_from(node: u8, frame: &Frame) -> bool
-    ensures { result ≡ true → IsFrom node FrameKind.Request frame.now }
+    ensures only { result ≡ true → IsFrom node FrameKind.Request frame.now }
+    ensures all { IsFrom node FrameKind.Request frame.now → result ≡ true }
 {
     if frame.id.node != node || frame.to == node {
         return false;
@@ -52,14 +50,16 @@ fn is_request_from(node: u8, frame: &Frame) -> bool
 }
 
 fn is_reply_from(node: u8, frame: &Frame) -> bool
-    ensures { result ≡ true → IsFrom node FrameKind.Reply frame.now }
+    ensures only { result ≡ true → IsFrom node FrameKind.Reply frame.now }
+    ensures all { IsFrom node FrameKind.Reply frame.now → result ≡ true }
 {
     frame.to == frame.id.node && frame.to != node
 }
 
 /// Whether a node may post a frame, by the frame alone.
 pub fn is_from(node: u8, frame: &Frame) -> bool
-    ensures { result ≡ true → IsFrom node frame.now.kind frame.now }
+    ensures only { result ≡ true → IsFrom node frame.now.kind frame.now }
+    ensures all { IsFrom node frame.now.kind frame.now → result ≡ true }
 {
     match frame.kind {
         FrameKind::Request => is_request_from(node, frame),

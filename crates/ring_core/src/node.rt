@@ -1,6 +1,6 @@
 //! A node's part of the ring.
 ghost use Rattle.std.specs.Prelude.{◌≡◌, ◌<◌, ◌+◌, ◌^◌, ℕ, List, [], ◌∷◌, ◌++◌, length, get_or, set, drop, filter, not, true, false, OnOk, OnErr, IfOk, IfSome, IfErr, None, MatchOption, All};
-ghost use Rattle.ring_core.specs.Machine.{NodeIs, posted, took, passed, gone, fresh, path_of, no_path, number_of, CanAge, is_repeat, is_full, waits_for, fell, with_frame, heard_by, sent_off, failed, gave_up, is_head, silence_word};
+ghost use Rattle.ring_core.specs.Machine.{NodeIs, posted, took, passed, gone, fresh, path_of, no_path, number_of, CanAge, is_repeat, is_full, waits_for, fell, with_frame, heard_by, sent_off, failed, gave_up, is_head, silence_word, source_of};
 ghost use Rattle.ring_core.specs.Refusals.{path_no, boxes_no, empty_no};
 ghost use Rattle.ring_core.specs.Legal.{IsFirst, IsNext};
 ghost use Rattle.ring_core.specs.Words.{asks_for};
@@ -21,6 +21,20 @@ const LAST_TRY: u8 = 2;
 
 // The most Requests in an inbox.
 const INBOX_LIMIT: usize = 4;
+
+// Paths 1 to 4, and 0 for calls of the own station.
+const PATH_PLACES: usize = 5;
+
+// The paths of all addresses, 0 to 64.
+const SOURCES: usize = 325;
+
+// The word of a Request whose target had no room.
+const BUSY: u16 = 0x6105;
+
+// The words of a target that says nothing: a member, and nobody.
+const NO_ANSWER: u16 = 0x6101;
+
+const NO_MEMBER: u16 = 0x6103;
 
 #[derive(Drop)]
 pub(crate) struct Node {
@@ -49,6 +63,13 @@ impl Model for Node {
       paths = n.paths.items;
       accepted = n.accepted.items;
     } };
+}
+
+// The place of a Request's source among the accepted numbers.
+fn source_of(id: CallId) -> usize
+    ensures { result ≡ source_of id }
+{
+    PATH_PLACES * (id.node as usize) + (id.path as usize)
 }
 
 // The path after a Request was posted on it.
@@ -90,8 +111,8 @@ impl Node {
             inbox: VecDeque::new(alloc),
             passes: 0,
             done_run: 0,
-            paths: vec![in alloc; no_path(); 5]?,
-            accepted: vec![in alloc; 0; 325]?,
+            paths: vec![in alloc; no_path(); PATH_PLACES]?,
+            accepted: vec![in alloc; 0; SOURCES]?,
         })
     }
 
@@ -139,7 +160,8 @@ impl Node {
 
     // Whether a frame's number is above all that were posted on its path.
     pub fn is_next(&self, kind: FrameKind, id: CallId) -> bool
-        ensures { result ≡ true → IsNext self.now kind id }
+        ensures only { result ≡ true → IsNext self.now kind id }
+        ensures all { IsNext self.now kind id → result ≡ true }
     {
         match kind {
             FrameKind::Request => self.posted(id.path) < id.seq,
@@ -226,8 +248,7 @@ impl Node {
     fn is_repeat(&self, id: CallId) -> bool
         ensures { result ≡ is_repeat self.now id }
     {
-        let source = 5 * (id.node as usize) + (id.path as usize);
-        let greatest = match self.accepted.get(source) {
+        let greatest = match self.accepted.get(source_of(id)) {
             Some(seq) => *seq,
             None => 0,
         };
@@ -282,7 +303,7 @@ impl Node {
         if self.inbox.push_back(frame).is_err() {
             return Err(RingNo::NoMemory);
         }
-        let source = 5 * (id.node as usize) + (id.path as usize);
+        let source = source_of(id);
         if source < self.accepted.len() {
             self.accepted[source] = id.seq;
         }
@@ -337,7 +358,7 @@ impl Node {
                 let _ = self.outbox.pop_front();
                 self.tries = 0;
             }
-            Heard::Busy => self.fail(kind, id, 0x6105),
+            Heard::Busy => self.fail(kind, id, BUSY),
             Heard::Silent => {
                 if self.tries >= LAST_TRY {
                     self.fail(kind, id, silence_word(there));
@@ -394,5 +415,5 @@ impl Node {
 pub(crate) fn silence_word(there: bool) -> u16
     ensures { result ≡ silence_word there }
 {
-    if there { 0x6101 } else { 0x6103 }
+    if there { NO_ANSWER } else { NO_MEMBER }
 }

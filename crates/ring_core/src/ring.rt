@@ -4,11 +4,10 @@ ghost use Rattle.ring_core.specs.Words.{NetPlan};
 ghost use Rattle.ring_core.specs.Machine.{RingIs, addresses, node_at, path_of, number_of, successor};
 ghost use Rattle.ring_core.specs.Refusals.{turn_no, free_no, post_no, send_no, pass_no, leave_no, give_up_no, word_of, quiet_for, held_of, needed_of};
 ghost use Rattle.ring_core.specs.Scratch.{put_words, local_result, statistics, global_answer, heard_words};
-ghost use Rattle.ring_core.specs.Legal.{IsMember, IsPath, IsFrom, IsNext, HasRoom, IsFirst, IsLegal};
+ghost use Rattle.ring_core.specs.Legal.{IsMember, IsPath, IsFrom, IsNext, HasRoom, IsFirst, IsHeard, IsLegal};
 ghost use Rattle.ring_core.specs.Kept.{RingLog, ring_of, grown, closed, Answers};
 
 use crate::arrival::{fate_at, heard_event, heard_of, post_event, take_event};
-use crate::conditions::has;
 use crate::counting::{count, count_arrival, count_local, put_global, station_words};
 use crate::entry::{Heard, LeaveCause, LocalOp, RingEntry};
 use crate::frame::{Frame, FrameKind};
@@ -115,15 +114,17 @@ impl Ring {
 
     /// Whether a node is one of the plan's members, whether or not it has left.
     pub fn is_member(&self, node: u8) -> bool
-        ensures { result ≡ true → IsMember self.now.net node }
+        ensures only { result ≡ true → IsMember self.now.net node }
+        ensures all { IsMember self.now.net node → result ≡ true }
     {
-        has(self.plan.members.as_slice(), node)
+        self.book.get(node).is_some()
     }
 
     /// Whether a frame's number is above all that were posted on its path.
     pub fn is_next(&self, node: u8, kind: FrameKind, id: CallId) -> bool
         requires { IsMember self.now.net node }
-        ensures { result ≡ true → IsNext (node_at (ring_of self.now) node) kind id }
+        ensures only { result ≡ true → IsNext (node_at (ring_of self.now) node) kind id }
+        ensures all { IsNext (node_at (ring_of self.now) node) kind id → result ≡ true }
     {
         self.nodes[node as usize].is_next(kind, id)
     }
@@ -229,6 +230,8 @@ impl Ring {
     /// Transmits the first frame of the node's outbox, and says what the node was told of it.
     pub fn send(&mut self, node: u8) -> Result<Heard, RingNo>
         requires { IsMember self.old.net node }
+        ensures heard { IfOk result (IsHeard self.old.net (ring_of self.old)
+            (node_at (ring_of self.old) node).outbox) }
         ensures ok { IfOk result
             (λ heard. self.new ≡ grown self.old (RingEntry.Send node heard)) }
         ensures err { OnErr result (self.new ≡ self.old) }
@@ -247,6 +250,8 @@ impl Ring {
         requires member { IsMember self.old.net node }
         requires turn { turn_no (ring_of self.old) node ≡ None }
         requires head { IsFirst (node_at (ring_of self.old) node).outbox frame }
+        ensures heard { IfOk result (IsHeard self.old.net (ring_of self.old)
+            (node_at (ring_of self.old) node).outbox) }
         ensures ok { IfOk result
             (λ heard. self.new ≡ grown self.old (RingEntry.Send node heard)) }
         ensures err { IfErr result (λ why. (why ≡ RingNo.NoMemory) × (self.new ≡ self.old)) }
@@ -472,7 +477,8 @@ impl Ring {
         requires spare { 1 ≤ self.old.spare }
         ensures ok { OnOk result (self.new ≡ closed self.old (RingEntry.Leave node cause)) }
         ensures err { IfErr result (λ why.
-            (leave_no self.old.net (ring_of self.old) node cause ≡ Some why) × (self.new ≡ self.old)) }
+            (leave_no self.old.net (ring_of self.old) node cause ≡ Some why)
+            × (self.new ≡ self.old)) }
         ensures left { OnOk result (leave_no self.old.net (ring_of self.old) node cause ≡ None) }
     {
         if let Some(why) = self.leave_no(node, cause) {

@@ -18,7 +18,7 @@ use Rattle.plant_types.proofs.DiscretesLemmas.{length-bits_high_first, get_or-bi
 use Rattle.plant_types.proofs.RunLemmas.{length-words_from, get_or-words_from, get-with_words_at, get-with_words_other}
 use Rattle.state_ram.specs.Bits.{word_bit, IsWithBit}
 use Rattle.plant_types.specs.Discretes.{word_bits, bits_from, bit_words, with_bits}
-use Rattle.state_ram.specs.Packed.{Words, words_at, with_words_at, sizes_of, with_group, bit_in, number_in, number_at, packed, filled, HasPlace, Sets, IsWithin, taken, zero_words}
+use Rattle.state_ram.specs.Packed.{Words, words_at, with_words_at, packed_sizes, with_group, bit_in, number_in, packed_number, packed, filled, HasPlace, Sets, IsWithin, taken, zero_words}
 use Rattle.state_ram.proofs.Filled.{get-filled, get-filled_there, contains_key-filled, filled-insert, filled-cleared, filled-part, in_sizes}
 
 -- ---- words of a kind
@@ -30,11 +30,11 @@ words_at-with w InputRegister xs = refl
 words_at-with w Register xs = refl
 
 -- as many words make the same sizes
-sizes-with : (w : Words) (kind : RefKind) (xs : List ℕ) → length xs ≡ length (words_at w kind) → sizes_of (with_words_at w kind xs) ≡ sizes_of w
-sizes-with w Coil xs e = ap (λ n. record (sizes_of w) { coils = 16 * n }) e
-sizes-with w Input xs e = ap (λ n. record (sizes_of w) { inputs = 16 * n }) e
-sizes-with w InputRegister xs e = ap (λ n. record (sizes_of w) { input_registers = n }) e
-sizes-with w Register xs e = ap (λ n. record (sizes_of w) { registers = n }) e
+sizes-with : (w : Words) (kind : RefKind) (xs : List ℕ) → length xs ≡ length (words_at w kind) → packed_sizes (with_words_at w kind xs) ≡ packed_sizes w
+sizes-with w Coil xs e = ap (λ n. record (packed_sizes w) { coils = 16 * n }) e
+sizes-with w Input xs e = ap (λ n. record (packed_sizes w) { inputs = 16 * n }) e
+sizes-with w InputRegister xs e = ap (λ n. record (packed_sizes w) { input_registers = n }) e
+sizes-with w Register xs e = ap (λ n. record (packed_sizes w) { registers = n }) e
 
 -- a number changes only where it changes among the words of its kind
 others_with : (w : Words) (kind k : RefKind) (xs : List ℕ) (place : ℕ) → (k ≡ kind → number_in kind xs place ≡ number_in kind (words_at w kind) place)
@@ -57,13 +57,13 @@ others_with w Register InputRegister xs place same = refl
 others_with w Register Register xs place same = same refl
 
 -- sixteen discretes to a word
-count-discrete : (w : Words) (kind : RefKind) → is_discrete kind ≡ true → count_of (sizes_of w) kind ≡ 16 * length (words_at w kind)
+count-discrete : (w : Words) (kind : RefKind) → is_discrete kind ≡ true → count_of (packed_sizes w) kind ≡ 16 * length (words_at w kind)
 count-discrete w Coil d = refl
 count-discrete w Input d = refl
 count-discrete w InputRegister d = absurd cc
 count-discrete w Register d = absurd cc
 
-count-register : (w : Words) (kind : RefKind) → is_discrete kind ≡ false → count_of (sizes_of w) kind ≡ length (words_at w kind)
+count-register : (w : Words) (kind : RefKind) → is_discrete kind ≡ false → count_of (packed_sizes w) kind ≡ length (words_at w kind)
 count-register w Coil d = absurd cc
 count-register w Input d = absurd cc
 count-register w InputRegister d = refl
@@ -94,11 +94,12 @@ both_hold true true e f = refl
 both_hold true false e f = f
 both_hold false b e f = e
 
-pub has_place : (w : Words) (at : Ref) → HasPlace w at → has_reference (sizes_of w) at ≡ true
-has_place w at place = both_hold (nat_le 1 at.number) (nat_le at.number (count_of (sizes_of w) at.kind)) (le-leb _ _ place.from_one) (le-leb _ _ place.within)
+pub has_place : (w : Words) (at : Ref) → HasPlace w at → has_reference (packed_sizes w) at ≡ true
+has_place w at place = both_hold (nat_le 1 at.number) (nat_le at.number (count_of (packed_sizes w) at.kind)) (le-leb _ _ place.from_one)
+    (le-leb _ _ place.within)
 
-pub place_of : (w : Words) (at : Ref) → has_reference (sizes_of w) at ≡ true → HasPlace w at
-place_of w at h = let in_them = in_sizes (sizes_of w) at h in record { from_one = in_them.0; within = in_them.1 }
+pub place_of : (w : Words) (at : Ref) → has_reference (packed_sizes w) at ≡ true → HasPlace w at
+place_of w at h = let in_them = in_sizes (packed_sizes w) at h in record { from_one = in_them.0; within = in_them.1 }
 
 -- ---- one bit
 
@@ -132,7 +133,7 @@ bit_in-set_other ws p q word on h apart bit =
 
 -- the number of a discrete is its bit
 pub bit_number : (w : Words) (at : Ref) → is_discrete at.kind ≡ true
-    → number_at w at ≡ cond (word_bit (get_or (words_at w at.kind) ((at.number - 1) / 16) 0) ((at.number - 1) % 16)) 1 0
+    → packed_number w at ≡ cond (word_bit (get_or (words_at w at.kind) ((at.number - 1) / 16) 0) ((at.number - 1) % 16)) 1 0
 bit_number w at d = number_in-discrete at.kind (words_at w at.kind) (at.number - 1) d ∙ bit_in-is (words_at w at.kind) (at.number - 1)
 
 -- a word with one bit set is one discrete set
@@ -179,27 +180,27 @@ sets_word w at word d place =
 
 -- ---- the map
 
-pub contains_key-packed : (w : Words) (q : Ref) → contains_key (packed w) q ≡ has_reference (sizes_of w) q
+pub contains_key-packed : (w : Words) (q : Ref) → contains_key (packed w) q ≡ has_reference (packed_sizes w) q
 unfolding packed
-contains_key-packed w q = contains_key-filled (sizes_of w) (number_at w) q
+contains_key-packed w q = contains_key-filled (packed_sizes w) (packed_number w) q
 
 pub held_place : (w : Words) (m : Contents) (at : Ref) → packed w ≡ m → contains_key m at ≡ true → HasPlace w at
 held_place w m at is h = place_of w at (sym (contains_key-packed w at) ∙ ap (λ x. contains_key x at) is ∙ h)
 
-pub get-packed : (w : Words) (at : Ref) → HasPlace w at → get (packed w) at ≡ Some (number_at w at)
+pub get-packed : (w : Words) (at : Ref) → HasPlace w at → get (packed w) at ≡ Some (packed_number w at)
 unfolding packed
-get-packed w at place = get-filled_there (sizes_of w) (number_at w) at (has_place w at place)
+get-packed w at place = get-filled_there (packed_sizes w) (packed_number w) at (has_place w at place)
 
-pub word_at-packed : (w : Words) (m : Contents) (at : Ref) → packed w ≡ m → HasPlace w at → word_at m at ≡ number_at w at
+pub word_at-packed : (w : Words) (m : Contents) (at : Ref) → packed w ≡ m → HasPlace w at → word_at m at ≡ packed_number w at
 word_at-packed w m at is place = ap (λ x. word_at x at) (sym is) ∙ ap (λ o. unwrap_or o 0) (get-packed w at place)
 
 -- words with one number set are the map with it inserted
 pub packed-insert : (w v : Words) (m : Contents) (at : Ref) (value : ℕ) → packed w ≡ m → HasPlace w at → Sets w v at value → packed v ≡ insert m at value
 unfolding packed
 packed-insert w v m at value is place sets =
-    ap (λ s. filled s (number_at v)) sets.sizes
-    ∙ filled-insert (sizes_of w) (number_at w) (number_at v) at value (has_place w at place) sets.here (λ q has apart. sets.others q (in_sizes
-    (sizes_of w) q has).0 apart)
+    ap (λ s. filled s (packed_number v)) sets.sizes
+    ∙ filled-insert (packed_sizes w) (packed_number w) (packed_number v) at value (has_place w at place) sets.here (λ q has apart. sets.others q (in_sizes
+    (packed_sizes w) q has).0 apart)
     ∙ ap (λ x. insert x at value) is
 
 -- ---- fresh words
@@ -215,13 +216,14 @@ zero_bit j = let e : bit_at 0 (15 - j) ≡ 0 = bit_at-zero (15 - j) in ap (λ b.
 zero_in : (n p : ℕ) → bit_in (replicate n 0) p ≡ 0
 zero_in n p = bit_in-is (replicate n 0) p ∙ ap (λ w. cond (word_bit w (p % 16)) 1 0) (zero_at n (p / 16)) ∙ ap (λ b. cond b 1 0) (zero_bit (p % 16))
 
-zero_number : (a b c d : ℕ) (kind : RefKind) (n : ℕ) → number_at (zero_words a b c d) (record { kind = kind; number = n }) ≡ 0
+zero_number : (a b c d : ℕ) (kind : RefKind) (n : ℕ) → packed_number (zero_words a b c d) (record { kind = kind; number = n }) ≡ 0
 zero_number a b c d Coil n = zero_in a (n - 1)
 zero_number a b c d Input n = zero_in b (n - 1)
 zero_number a b c d InputRegister n = zero_at c (n - 1)
 zero_number a b c d Register n = zero_at d (n - 1)
 
-fresh_sizes : (a b c d e f : ℕ) → 16 * e ≡ a → 16 * f ≡ b → sizes_of (zero_words e f c d) ≡ record { coils = a; inputs = b; input_registers = c; registers = d }
+fresh_sizes : (a b c d e f : ℕ) → 16 * e ≡ a → 16 * f ≡ b → packed_sizes (zero_words e f c d)
+    ≡ record { coils = a; inputs = b; input_registers = c; registers = d }
 fresh_sizes a b c d e f p q =
     let l : (n : ℕ) → length (replicate {A = ℕ} n 0) ≡ n = λ n. length-replicate n 0 in
     let coils : 16 * length (replicate {A = ℕ} e 0) ≡ a = omega (arith, l e) in
@@ -233,7 +235,7 @@ pub packed-zero_words : (a b c d e f : ℕ) → 16 * e ≡ a → 16 * f ≡ b
     → packed (zero_words e f c d) ≡ cleared (record { coils = a; inputs = b; input_registers = c; registers = d })
 unfolding packed
 packed-zero_words a b c d e f p q =
-    filled-cleared (sizes_of (zero_words e f c d)) (number_at (zero_words e f c d)) (λ at. zero_number e f c d at.kind at.number)
+    filled-cleared (packed_sizes (zero_words e f c d)) (packed_number (zero_words e f c d)) (λ at. zero_number e f c d at.kind at.number)
     ∙ ap cleared (fresh_sizes a b c d e f p q)
 
 -- ---- words taken from others
@@ -251,14 +253,14 @@ is_within w v keeps = record {
   registers = within_by _ _ (λ from. (last Register from).within);
 }
   where
-    last : (kind : RefKind) → 1 ≤ count_of (sizes_of w) kind → HasPlace v (record { kind = kind; number = count_of (sizes_of w) kind })
-    last kind from = keeps (record { kind = kind; number = count_of (sizes_of w) kind }) (record { from_one = from; within = omega arith })
+    last : (kind : RefKind) → 1 ≤ count_of (packed_sizes w) kind → HasPlace v (record { kind = kind; number = count_of (packed_sizes w) kind })
+    last kind from = keeps (record { kind = kind; number = count_of (packed_sizes w) kind }) (record { from_one = from; within = omega arith })
 
 pub keeps_places : (w v : Words) (m n : Contents) → packed w ≡ m → packed v ≡ n → Keeps m n → (q : Ref) → HasPlace w q → HasPlace v q
 keeps_places w v m n is other keeps q place =
     held_place v n q other (keeps q (ap (λ x. contains_key x q) (sym is) ∙ contains_key-packed w q ∙ has_place w q place))
 
-taken_sizes : (w v : Words) → IsWithin w v → sizes_of (taken w v) ≡ sizes_of w
+taken_sizes : (w v : Words) → IsWithin w v → packed_sizes (taken w v) ≡ packed_sizes w
 taken_sizes w v within =
     let a = length-take-le (length w.coils) v.coils within.coils in
     let b = length-take-le (length w.inputs) v.inputs within.inputs in
@@ -271,7 +273,7 @@ bit_in-take n p xs h =
     bit_in-is (take n xs) p ∙ ap (λ w. cond (word_bit w (p % 16)) 1 0) (get_or-take n xs (p / 16) 0 h) ∙ sym (bit_in-is xs p)
 
 taken_number : (w v : Words) (kind : RefKind) (n : ℕ) → HasPlace w (record { kind = kind; number = n })
-    → number_at (taken w v) (record { kind = kind; number = n }) ≡ number_at v (record { kind = kind; number = n })
+    → packed_number (taken w v) (record { kind = kind; number = n }) ≡ packed_number v (record { kind = kind; number = n })
 taken_number w v Coil n place = bit_in-take (length w.coils) (n - 1) v.coils (let a = place.from_one in let b = place.within in omega arith)
 taken_number w v Input n place = bit_in-take (length w.inputs) (n - 1) v.inputs (let a = place.from_one in let b = place.within in omega arith)
 taken_number w v InputRegister n place = get_or-take (length w.input_registers) v.input_registers (n - 1) 0
@@ -283,8 +285,8 @@ pub packed-taken : (w v : Words) (m n : Contents) → packed w ≡ m → packed 
 unfolding packed
 packed-taken w v m n is other keeps =
     let places = keeps_places w v m n is other keeps in
-    ap (λ s. filled s (number_at (taken w v))) (taken_sizes w v (is_within w v places))
-    ∙ filled-part (sizes_of w) (sizes_of v) (number_at w) (number_at v) m (sym is) n (number_at (taken w v)) (sym other)
+    ap (λ s. filled s (packed_number (taken w v))) (taken_sizes w v (is_within w v places))
+    ∙ filled-part (packed_sizes w) (packed_sizes v) (packed_number w) (packed_number v) m (sym is) n (packed_number (taken w v)) (sym other)
     (λ q has. let place = place_of w q has in (has_place v q (places q place), taken_number w v q.kind q.number place))
 
 -- ---- sixteen discretes
@@ -310,7 +312,7 @@ bit_at_place ws p i j e f =
     ∙ ap (λ n. cond (word_bit (get_or ws i 0) n) 1 0) f
 
 bit_of_group : (w : Words) (at : Ref) (j : ℕ) → is_discrete at.kind ≡ true → HasPlace w at → at.number % 16 ≡ 1 → j < 16
-    → number_at w (ref_from at j) ≡ cond (word_bit (get_or (words_at w at.kind) ((at.number - 1) / 16) 0) j) 1 0
+    → packed_number w (ref_from at j) ≡ cond (word_bit (get_or (words_at w at.kind) ((at.number - 1) / 16) 0) j) 1 0
 bit_of_group w at j d place first h =
     let from = place.from_one in
     let ws = words_at w at.kind in
@@ -357,16 +359,16 @@ number_option : (b : Bool) (v w : ℕ) → (b ≡ true → v ≡ w) → cond {A 
 number_option true v w h = ap Some (h refl)
 number_option false v w h = refl
 
-get-packed_any : (w : Words) (q : Ref) → get (packed w) q ≡ cond (has_reference (sizes_of w) q) (Some (number_at w q)) None
+get-packed_any : (w : Words) (q : Ref) → get (packed w) q ≡ cond (has_reference (packed_sizes w) q) (Some (packed_number w q)) None
 unfolding packed
-get-packed_any w q = get-filled (sizes_of w) (number_at w) q
+get-packed_any w q = get-filled (packed_sizes w) (packed_number w) q
 
-group_sizes : (w : Words) (at : Ref) (word : ℕ) → sizes_of (with_group w at word) ≡ sizes_of w
+group_sizes : (w : Words) (at : Ref) (word : ℕ) → packed_sizes (with_group w at word) ≡ packed_sizes w
 group_sizes w at word = sizes-with w at.kind (set (words_at w at.kind) ((at.number - 1) / 16) word) (length-set (words_at w at.kind)
     ((at.number - 1) / 16) word)
 
 group_here : (w : Words) (at : Ref) (word j : ℕ) → is_discrete at.kind ≡ true → HasPlace w at → at.number % 16 ≡ 1 → j < 16
-    → number_at (with_group w at word) (ref_from at j) ≡ cond (word_bit word j) 1 0
+    → packed_number (with_group w at word) (ref_from at j) ≡ cond (word_bit word j) 1 0
 group_here w at word j d place first h =
     let from = place.from_one in
     let ws = words_at w at.kind in
@@ -379,7 +381,7 @@ group_here w at word j d place first h =
     ∙ ap (λ i. cond (word_bit word i) 1 0) bit
 
 group_others : (w : Words) (at : Ref) (word : ℕ) (q : Ref) → is_discrete at.kind ≡ true → HasPlace w at → at.number % 16 ≡ 1 → 1 ≤ q.number
-    → ((i : ℕ) → i < 16 → ref_from at i ≢ q) → number_at (with_group w at word) q ≡ number_at w q
+    → ((i : ℕ) → i < 16 → ref_from at i ≢ q) → packed_number (with_group w at word) q ≡ packed_number w q
 group_others w at word q d place first low apart =
     let from = place.from_one in
     let ws = words_at w at.kind in
@@ -414,7 +416,7 @@ packed-group w m at word is d place first =
     ∙ sym (ap (get (with_words m at words)) e ∙ get-with_words_at m at words j 0 (omega arith) ∙ ap Some stored))
     (λ apart.
     get-packed_any new q
-    ∙ ap (λ s. cond (has_reference s q) (Some (number_at new q)) None) sizes
-    ∙ number_option (has_reference (sizes_of w) q) (number_at new q) (number_at w q)
+    ∙ ap (λ s. cond (has_reference s q) (Some (packed_number new q)) None) sizes
+    ∙ number_option (has_reference (packed_sizes w) q) (packed_number new q) (packed_number w q)
     (λ has. let there = place_of w q has in group_others w at word q d place first there.from_one apart)
     ∙ sym (get-with_words_other m at words q (λ i l. apart i (omega arith)) ∙ ap (λ x. get x q) (sym is) ∙ get-packed_any w q)))

@@ -10,7 +10,8 @@ use Rattle.std.specs.Cmp.{tied_itself}
 use Rattle.std.specs.FinMap.{get, insert, contains_key, same_map}
 use Rattle.plant_types.specs.declared.reference.Ref.{Ref}
 use Rattle.plant_types.specs.Reference.{ref_cmp}
-use Rattle.plant_types.specs.Sizes.{Sizes, has_reference, cleared, count_of}
+use Rattle.plant_types.specs.declared.sizes.Sizes.{Sizes}
+use Rattle.plant_types.specs.Sizes.{has_reference, cleared, count_of}
 use Rattle.plant_types.specs.Store.{Contents, part_at}
 use Rattle.plant_types.proofs.Contents.{exact_refs, refs_total, found_at, get_ref}
 use Rattle.plant_types.proofs.SizesLemmas.{get-cleared, contains_key-cleared}

@@ -4,7 +4,8 @@ use Rattle.std.specs.FinMap.{from_entries}
 use Rattle.plant_types.specs.declared.reference.RefKind.{RefKind}
 use Rattle.plant_types.specs.declared.reference.RefKind.TheVariants.{Coil, Input, InputRegister, Register}
 use Rattle.plant_types.specs.declared.reference.Ref.{Ref}
-use Rattle.plant_types.specs.Sizes.{Sizes, count_of, zeros}
+use Rattle.plant_types.specs.declared.sizes.Sizes.{Sizes}
+use Rattle.plant_types.specs.Sizes.{count_of, zeros}
 use Rattle.plant_types.specs.Store.{Contents}
 use Rattle.state_ram.specs.Bits.{word_bit}
 
@@ -41,8 +42,8 @@ with_words_at words InputRegister other = record words { input_registers = other
 with_words_at words Register other = record words { registers = other }
 
 -- Sixteen discretes to a word, and one register. This project's own.
-abbrev pub sizes_of : Words → Sizes
-sizes_of words = record {
+abbrev pub packed_sizes : Words → Sizes
+packed_sizes words = record {
   coils = 16 * length words.coils;
   inputs = 16 * length words.inputs;
   input_registers = length words.input_registers;
@@ -70,8 +71,8 @@ number_in InputRegister words place = slice_index_or words place 0
 number_in Register words place = slice_index_or words place 0
 
 -- The number at a reference. This project's own.
-abbrev pub number_at : Words → Ref → ℕ
-number_at words at = number_in at.kind (words_at words at.kind) (at.number - 1)
+abbrev pub packed_number : Words → Ref → ℕ
+packed_number words at = number_in at.kind (words_at words at.kind) (at.number - 1)
 
 -- The word of sixteen discretes that holds one of them. This project's own.
 abbrev pub group_of : Words → Ref → ℕ
@@ -84,18 +85,18 @@ with_group words at word =
 
 -- The contents that words stand for. This project's own.
 unfoldable pub packed : Words → Contents
-packed words = filled (sizes_of words) (number_at words)
+packed words = filled (packed_sizes words) (packed_number words)
 
 -- A reference that words have a place for. This project's own.
 pub record HasPlace (words : Words) (at : Ref) : Type 0 where
   pub from_one : 1 ≤ at.number
-  pub within : at.number ≤ count_of (sizes_of words) at.kind
+  pub within : at.number ≤ count_of (packed_sizes words) at.kind
 
 -- Words that have one number set, and all others as they were. This project's own.
 pub record Sets (old new : Words) (at : Ref) (value : ℕ) : Type 0 where
-  pub sizes : sizes_of new ≡ sizes_of old
-  pub here : number_at new at ≡ value
-  pub others : (q : Ref) → 1 ≤ q.number → (q ≡ at → ⊥) → number_at new q ≡ number_at old q
+  pub sizes : packed_sizes new ≡ packed_sizes old
+  pub here : packed_number new at ≡ value
+  pub others : (q : Ref) → 1 ≤ q.number → (q ≡ at → ⊥) → packed_number new q ≡ packed_number old q
 
 -- Words of no more places than others. This project's own.
 pub record IsWithin (words other : Words) : Type 0 where

@@ -2,7 +2,7 @@
 ghost use Rattle.std.specs.Prelude.{◌≡◌, ◌≤◌, true, false, length, take, IfOk, if◌then◌else◌};
 ghost use Rattle.plant_types.specs.Reference.{is_discrete};
 ghost use Rattle.plant_types.specs.Sizes.{has_reference};
-ghost use Rattle.state_ram.specs.Packed.{HasPlace, IsWithin, Sets, number_at, sizes_of};
+ghost use Rattle.state_ram.specs.Packed.{HasPlace, IsWithin, Sets, packed_number, packed_sizes};
 ghost use Rattle.state_ram.specs.Packed.{group_of, with_group, taken, zero_words};
 
 use crate::bits::{bit_of, with_bit};
@@ -29,7 +29,7 @@ fn copy_words(words: &mut Vec<u16>, other: &Vec<u16>)
 }
 
 impl Banks {
-    ghost use Rattle.state_ram.specs.Banks.{words_of};
+    ghost use Rattle.state_ram.specs.Banks.{bank_words};
 
     /// So many words of each kind, all 0.
     pub(crate) fn new(
@@ -40,7 +40,7 @@ impl Banks {
         registers: u16,
     ) -> Result<Banks, AllocError>
         ensures { IfOk result (λ banks.
-            words_of banks ≡ zero_words coils inputs input_registers registers) }
+            bank_words banks ≡ zero_words coils inputs input_registers registers) }
     {
         Ok(Banks {
             coils: vec![in alloc; 0; usize::from(coils)]?,
@@ -51,7 +51,7 @@ impl Banks {
     }
 
     pub(crate) fn has(&self, at: Ref) -> bool
-        ensures { result ≡ has_reference (sizes_of (words_of self.now)) at }
+        ensures { result ≡ has_reference (packed_sizes (bank_words self.now)) at }
     {
         if at.number == 0 {
             return false;
@@ -67,9 +67,9 @@ impl Banks {
 
     /// The word of sixteen discretes that holds one of them.
     pub(crate) fn group(&self, at: Ref) -> u16
-        requires place { HasPlace (words_of self.now) at }
+        requires place { HasPlace (bank_words self.now) at }
         requires kind { is_discrete at.kind ≡ true }
-        ensures { result ≡ group_of (words_of self.now) at }
+        ensures { result ≡ group_of (bank_words self.now) at }
     {
         let place = usize::from((at.number - 1) / 16);
         if at.kind == RefKind::Coil {
@@ -81,9 +81,9 @@ impl Banks {
 
     /// Stores the word of sixteen discretes that holds one of them.
     pub(crate) fn set_group(&mut self, at: Ref, word: u16)
-        requires place { HasPlace (words_of self.old) at }
+        requires place { HasPlace (bank_words self.old) at }
         requires kind { is_discrete at.kind ≡ true }
-        ensures { words_of self.new ≡ with_group (words_of self.old) at word }
+        ensures { bank_words self.new ≡ with_group (bank_words self.old) at word }
     {
         let place = usize::from((at.number - 1) / 16);
         match at.kind {
@@ -94,26 +94,26 @@ impl Banks {
     }
 
     pub(crate) fn bit(&self, at: Ref) -> bool
-        requires place { HasPlace (words_of self.now) at }
+        requires place { HasPlace (bank_words self.now) at }
         requires kind { is_discrete at.kind ≡ true }
-        ensures { (if result then 1 else 0) ≡ number_at (words_of self.now) at }
+        ensures { (if result then 1 else 0) ≡ packed_number (bank_words self.now) at }
     {
         bit_of(self.group(at), (at.number - 1) % 16)
     }
 
     pub(crate) fn set_bit(&mut self, at: Ref, on: bool)
-        requires place { HasPlace (words_of self.old) at }
+        requires place { HasPlace (bank_words self.old) at }
         requires kind { is_discrete at.kind ≡ true }
-        ensures { Sets (words_of self.old) (words_of self.new) at (if on then 1 else 0) }
+        ensures { Sets (bank_words self.old) (bank_words self.new) at (if on then 1 else 0) }
     {
         let word = with_bit(self.group(at), (at.number - 1) % 16, on);
         self.set_group(at, word);
     }
 
     pub(crate) fn word(&self, at: Ref) -> u16
-        requires place { HasPlace (words_of self.now) at }
+        requires place { HasPlace (bank_words self.now) at }
         requires kind { is_discrete at.kind ≡ false }
-        ensures { result ≡ number_at (words_of self.now) at }
+        ensures { result ≡ packed_number (bank_words self.now) at }
     {
         let place = usize::from(at.number - 1);
         if at.kind == RefKind::Register {
@@ -124,9 +124,9 @@ impl Banks {
     }
 
     pub(crate) fn set_word(&mut self, at: Ref, value: u16)
-        requires place { HasPlace (words_of self.old) at }
+        requires place { HasPlace (bank_words self.old) at }
         requires kind { is_discrete at.kind ≡ false }
-        ensures { Sets (words_of self.old) (words_of self.new) at value }
+        ensures { Sets (bank_words self.old) (bank_words self.new) at value }
     {
         let place = usize::from(at.number - 1);
         match at.kind {
@@ -137,8 +137,8 @@ impl Banks {
     }
 
     pub(crate) fn copy_from(&mut self, other: &Banks)
-        requires { IsWithin (words_of self.old) (words_of other.now) }
-        ensures { words_of self.new ≡ taken (words_of self.old) (words_of other.now) }
+        requires { IsWithin (bank_words self.old) (bank_words other.now) }
+        ensures { bank_words self.new ≡ taken (bank_words self.old) (bank_words other.now) }
     {
         copy_words(&mut self.coils, &other.coils);
         copy_words(&mut self.inputs, &other.inputs);

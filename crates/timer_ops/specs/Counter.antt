@@ -1,5 +1,6 @@
 -- Counters. Of their two nodes the upper one is a block's top node and the lower one its second.
--- Modicon Ladder Logic Block Library User Guide; the exact inputs and outputs are this project's own.
+-- Modicon Ladder Logic Block Library User Guide; the exact inputs and outputs are this project's
+-- own.
 use Rattle.std.specs.Prelude.{ℕ, ◌+◌, ◌-◌, ◌==◌, nat_lt, min, Bool, false, ◌&&◌, not, if◌then◌else◌}
 use Rattle.std.specs.FinMap.{insert}
 use Rattle.plant_types.specs.declared.power.NodePower.{NodePower}

@@ -1,5 +1,6 @@
 -- Timers. Of their two nodes the upper one is a block's top node and the lower one its second.
--- Modicon Ladder Logic Block Library User Guide; the exact inputs and outputs are this project's own.
+-- Modicon Ladder Logic Block Library User Guide; the exact inputs and outputs are this project's
+-- own.
 use Rattle.std.specs.Prelude.{ℕ, ◌+◌, ◌-◌, ◌/◌, ◌==◌, nat_lt, min, false, if◌then◌else◌}
 use Rattle.std.specs.FinMap.{insert}
 use Rattle.plant_types.specs.declared.element.Unit.{Unit as TimeBase}
@@ -29,7 +30,12 @@ time_after unit preset inputs clock time =
 
 -- The upper output is on at the preset, the lower one below it.
 abbrev pub reached : ℕ → ℕ → NodePower
-reached preset value = record { top = value == preset; middle = nat_lt value preset; bottom = false }
+reached preset value = record {
+  top = value == preset;
+  middle = nat_lt value preset;
+  bottom =
+      false;
+}
 
 -- What a timer does when it is solved.
 unfoldable pub timer_effect : TimeBase → ℕ → Ref → NodePower → Clock → Contents → Effect

@@ -1,2 +1,4 @@
 pub mod ModuleLemmas
 pub mod DropLemmas
+pub mod TestLemmas
+pub mod CheckLemmas

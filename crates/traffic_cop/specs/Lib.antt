@@ -1,2 +1,5 @@
 pub mod Exchange
 pub mod Drops
+pub mod Tests
+pub mod Rows
+pub mod DropTests

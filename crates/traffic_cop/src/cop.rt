@@ -5,12 +5,10 @@ ghost use Rattle.traffic_cop.specs.Drops.{drop_named, health_at, input_after, ou
 ghost use Rattle.traffic_cop.specs.Drops.{IsReady};
 
 use crate::modules::{input_total, put_all, take_all};
+use crate::testing::WORD_LIMIT;
 use plant_types::{Block, Copied, IoDrop, List, RefStore, ScriptRow};
 use std::alloc::{AllocError, Global};
 use std::marker::Model;
-
-/// The most words into or out of a drop.
-const WORD_LIMIT: usize = 64;
 
 /// Whether a drop answered at an exchange. This project's own.
 #[derive(Clone, Copy, Debug, PartialEq, Eq)]

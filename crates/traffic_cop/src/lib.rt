@@ -1,10 +1,15 @@
 //! The exchanges of a controller with its drops.
 #![tactic(auto)]
 
+mod checking;
 mod cop;
 mod modules;
+mod testing;
 
+pub use checking::checked_drops_are_ready;
 pub use cop::{Cop, Health};
+pub use modules::input_total;
+pub use testing::{carries, fits_row, has_few_words, is_regular, kind_of, module_fault};
 
 #[cfg(test)]
 mod tests;

@@ -7,26 +7,21 @@ ghost use Rattle.traffic_cop.specs.Exchange.{number_of_bits, module_at, input_co
 ghost use Rattle.traffic_cop.specs.Exchange.{given, put_words, put_all, HasGroup, HasModule, HasModules};
 ghost use Rattle.traffic_cop.specs.Exchange.{input_total, output_total, output_words};
 
-use plant_types::{Module, ModuleKind, Ref, RefKind, RefStore, load_words, ref_after, store_words};
+use crate::testing::kind_of;
+use plant_types::{Module, ModuleKind, Ref, RefStore, load_words, ref_after, store_words};
 
 /// The first reference of a module.
 fn module_at(io_module: Module) -> Ref
     ensures { result ≡ module_at io_module }
 {
-    let kind = match io_module.kind {
-        ModuleKind::In => RefKind::Input,
-        ModuleKind::Out => RefKind::Coil,
-        ModuleKind::InWords => RefKind::InputRegister,
-        ModuleKind::OutWords => RefKind::Register,
-    };
     Ref {
-        kind,
+        kind: kind_of(io_module.kind),
         number: io_module.first,
     }
 }
 
 /// How many words a module takes from the field.
-fn input_count(io_module: Module) -> usize
+pub(crate) fn input_count(io_module: Module) -> usize
     ensures { result ≡ input_count io_module }
 {
     match io_module.kind {
@@ -37,7 +32,7 @@ fn input_count(io_module: Module) -> usize
 }
 
 /// How many words all modules take from the field.
-pub(crate) fn input_total(modules: &[Module]) -> usize
+pub fn input_total(modules: &[Module]) -> usize
     requires { input_total modules.now ≤ 64 }
     ensures { result ≡ input_total modules.now }
 {
@@ -106,6 +101,17 @@ pub(crate) fn put_all<R: RefStore>(ram: &mut R, modules: &[Module], words: &[u16
         let (now, later) = rest.split_at(input_count(*io_module));
         put_words(ram, *io_module, now);
         rest = later;
+    }
+}
+
+/// How many words a module gives the field.
+pub(crate) fn output_count(io_module: Module) -> usize
+    ensures { result ≡ output_count io_module }
+{
+    match io_module.kind {
+        ModuleKind::Out => 1,
+        ModuleKind::OutWords => usize::from(io_module.count),
+        ModuleKind::In | ModuleKind::InWords => 0,
     }
 }
 

@@ -8,7 +8,7 @@ use Rattle.turn_gate.specs.declared.views.Phase.{Phase}
 use Rattle.turn_gate.specs.declared.views.Phase.TheVariants.{Idle, Waiting, Inside}
 use Rattle.turn_gate.specs.declared.views.View.{View}
 use Rattle.turn_gate.specs.Known.{GateName, PassFacts, own, is_among, numbers, StartsWith, IsReady, HasAllBack, Finds, Owns, NamesKept, Adds}
-use Rattle.turn_gate.specs.Rule.{Keeps, KeepsNumber, numbers_of, Rule}
+use Rattle.turn_gate.specs.Rule.{HasKept, KeepsNumber, numbers_of, Rule}
 use Rattle.turn_gate.specs.Moves.{Handed, Exact, MayLeave, first_grown}
 use Rattle.turn_gate.specs.Seats.{first_kept, later_kept, stay_of, pass_facts, CarriesBetween, IsSound}
 use Rattle.turn_gate.proofs.Lists.{all_at, all_from_places}
@@ -34,7 +34,7 @@ module _ {V E : Type 0} (m : Me (Option V) (View E)) (keeps_one : m.0.kept ≡ f
   keeps_own = ((first_kept m.0.kept).1, (0, ap (λ l. get_elem? l 0) keeps_one))
 
   -- a list that was joined into a pass is kept
-  pub keeps_joined : (k : ℕ) (q : ℕ × List E) → get_elem? (later_kept m.0.kept) k ≡ some q → Keeps m.0 q.0 q.1
+  pub keeps_joined : (k : ℕ) (q : ℕ × List E) → get_elem? (later_kept m.0.kept) k ≡ some q → HasKept m.0 q.0 q.1
   keeps_joined k q there = (suc k, ap (λ l. get_elem? l (suc k)) keeps_one ∙ there)
 
   -- the numbers that a contract sees are those that the view keeps

@@ -7,7 +7,7 @@ use Rattle.atomic_table.specs.Table.{State, Me, keeps, step, Allows}
 use Rattle.atomic_table.proofs.Lists.{set_again}
 use Rattle.turn_gate.specs.declared.views.View.{View}
 use Rattle.turn_gate.specs.Known.{own}
-use Rattle.turn_gate.specs.Rule.{Keeps, KeepsNumber, Fits, Rule}
+use Rattle.turn_gate.specs.Rule.{HasKept, KeepsNumber, Fits, Rule}
 use Rattle.turn_gate.specs.Moves.{Exact, Heeded}
 use Rattle.turn_gate.proofs.Owning.{own-append}
 
@@ -38,7 +38,7 @@ module _ {V E F : Type 0} (entries : V → List E) (fixed : V → F) (maker : E 
       exact_in_seen =
           let mine : Fits maker (entries first) r.account id v = r.each id v at in
           let owned = mine.owns n keeps_one.0 keeps_one.1 in
-          let early_ones : (m : ℕ) (es : List E) → Keeps v m es → es ≡ own maker m mine.early =
+          let early_ones : (m : ℕ) (es : List E) → HasKept v m es → es ≡ own maker m mine.early =
           λ m es k. (mine.owns m es k).exact
           ∙ (ap (own maker m) mine.made_is
           ∙ (own-append maker m mine.early mine.rest

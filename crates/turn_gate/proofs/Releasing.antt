@@ -14,7 +14,7 @@ use Rattle.turn_gate.specs.declared.views.Phase.{Phase}
 use Rattle.turn_gate.specs.declared.views.Phase.TheVariants.{Idle, Waiting, Inside}
 use Rattle.turn_gate.specs.declared.views.View.{View}
 use Rattle.turn_gate.specs.Known.{own, is_among}
-use Rattle.turn_gate.specs.Rule.{numbers_of, Keeps, KeepsNumber, OwnsNumber, tickets_of, Account, InPhase, HasTicket, Fits, Rule}
+use Rattle.turn_gate.specs.Rule.{numbers_of, HasKept, KeepsNumber, OwnsNumber, tickets_of, Account, InPhase, HasTicket, Fits, Rule}
 use Rattle.turn_gate.specs.Moves.{first_grown, left_with, Released, MayLeave}
 use Rattle.turn_gate.proofs.Lists.{inside_of, each_set, witness, at_append}
 use Rattle.turn_gate.proofs.Owning.{own-mine, own-others, own-append, among_kept, distinct-first}
@@ -63,8 +63,8 @@ module _ {V E : Type 0} (entries : V → List E) (maker : E → ℕ) (v : View E
       (p.0, (p.1.0, ap (λ l. get_elem? l p.1.0) kept_after ∙ p.1.1))
 
   -- it kept what it keeps, without the added entries
-  kept_before : IsDistinct nat_eq (numbers_of v.kept) → (n : ℕ) (fs : List E) → Keeps (left_with v (entries x)) n fs
-      → (es : List E) × Keeps v n es × (fs ≡ es ++ own maker n may.added)
+  kept_before : IsDistinct nat_eq (numbers_of v.kept) → (n : ℕ) (fs : List E) → HasKept (left_with v (entries x)) n fs
+      → (es : List E) × HasKept v n es × (fs ≡ es ++ own maker n may.added)
   kept_before differ n fs k =
       let p = was_kept maker may.by may.mine may.added may.later may.all_own
       (subst (λ l. IsDistinct nat_eq (numbers_of l)) may.kept_is differ) n fs k.0 (ap (λ l. get_elem? l k.0) (sym kept_after) ∙ k.1) in
@@ -86,7 +86,7 @@ module _ {V E F : Type 0} (entries : V → List E) (fixed : V → F) (maker : E 
 
   -- the numbers of the pass that leaves
   owns_after : (s : State (Option V) (View E)) (r : Rule entries fixed maker first s) (id : ℕ) (v : View E) → get_elem? s.views id ≡ some v
-      → (x : V) (may : MayLeave entries maker v x) (n : ℕ) (fs : List E) → Keeps (left_with v (entries x)) n fs
+      → (x : V) (may : MayLeave entries maker v x) (n : ℕ) (fs : List E) → HasKept (left_with v (entries x)) n fs
       → OwnsNumber maker (entries first) (r.account.made ++ may.added) r.account.owner r.account.given id v.opening [] n fs
   owns_after s r id v at x may n fs k =
       let f : Fits maker (entries first) r.account id v = r.each id v at in
@@ -155,7 +155,7 @@ module _ {V E F : Type 0} (entries : V → List E) (fixed : V → F) (maker : E 
       let served : t ≡ account.serving = phase.served in
       let below : t < account.ticket = phase.drawn in
       let holds : account.holder account.serving ≡ id = ap account.holder (sym served) ∙ phase.holds in
-      let kept_one : Keeps v may.by may.mine = (0, ap (λ l. get_elem? l 0) may.kept_is) in
+      let kept_one : HasKept v may.by may.mine = (0, ap (λ l. get_elem? l 0) may.kept_is) in
       let owned = mine.owns may.by may.mine kept_one in
       let whole : entries x ≡ entries first ++ (account.made ++ added) = may.grown
       ∙ (ap (λ l. l ++ added) phase.seen_all ∙ append_assoc (entries first) account.made added) in

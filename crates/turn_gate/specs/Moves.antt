@@ -9,7 +9,7 @@ use Rattle.turn_gate.specs.declared.views.Phase.{Phase}
 use Rattle.turn_gate.specs.declared.views.Phase.TheVariants.{Idle, Waiting, Inside}
 use Rattle.turn_gate.specs.declared.views.View.{View}
 use Rattle.turn_gate.specs.Known.{own, longer}
-use Rattle.turn_gate.specs.Rule.{Keeps}
+use Rattle.turn_gate.specs.Rule.{HasKept}
 
 module _ {E : Type 0} where
   -- the same view in another phase
@@ -54,7 +54,8 @@ module _ {E : Type 0} where
   spent = record { opening = []; seen = []; kept = []; heard = []; given = []; phase = Idle }
 
 module _ {V E : Type 0} where
-  -- the pass v inside with the ticket t, having seen these entries and taken the value out of the slot
+  -- the pass v inside with the ticket t, having seen these entries and taken the value out of the
+  -- slot
   abbrev pub emptied_by : View E → ℕ → List E → Me (Option V) (View E)
   emptied_by v t es = (inside v t es, (0, None) ∷ [])
 
@@ -74,7 +75,7 @@ module _ {E : Type 0} (maker : E → ℕ) where
   pub record Exact (v : View E) (all : List E) : Type 0 where
     pub made : List E
     pub all_is : all ≡ v.opening ++ made
-    pub exact : (n : ℕ) (es : List E) → Keeps v n es → es ≡ own maker n made
+    pub exact : (n : ℕ) (es : List E) → HasKept v n es → es ≡ own maker n made
 
 module _ {S E : Type 0} (maker : E → ℕ) where
   -- heed: the pass stays as it is, and of what it has seen its own lists are exact
@@ -91,7 +92,7 @@ module _ {V E F : Type 0} (entries : V → List E) (fixed : V → F) (maker : E 
   pub record Handed (v : View E) (x : V) : Type 0 where
     pub between : List E
     pub begins : entries x ≡ v.seen ++ between
-    pub others : (n : ℕ) (es : List E) → Keeps v n es → own maker n between ≡ []
+    pub others : (n : ℕ) (es : List E) → HasKept v n es → own maker n between ≡ []
     pub fixed_is : about ≡ Some (fixed x)
     pub lists : Exact maker v (entries x)
 

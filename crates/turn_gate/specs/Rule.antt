@@ -16,12 +16,12 @@ abbrev pub numbers_of : {E : Type 0} → List (ℕ × List E) → List ℕ
 numbers_of kept = map (λ q. q.0) kept
 
 -- the view keeps the number n, with these own entries
-abbrev pub Keeps : {E : Type 0} → View E → ℕ → List E → Type 0
-Keeps v n es = (k : ℕ) × (get_elem? v.kept k ≡ some (n, es))
+abbrev pub HasKept : {E : Type 0} → View E → ℕ → List E → Type 0
+HasKept v n es = (k : ℕ) × (get_elem? v.kept k ≡ some (n, es))
 
 -- the view keeps the number n
 abbrev pub KeepsNumber : {E : Type 0} → View E → ℕ → Type 0
-KeepsNumber {E} v n = (es : List E) × Keeps v n es
+KeepsNumber {E} v n = (es : List E) × HasKept v n es
 
 -- the view of pass 0 of a new gate
 abbrev pub first_view : {E : Type 0} → List E → View E
@@ -103,10 +103,10 @@ module _ {V E : Type 0} (maker : E → ℕ) (start : List E) (a : Account V E) (
     pub early : List E
     pub rest : List E
     pub made_is : a.made ≡ early ++ rest
-    pub seen_is : (n : ℕ) (es : List E) → Keeps v n es → v.seen ≡ start ++ early
+    pub seen_is : (n : ℕ) (es : List E) → HasKept v n es → v.seen ≡ start ++ early
     pub phase : InPhase a (start ++ a.made) j v.seen v.phase
     pub lives : (t : ℕ) → HasTicket v.phase t → (n : ℕ) × KeepsNumber v n
-    pub owns : (n : ℕ) (es : List E) → Keeps v n es
+    pub owns : (n : ℕ) (es : List E) → HasKept v n es
         → OwnsNumber maker start a.made a.owner a.given j v.opening rest n es
     pub differ : IsDistinct nat_eq (numbers_of v.kept)
 

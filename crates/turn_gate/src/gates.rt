@@ -41,7 +41,8 @@ impl<V: Journal> Model for Gate<V> {
 
     ghost Value = { GateFacts V.Entry V.Fixed };
 
-    ghost view = { λ g. let t = g.table.shared in gate_facts V.entries V.fixed t.table_id t.key.value };
+    ghost view = { λ g. let t = g.table.shared in
+        gate_facts V.entries V.fixed t.table_id t.key.value };
 
     ghost invariant = { λ g. IsGateTable g.table.shared.table_id };
 }
@@ -111,7 +112,8 @@ impl<V: Journal> Gate<V> {
         }
     }
 
-    /// Puts the value back, with the entries that were added to it. The next ticket is served. It takes no memory.
+    /// Puts the value back, with the entries that were added to it. The next ticket is served. It
+    /// takes no memory.
     pub fn leave(&self, pass: &mut Pass<V>, held: Held<V>)
         requires gate { pass.old.gate ≡ self.now.name }
         requires held { HandedTo pass.old held }
@@ -179,7 +181,8 @@ impl<V: Journal> Gate<V> {
         self.table.shared.load::<Heed<V>>(seat, SERVING);
     }
 
-    /// Puts the second pass into the first, which keeps the numbers, the own entries and what was heard of both.
+    /// Puts the second pass into the first, which keeps the numbers, the own entries and what was
+    /// heard of both.
     pub fn join(&self, mut one: Pass<V>, other: Pass<V>) -> Pass<V>
         requires gate { (one.gate ≡ self.now.name) × (other.gate ≡ self.now.name) }
         requires outside { IsOutside one × IsOutside other }
@@ -191,7 +194,8 @@ impl<V: Journal> Gate<V> {
         one
     }
 
-    /// Gives the value that was left last: the pass, with all others joined into it, has seen all its entries.
+    /// Gives the value that was left last: the pass, with all others joined into it, has seen all
+    /// its entries.
     pub fn close(self, pass: Pass<V>) -> V
         requires gate { pass.gate ≡ self.name }
         requires outside { IsOutside pass }

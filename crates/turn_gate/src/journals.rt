@@ -1,7 +1,8 @@
 //! What a gate keeps.
 ghost use Rattle.std.specs.Prelude.{ℕ, List};
 
-/// A value whose meaning is a list of entries and a fixed part. Each entry names its maker by a number.
+/// A value whose meaning is a list of entries and a fixed part. Each entry names its maker by a
+/// number.
 pub trait Journal: Drop {
     /// What the value's list has.
     type Entry;

@@ -3,7 +3,8 @@ use crate::journals::Journal;
 use crate::views::SeatOf;
 use std::marker::Model;
 
-/// The right to enter a gate, under a number of its own. It has no bytes, and is spent by `join` or `close`.
+/// The right to enter a gate, under a number of its own. It has no bytes, and is spent by `join` or
+/// `close`.
 pub struct Pass<V: Journal> {
     pub(crate) seat: SeatOf<V>,
 }

@@ -14,7 +14,9 @@ pub enum Phase {
     Inside(u64),
 }
 
-/// Clauses alone have values of it. `kept` has the pass's number with its own entries, and then those of the passes that were joined into it; `heard` has what each of those had seen. The view of a pass that was joined into another keeps nothing.
+/// Clauses alone have values of it. `kept` has the pass's number with its own entries, and then
+/// those of the passes that were joined into it; `heard` has what each of those had seen. The view
+/// of a pass that was joined into another keeps nothing.
 pub struct View<E> {
     pub opening: LinkedList<E>,
     pub seen: LinkedList<E>,

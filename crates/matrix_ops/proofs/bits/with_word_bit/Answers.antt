@@ -1,6 +1,5 @@
 use Rattle.std.proofs.Common.{ap, sym, ◌∙◌, set, arith}
-use Rattle.plant_types.specs.Discretes.{word_bits}
-use Rattle.matrix_ops.specs.Bits.{number_of_bits}
+use Rattle.plant_types.specs.Discretes.{word_bits, number_of_bits}
 use Rattle.matrix_ops.proofs.BitLemmas.{number_of_bits-set_on, number_of_bits-set_off}
 use Rattle.matrix_ops.proofs.bits.with_word_bit.Goals as goal
 

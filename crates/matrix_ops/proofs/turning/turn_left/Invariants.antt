@@ -1,6 +1,7 @@
 use Rattle.std.proofs.Common.{◌≡◌, ℕ, ◌*◌, ◌<◌, get_or, take, drop}
-use Rattle.matrix_ops.specs.Bits.{matrix_bits, number_of_bits}
+use Rattle.matrix_ops.specs.Bits.{matrix_bits}
 use Rattle.matrix_ops.specs.Matrices.{left_turned}
+use Rattle.plant_types.specs.Discretes.{number_of_bits}
 use Rattle.matrix_ops.proofs.turning.turn_left.Given as goal
 
 abbrev pub invariant-loop-place : goal.invariant-loop-place

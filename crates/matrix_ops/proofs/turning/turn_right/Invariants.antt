@@ -1,6 +1,7 @@
 use Rattle.std.proofs.Common.{◌≡◌, ℕ, ◌*◌, ◌<◌, length, get_or, take, drop}
-use Rattle.matrix_ops.specs.Bits.{matrix_bits, number_of_bits}
+use Rattle.matrix_ops.specs.Bits.{matrix_bits}
 use Rattle.matrix_ops.specs.Matrices.{right_turned}
+use Rattle.plant_types.specs.Discretes.{number_of_bits}
 use Rattle.matrix_ops.proofs.turning.turn_right.Given as goal
 
 abbrev pub invariant-loop-place : goal.invariant-loop-place

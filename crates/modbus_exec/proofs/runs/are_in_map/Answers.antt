@@ -1,5 +1,5 @@
 use Rattle.std.proofs.Common.{sym, arith}
-use Rattle.modbus_exec.specs.Runs.{reference_at, HasRun}
+use Rattle.modbus_exec.specs.Runs.{reference_at}
 use Rattle.modbus_exec.proofs.RunLemmas.{all_in_map, not_in_map}
 use Rattle.modbus_exec.proofs.runs.are_in_map.Goals as goal
 

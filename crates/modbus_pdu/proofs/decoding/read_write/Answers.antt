@@ -12,8 +12,11 @@ returns-in_err-words c =
     let p = err_from_is_err_and c.from_residual.result c.from_residual.ensures.1 in
     let fits : IsBytes c.args.fields.now = λ i. omega (arith, c.type_inv.fields i) in
     let at = c.in-Some in
-    rw (p.1, p.2)
-    (_, read_write_there c.args.fields.now at.read at.quantity at.write at.count at.rest.now fits at.ensures (omega arith, omega arith) (omega arith, omega arith) (omega arith))
+    rw (p.1, p.2) (
+      _,
+      read_write_there c.args.fields.now at.read at.quantity at.write at.count at.rest.now fits at.ensures (omega arith, omega arith)
+          (omega arith, omega arith) (omega arith),
+    )
 
 pub returns : goal.returns
 returns c =

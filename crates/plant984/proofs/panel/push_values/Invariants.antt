@@ -1,7 +1,7 @@
 use Rattle.std.proofs.Common.{◌≡◌, ◌++◌, List, map, drop, string_bytes}
 use Rattle.std.specs.List.{flat_map}
 use Rattle.plant_types.specs.Checks.{HasPanel}
-use Rattle.plant984.specs.Panel.{value_text}
+use Rattle.controller_core.specs.Panel.{value_text}
 use Rattle.plant984.specs.declared.panel.Reading.{Reading}
 use Rattle.plant984.proofs.panel.push_values.Given as goal
 
@@ -10,6 +10,7 @@ invariant-loop-reading g l =
     let store = g.R.RefStore.contents l.ram in
     let shown = λ (readings : List Reading). map (λ (reading : Reading). reading.at) readings in
     record {
-      text : string_bytes l.text ++ flat_map (value_text store) (shown (drop l.reading-index l.readings)) ≡ string_bytes l.fn.text ++ flat_map (value_text store) (shown l.readings);
+      text : string_bytes l.text ++ flat_map (value_text store) (shown (drop l.reading-index l.readings))
+          ≡ string_bytes l.fn.text ++ flat_map (value_text store) (shown l.readings);
       there : HasPanel store (shown (drop l.reading-index l.readings));
     }

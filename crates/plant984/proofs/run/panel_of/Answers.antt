@@ -1,63 +1,76 @@
-use Rattle.std.proofs.Common.{◌≡◌, ◌+◌, ap, sym, ◌∙◌, refl, map, string_bytes, arith}
-use Rattle.plant_types.specs.Checks.{sizes_of}
-use Rattle.plant_types.specs.Sizes.{cleared, discretes_of, discretes}
-use Rattle.plant_types.specs.Store.{part_at}
-use Rattle.ladder_solver.specs.State.{State, state_of}
-use Rattle.plant984.specs.declared.panel.Reading.{Reading}
-use Rattle.plant984.proofs.RunLemmas.{state_after-none, state_after-more, panel-more}
+use Rattle.std.proofs.Common.{◌≡◌, List, ap, sym, ◌∙◌, string_bytes}
+use Rattle.controller_core.specs.declared.fixed.Fixed.{Fixed}
+use Rattle.controller_core.specs.declared.entry.Entry.{Entry}
+use Rattle.controller_core.specs.Controller.{ControllerIs, has_ended}
+use Rattle.controller_core.specs.Panel.{panel_lines}
+use Rattle.controller_core.specs.Run.{run_of}
+use Rattle.plant984.proofs.RunLemmas.{joined, line-written, no-line-written, no-lines, run-kept, turn-shorter}
 use Rattle.plant984.proofs.run.panel_of.Goals as goal
 
-pub loop-done-init : goal.loop-done-init
-loop-done-init c =
-    let controller = c.args.controller.now in
-    let sizes = sizes_of controller in
-    let ram : c.in_ok-ram.ram ≡ cleared sizes = c.in_ok-ram.ensures in
-    let past : c.in_ok-past.past ≡ cleared (discretes_of sizes) = c.in_ok-past.ensures in
+pub loop-controller-init : goal.loop-controller-init
+loop-controller-init c =
+    let v = c.in_ok-controller.controller in
+    let fixed = ap (λ (u : ControllerIs). u.fixed) c.in_ok-controller.ensures in
+    let history = ap (λ (u : ControllerIs). u.history) c.in_ok-controller.ensures in
     record {
-      segments = rw c.in_ok-ladder.ensures refl;
-      state = rw (ram, past, c.in_ok-ladder.ensures) (sym (state_after-none controller c.args.scan_time));
-      keeps = rw ram (λ at there. there);
-      past = rw (ram, past) (sym (c.discretes_follow.ensures.fresh sizes));
-      time = omega arith;
-      text = c.new-text.ensures.bytes;
+      same = fixed;
+      run = c.steps_make_the_run.ensures.starts v history ∙ ap run_of fixed;
+      text = c.new-text.ensures.bytes ∙ sym (ap joined (ap (λ (h : List Entry). panel_lines v.fixed h) history ∙ no-lines v.fixed));
     }
 
-pub solve-requires-clause-past : goal.solve-requires-clause-past
-solve-requires-clause-past c =
-    let controller = c.args.controller.now in
-    let sizes = sizes_of controller in
-    let so_far = c.loop-done.invariant in
-    let found = c.checked_plans_find_all.ensures controller c.requires.passes in
-    let kept = c.discretes_follow.ensures.kept sizes c.loop-done.ram so_far.keeps in
-    rw (so_far.past, so_far.segments)
-    (c.kept_stores_find_all.ensures.past (cleared (discretes_of sizes)) (discretes sizes c.loop-done.ram) controller.segments kept found.past)
-
-pub copy_from-requires : goal.copy_from-requires
-copy_from-requires c =
-    let sizes = sizes_of c.args.controller.now in
-    let so_far = c.loop-done.invariant in
-    rw so_far.past (c.discretes_follow.ensures.held sizes c.loop-done.ram c.solve.new.ram (λ at there. c.solve.ensures.keeps at (so_far.keeps at there)))
-
-pub loop-done-preserved : goal.loop-done-preserved
-loop-done-preserved c =
-    let controller = c.args.controller.now in
-    let scan_time = c.args.scan_time in
-    let done = c.loop-done.done in
-    let sizes = sizes_of controller in
-    let so_far = c.loop-done.invariant in
-    let past : c.copy_from.new.self ≡ discretes sizes c.solve.new.ram =
-    c.copy_from.ensures.copied ∙ ap (λ m. part_at m c.solve.new.ram) so_far.past
-    ∙ c.discretes_follow.ensures.copied sizes c.loop-done.ram c.solve.new.ram so_far.keeps in
-    let old = state_of c.loop-done.ram c.loop-done.past c.loop-done.ladder.edges c.loop-done.clock in
-    let solved = state_of c.solve.new.ram c.loop-done.past c.solve.new.self.edges (record { before = c.loop-done.clock.now; now = c.loop-done.clock.now + scan_time }) in
-    let state = state_after-more controller scan_time done c.loop-done.ladder.segments old solved c.copy_from.new.self so_far.segments so_far.state (rw c.from.ensures at c.solve.ensures.solved) past in
-    let shown = map (λ (reading : Reading). reading.at) c.as_slice-in-loop-done.result.now in
-    let same : shown ≡ controller.panel = cc (c.in_ok-readings.ensures) in
+pub loop-controller-preserved : goal.loop-controller-preserved
+loop-controller-preserved c =
+    let v = c.loop-controller.controller in
+    let r = c.reserve_scan.new.self in
+    let w = c.step-end.new.self in
+    let so_far = c.loop-controller.invariant in
+    let reserved = c.in_ok-reserve_scan.ensures.ok in
+    let grows = c.step-end.ensures.grows in
+    let kept = run-kept v r w reserved grows c.steps_make_the_run.ensures.keeps in
+    let same = c.step-end.ensures.went_on.fixed in
     record {
-      segments = c.solve.ensures.same ∙ so_far.segments;
-      state = rw c.from.ensures state;
-      keeps = λ at there. c.solve.ensures.keeps at (so_far.keeps at there);
-      past = past;
-      time = omega (arith, so_far.time, c.ranges.scan_time.fits);
-      text = panel-more controller scan_time done (string_bytes c.loop-done.text) (string_bytes c.push_line.new.text) c.solve.new.ram shown so_far.text (ap (λ (s : State). s.map) state) same c.in_ok-push_line.ensures;
+      same = same ∙ c.in_ok-reserve_scan.ensures.went_on.fixed ∙ so_far.same;
+      run = kept ∙ so_far.run;
+      text = no-line-written v r w reserved grows same (c.steps_add_their_lines.ensures r) c.step-end.result
+          c.step-end.ensures.answer (sym c.has_line.ensures ∙ c.if-has_line.false) (string_bytes c.loop-controller.text) so_far.text;
     }
+
+pub loop-controller-preserved-in-Continue-branch-4 : goal.loop-controller-preserved-in-Continue-branch-4
+loop-controller-preserved-in-Continue-branch-4 c =
+    let v = c.loop-controller.controller in
+    let r = c.reserve_scan.new.self in
+    let w = c.step-end.new.self in
+    let so_far = c.loop-controller.invariant in
+    let reserved = c.in_ok-reserve_scan.ensures.ok in
+    let grows = c.step-end.ensures.grows in
+    let kept = run-kept v r w reserved grows c.steps_make_the_run.ensures.keeps in
+    let same = c.step-end.ensures.went_on.fixed in
+    record {
+      same = same ∙ c.in_ok-reserve_scan.ensures.went_on.fixed ∙ so_far.same;
+      run = kept ∙ so_far.run;
+      text = line-written v r w reserved grows same (c.steps_add_their_lines.ensures r) c.step-end.result
+          c.step-end.ensures.answer (sym c.has_line.ensures ∙ c.if-has_line.true) (string_bytes c.loop-controller.text)
+          (string_bytes c.push_line.new.text) so_far.text c.in_ok-push_line.ensures;
+    }
+
+pub loop-controller-smaller : goal.loop-controller-smaller
+loop-controller-smaller c =
+    let v = c.loop-controller.controller in
+    let r = c.reserve_scan.new.self in
+    let w = c.step-end.new.self in
+    let so_far = c.loop-controller.invariant in
+    let reserved = c.in_ok-reserve_scan.ensures.ok in
+    let grows = c.step-end.ensures.grows in
+    let kept = run-kept v r w reserved grows c.steps_make_the_run.ensures.keeps in
+    turn-shorter v r w _ reserved grows (sym c.has_ended.ensures ∙ c.loop-controller-test.true) (kept ∙ so_far.run)
+
+pub loop-controller-smaller-in-Continue-branch-4 : goal.loop-controller-smaller-in-Continue-branch-4
+loop-controller-smaller-in-Continue-branch-4 c =
+    let v = c.loop-controller.controller in
+    let r = c.reserve_scan.new.self in
+    let w = c.step-end.new.self in
+    let so_far = c.loop-controller.invariant in
+    let reserved = c.in_ok-reserve_scan.ensures.ok in
+    let grows = c.step-end.ensures.grows in
+    let kept = run-kept v r w reserved grows c.steps_make_the_run.ensures.keeps in
+    turn-shorter v r w _ reserved grows (sym c.has_ended.ensures ∙ c.loop-controller-test.true) (kept ∙ so_far.run)

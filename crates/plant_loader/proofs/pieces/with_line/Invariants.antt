@@ -10,4 +10,5 @@ use Rattle.plant_loader.proofs.pieces.with_line.Given as goal
 abbrev pub invariant-loop-piece : goal.invariant-loop-piece
 invariant-loop-piece l =
     let parts = slice_split (λ byte. byte == 59) l.line in
-    with_pieces (sizes_of l.counts) l.program (filter has_word (drop (length l.yielded) parts)) ≡ with_pieces (sizes_of l.counts) l.initial.program (filter has_word parts)
+    with_pieces (sizes_of l.counts) l.program (filter has_word (drop (length l.yielded) parts))
+    ≡ with_pieces (sizes_of l.counts) l.initial.program (filter has_word parts)

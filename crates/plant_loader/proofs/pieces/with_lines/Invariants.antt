@@ -9,4 +9,5 @@ use Rattle.plant_loader.proofs.pieces.with_lines.Given as goal
 -- what was read, with the pieces of the lines left behind it
 abbrev pub invariant-loop-line : goal.invariant-loop-line
 invariant-loop-line l =
-    with_pieces (sizes_of l.counts) l.program (flat_map pieces_of_line (drop (length l.yielded) (lines l.text))) ≡ with_pieces (sizes_of l.counts) l.initial.program (flat_map pieces_of_line (lines l.text))
+    with_pieces (sizes_of l.counts) l.program (flat_map pieces_of_line (drop (length l.yielded) (lines l.text)))
+    ≡ with_pieces (sizes_of l.counts) l.initial.program (flat_map pieces_of_line (lines l.text))

@@ -4,7 +4,8 @@ use Rattle.plant_loader.proofs.reading.load.Goals as goal
 
 -- what the call answers can be run
 runs : goal.returns-clause-runnable
-runs c = gives-runnable c.args.bytes.now c.plant_in.result (plant_of-document c.args.bytes.now (table_view c.in_ok-top.top) c.plant_in.result c.in_ok-top.ensures c.plant_in.ensures)
+runs c = gives-runnable c.args.bytes.now c.plant_in.result (plant_of-document c.args.bytes.now
+    (table_view c.in_ok-top.top) c.plant_in.result c.in_ok-top.ensures c.plant_in.ensures)
 
 pub returns-clause-runnable : goal.returns-clause-runnable
 returns-clause-runnable c = runs c

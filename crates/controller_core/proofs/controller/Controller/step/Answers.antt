@@ -1,4 +1,4 @@
-use Rattle.std.proofs.Common.{◌≡◌, true, ◌&&◌, ◌++◌, ◌∷◌, [], length, sym, ap, ◌∙◌, arith}
+use Rattle.std.proofs.Common.{◌≡◌, rules, true, ◌&&◌, ◌++◌, ◌∷◌, [], length, sym, ap, ◌∙◌, arith}
 use Rattle.std.specs.Prelude.{not}
 use Rattle.std.proofs.lemmas.Grind.{common_steps}
 use Rattle.scan_order.specs.declared.due.ScanPlace.{ScanPlace}
@@ -7,9 +7,9 @@ use Rattle.controller_core.specs.declared.fixed.Fixed.{Fixed}
 use Rattle.controller_core.specs.declared.entry.Entry.{Entry}
 use Rattle.controller_core.specs.Event.{entry_of}
 use Rattle.controller_core.specs.Machine.{state_is}
-use Rattle.controller_core.specs.Scans.{ends_scan}
+use Rattle.controller_core.specs.Scans.{closes_scan}
 use Rattle.controller_core.specs.Controller.{ControllerIs}
-use Rattle.controller_core.proofs.Keeping.{kept_as, kept_step, not_done, room_step, step_made, step_none, timely_enough}
+use Rattle.controller_core.proofs.Keeping.{can_solve, kept_made, not_done, room_step, step_made, step_none, timely_enough, went_on_step}
 use Rattle.controller_core.proofs.controller.Controller.step.Goals as goal
 
 pub next_due-step-requires-clause-place : goal.next_due-step-requires-clause-place
@@ -24,14 +24,21 @@ perform-entry-requires-clause-timely c =
     let runs = c.self.invariant.kept.sound.runs in
     timely_enough i.machine.fixed i.machine i.history.items i.at c.self.invariant.kept runs.scans runs.plan.count
 
+pub perform-entry-requires-clause-watch : goal.perform-entry-requires-clause-watch
+perform-entry-requires-clause-watch c =
+    let i = c.self.inside in
+    can_solve i.machine.fixed i.machine i.at c.next_due-step.result c.next_due-step.ensures.next (search rules) c.self.invariant.kept.watched
+
 pub note-requires : goal.note-requires
 note-requires c =
     let i = c.self.inside in
+    let does = c.perform-entry.ensures.does in
     let kept = c.self.invariant.kept in
     let step = c.next_due-step.result in
+    let goes : i.machine.stop ≡ 0 = search rules in
     let lt = not_done i.machine.fixed.scans i.at i.machine.ended kept.within (sym c.if-is_done.ensures) in
-    let got = step_made i.machine.fixed i.machine i.history.items i.at i.reserved step
-    c.args.self.now c.self.view_is kept lt c.next_due-step.ensures.next in
+    let got = step_made i.machine.fixed i.machine c.perform-entry.new.self i.history.items i.at i.reserved step
+    c.args.self.now c.self.view_is kept goes lt c.next_due-step.ensures.next does.state in
     let has : i.reserved ≡ true = ap (λ (v : ControllerIs). v.reserved) c.self.view_is ∙ c.requires got.2 in
     let room = c.self.invariant.room has in
     let some = ap length c.next_due-step.ensures.next in
@@ -40,12 +47,32 @@ note-requires c =
 pub returns-then-is_done-clause-grows : goal.returns-then-is_done-clause-grows
 returns-then-is_done-clause-grows c =
     let i = c.self.inside in
-    sym (step_none i.machine.fixed i.machine i.history.items i.at i.reserved c.args.self.now c.self.view_is c.self.invariant.kept (sym c.if-is_done.ensures)).0
+    sym (step_none i.machine.fixed i.machine i.history.items i.at i.reserved c.args.self.now c.self.view_is c.self.invariant.kept
+    (search rules) (sym c.if-is_done.ensures)).0
 
 pub returns-then-is_done-clause-answer : goal.returns-then-is_done-clause-answer
 returns-then-is_done-clause-answer c =
     let i = c.self.inside in
-    sym (step_none i.machine.fixed i.machine i.history.items i.at i.reserved c.args.self.now c.self.view_is c.self.invariant.kept (sym c.if-is_done.ensures)).1
+    sym (step_none i.machine.fixed i.machine i.history.items i.at i.reserved c.args.self.now c.self.view_is c.self.invariant.kept
+    (search rules) (sym c.if-is_done.ensures)).1
+
+pub returns-clause-went_on : goal.returns-clause-went_on
+returns-clause-went_on c =
+    let i = c.self.inside in
+    let kept = c.self.invariant.kept in
+    let step = c.next_due-step.result in
+    let does = c.perform-entry.ensures.does in
+    let n = c.perform-entry.new.self in
+    let l = c.note.new.history.items in
+    let to = c.place_after-at.result in
+    let goes : i.machine.stop ≡ 0 = search rules in
+    let lt = not_done i.machine.fixed.scans i.at i.machine.ended kept.within (sym c.if-is_done.ensures) in
+    let h : l ≡ i.history.items ++ entry_of i.machine.fixed (state_is i.machine) step ∷ [] =
+    c.note.ensures.items ∙ ap (λ (x : Entry). i.history.items ++ x ∷ []) c.perform-entry.ensures.entry in
+    let new = kept_made i.machine.fixed i.machine n i.history.items l i.at to step
+    kept goes lt c.next_due-step.ensures.next c.next_due-step.ensures.step does h c.place_after-at.ensures in
+    went_on_step i.machine.fixed i.machine n i.history.items l i.at to i.reserved c.keeps_room-reserved.result step
+    c.args.self.now c.self.view_is kept new does.fixed h
 
 pub invariant_of-self : goal.invariant_of-self
 invariant_of-self c =
@@ -54,15 +81,16 @@ invariant_of-self c =
     let step = c.next_due-step.result in
     let next = c.next_due-step.ensures.next in
     let does = c.perform-entry.ensures.does in
+    let n = c.perform-entry.new.self in
+    let goes : i.machine.stop ≡ 0 = search rules in
     let lt = not_done i.machine.fixed.scans i.at i.machine.ended kept.within (sym c.if-is_done.ensures) in
-    let e = entry_of i.machine.fixed (state_is i.machine) step in
-    let h : c.note.new.history.items ≡ i.history.items ++ e ∷ [] =
+    let h : c.note.new.history.items ≡ i.history.items ++ entry_of i.machine.fixed (state_is i.machine) step ∷ [] =
     c.note.ensures.items ∙ ap (λ (x : Entry). i.history.items ++ x ∷ []) c.perform-entry.ensures.entry in
     record {
-      kept = kept_as _ _ _ _ _ _ _ does.fixed h c.place_after-at.ensures
-          (kept_step i.machine.fixed i.machine c.perform-entry.new.self i.history.items i.at step kept lt next c.next_due-step.ensures.step does);
+      kept = kept_made i.machine.fixed i.machine n i.history.items c.note.new.history.items i.at c.place_after-at.result step
+          kept goes lt next c.next_due-step.ensures.step does h c.place_after-at.ensures;
       room = λ is.
-          let two = room_step i.reserved i.machine.fixed.plan i.at step (sym c.keeps_room-reserved.ensures ∙ is) next in
+          let two = room_step i.reserved i.machine.fixed.plan i.at step n.stop (sym c.keeps_room-reserved.ensures ∙ is) next in
           let before = c.self.invariant.room two.0 in
           let less = two.1 in
           let place = ap (λ (p : ScanPlace). length (due_after i.machine.fixed.plan p)) c.place_after-at.ensures in
@@ -76,18 +104,19 @@ returns-clause-grows c =
     let kept = c.self.invariant.kept in
     let step = c.next_due-step.result in
     let does = c.perform-entry.ensures.does in
+    let goes : i.machine.stop ≡ 0 = search rules in
     let lt = not_done i.machine.fixed.scans i.at i.machine.ended kept.within (sym c.if-is_done.ensures) in
-    let got = step_made i.machine.fixed i.machine i.history.items i.at i.reserved step
-    c.args.self.now c.self.view_is kept lt c.next_due-step.ensures.next in
+    let got = step_made i.machine.fixed i.machine c.perform-entry.new.self i.history.items i.at i.reserved step
+    c.args.self.now c.self.view_is kept goes lt c.next_due-step.ensures.next does.state in
     let h : c.note.new.history.items ≡ i.history.items ++ entry_of i.machine.fixed (state_is i.machine) step ∷ [] =
     c.note.ensures.items ∙ ap (λ (x : Entry). i.history.items ++ x ∷ []) c.perform-entry.ensures.entry in
-    let r : c.keeps_room-reserved.result ≡ (i.reserved && not (ends_scan step)) = c.keeps_room-reserved.ensures in
+    let r : c.keeps_room-reserved.result ≡ (i.reserved && not (closes_scan step c.perform-entry.new.self.stop)) = c.keeps_room-reserved.ensures in
     let made : record { fixed = c.perform-entry.new.self.fixed; history = c.note.new.history.items; reserved = c.keeps_room-reserved.result }
     ≡ record {
       fixed = i.machine.fixed;
       history = i.history.items ++ entry_of i.machine.fixed
           (state_is i.machine) step ∷ [];
-      reserved = i.reserved && not (ends_scan step);
+      reserved = i.reserved && not (closes_scan step c.perform-entry.new.self.stop);
     } =
     λ j. record { fixed = does.fixed j; history = h j; reserved = r j } in
     made ∙ sym got.0
@@ -95,8 +124,10 @@ returns-clause-grows c =
 pub returns-clause-answer : goal.returns-clause-answer
 returns-clause-answer c =
     let i = c.self.inside in
+    let does = c.perform-entry.ensures.does in
     let kept = c.self.invariant.kept in
+    let goes : i.machine.stop ≡ 0 = search rules in
     let lt = not_done i.machine.fixed.scans i.at i.machine.ended kept.within (sym c.if-is_done.ensures) in
-    let got = step_made i.machine.fixed i.machine i.history.items i.at i.reserved c.next_due-step.result
-    c.args.self.now c.self.view_is kept lt c.next_due-step.ensures.next in
+    let got = step_made i.machine.fixed i.machine c.perform-entry.new.self i.history.items i.at i.reserved c.next_due-step.result
+    c.args.self.now c.self.view_is kept goes lt c.next_due-step.ensures.next does.state in
     sym got.1

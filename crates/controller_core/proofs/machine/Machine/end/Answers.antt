@@ -24,7 +24,7 @@ returns c =
       state = rw past refl;
       sound = record {
         runs = sound.runs;
-        segments = sound.segments;
+        grids = sound.grids;
         drops = sound.drops;
         keeps = sound.keeps;
         past = record { store = machine.ram; keeps = sound.keeps; is = past };

@@ -29,13 +29,14 @@ returns c =
     record {
       fixed = refl;
       state = λ i. record {
-        solving = state_of (map i) machine.past machine.ladder.edges machine.clock;
+        solving = state_of (map i) machine.past machine.ladder.edges machine.clock machine.watch.left;
         exchanges = counts i;
         ended = machine.ended;
+        stop = machine.stop;
       };
       sound = record {
         runs = sound.runs;
-        segments = sound.segments;
+        grids = sound.grids;
         drops = sound.drops;
         keeps = λ at h. c.input.ensures.keeps at (sound.keeps at h);
         past = sound.past;

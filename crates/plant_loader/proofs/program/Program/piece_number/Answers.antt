@@ -5,10 +5,22 @@ use Rattle.plant_loader.proofs.program.Program.piece_number.Goals as goal
 
 pub overflow_cast-result : goal.overflow_cast-result
 overflow_cast-result c =
-    let read : ReadProgram = record { segments = c.self.inside.segments; networks = c.self.inside.networks; cells = c.self.inside.cells; shorts = c.self.inside.shorts } in
+    let read : ReadProgram = record {
+      count = c.self.inside.count;
+      segments = c.self.inside.segments;
+      networks = c.self.inside.networks;
+      cells = c.self.inside.cells;
+      shorts = c.self.inside.shorts;
+    } in
     omega (arith, ap length c.as_slice.ensures, ap length c.as_slice-2.ensures, IsKept-few c.self.inside.driven.keys read c.self.invariant)
 
 pub overflow_add-result : goal.overflow_add-result
 overflow_add-result c =
-    let read : ReadProgram = record { segments = c.self.inside.segments; networks = c.self.inside.networks; cells = c.self.inside.cells; shorts = c.self.inside.shorts } in
+    let read : ReadProgram = record {
+      count = c.self.inside.count;
+      segments = c.self.inside.segments;
+      networks = c.self.inside.networks;
+      cells = c.self.inside.cells;
+      shorts = c.self.inside.shorts;
+    } in
     omega (arith, ap length c.as_slice.ensures, ap length c.as_slice-2.ensures, IsKept-few c.self.inside.driven.keys read c.self.invariant)

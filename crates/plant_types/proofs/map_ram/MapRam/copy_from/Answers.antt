@@ -10,7 +10,8 @@ returns-clause-copied c =
     let es = c.self.inside.values.entries in
     let other = c.args.other.now in
     let keeps : Keeps (from_entries es) other = subst (λ m. Keeps m other) (sym c.self.view_is) c.requires in
-    ap (from_entries {R = ref_cmp}) (pairs_written _ (λ at. unwrap_or (get other at) 0) _ (λ k v b w f' t. search rules) es c.retain.new.self.entries c.retain.ensures.filtered)
+    ap (from_entries {R = ref_cmp}) (pairs_written _ (λ at. unwrap_or (get other at) 0) _
+    (λ k v b w f' t. search rules) es c.retain.new.self.entries c.retain.ensures.filtered)
     ∙ from_entries-copied es other keeps
     ∙ ap (λ m. part_at m other) c.self.view_is
 

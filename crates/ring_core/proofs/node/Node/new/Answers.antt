@@ -6,4 +6,13 @@ pub returns : goal.returns
 returns c =
     let paths = c.in_ok-vec.ensures.items_if_clones_equal (λ y e. e) ∙ ap (λ (p : Path). replicate 5 p) c.no_path.ensures in
     let accepted = c.in_ok-vec-2.ensures.items_if_clones_equal (λ y e. e) in
-    λ i. record { here = c.args.here; outbox = c.new.ensures.items i; tries = 0; inbox = c.new-2.ensures.items i; passes = 0; done_run = 0; paths = paths i; accepted = accepted i }
+    λ i. record {
+      here = c.args.here;
+      outbox = c.new.ensures.items i;
+      tries = 0;
+      inbox = c.new-2.ensures.items i;
+      passes = 0;
+      done_run = 0;
+      paths = paths i;
+      accepted = accepted i;
+    }

@@ -1,5 +1,5 @@
 use Rattle.std.proofs.lemmas.Grind.{common_steps}
-use Rattle.std.proofs.Common.{arith, ap, sym, refl, ◌∙◌, ◌++◌, ◌∷◌, [], set}
+use Rattle.std.proofs.Common.{arith, ap, sym, refl, ◌∙◌, set}
 use Rattle.ring_core.specs.Words.{Leave}
 use Rattle.ring_core.specs.Machine.{gone, successor, RingIs}
 use Rattle.ring_core.proofs.Keeping.{kept-call, part}

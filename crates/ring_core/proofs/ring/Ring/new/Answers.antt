@@ -1,5 +1,5 @@
 use Rattle.std.proofs.lemmas.Grind.{common_steps}
-use Rattle.std.proofs.Common.{arith, List, ℕ, ◌<◌, All, length, ap, sym, ◌∙◌, subst}
+use Rattle.std.proofs.Common.{arith, List, ◌<◌, All, length, ap, sym, ◌∙◌, subst}
 use Rattle.global_data.specs.Book.{new_book}
 use Rattle.ring_core.specs.Words.{NetPlan, RingEntry}
 use Rattle.ring_core.specs.Machine.{RingIs, NodeIs, addresses, least_from, opening_nodes}
@@ -20,4 +20,8 @@ invariant_of-result c =
     (c.least_from-holder.ensures ∙ ap (λ (l : List NodeIs). least_from l 0) c.deref.ensures.value)
     (c.in_ok-stats.ensures ∙ ap opening_stats c.as_slice-2.ensures)
     (c.in_ok-book.ensures ∙ ap new_book c.as_slice-3.ensures) in
-    record { kept = subst (λ (h : List RingEntry). IsKept plan h r stats c.in_ok-book.book) (sym c.new-2.ensures.items) kept; room = grind (arith, common_steps) }
+    record {
+      kept = subst (λ (h : List RingEntry). IsKept plan h r stats c.in_ok-book.book) (sym c.new-2.ensures.items) kept;
+      room =
+          grind (arith, common_steps);
+    }

@@ -18,8 +18,13 @@ invariant_of-self-in-Some-take c =
     let read = part _ _ _ _ _ n _ c.self.view_is k c.requires c.index_mut-part.ensures.value in
     let same = opened _ _ r _ _ c.self.view_is k in
     record {
-      kept = kept-call _ _ _ r _ _ _ _ _ (Take n f) c.self.view_is k
-          (c.requires, (sym c.turn_no.ensures ∙ c.in_default.is, subst (λ (p : NodeIs). IsFirst p.inbox f) (read ∙ ap (λ (s : RingIs). node_at s n) (sym same)) c.in-Some-take.ensures.some.0))
+      kept = kept-call _ _ _ r _ _ _ _ _ (Take n f) c.self.view_is k (
+        c.requires,
+        (
+          sym c.turn_no.ensures ∙ c.in_default.is,
+          subst (λ (p : NodeIs). IsFirst p.inbox f) (read ∙ ap (λ (s : RingIs). node_at s n) (sym same)) c.in-Some-take.ensures.some.0,
+        ),
+      )
           (c.note.ensures.items ∙ ap (λ l. l ++ Take n f ∷ []) c.make_room.ensures.items)
           (ap (λ (p : NodeIs). with_node r n p) (c.in-Some-take.ensures.some.1 ∙ ap (λ (p : NodeIs). took p f.kind f.id) read))
           (c.count.ensures ∙ ap (λ (event : StatEvent). noted_at c.self.inside.stats.items (counts n event)) c.take_event.ensures) refl;

@@ -1,9 +1,0 @@
-use Rattle.std.proofs.Common.{◌≡◌, ◌≤◌, refl, arith}
-use Rattle.plant_types.specs.Checks.{are_driven_once}
-use Rattle.controller_core.proofs.tests.least_plan.Goals as goal
-
-pub returns : goal.returns
-unfolding are_driven_once
-returns c =
-    rw (c.new.ensures, c.new-2.ensures, c.new-3.ensures, c.new-4.ensures)
-    (record { passes = refl; plain = tt; count = omega arith; rows = tt })

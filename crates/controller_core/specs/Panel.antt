@@ -1,0 +1,73 @@
+-- The panel lines of one controller.
+use Rattle.std.specs.Prelude.{ℕ, ◌+◌, ◌==◌, Bool, false, if◌then◌else◌, codes, List, [], ◌∷◌, ◌++◌, Option, Some, None}
+use Rattle.std.specs.Fmt.{decimal}
+use Rattle.std.specs.List.{flat_map}
+use Rattle.plant_types.specs.declared.reference.Ref.{Ref}
+use Rattle.plant_types.specs.declared.plan.ControllerPlan.{ControllerPlan}
+use Rattle.plant_types.specs.Reference.{reference_text}
+use Rattle.plant_types.specs.Store.{Contents, value_at}
+use Rattle.scan_order.specs.declared.due.ScanStep.{ScanStep}
+use Rattle.controller_core.specs.declared.fixed.Fixed.{Fixed}
+use Rattle.controller_core.specs.declared.entry.Entry.{Entry}
+use Rattle.controller_core.specs.declared.entry.StepEnd.{StepEnd}
+use Rattle.controller_core.specs.declared.entry.StepEnd.TheVariants as ends
+use Rattle.controller_core.specs.Replay.{State, apply, start}
+use Rattle.controller_core.specs.Event.{step_of}
+use Rattle.controller_core.specs.Scans.{closes_scan}
+
+-- What stands before a value: a blank, its reference and `=`. This project's own.
+abbrev pub label_of : Ref → List ℕ
+label_of at = codes " " ++ (reference_text at ++ codes "=")
+
+-- A reference with its value. This project's own.
+abbrev pub value_text : Contents → Ref → List ℕ
+value_text store at = label_of at ++ decimal (value_at store at)
+
+-- A line: the number of the scan, the node, and what is told of them. This project's own.
+abbrev pub line_text : ℕ → ℕ → List ℕ → List ℕ
+line_text scan node told =
+    codes "S " ++ (decimal scan ++ (codes " N " ++ (decimal node ++ (told ++ codes "\n"))))
+
+-- What is told of a scan right after its last event: the values of the panel's references in
+-- their order, or the code with which the controller stopped. This project's own.
+abbrev pub told_of : ControllerPlan → State → List ℕ
+told_of plan s =
+    if s.stop == 0
+    then flat_map (value_text s.solving.map) plan.panel
+    else codes " STOP " ++ decimal s.stop
+
+-- The number of the scan that is over: it has ended, or the controller stopped in it, and it is
+-- the one behind those that have ended. This project's own.
+abbrev pub scan_over : State → ℕ
+scan_over s = if s.stop == 0 then s.ended else s.ended + 1
+
+-- The panel line of a scan, by the state right after its last event. This project's own.
+abbrev pub panel_line : ControllerPlan → State → List ℕ
+panel_line plan s = line_text (scan_over s) plan.node (told_of plan s)
+
+-- The line of an event, if it is the last of its scan, by the state right after it. This
+-- project's own.
+abbrev pub line_of_step : ControllerPlan → Option ScanStep → State → List (List ℕ)
+line_of_step plan None s = []
+line_of_step plan (Some step) s = if closes_scan step s.stop then panel_line plan s ∷ [] else []
+
+unfoldable pub lines_from : Fixed → State → List Entry → List (List ℕ)
+lines_from fixed s [] = []
+lines_from fixed s (entry ∷ entries) =
+    let after = apply fixed s entry in
+    line_of_step fixed.plan (step_of entry) after ++ lines_from fixed after entries
+
+-- The panel lines of a history: one for each scan that is over, in their order. This project's
+-- own.
+abbrev pub panel_lines : Fixed → List Entry → List (List ℕ)
+panel_lines fixed history = lines_from fixed (start fixed.plan) history
+
+-- Whether what a step answered was the last event of its scan, by the state behind it. This
+-- project's own.
+abbrev pub has_line : StepEnd → State → Bool
+has_line (ends.Did step) s = closes_scan step s.stop
+has_line _ s = false
+
+-- The line that a step adds. This project's own.
+abbrev pub line_of_end : ControllerPlan → StepEnd → State → List (List ℕ)
+line_of_end plan end s = if has_line end s then panel_line plan s ∷ [] else []

@@ -1,0 +1,40 @@
+//! What holds of all histories.
+ghost use Rattle.std.specs.Prelude.{◌≡◌, true, [], ◌∷◌, ◌++◌, List};
+ghost use Rattle.controller_core.specs.declared.entry.Entry.{Entry as AnyEntry};
+ghost use Rattle.controller_core.specs.Controller.{ControllerIs, has_ended, state_of};
+ghost use Rattle.controller_core.specs.Controller.{due_step, grown, step_end, stepped, AreOf};
+ghost use Rattle.controller_core.specs.Panel.{line_of_end, panel_lines};
+ghost use Rattle.controller_core.specs.Run.{ends_with, run_of};
+
+use crate::entry::Maker;
+
+/// A controller that makes nothing but steps ends with the run of its fixed part: this holds at
+/// its start, each step keeps it, and its history is that run once it has ended.
+pub fn steps_make_the_run()
+    ensures starts { (v : ControllerIs) → v.history ≡ [] → ends_with v ≡ run_of v.fixed }
+    ensures keeps { (v : ControllerIs) → ends_with (stepped v) ≡ ends_with v }
+    ensures ended { (v : ControllerIs) → has_ended v ≡ true → ends_with v ≡ v.history }
+{}
+
+/// A step adds the line of its scan, if it is the last of it, to the panel lines of the history.
+pub fn steps_add_their_lines()
+    ensures { (v : ControllerIs) → panel_lines v.fixed (stepped v).history
+        ≡ panel_lines v.fixed v.history
+        ++ line_of_end v.fixed.plan (step_end v) (state_of (stepped v)) }
+{}
+
+/// Answers to other nodes end no condition of the scan: after any number of them the same step is
+/// due, with the same entry but for its words, and as much is over.
+pub fn answers_leave_the_scan()
+    ensures due { (v : ControllerIs) (added : List AnyEntry) → AreOf Maker.Communication added
+        → due_step (grown v added v.reserved) ≡ due_step v }
+    ensures ended { (v : ControllerIs) (added : List AnyEntry) → AreOf Maker.Communication added
+        → has_ended (grown v added v.reserved) ≡ has_ended v }
+    ensures stop { (v : ControllerIs) (added : List AnyEntry) → AreOf Maker.Communication added
+        → (state_of (grown v added v.reserved)).stop ≡ (state_of v).stop }
+{}
+
+/// A step leaves a controller as it is where all scans are done or it has stopped.
+pub fn ended_controllers_stay()
+    ensures { (v : ControllerIs) → has_ended v ≡ true → stepped v ≡ v }
+{}

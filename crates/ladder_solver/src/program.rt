@@ -1,0 +1,166 @@
+//! Networks as solving walks them, and where each subroutine stands among them.
+ghost use Rattle.std.specs.Prelude.{◌≡◌, ◌<◌, ◌≤◌, length, map, slice_set, IfOk, IfSome};
+ghost use Rattle.std.specs.Option.{option_copied};
+ghost use Rattle.grid_compile.specs.Lists.{op_at};
+ghost use Rattle.ladder_solver.specs.Layout.{spots_in};
+ghost use Rattle.ladder_solver.specs.Subroutine.{label_number};
+ghost use Rattle.ladder_solver.specs.Program.{label_in, CanLay, grids_at, last_grids};
+ghost use Rattle.ladder_solver.specs.Program.{no_spans, spans_of, IsSpanOf, IsWithinNetworks};
+
+use crate::layout::{Spot, spots_of};
+use grid_compile::{Column, Grid, Op};
+use plant_types::{Element, List};
+use std::alloc::{AllocError, Global};
+use std::marker::Model;
+
+/// The largest number of a LAB.
+const MOST_LABELS: usize = 255;
+
+/// The networks of a subroutine in the last segment, counted from 0.
+#[derive(Clone, Copy)]
+pub(crate) struct Span {
+    pub first: usize,
+    /// The network behind the last.
+    pub end: usize,
+}
+
+/// Where the subroutine of each number stands.
+type Spans = [Option<Span>; MOST_LABELS + 1];
+
+fn label_number(element: Element) -> Option<u16>
+    ensures { result ≡ label_number element }
+{
+    match element {
+        Element::Label(number) => Some(number),
+        _ => None,
+    }
+}
+
+fn op_at(ops: &[Op], row: u8) -> Option<&Op>
+    ensures { option_copied result ≡ op_at ops.now row }
+{
+    ops.iter().find(|op| op.row == row)
+}
+
+/// The number of a network's LAB, which stands in row 1 and column 1.
+fn label_in(grid: &Grid) -> Option<u16>
+    ensures { result ≡ label_in grid.now }
+{
+    let column = grid.columns.as_slice().first()?;
+    let op = op_at(column.ops.as_slice(), 1)?;
+    label_number(op.element)
+}
+
+fn no_spans() -> Spans
+    ensures { result ≡ no_spans }
+{
+    [None; MOST_LABELS + 1]
+}
+
+fn put_span(spans: &mut Spans, number: u16, span: Span)
+    ensures { spans.new ≡ slice_set spans.old number (Some span) }
+{
+    if usize::from(number) <= MOST_LABELS {
+        spans[usize::from(number)] = Some(span);
+    }
+}
+
+/// Where the subroutines of these networks stand: each goes on up to the next LAB.
+fn spans_of(grids: &[Grid]) -> Spans
+    ensures { result ≡ spans_of grids.now }
+{
+    let mut spans = no_spans();
+    let mut end = grids.len();
+    for first in (0..grids.len()).rev() {
+        if let Some(number) = label_in(&grids[first]) {
+            put_span(&mut spans, number, Span { first, end });
+            end = first;
+        }
+    }
+    spans
+}
+
+fn last_spans(segments: &[List<Grid>]) -> Spans
+    ensures { result ≡ spans_of (last_grids segments.now) }
+{
+    if segments.is_empty() {
+        return no_spans();
+    }
+    spans_of(segments[segments.len() - 1].as_slice())
+}
+
+/// The grids of all segments, their cells as solving walks them, and their subroutines.
+#[derive(Drop)]
+pub(crate) struct Program {
+    grids: List<List<Grid>>,
+    networks: List<List<List<Spot>>>,
+    spans: Spans,
+}
+
+impl Model for Program {
+    ghost use Rattle.std.specs.Prelude.{List};
+    ghost use Rattle.std.specs.Coded.{coded_list};
+    ghost use Rattle.grid_compile.specs.declared.grid.Grid.{Grid};
+    ghost use Rattle.grid_compile.specs.contracts.grid.Grid.{the_row};
+
+    ghost Value = { List (List Grid) };
+
+    ghost coded = { coded_list (coded_list the_row.coded) };
+
+    ghost use Rattle.ladder_solver.specs.Program.{program_of, IsProgram};
+
+    ghost view = { program_of };
+
+    ghost invariant = { IsProgram };
+}
+
+impl Program {
+    pub fn new(alloc: Global, grids: List<List<Grid>>) -> Result<Program, AllocError>
+        requires { CanLay grids }
+        ensures { IfOk result (λ program. program ≡ grids) }
+    {
+        let networks = spots_of(alloc, grids.as_slice())?;
+        let spans = last_spans(grids.as_slice());
+        Ok(Program {
+            grids,
+            networks,
+            spans,
+        })
+    }
+
+    /// The networks of a segment, counted from 1.
+    pub fn networks(&self, segment: usize) -> &[List<Spot>]
+        requires first { 0 < segment }
+        requires last { segment ≤ length self.now }
+        ensures { result.now ≡ map spots_in (grids_at self.now segment) }
+    {
+        self.networks.as_slice()[segment - 1].as_slice()
+    }
+
+    /// The grids of each segment.
+    pub fn grids(&self) -> &[List<Grid>]
+        ensures { result.now ≡ self.now }
+    {
+        self.grids.as_slice()
+    }
+
+    /// How many segments there are: the number of the last.
+    pub fn last(&self) -> usize
+        ensures { result ≡ length self.now }
+    {
+        self.grids().len()
+    }
+
+    /// Where the subroutine of a number stands in the last segment, if there is one.
+    pub fn subroutine(&self, label: u16) -> Option<Span>
+        ensures span { IsSpanOf self.now label result }
+        ensures within { IfSome result (IsWithinNetworks (length (last_grids self.now))) }
+    {
+        let spans = &self.spans;
+        let number = usize::from(label);
+        if number > MOST_LABELS {
+            return None;
+        }
+        spans[number]
+    }
+}

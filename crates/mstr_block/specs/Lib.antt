@@ -1,0 +1,6 @@
+pub mod Call
+pub mod Operations
+pub mod Control
+pub mod Table
+pub mod Solve
+pub mod Laws

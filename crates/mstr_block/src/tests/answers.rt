@@ -1,0 +1,143 @@
+//! What each operation stores of a good result, and where control block and data area overlap.
+use super::rig::{ENABLE, FIRST, Rig, SUCCESS, Stand};
+use crate::{MstrAsk, MstrCall, MstrResult};
+use std::alloc::{AllocError, AllocGlobal};
+use std::process::Abort;
+use std::test::Fail;
+
+/// Operation, length and start of a call to node 5; the words of its result; then the start
+/// register and five registers of the area, which were 77 each.
+type Row<'a> = (u16, u16, u16, &'a [u16], [u16; 6]);
+
+/// The start register and five of the area after a call ended with these words; zeros where the
+/// block did not end with success.
+fn answer_of(
+    rt: &(impl Abort + AllocGlobal),
+    block: [u16; 9],
+    words: &[u16],
+) -> Result<[u16; 6], AllocError> {
+    let mut rig = Rig::new(rt.alloc(), 1)?;
+    rig.fill(rt, 1, &block);
+    rig.fill(rt, 11, &[77, 77, 77, 77, 77]);
+    let stand = Stand { room: 5, ..FIRST };
+    rig.solve(rt, 1, stand, ENABLE);
+    let id = rig.take();
+    rig.succeed(rt, id, words);
+    rig.set(rt, 3, 1);
+    if rig.solve(rt, 1, stand, 0) != SUCCESS || rig.get(rt, 2) != 0 {
+        return Ok([0; 6]);
+    }
+    let mut after = [rig.get(rt, 4); 6];
+    for (i, word) in after[1..].iter_mut().enumerate() {
+        *word = rig.get(rt, 11 + i as u16);
+    }
+    Ok(after)
+}
+
+fn show(rt: &(impl Abort + AllocGlobal), rows: &[Row<'_>]) -> Result<(), Fail> {
+    for (code, length, start, words, after) in rows {
+        let block = [*code, 9, *length, *start, 5, 0, 0, 0, 0];
+        assert_eq!(rt; answer_of(rt, block, words)?, *after);
+    }
+    Ok(())
+}
+
+#[test]
+fn reads(rt: HostRuntime) -> Result<(), Fail> {
+    let rows: [Row<'_>; 5] = [
+        (2, 2, 1, &[42, 43], [1, 42, 43, 77, 77, 77]),
+        (2, 2, 1, &[42, 43, 44], [1, 42, 43, 77, 77, 77]),
+        (2, 3, 1, &[42, 43], [1, 42, 43, 77, 77, 77]),
+        (2, 3, 1, &[], [1, 77, 77, 77, 77, 77]),
+        (1, 2, 1, &[42, 43], [1, 77, 77, 77, 77, 77]),
+    ];
+    show(&rt, &rows)
+}
+
+#[test]
+fn statistics(rt: HostRuntime) -> Result<(), Fail> {
+    let rows: [Row<'_>; 5] = [
+        (3, 2, 0, &[1, 2, 3], [0, 1, 2, 77, 77, 77]),
+        (3, 2, 1, &[1, 2, 3, 4], [1, 2, 3, 77, 77, 77]),
+        (7, 3, 1, &[1, 2, 3], [1, 2, 3, 77, 77, 77]),
+        (7, 2, 17, &[1, 2, 3], [17, 77, 77, 77, 77, 77]),
+        (3, 5, 0, &[1, 2, 3, 4, 5, 6], [0, 1, 2, 3, 4, 5]),
+    ];
+    show(&rt, &rows)
+}
+
+#[test]
+fn global_data(rt: HostRuntime) -> Result<(), Fail> {
+    let rows: [Row<'_>; 5] = [
+        (6, 2, 50, &[3, 7, 8, 9], [3, 7, 8, 77, 77, 77]),
+        (6, 3, 50, &[2, 7, 8], [2, 7, 8, 77, 77, 77]),
+        (6, 2, 50, &[0], [0, 77, 77, 77, 77, 77]),
+        (6, 2, 50, &[], [50, 77, 77, 77, 77, 77]),
+        (5, 2, 50, &[3, 7, 8], [50, 77, 77, 77, 77, 77]),
+    ];
+    show(&rt, &rows)
+}
+
+#[test]
+fn clears(rt: HostRuntime) -> Result<(), Fail> {
+    let rows: [Row<'_>; 2] = [
+        (4, 2, 50, &[3, 7, 8], [50, 77, 77, 77, 77, 77]),
+        (8, 2, 50, &[3, 7, 8], [50, 77, 77, 77, 77, 77]),
+    ];
+    show(&rt, &rows)
+}
+
+/// The words to write are read before the status is cleared.
+#[test]
+fn writes_over_its_status(rt: HostRuntime) -> Result<(), Fail> {
+    let mut rig = Rig::new(rt.alloc(), 1)?;
+    rig.fill(&rt, 1, &[5, 99, 2, 0, 0, 0, 0, 0, 0]);
+    let stand = Stand {
+        control: 1,
+        area: 2,
+        room: 5,
+    };
+    rig.solve(&rt, 1, stand, ENABLE);
+    assert_eq!(rt; rig.get(&rt, 2), 0);
+    let call = rig.bank.take_started();
+    assert!(rt;
+        matches!(&call, Some(MstrCall { ask: MstrAsk::PutGlobal(words), .. })
+        if words.words() == [99, 2].as_slice())
+    );
+    Ok(())
+}
+
+/// The data area is stored last: over the status, and over the number of words available.
+#[test]
+fn answers_over_its_control_block(rt: HostRuntime) -> Result<(), Fail> {
+    let mut rig = Rig::new(rt.alloc(), 1)?;
+    rig.fill(&rt, 1, &[6, 99, 3, 0, 5, 0, 0, 0, 0]);
+    let stand = Stand {
+        control: 1,
+        area: 2,
+        room: 5,
+    };
+    rig.solve(&rt, 1, stand, ENABLE);
+    let id = rig.take();
+    rig.succeed(&rt, id, &[3, 7, 8, 9]);
+    assert_eq!(rt; rig.solve(&rt, 1, stand, ENABLE), SUCCESS);
+    assert_eq!(rt;
+        [rig.get(&rt, 2), rig.get(&rt, 3), rig.get(&rt, 4)],
+        [7, 8, 9]
+    );
+    Ok(())
+}
+
+/// A bad result leaves its word in the status, and nothing else.
+#[test]
+fn bad_results(rt: HostRuntime) -> Result<(), Fail> {
+    let mut rig = Rig::new(rt.alloc(), 1)?;
+    rig.fill(&rt, 1, &[2, 99, 2, 1, 5, 0, 0, 0, 0]);
+    rig.solve(&rt, 1, FIRST, ENABLE);
+    let id = rig.take();
+    rig.finish(&rt, id, MstrResult::Bad(0x6101));
+    assert_eq!(rt; rig.solve(&rt, 1, FIRST, 0), 2);
+    assert_eq!(rt; [rig.get(&rt, 2), rig.get(&rt, 11)], [24833, 0]);
+    assert_eq!(rt; rig.solve(&rt, 1, FIRST, 0), 0);
+    Ok(())
+}

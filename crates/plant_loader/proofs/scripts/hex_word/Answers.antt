@@ -1,0 +1,16 @@
+use Rattle.std.proofs.Common.{◌∙◌, sym, arith}
+use Rattle.plant_loader.proofs.ScriptLemmas.{hex_word-four}
+use Rattle.plant_loader.proofs.scripts.hex_word.Goals as goal
+
+pub returns : goal.returns
+returns c =
+    let digits = c.if-not-are_hex_digits.false in
+    hex_word-four c.args.place c.args.word.now c.hex_digit.result c.hex_digit-2.result c.hex_digit-3.result c.hex_digit-4.result
+    (sym c.are_hex_digits.ensures ∙ digits) (omega arith) (omega arith)
+    (record {
+      first = c.hex_digit.ensures.value;
+      second = c.hex_digit-2.ensures.value;
+      third = c.hex_digit-3.ensures.value;
+      fourth =
+          c.hex_digit-4.ensures.value;
+    })

@@ -1,0 +1,136 @@
+//! The drops of a controller: their tables.
+ghost use Rattle.std.specs.Prelude.{◌≡◌, ◌≤◌, length, map};
+ghost use Rattle.toml.specs.View.{table_view};
+ghost use Rattle.plant_loader.specs.Orders.{drop_number};
+ghost use Rattle.plant_loader.specs.Counts.{sizes_of};
+ghost use Rattle.plant_loader.specs.Refusals.{Gives};
+ghost use Rattle.plant_loader.specs.Drops.{modules_of, drop_with, drop_behind, drops_of};
+
+use crate::counts::Counts;
+use crate::keys::{keys_pass, number_at, texts_at};
+use crate::modules::module_of;
+use crate::refusal::{LoadEnd, place_in};
+use crate::scripts::{SCRIPT_LIMIT, or_zeros, rows_of};
+use plant_types::{IoDrop, List, Module, Part, PlantFault};
+use std::alloc::Global;
+use toml::Table;
+use traffic_cop::has_few_words;
+
+/// The most drops of a controller, and the highest number of one.
+pub const DROP_LIMIT: usize = 32;
+
+/// The most modules of a drop.
+const MODULE_LIMIT: usize = 16;
+
+/// The keys of a drop.
+const DROP_KEYS: [&str; 3] = ["number", "modules", "script"];
+
+/// Those that it must have.
+const DROP_REQUIRED: [&str; 2] = ["number", "modules"];
+
+/// The number of the drop that has this number, where there is one.
+#[tactic(auto, unfolding(traffic_cop::specs::Drops::drop_named))]
+pub fn drop_number(drops: &[IoDrop], number: u16) -> Option<u8>
+    ensures { result ≡ drop_number drops.now number }
+{
+    for found in drops {
+        if u16::from(found.number) == number {
+            return Some(found.number);
+        }
+    }
+    None
+}
+
+fn modules_of(
+    alloc: Global,
+    counts: Counts,
+    drop: u32,
+    texts: &[&str],
+) -> Result<List<Module>, LoadEnd>
+    requires { length texts.now ≤ MODULE_LIMIT }
+    ensures { Gives (λ modules. modules) result
+        (modules_of (sizes_of counts) drop (map (λ t. t.now) texts.now)) }
+{
+    let mut modules = List::new(alloc);
+    let mut number = 0;
+    for text in texts {
+        number += 1;
+        let io_module = module_of(counts, place_in(Part::Module, drop, number, 0), text)?;
+        modules.push(io_module)?;
+    }
+    Ok(modules)
+}
+
+#[tactic(auto, unfolding(crate::specs::Drops::drop_with))]
+fn drop_with(
+    alloc: Global,
+    counts: Counts,
+    place: u32,
+    number: u8,
+    module_texts: &[&str],
+    row_texts: &[&str],
+) -> Result<IoDrop, LoadEnd>
+    requires modules { length module_texts.now ≤ MODULE_LIMIT }
+    requires rows { length row_texts.now ≤ SCRIPT_LIMIT }
+    ensures { Gives (λ drop. drop) result (drop_with (sizes_of counts) place number
+        (map (λ t. t.now) module_texts.now) (map (λ t. t.now) row_texts.now)) }
+{
+    let modules = modules_of(alloc, counts, place, module_texts)?;
+    if !has_few_words(modules.as_slice()) {
+        let place = place_in(Part::Drop, place, 0, 0);
+        return Err(LoadEnd::Refused(PlantFault::TooLarge, place));
+    }
+    let rows = rows_of(alloc, modules.as_slice(), place, row_texts)?;
+    let script = or_zeros(alloc, modules.as_slice(), rows)?;
+    Ok(IoDrop {
+        number,
+        modules,
+        script,
+    })
+}
+
+#[tactic(auto, unfolding(crate::specs::Drops::drop_behind))]
+fn drop_behind(
+    alloc: Global,
+    counts: Counts,
+    earlier: &[IoDrop],
+    position: u32,
+    table: &Table,
+) -> Result<IoDrop, LoadEnd>
+    ensures { Gives (λ drop. drop) result
+        (drop_behind (sizes_of counts) earlier.now (position, table_view table.now)) }
+{
+    let place = place_in(Part::Drop, position, 0, 0);
+    keys_pass(place, &DROP_KEYS, &DROP_REQUIRED, table)?;
+    let number = number_at(place, "number", 1, DROP_LIMIT as u16, table)?;
+    let modules = texts_at(alloc, place, MODULE_LIMIT, "modules", table)?;
+    let rows = texts_at(alloc, place, SCRIPT_LIMIT, "script", table)?;
+    if drop_number(earlier, number).is_some() {
+        return Err(LoadEnd::Refused(PlantFault::BadDrop, place));
+    }
+    drop_with(
+        alloc,
+        counts,
+        position,
+        number as u8,
+        modules.as_slice(),
+        rows.as_slice(),
+    )
+}
+
+/// The drops of a controller by their tables.
+#[tactic(auto, unfolding(crate::specs::InOrder::each_behind))]
+pub fn drops_of(alloc: Global, counts: Counts, tables: &[&Table]) -> Result<List<IoDrop>, LoadEnd>
+    requires { length tables.now ≤ DROP_LIMIT }
+    ensures { Gives (λ drops. drops) result
+        (drops_of (sizes_of counts) (map (λ t. table_view t.now) tables.now)) }
+{
+    let mut drops = List::new(alloc);
+    let mut position = 0;
+    for table in tables {
+        position += 1;
+        let next = drop_behind(alloc, counts, drops.as_slice(), position, table)?;
+        drops.push(next)?;
+    }
+    Ok(drops)
+}

@@ -1,0 +1,7 @@
+use Rattle.std.proofs.Common.{◌≡◌, take, Ok}
+use Rattle.plant_types.specs.FirstFault.{first_failed, tests_of_each, short_tests}
+use Rattle.plant_types.proofs.first_fault.check_shorts.Given as goal
+
+-- the shorts so far pass
+abbrev pub invariant-loop-i : goal.invariant-loop-i
+invariant-loop-i l = first_failed (tests_of_each short_tests (take l.i l.shorts)) ≡ Ok tt

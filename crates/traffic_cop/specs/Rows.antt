@@ -1,0 +1,32 @@
+-- What the rows of an order of solve name. This project's own.
+use Rattle.std.specs.Prelude.{◌≤◌, ℕ, length, Option, Some, None}
+use Rattle.plant_types.specs.declared.reference.Ref.{Ref}
+use Rattle.plant_types.specs.declared.plan.OrderRow.{OrderRow}
+use Rattle.plant_types.specs.declared.plan.ControllerPlan.{ControllerPlan}
+use Rattle.plant_types.specs.Checks.{sizes_of}
+use Rattle.plant_types.specs.Sizes.{cleared}
+use Rattle.plant_types.specs.Store.{Contents, HasDiscrete}
+use Rattle.traffic_cop.specs.Drops.{IsReady}
+
+-- A control is a discrete of the store; a row may have none.
+abbrev pub HasControl : Contents → Option Ref → Type 0
+HasControl m None = Unit {0}
+HasControl m (Some at) = HasDiscrete m at
+
+-- A drop of the plan has a number from 1 to 32, and its modules are in the map.
+pub record HasDrop (plan : ControllerPlan) (number : ℕ) : Type 0 where
+  pub from : 1 ≤ number
+  pub to : number ≤ 32
+  pub ready : IsReady plan.drops number (cleared (sizes_of plan))
+
+abbrev pub NamesDrop : ControllerPlan → Option ℕ → Type 0
+NamesDrop plan None = Unit {0}
+NamesDrop plan (Some number) = HasDrop plan number
+
+-- A row of the order of solve names a segment of the plan, a control of its map, and drops of it.
+pub record FitsPlan (plan : ControllerPlan) (row : OrderRow) : Type 0 where
+  pub from : 1 ≤ row.segment
+  pub to : row.segment ≤ length plan.segments
+  pub control : HasControl (cleared (sizes_of plan)) row.control
+  pub input : NamesDrop plan row.input
+  pub output : NamesDrop plan row.output
