@@ -1,8 +1,9 @@
-//! Times of the crates that a run of the program does not show: a stay in a gate, a request, and
-//! the entries of a ring. A word picks what is timed.
+//! Times of the crates that a run of the program does not show: a stay in a gate, a request, the
+//! entries of a ring, and message blocks. A word picks what is timed.
 #![tactic(auto)]
 
 mod gates;
+mod messages;
 mod requests;
 mod rings;
 
@@ -28,6 +29,14 @@ fn main(rt: HostRuntime) -> Result<()> {
                 .parse::<u32>()?;
             rings::print_time(&rt, rt.alloc(), members, entries)
         }
+        Some(word) if word.as_str() == "mstr" => {
+            let blocks = words
+                .next()
+                .context("how many blocks?")?
+                .as_str()
+                .parse::<u16>()?;
+            messages::print_times(&rt, rt.alloc(), blocks)
+        }
         _ => print_words(&rt),
     }
 }
@@ -37,6 +46,9 @@ fn print_words(rt: &impl Print) -> Result<()> {
     println!(rt; "bench: `modbus` prints requests answered in a second")?;
     println!(rt;
         "bench: `ring MEMBERS ENTRIES` prints the entries made and the nanoseconds taken"
+    )?;
+    println!(rt;
+        "bench: `mstr BLOCKS` prints nanoseconds a block to start, take, finish and end a call"
     )?;
     Ok(())
 }

@@ -5,10 +5,15 @@ use Rattle.plant_types.specs.declared.reference.Ref.{Ref}
 use Rattle.plant_types.specs.declared.element.Operand.{Operand}
 use Rattle.plant_types.specs.declared.element.Operand.TheVariants.{Const, At}
 use Rattle.plant_types.specs.declared.element.Element.{Element}
-use Rattle.plant_types.specs.declared.element.Element.TheVariants.{Open, Closed, Rise, Fall, Coil, Latch, Wire, Timer, Counter, Math, Move, Matrix, Skip, Label, Call, Return, Mstr}
+use Rattle.plant_types.specs.declared.element.Element.TheVariants.{Open, Closed, Rise, Fall, Coil}
+use Rattle.plant_types.specs.declared.element.Element.TheVariants.{Latch, Wire, Timer, Counter}
+use Rattle.plant_types.specs.declared.element.Element.TheVariants.{Math, Move, Matrix, Skip, Label}
+use Rattle.plant_types.specs.declared.element.Element.TheVariants.{Call, Return, Mstr}
 use Rattle.plant_types.specs.declared.name.ElementName.{ElementName}
 use Rattle.plant_types.specs.declared.name.ElementName.TheVariants as names
-use Rattle.plant_types.specs.Elements.{name_of, operands_of, reference_in, constant_in, one_reference, one_operand, without_operands, preset_and_acc, numbers_and_low, table_operands, element_of}
+use Rattle.plant_types.specs.Elements.{name_of, operands_of, reference_in, constant_in}
+use Rattle.plant_types.specs.Elements.{one_reference, one_operand, without_operands, preset_and_acc}
+use Rattle.plant_types.specs.Elements.{numbers_and_low, table_operands, element_of}
 use Rattle.cell_text.proofs.StepLemmas.{some-step, some-map}
 
 -- an element was made of a name and operands

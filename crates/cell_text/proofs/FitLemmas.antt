@@ -7,10 +7,12 @@ use Rattle.plant_types.specs.declared.element.Operand.{Operand}
 use Rattle.plant_types.specs.declared.element.Operand.TheVariants.{Const, At}
 use Rattle.plant_types.specs.declared.element.Element.{Element}
 use Rattle.plant_types.specs.declared.slot.Slot.{Slot}
-use Rattle.plant_types.specs.declared.slot.Slot.TheVariants.{Discrete, Driven, Number, Source, Target, Constant}
+use Rattle.plant_types.specs.declared.slot.Slot.TheVariants.{Discrete, Driven, Number, Source}
+use Rattle.plant_types.specs.declared.slot.Slot.TheVariants.{Target, Constant}
 use Rattle.plant_types.specs.Slots.{slots_of}
 use Rattle.plant_types.specs.Elements.{name_of, operands_of, length_of}
-use Rattle.plant_types.specs.Operands.{Named, takes, named_at, named_by, names_of, fits_form, fits_value, has_form, has_values, has_kinds}
+use Rattle.plant_types.specs.Operands.{Named, accepts, named_at, named_by, names_of, fits_form}
+use Rattle.plant_types.specs.Operands.{fits_value, has_form, has_values, has_kinds}
 use Rattle.cell_text.specs.Slots.{takes_kind}
 use Rattle.cell_text.specs.Texts.{has_number, has_numbers}
 
@@ -41,7 +43,7 @@ pointwise-and p q (x ∷ xs) (y ∷ ys) = ap (λ b. (p x y && q x y) && b) (poin
 
 -- a named reference is of its kind, and has a number from 1 to 9984
 abbrev is_named : Named → Bool
-is_named named = takes named.kind named.at.kind && has_number named.at
+is_named named = accepts named.kind named.at.kind && has_number named.at
 
 -- an operand of the form of its slot fits by its reference exactly where what it names is such
 reference_is_named : (length : ℕ) (slot : Slot) (operand : Operand) (others : List Named) → fits_form slot operand ≡ true
@@ -92,7 +94,7 @@ pointwise-fits element =
     let slots = slots_of (name_of element) in
     let operands = operands_of element in
     let references : list_all is_named (names_of element) ≡ has_kinds element && has_numbers element =
-    list_all-and (λ (named : Named). takes named.kind named.at.kind) (λ (named : Named). has_number named.at) (names_of element) in
+    list_all-and (λ (named : Named). accepts named.kind named.at.kind) (λ (named : Named). has_number named.at) (names_of element) in
     pointwise-and (λ slot operand. fits_form slot operand && fits_value slot operand) fits_reference slots operands
     ∙ ap (λ b. b && pointwise fits_reference slots operands) (pointwise-and fits_form fits_value slots operands)
     ∙ under_first (has_form element) (has_values element) _ _ (λ h. references_are_named (length_of element) slots operands h ∙ references)

@@ -1,5 +1,6 @@
 -- Words joined by single blanks, and the words of such a text.
-use Rattle.std.proofs.Common.{◌≡◌, ℕ, Bool, true, ◌&&◌, not, List, [], ◌∷◌, ◌++◌, length, map, refl, sym, ap, ◌∙◌, append_assoc, arith}
+use Rattle.std.proofs.Common.{◌≡◌, ℕ, Bool, true, ◌&&◌, not, List, [], ◌∷◌, ◌++◌, length, map, refl}
+use Rattle.std.proofs.Common.{sym, ap, ◌∙◌, append_assoc, arith}
 use Rattle.std.specs.Prelude.{◌==◌, nat_lt}
 use Rattle.std.specs.List.{list_all, slice_split, join_with_byte, flat_map}
 use Rattle.std.specs.Fmt.{decimal}
@@ -7,7 +8,7 @@ use Rattle.std.proofs.lemmas.Bool.{and_parts}
 use Rattle.std.proofs.lemmas.Bool.Decides.{nat_tests}
 use Rattle.std.proofs.lemmas.List.{append-nil}
 use Rattle.plant_types.specs.declared.element.Operand.{Operand}
-use Rattle.cell_text.specs.Words.{is_blank, words_of}
+use Rattle.cell_text.specs.Words.{is_blank, text_words}
 use Rattle.cell_text.specs.Texts.{operand_text, position_text}
 use Rattle.cell_text.proofs.WordLemmas.{not_blank, words_of_nil}
 
@@ -38,26 +39,26 @@ some_length : (n : ℕ) → nat_lt 0 n ≡ true → not (n == 0) ≡ true
 some_length n h = grind (arith, nat_tests)
 
 -- a word before a blank, and a last word
-words_of-word : (word rest : List ℕ) → is_word word ≡ true → words_of (word ++ 32 ∷ rest) ≡ word ∷ words_of rest
-unfolding words_of
-words_of-word word rest h =
+text_words-word : (word rest : List ℕ) → is_word word ≡ true → text_words (word ++ 32 ∷ rest) ≡ word ∷ text_words rest
+unfolding text_words
+text_words-word word rest h =
     let (some, solid) = and_parts (nat_lt 0 (length word)) (is_solid word) h in
     rw (split-solid word rest solid, some_length (length word) some) refl
 
 -- a text that is one word has that word
-words_of-last : (word : List ℕ) → is_word word ≡ true → words_of word ≡ word ∷ []
-unfolding words_of
-words_of-last word h =
+text_words-last : (word : List ℕ) → is_word word ≡ true → text_words word ≡ word ∷ []
+unfolding text_words
+text_words-last word h =
     let (some, solid) = and_parts (nat_lt 0 (length word)) (is_solid word) h in
     rw (split-last word solid, some_length (length word) some) refl
 
 -- the words of a text that joins words by single blanks are those words
-pub words_of-join : (words : List (List ℕ)) → list_all is_word words ≡ true → words_of (join_with_byte 32 words) ≡ words
-words_of-join [] h = words_of_nil
-words_of-join (word ∷ []) h = words_of-last word (and_parts (is_word word) true h).0
-words_of-join (word ∷ next ∷ words) h =
+pub text_words-join : (words : List (List ℕ)) → list_all is_word words ≡ true → text_words (join_with_byte 32 words) ≡ words
+text_words-join [] h = words_of_nil
+text_words-join (word ∷ []) h = text_words-last word (and_parts (is_word word) true h).0
+text_words-join (word ∷ next ∷ words) h =
     let (here, more) = and_parts (is_word word) (list_all is_word (next ∷ words)) h in
-    words_of-word word (join_with_byte 32 (next ∷ words)) here ∙ ap (λ ws. word ∷ ws) (words_of-join (next ∷ words) more)
+    text_words-word word (join_with_byte 32 (next ∷ words)) here ∙ ap (λ ws. word ∷ ws) (text_words-join (next ∷ words) more)
 
 -- a word, and the operands behind it, each behind a blank
 join-operands : (word : List ℕ) (operands : List Operand) → join_with_byte 32 (word ∷ map operand_text operands) ≡ word

@@ -1,11 +1,15 @@
 -- The texts of numbers, positions and references read back.
-use Rattle.std.proofs.Common.{◌≡◌, ℕ, zero, suc, ◌+◌, ◌-◌, ◌*◌, ◌/◌, ◌%◌, ◌^◌, ◌<◌, ◌≤◌, true, false, not, ◌&&◌, ◌||◌, List, [], ◌∷◌, ◌++◌, length, drop, get_or, Some, refl, ap, ◌∙◌, append_assoc, arith, rules, length-append, inl, ◌⊎◌}
+use Rattle.std.proofs.Common.{◌≡◌, ℕ, zero, suc, ◌+◌, ◌-◌, ◌*◌, ◌/◌, ◌%◌, ◌^◌, ◌<◌, ◌≤◌, true}
+use Rattle.std.proofs.Common.{false, not, ◌&&◌, ◌||◌, List, [], ◌∷◌, ◌++◌, length, drop, get_or}
+use Rattle.std.proofs.Common.{Some, refl, ap, ◌∙◌, append_assoc, arith, rules, length-append, inl}
+use Rattle.std.proofs.Common.{◌⊎◌}
 use Rattle.std.specs.Prelude.{codes, nat_le, nat_lt, ◌==◌, fold, slice_index}
 use Rattle.std.specs.Fmt.{decimal}
 use Rattle.std.specs.List.{list_all, before_first, after_first}
 use Rattle.std.proofs.lemmas.Bool.{and_parts}
 use Rattle.std.proofs.lemmas.Bool.Decides.{nat_tests}
-use Rattle.std.proofs.lemmas.Fmt.{decimal_digit, length-decimal-le, decimal_nonempty, first_decimal, digits_decimal, digits_value-decimal}
+use Rattle.std.proofs.lemmas.Fmt.{decimal_digit, length-decimal-le, decimal_nonempty, first_decimal}
+use Rattle.std.proofs.lemmas.Fmt.{digits_decimal, digits_value-decimal}
 use Rattle.std.proofs.lemmas.Str.Parse.{IsNumeralModel, numerals_by_fold}
 use Rattle.plant_types.specs.declared.reference.RefKind.{RefKind}
 use Rattle.plant_types.specs.declared.reference.RefKind.TheVariants as kinds
@@ -13,7 +17,8 @@ use Rattle.plant_types.specs.declared.reference.Ref.{Ref}
 use Rattle.plant_types.specs.Reference.{leading_digit, four_digits, reference_text}
 use Rattle.plant_types.specs.Network.{is_row, is_column}
 use Rattle.cell_text.specs.Words.{is_blank}
-use Rattle.cell_text.specs.Numbers.{is_digit, value_of, is_number, number_of, position_of, is_reference_word, kind_of, reference_of}
+use Rattle.cell_text.specs.Numbers.{is_digit, value_of, is_spelled_number, spelled_number}
+use Rattle.cell_text.specs.Numbers.{position_of, is_reference_word, kind_by_digit, reference_of}
 use Rattle.cell_text.specs.Texts.{has_number, position_text}
 use Rattle.cell_text.proofs.WordLemmas.{take-front, drop-front}
 use Rattle.cell_text.proofs.JoinLemmas.{is_solid, is_word}
@@ -46,9 +51,9 @@ number_front : (word : List ℕ) → 0 < length word → length word ≤ 4 → (
 number_front word some few front = grind (arith, nat_tests)
 
 -- a number below 10,000 is written in the form of one
-pub is_number-decimal : (n : ℕ) → n ≤ 9999 → is_number (decimal n) ≡ true
-is_number-decimal zero few = rw (decimal_digit 0 (omega arith)) refl
-is_number-decimal (suc n) few =
+pub is_spelled_number-decimal : (n : ℕ) → n ≤ 9999 → is_spelled_number (decimal n) ≡ true
+is_spelled_number-decimal zero few = rw (decimal_digit 0 (omega arith)) refl
+is_spelled_number-decimal (suc n) few =
     let small : suc n < 2 ^ 64 = omega arith in
     let below : suc n < 10 ^ 4 = omega arith in
     let read : list_all is_digit (decimal (suc n)) ≡ true = digits_decimal numerals (suc n) small in
@@ -57,8 +62,8 @@ is_number-decimal (suc n) few =
     rw (read, front) refl
 
 -- what is written of a number reads as the number
-pub number_of-decimal : (n : ℕ) → n ≤ 9999 → number_of (decimal n) ≡ Some n
-number_of-decimal n few = rw (is_number-decimal n few, digits_value-decimal numerals n (omega arith)) refl
+pub spelled_number-decimal : (n : ℕ) → n ≤ 9999 → spelled_number (decimal n) ≡ Some n
+spelled_number-decimal n few = rw (is_spelled_number-decimal n few, digits_value-decimal numerals n (omega arith)) refl
 
 -- the parts of digits before a comma and behind it
 comma_no : (b : ℕ) → is_digit b ≡ true → (b == 44) ≡ false
@@ -108,8 +113,8 @@ position_of-text place r k =
       position_parts place,
       before-comma (decimal place.0) (decimal place.1) digits,
       after-comma (decimal place.0) (decimal place.1) digits,
-      number_of-decimal place.0 row,
-      number_of-decimal place.1 column,
+      spelled_number-decimal place.0 row,
+      spelled_number-decimal place.1 column,
       r,
       k,
     ) refl
@@ -205,7 +210,7 @@ five_of at h =
     }
 
 -- the digit of a kind tells the kind
-kind_back : (kind : RefKind) → kind_of (48 + leading_digit kind) ≡ Some kind
+kind_back : (kind : RefKind) → kind_by_digit (48 + leading_digit kind) ≡ Some kind
 kind_back kinds.Coil = refl
 kind_back kinds.Input = refl
 kind_back kinds.InputRegister = refl

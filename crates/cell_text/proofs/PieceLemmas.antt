@@ -1,6 +1,9 @@
 -- A piece that reads has a text.
-use Rattle.std.proofs.Common.{◌≡◌, ℕ, ◌-◌, ◌≤◌, Bool, true, false, ◌&&◌, ◌||◌, List, [], ◌∷◌, drop, length, Option, Some, None, Result, Ok, Err, refl, sym, ap, ◌∙◌, arith}
-use Rattle.std.specs.Prelude.{nat_le, slice_index, option_map, option_and_then, ◌==◌, if◌then◌else◌, not}
+use Rattle.std.proofs.Common.{◌≡◌, ℕ, ◌-◌, ◌≤◌, Bool, true, false, ◌&&◌, ◌||◌, List, [], ◌∷◌, drop}
+use Rattle.std.proofs.Common.{length, Option, Some, None, Result, Ok, Err, refl, sym, ap, ◌∙◌}
+use Rattle.std.proofs.Common.{arith}
+use Rattle.std.specs.Prelude.{nat_le, slice_index, option_map, option_and_then, ◌==◌, if◌then◌else◌}
+use Rattle.std.specs.Prelude.{not}
 use Rattle.std.specs.Option.{option_map_or}
 use Rattle.std.specs.Result.{IfOk}
 use Rattle.std.specs.List.{list_all, before_first, after_first}
@@ -13,10 +16,12 @@ use Rattle.plant_types.specs.declared.element.Operand.{Operand}
 use Rattle.plant_types.specs.declared.element.Operand.TheVariants.{Const, At}
 use Rattle.plant_types.specs.declared.element.Element.{Element}
 use Rattle.plant_types.specs.Network.{is_row, is_column}
-use Rattle.plant_types.specs.Operands.{fits_form, fits_value, has_form, has_values, has_kinds, is_length}
+use Rattle.plant_types.specs.Operands.{fits_form, fits_value, has_form, has_values, has_kinds}
+use Rattle.plant_types.specs.Operands.{is_length}
 use Rattle.plant_types.specs.declared.name.ElementName.{ElementName}
 use Rattle.plant_types.specs.declared.slot.Slot.{Slot}
-use Rattle.plant_types.specs.declared.slot.Slot.TheVariants.{Discrete, Driven, Number, Source, Target, Constant}
+use Rattle.plant_types.specs.declared.slot.Slot.TheVariants.{Discrete, Driven, Number, Source}
+use Rattle.plant_types.specs.declared.slot.Slot.TheVariants.{Target, Constant}
 use Rattle.plant_types.specs.Slots.{slots_of}
 use Rattle.plant_types.specs.Elements.{operands_of, element_of}
 use Rattle.cell_text.specs.declared.names.PieceName.{PieceName}
@@ -26,12 +31,16 @@ use Rattle.cell_text.specs.declared.piece.Piece.TheVariants as pieces
 use Rattle.cell_text.specs.declared.piece.CellFault.{CellFault}
 use Rattle.cell_text.specs.declared.piece.CellFault.TheVariants.{BadCell, BadValue, BadRef}
 use Rattle.cell_text.specs.Steps.{◌>>=◌, or_fault, unless}
-use Rattle.cell_text.specs.Numbers.{is_digit, value_of, is_number, number_of, numbered, position_of, kind_of, is_reference_word, reference_of}
-use Rattle.cell_text.specs.Names.{name_of}
-use Rattle.cell_text.specs.Slots.{slots_of_piece, takes_form, takes_value, takes_kind, taken_reference, operand_in, operands_in, read_operands}
-use Rattle.cell_text.specs.Pieces.{short_at, piece_at, piece_of, named_by}
+use Rattle.cell_text.specs.Numbers.{is_digit, value_of, is_spelled_number, spelled_number}
+use Rattle.cell_text.specs.Numbers.{reference_numbered, position_of, kind_by_digit}
+use Rattle.cell_text.specs.Numbers.{is_reference_word, reference_of}
+use Rattle.cell_text.specs.Names.{spelled_name}
+use Rattle.cell_text.specs.Slots.{slots_of_piece, takes_form, takes_value, takes_kind}
+use Rattle.cell_text.specs.Slots.{taken_reference, operand_in, operands_in, read_operands}
+use Rattle.cell_text.specs.Pieces.{short_at, piece_at, piece_of, name_in_piece}
 use Rattle.cell_text.specs.Texts.{has_number, has_numbers, has_text, piece_name}
-use Rattle.cell_text.proofs.StepLemmas.{step-ok, or_fault-ok, unless-ok, some-step, some-map, some-guard, or_fault-some}
+use Rattle.cell_text.proofs.StepLemmas.{step-ok, or_fault-ok, unless-ok, some-step, some-map}
+use Rattle.cell_text.proofs.StepLemmas.{some-guard, or_fault-some}
 use Rattle.cell_text.proofs.FitLemmas.{fits, pointwise-fits}
 use Rattle.cell_text.proofs.ElementLemmas.{element_of-made}
 
@@ -44,8 +53,8 @@ some_value : {A : Type 0} (x y : A) → Some x ≡ Some y → x ≡ y
 some_value x y h = cc
 
 -- a reference that was numbered has its number
-numbered-has : (kind : RefKind) (number : ℕ) (at : Ref) → numbered kind number ≡ Some at → has_number at ≡ true
-numbered-has kind number at h =
+reference_numbered-has : (kind : RefKind) (number : ℕ) (at : Ref) → reference_numbered kind number ≡ Some at → has_number at ≡ true
+reference_numbered-has kind number at h =
     let found = some-guard (nat_le 1 number && nat_le number 9984) (Some (record { kind = kind; number = number })) at h in
     let same : record { kind = kind; number = number } ≡ at = some_value _ _ found.1 in
     rw (← same) found.0
@@ -53,15 +62,16 @@ numbered-has kind number at h =
 -- so has one that was read
 reference_of-has : (word : List ℕ) (at : Ref) → reference_of word ≡ Some at → has_number at ≡ true
 reference_of-has word at h =
-    let five = some-guard (is_reference_word word) (option_and_then (λ kind. numbered kind (value_of (drop 1 word))) (kind_of (slice_index word 0))) at h in
-    let kind = some-step (λ kind. numbered kind (value_of (drop 1 word))) (kind_of (slice_index word 0)) at five.1 in
-    numbered-has kind.0 (value_of (drop 1 word)) at kind.1.1
+    let five = some-guard (is_reference_word word) (option_and_then (λ kind. reference_numbered kind (value_of (drop 1 word)))
+    (kind_by_digit (slice_index word 0))) at h in
+    let kind = some-step (λ kind. reference_numbered kind (value_of (drop 1 word))) (kind_by_digit (slice_index word 0)) at five.1 in
+    reference_numbered-has kind.0 (value_of (drop 1 word)) at kind.1.1
 
 -- a position that was read is in the grid
 position_of-has : (word : List ℕ) (place : ℕ × ℕ) → position_of word ≡ Some place → (is_row place.0 ≡ true) × (is_column place.1 ≡ true)
 position_of-has word place h =
-    let before = number_of (before_first (λ byte. byte == 44) word) in
-    let behind = number_of (after_first (λ byte. byte == 44) word) in
+    let before = spelled_number (before_first (λ byte. byte == 44) word) in
+    let behind = spelled_number (after_first (λ byte. byte == 44) word) in
     let row = some-step (λ (row : ℕ). option_and_then (λ (column : ℕ). if is_row row
     && is_column column then Some (row, column) else None) behind) before place h in
     let column = some-step (λ (column : ℕ). if is_row row.0 && is_column column then Some (row.0, column) else None) behind place row.1.1 in
@@ -103,9 +113,9 @@ test_from_le : (m n : ℕ) → m ≤ n → nat_le m n ≡ true
 test_from_le m n h = grind (arith, nat_tests)
 
 -- so is a number that was read
-number_of-le : (word : List ℕ) (n : ℕ) → number_of word ≡ Some n → nat_le n 9999 ≡ true
-number_of-le word n h =
-    let (number, some) = some-guard (is_number word) (Some (value_of word)) n h in
+spelled_number-le : (word : List ℕ) (n : ℕ) → spelled_number word ≡ Some n → nat_le n 9999 ≡ true
+spelled_number-le word n h =
+    let (number, some) = some-guard (is_spelled_number word) (Some (value_of word)) n h in
     let (digits, lengths) = and_parts (list_all is_digit word) ((nat_le 1 (length word) && nat_le (length word) 4)
     && ((length word == 1) || not (slice_index word 0 == 48))) number in
     let (few, front) = and_parts (nat_le 1 (length word) && nat_le (length word) 4) ((length word == 1) || not (slice_index word 0 == 48)) lengths in
@@ -141,25 +151,26 @@ constant_form (Target run) word n five form = cc
 constant_form (Constant most) word n five form = refl
 
 -- a constant that passes the tests of a slot is in its range
-constant_value : (slot : Slot) (word : List ℕ) (n : ℕ) → number_of word ≡ Some n → takes_value slot word ≡ true → fits_value slot (Const n) ≡ true
-constant_value Discrete word n h value = number_of-le word n h
-constant_value Driven word n h value = number_of-le word n h
-constant_value (Number run) word n h value = number_of-le word n h
-constant_value (Source run) word n h value = number_of-le word n h
-constant_value (Target run) word n h value = number_of-le word n h
+constant_value : (slot : Slot) (word : List ℕ) (n : ℕ) → spelled_number word ≡ Some n → takes_value slot word ≡ true → fits_value slot (Const n) ≡ true
+constant_value Discrete word n h value = spelled_number-le word n h
+constant_value Driven word n h value = spelled_number-le word n h
+constant_value (Number run) word n h value = spelled_number-le word n h
+constant_value (Source run) word n h value = spelled_number-le word n h
+constant_value (Target run) word n h value = spelled_number-le word n h
 constant_value (Constant most) word n h value = sym (ap (λ (o : Option ℕ). option_map_or (is_length most) o false) h) ∙ value
 
 -- a constant that passes the tests of a slot fits it
 constant-fits : (slot : Slot) (word : List ℕ) (operand : Operand) → is_reference_word word ≡ false → takes_form slot word ≡ true
-    → takes_value slot word ≡ true → option_map Const (number_of word) ≡ Some operand → fits slot operand ≡ true
+    → takes_value slot word ≡ true → option_map Const (spelled_number word) ≡ Some operand → fits slot operand ≡ true
 constant-fits slot word operand five form value h =
-    let (n, (number, same)) = some-map Const (number_of word) operand h in
+    let (n, (number, same)) = some-map Const (spelled_number word) operand h in
     rw (← same) (and_both _ _ (and_both _ _ (constant_form slot word n five form) (constant_value slot word n number value)) refl)
 
 -- an operand fits, whether it is a reference or a constant
 fits-by : (slot : Slot) (word : List ℕ) (operand : Operand) (five : Bool) → is_reference_word word ≡ five → takes_form slot word ≡ true
     → takes_value slot word ≡ true
-    → (if five then option_and_then (taken_reference slot) (reference_of word) else option_map Const (number_of word)) ≡ Some operand → fits slot operand ≡ true
+    → (if five then option_and_then (taken_reference slot) (reference_of word) else option_map Const (spelled_number word)) ≡ Some
+    operand → fits slot operand ≡ true
 fits-by slot word operand true five form value h = reference-fits slot (reference_of word) operand (reference_of-has word) h
 fits-by slot word operand false five form value h = constant-fits slot word operand five form value h
 
@@ -231,9 +242,9 @@ unfolding piece_of
 piece_of-has [] piece h = cc
 piece_of-has (position ∷ []) piece h = cc
 piece_of-has (position ∷ word ∷ words) piece h =
-    let place = or_fault-ok BadCell (position_of position) (λ place. or_fault BadCell (name_of word) >>= λ name. read_operands
+    let place = or_fault-ok BadCell (position_of position) (λ place. or_fault BadCell (spelled_name word) >>= λ name. read_operands
     (slots_of_piece name) words >>= λ operands. or_fault BadCell (piece_at place.0 place.1 name operands)) piece h in
-    let name = or_fault-ok BadCell (name_of word) (λ name. read_operands (slots_of_piece name) words >>= λ operands. or_fault BadCell
+    let name = or_fault-ok BadCell (spelled_name word) (λ name. read_operands (slots_of_piece name) words >>= λ operands. or_fault BadCell
     (piece_at place.0.0 place.0.1 name operands)) piece place.1.1 in
     let operands = step-ok (read_operands (slots_of_piece name.0) words)
     (λ operands. or_fault BadCell (piece_at place.0.0 place.0.1 name.0 operands)) piece name.1.1 in
@@ -261,14 +272,14 @@ piece_at-named row column (names.Element name) operands piece h =
     rw (← same) (ap names.Element (sym made.names))
 
 -- the second word of a piece that reads names it
-pub piece_of-named : (words : List (List ℕ)) (piece : Piece) → piece_of words ≡ Ok piece → named_by words ≡ Some (piece_name piece)
+pub piece_of-named : (words : List (List ℕ)) (piece : Piece) → piece_of words ≡ Ok piece → name_in_piece words ≡ Some (piece_name piece)
 unfolding piece_of
 piece_of-named [] piece h = cc
 piece_of-named (position ∷ []) piece h = cc
 piece_of-named (position ∷ word ∷ words) piece h =
-    let place = or_fault-ok BadCell (position_of position) (λ place. or_fault BadCell (name_of word) >>= λ name. read_operands
+    let place = or_fault-ok BadCell (position_of position) (λ place. or_fault BadCell (spelled_name word) >>= λ name. read_operands
     (slots_of_piece name) words >>= λ operands. or_fault BadCell (piece_at place.0 place.1 name operands)) piece h in
-    let name = or_fault-ok BadCell (name_of word) (λ name. read_operands (slots_of_piece name) words >>= λ operands. or_fault BadCell
+    let name = or_fault-ok BadCell (spelled_name word) (λ name. read_operands (slots_of_piece name) words >>= λ operands. or_fault BadCell
     (piece_at place.0.0 place.0.1 name operands)) piece place.1.1 in
     let operands = step-ok (read_operands (slots_of_piece name.0) words)
     (λ operands. or_fault BadCell (piece_at place.0.0 place.0.1 name.0 operands)) piece name.1.1 in

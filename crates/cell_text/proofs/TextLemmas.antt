@@ -1,5 +1,7 @@
 -- The text of a piece reads back.
-use Rattle.std.proofs.Common.{◌≡◌, ℕ, ◌≤◌, Bool, true, false, ◌&&◌, ◌||◌, List, [], ◌∷◌, map, Option, Some, None, Result, Ok, Err, refl, ap, ◌∙◌, arith, String, Global, string_bytes}
+use Rattle.std.proofs.Common.{◌≡◌, ℕ, ◌≤◌, Bool, true, false, ◌&&◌, ◌||◌, List, [], ◌∷◌, map}
+use Rattle.std.proofs.Common.{Option, Some, None, Result, Ok, Err, refl, ap, ◌∙◌, arith, String}
+use Rattle.std.proofs.Common.{Global, string_bytes}
 use Rattle.std.specs.Prelude.{nat_le, option_map, option_and_then, if◌then◌else◌}
 use Rattle.std.specs.Option.{option_map_or}
 use Rattle.std.specs.Result.{IfOk}
@@ -14,17 +16,22 @@ use Rattle.plant_types.specs.declared.element.Operand.{Operand}
 use Rattle.plant_types.specs.declared.element.Operand.TheVariants.{Const, At}
 use Rattle.plant_types.specs.declared.element.Unit.TheVariants.{Second, Tenth, Hundredth}
 use Rattle.plant_types.specs.declared.element.MathOp.TheVariants.{Add, Sub, Mul, Div}
-use Rattle.plant_types.specs.declared.element.MoveOp.TheVariants.{RegToTable, TableToReg, TableToTable, Copy, FirstIn, FirstOut, Search}
-use Rattle.plant_types.specs.declared.element.MatrixOp.TheVariants.{And, Or, Xor, Comp, Cmpr, Mbit, Sens, Brot}
+use Rattle.plant_types.specs.declared.element.MoveOp.TheVariants.{RegToTable, TableToReg}
+use Rattle.plant_types.specs.declared.element.MoveOp.TheVariants.{TableToTable, Copy, FirstIn}
+use Rattle.plant_types.specs.declared.element.MoveOp.TheVariants.{FirstOut, Search}
+use Rattle.plant_types.specs.declared.element.MatrixOp.TheVariants.{And, Or, Xor, Comp, Cmpr, Mbit}
+use Rattle.plant_types.specs.declared.element.MatrixOp.TheVariants.{Sens, Brot}
 use Rattle.plant_types.specs.declared.element.Element.{Element}
 use Rattle.plant_types.specs.declared.element.Element.TheVariants as elements
 use Rattle.plant_types.specs.Network.{is_row, is_column, has_cell_place}
-use Rattle.plant_types.specs.Operands.{fits_form, fits_value, has_form, has_values, has_kinds, is_length}
+use Rattle.plant_types.specs.Operands.{fits_form, fits_value, has_form, has_values, has_kinds}
+use Rattle.plant_types.specs.Operands.{is_length}
 use Rattle.plant_types.specs.Reference.{reference_text}
 use Rattle.plant_types.specs.declared.name.ElementName.{ElementName}
 use Rattle.plant_types.specs.declared.name.ElementName.TheVariants as names
 use Rattle.plant_types.specs.declared.slot.Slot.{Slot}
-use Rattle.plant_types.specs.declared.slot.Slot.TheVariants.{Discrete, Driven, Number, Source, Target, Constant}
+use Rattle.plant_types.specs.declared.slot.Slot.TheVariants.{Discrete, Driven, Number, Source}
+use Rattle.plant_types.specs.declared.slot.Slot.TheVariants.{Target, Constant}
 use Rattle.plant_types.specs.Slots.{slots_of}
 use Rattle.plant_types.specs.Elements.{name_of as element_name, operands_of}
 use Rattle.cell_text.specs.declared.names.PieceName.{PieceName}
@@ -34,24 +41,30 @@ use Rattle.cell_text.specs.declared.piece.Piece.TheVariants as pieces
 use Rattle.cell_text.specs.declared.piece.CellFault.{CellFault}
 use Rattle.cell_text.specs.declared.piece.CellFault.TheVariants.{BadCell}
 use Rattle.cell_text.specs.Steps.{◌>>=◌, or_fault}
-use Rattle.cell_text.specs.Words.{words_of}
-use Rattle.cell_text.specs.Numbers.{number_of, is_number, is_reference_word, reference_of}
-use Rattle.cell_text.specs.Names.{element_text, name_text, all_names, name_of}
-use Rattle.cell_text.specs.Slots.{slots_of_piece, takes_form, takes_value, takes_kind, taken_reference, operand_in, operands_in, read_operands}
+use Rattle.cell_text.specs.Words.{text_words}
+use Rattle.cell_text.specs.Numbers.{spelled_number, is_spelled_number, is_reference_word}
+use Rattle.cell_text.specs.Numbers.{reference_of}
+use Rattle.cell_text.specs.Names.{element_text, name_text, all_names, spelled_name}
+use Rattle.cell_text.specs.Slots.{slots_of_piece, takes_form, takes_value, takes_kind}
+use Rattle.cell_text.specs.Slots.{taken_reference, operand_in, operands_in, read_operands}
 use Rattle.cell_text.specs.Pieces.{piece_at, piece_of}
-use Rattle.cell_text.specs.Texts.{has_number, has_numbers, has_text, operand_text, piece_place, piece_name, piece_operands, piece_words, piece_text}
-use Rattle.cell_text.proofs.JoinLemmas.{is_word, words_of-join}
-use Rattle.cell_text.proofs.NumberLemmas.{is_number-decimal, number_of-decimal, position_of-text, position_word, decimal_word, decimal_no_reference, reference_word, reference_of-text, reference_text_word}
+use Rattle.cell_text.specs.Texts.{has_number, has_numbers, has_text, operand_text, piece_place}
+use Rattle.cell_text.specs.Texts.{piece_name, piece_operands, piece_words, piece_text}
+use Rattle.cell_text.proofs.JoinLemmas.{is_word, text_words-join}
+use Rattle.cell_text.proofs.NumberLemmas.{is_spelled_number-decimal, spelled_number-decimal}
+use Rattle.cell_text.proofs.NumberLemmas.{position_of-text, position_word, decimal_word}
+use Rattle.cell_text.proofs.NumberLemmas.{decimal_no_reference, reference_word, reference_of-text}
+use Rattle.cell_text.proofs.NumberLemmas.{reference_text_word}
 use Rattle.cell_text.proofs.FitLemmas.{fits, pointwise-fits}
 
 -- the letters of each name are a word that names it
 record Named (name : PieceName) : Type 0 where
   word : is_word (name_text name) ≡ true
-  found : name_of (name_text name) ≡ Some name
+  found : spelled_name (name_text name) ≡ Some name
 
 -- so it is with each name of an element
 named_element : (name : ElementName) → Named (piece_names.Element name)
-unfolding element_text name_text all_names name_of
+unfolding element_text name_text all_names spelled_name
 named_element names.Open = record { word = refl; found = refl }
 named_element names.Closed = record { word = refl; found = refl }
 named_element names.Rise = record { word = refl; found = refl }
@@ -91,7 +104,7 @@ named_element names.Mstr = record { word = refl; found = refl }
 
 -- and with each name
 named : (name : PieceName) → Named name
-unfolding element_text name_text all_names name_of
+unfolding element_text name_text all_names spelled_name
 named (piece_names.Element name) = named_element name
 named piece_names.Short = record { word = refl; found = refl }
 
@@ -112,7 +125,7 @@ reference_form : (slot : Slot) (at : Ref) → fits_form slot (At at) ≡ true �
     → (takes_form slot (reference_text at) ≡ true) × (takes_value slot (reference_text at) ≡ true)
 reference_form Discrete at fit five = (five, refl)
 reference_form Driven at fit five = (five, refl)
-reference_form (Number run) at fit five = (ap (λ b. is_number (reference_text at) || b) five ∙ or_true (is_number (reference_text at)), refl)
+reference_form (Number run) at fit five = (ap (λ b. is_spelled_number (reference_text at) || b) five ∙ or_true (is_spelled_number (reference_text at)), refl)
 reference_form (Source run) at fit five = (five, refl)
 reference_form (Target run) at fit five = (five, refl)
 reference_form (Constant most) at fit five = cc
@@ -129,7 +142,7 @@ reference_reads slot at h =
       form = tests.0;
       value = tests.1;
       back = ap (λ (b : Bool). if b then option_and_then (taken_reference slot) (reference_of (reference_text at)) else option_map Const
-          (number_of (reference_text at))) five ∙ ap (option_and_then (taken_reference slot)) (reference_of-text at number)
+          (spelled_number (reference_text at))) five ∙ ap (option_and_then (taken_reference slot)) (reference_of-text at number)
           ∙ ap (λ (b : Bool). if b then Some (At at) else None) kind;
       word = reference_text_word at number;
     }
@@ -161,12 +174,12 @@ constant_form : (slot : Slot) (n : ℕ) → fits_form slot (Const n) ≡ true �
     → (takes_form slot (decimal n) ≡ true) × (takes_value slot (decimal n) ≡ true)
 constant_form Discrete n form value few = cc
 constant_form Driven n form value few = cc
-constant_form (Number run) n form value few = (ap (λ b. b || is_reference_word (decimal n)) (is_number-decimal n few), refl)
+constant_form (Number run) n form value few = (ap (λ b. b || is_reference_word (decimal n)) (is_spelled_number-decimal n few), refl)
 constant_form (Source run) n form value few = cc
 constant_form (Target run) n form value few = cc
 constant_form (Constant most) n form value few = (
-  is_number-decimal n few,
-  ap (λ (o : Option ℕ). option_map_or (is_length most) o false) (number_of-decimal n few) ∙ value,
+  is_spelled_number-decimal n few,
+  ap (λ (o : Option ℕ). option_map_or (is_length most) o false) (spelled_number-decimal n few) ∙ value,
 )
 
 -- the text of a constant that fits reads as the constant
@@ -179,7 +192,7 @@ constant_reads slot n small h =
     record {
       form = tests.0;
       value = tests.1;
-      back = rw (decimal_no_reference n few, number_of-decimal n few) refl;
+      back = rw (decimal_no_reference n few, spelled_number-decimal n few) refl;
       word = decimal_word n few;
     }
 
@@ -320,7 +333,7 @@ piece_of-words piece h =
     let name = (named (piece_name piece)).found in
     let operands = read_operands-back (slots_of_piece (piece_name piece)) (piece_operands piece) (piece_all_read piece f) in
     ap (λ (o : Option (ℕ × ℕ)). or_fault {E = CellFault} BadCell o >>= λ at. or_fault BadCell
-    (name_of (name_text (piece_name piece))) >>= λ name. read_operands (slots_of_piece name) words >>= λ operands. or_fault BadCell
+    (spelled_name (name_text (piece_name piece))) >>= λ name. read_operands (slots_of_piece name) words >>= λ operands. or_fault BadCell
     (piece_at at.0 at.1 name operands)) place
     ∙ ap (λ (o : Option PieceName). or_fault {E = CellFault} BadCell o >>= λ name. read_operands
     (slots_of_piece name) words >>= λ operands. or_fault BadCell (piece_at (piece_place piece).0 (piece_place piece).1 name operands)) name
@@ -329,11 +342,11 @@ piece_of-words piece h =
     ∙ ap (λ (o : Option Piece). or_fault {E = CellFault} BadCell o) (piece_at-back piece h)
 
 -- the text of a piece reads as the piece
-pub piece_of-text : (piece : Piece) → has_text piece ≡ true → piece_of (words_of (piece_text piece)) ≡ Ok piece
-piece_of-text piece h = ap piece_of (words_of-join (piece_words piece) (piece_words-are piece h)) ∙ piece_of-words piece h
+pub piece_of-text : (piece : Piece) → has_text piece ≡ true → piece_of (text_words (piece_text piece)) ≡ Ok piece
+piece_of-text piece h = ap piece_of (text_words-join (piece_words piece) (piece_words-are piece h)) ∙ piece_of-words piece h
 
 -- so it is with a text that was written
 pub gives-reads_back : (piece : Piece) (r : Result (String Global) AllocError) → has_text piece ≡ true
-    → IfOk r (λ text. string_bytes text ≡ piece_text piece) → IfOk r (λ text. piece_of (words_of (string_bytes text)) ≡ Ok piece)
-gives-reads_back piece (Ok text) h e = ap (λ bytes. piece_of (words_of bytes)) e ∙ piece_of-text piece h
+    → IfOk r (λ text. string_bytes text ≡ piece_text piece) → IfOk r (λ text. piece_of (text_words (string_bytes text)) ≡ Ok piece)
+gives-reads_back piece (Ok text) h e = ap (λ bytes. piece_of (text_words bytes)) e ∙ piece_of-text piece h
 gives-reads_back piece (Err end) h e = tt

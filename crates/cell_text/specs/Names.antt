@@ -5,9 +5,13 @@ use Rattle.std.specs.Str.{bytes_eq}
 use Rattle.plant_types.specs.declared.element.Unit.TheVariants.{Second, Tenth, Hundredth}
 use Rattle.plant_types.specs.declared.element.MathOp.TheVariants.{Add, Sub, Mul, Div}
 use Rattle.plant_types.specs.declared.element.MoveOp.TheVariants as moves
-use Rattle.plant_types.specs.declared.element.MatrixOp.TheVariants.{And, Or, Xor, Comp, Cmpr, Mbit, Sens, Brot}
+use Rattle.plant_types.specs.declared.element.MatrixOp.TheVariants.{And, Or, Xor, Comp, Cmpr, Mbit}
+use Rattle.plant_types.specs.declared.element.MatrixOp.TheVariants.{Sens, Brot}
 use Rattle.plant_types.specs.declared.name.ElementName.{ElementName}
-use Rattle.plant_types.specs.declared.name.ElementName.TheVariants.{Open, Closed, Rise, Fall, Coil, Latch, Wire, Timer, Counter, Math, Move, Matrix, Skip, Label, Call, Return, Mstr}
+use Rattle.plant_types.specs.declared.name.ElementName.TheVariants.{Open, Closed, Rise, Fall, Coil}
+use Rattle.plant_types.specs.declared.name.ElementName.TheVariants.{Latch, Wire, Timer, Counter}
+use Rattle.plant_types.specs.declared.name.ElementName.TheVariants.{Math, Move, Matrix, Skip, Label}
+use Rattle.plant_types.specs.declared.name.ElementName.TheVariants.{Call, Return, Mstr}
 use Rattle.cell_text.specs.declared.names.PieceName.{PieceName}
 use Rattle.cell_text.specs.declared.names.PieceName.TheVariants.{Element, Short}
 
@@ -73,5 +77,5 @@ all_names =
     ∷ Element Mstr ∷ []
 
 -- What a word names: the name whose letters it has. This project's own.
-unfoldable pub name_of : List ℕ → Option PieceName
-name_of word = find (λ name. bytes_eq word (name_text name)) all_names
+unfoldable pub spelled_name : List ℕ → Option PieceName
+spelled_name word = find (λ name. bytes_eq word (name_text name)) all_names

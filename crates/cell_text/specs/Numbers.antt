@@ -1,8 +1,11 @@
 -- The numbers, places and references that words stand for.
-use Rattle.std.specs.Prelude.{ℕ, ◌+◌, ◌*◌, ◌-◌, Bool, not, ◌&&◌, ◌||◌, ◌==◌, nat_le, if◌then◌else◌, List, Option, Some, None, fold, length, drop, slice_index, option_and_then}
+use Rattle.std.specs.Prelude.{ℕ, ◌+◌, ◌*◌, ◌-◌, Bool, not, ◌&&◌, ◌||◌, ◌==◌, nat_le, if◌then◌else◌}
+use Rattle.std.specs.Prelude.{List, Option, Some, None, fold, length, drop, slice_index}
+use Rattle.std.specs.Prelude.{option_and_then}
 use Rattle.std.specs.List.{list_all, before_first, after_first}
 use Rattle.plant_types.specs.declared.reference.RefKind.{RefKind}
-use Rattle.plant_types.specs.declared.reference.RefKind.TheVariants.{Coil, Input, InputRegister, Register}
+use Rattle.plant_types.specs.declared.reference.RefKind.TheVariants.{Coil, Input, InputRegister}
+use Rattle.plant_types.specs.declared.reference.RefKind.TheVariants.{Register}
 use Rattle.plant_types.specs.declared.reference.Ref.{Ref}
 use Rattle.plant_types.specs.Network.{is_row, is_column}
 
@@ -15,20 +18,20 @@ abbrev pub value_of : List ℕ → ℕ
 value_of digits = fold (λ value digit. value * 10 + (digit - 48)) 0 digits
 
 -- A word of one to four bytes. This project's own.
-abbrev pub has_few : List ℕ → Bool
-has_few word = nat_le 1 (length word) && nat_le (length word) 4
+abbrev pub has_few_digits : List ℕ → Bool
+has_few_digits word = nat_le 1 (length word) && nat_le (length word) 4
 
 -- A word that does not begin with 0, unless it is 0 alone. This project's own.
 abbrev pub has_no_leading_zero : List ℕ → Bool
 has_no_leading_zero word = (length word == 1) || not (slice_index word 0 == 48)
 
 -- One to four digits without a sign, and without a leading zero. This project's own.
-abbrev pub is_number : List ℕ → Bool
-is_number word = list_all is_digit word && (has_few word && has_no_leading_zero word)
+abbrev pub is_spelled_number : List ℕ → Bool
+is_spelled_number word = list_all is_digit word && (has_few_digits word && has_no_leading_zero word)
 
 -- The number that a word stands for. This project's own.
-abbrev pub number_of : List ℕ → Option ℕ
-number_of word = if is_number word then Some (value_of word) else None
+abbrev pub spelled_number : List ℕ → Option ℕ
+spelled_number word = if is_spelled_number word then Some (value_of word) else None
 
 -- A row and a column, where they stand in the grid. This project's own.
 abbrev pub in_grid : ℕ → ℕ → Option (ℕ × ℕ)
@@ -44,8 +47,8 @@ column_word word = after_first (λ byte. byte == 44) word
 -- The row and the column that a word stands for, parted by a comma. This project's own.
 abbrev pub position_of : List ℕ → Option (ℕ × ℕ)
 position_of word =
-    option_and_then (λ row. option_and_then (in_grid row) (number_of (column_word word)))
-    (number_of (row_word word))
+    option_and_then (λ row. option_and_then (in_grid row) (spelled_number (column_word word)))
+    (spelled_number (row_word word))
 
 -- Five digits are a reference, or the fault of one. This project's own.
 abbrev pub is_reference_word : List ℕ → Bool
@@ -57,8 +60,8 @@ reference_number word = if is_reference_word word then Some (value_of (drop 1 wo
 
 -- The kind that the first digit of a reference tells. Modicon Ladder Logic Block Library User
 -- Guide.
-abbrev pub kind_of : ℕ → Option RefKind
-kind_of digit =
+abbrev pub kind_by_digit : ℕ → Option RefKind
+kind_by_digit digit =
     if digit == 48 then Some Coil
     else if digit == 49 then Some Input
     else if digit == 51 then Some InputRegister
@@ -70,8 +73,8 @@ abbrev pub is_reference_number : ℕ → Bool
 is_reference_number number = nat_le 1 number && nat_le number 9984
 
 -- A reference of a kind and such a number. This project's own.
-abbrev pub numbered : RefKind → ℕ → Option Ref
-numbered kind number =
+abbrev pub reference_numbered : RefKind → ℕ → Option Ref
+reference_numbered kind number =
     if is_reference_number number then Some (record { kind = kind; number = number }) else None
 
 -- The reference that a word stands for: the digit of its kind, then the four of its number.
@@ -79,6 +82,6 @@ numbered kind number =
 abbrev pub reference_of : List ℕ → Option Ref
 reference_of word =
     if is_reference_word word
-    then option_and_then (λ kind. numbered kind (value_of (drop 1 word)))
-    (kind_of (slice_index word 0))
+    then option_and_then (λ kind. reference_numbered kind (value_of (drop 1 word)))
+    (kind_by_digit (slice_index word 0))
     else None

@@ -1,5 +1,6 @@
 -- The pieces of a network's text, and what each stands for.
-use Rattle.std.specs.Prelude.{ℕ, nat_le, if◌then◌else◌, List, ◌∷◌, Option, Some, None, option_map, Result, Err}
+use Rattle.std.specs.Prelude.{ℕ, nat_le, if◌then◌else◌, List, ◌∷◌, Option, Some, None, option_map}
+use Rattle.std.specs.Prelude.{Result, Err}
 use Rattle.plant_types.specs.declared.element.Operand.{Operand}
 use Rattle.plant_types.specs.Elements.{element_of}
 use Rattle.cell_text.specs.declared.names.PieceName.{PieceName}
@@ -10,7 +11,7 @@ use Rattle.cell_text.specs.declared.piece.CellFault.{CellFault}
 use Rattle.cell_text.specs.declared.piece.CellFault.TheVariants.{BadCell}
 use Rattle.cell_text.specs.Steps.{◌>>=◌, or_fault}
 use Rattle.cell_text.specs.Numbers.{position_of}
-use Rattle.cell_text.specs.Names.{name_of}
+use Rattle.cell_text.specs.Names.{spelled_name}
 use Rattle.cell_text.specs.Slots.{slots_of_piece, read_operands}
 
 -- The short of a row and the one below it at a column; row 7 has none below it. This project's
@@ -31,12 +32,12 @@ piece_at row column (names.Element name) operands =
 unfoldable pub piece_of : List (List ℕ) → Result Piece CellFault
 piece_of (position ∷ name ∷ words) = do
   place ← or_fault BadCell (position_of position)
-  name ← or_fault BadCell (name_of name)
+  name ← or_fault BadCell (spelled_name name)
   operands ← read_operands (slots_of_piece name) words
   or_fault BadCell (piece_at place.0 place.1 name operands)
 piece_of _ = Err BadCell
 
 -- What the second word of a piece names. This project's own.
-abbrev pub named_by : List (List ℕ) → Option PieceName
-named_by (position ∷ name ∷ words) = name_of name
-named_by _ = None
+abbrev pub name_in_piece : List (List ℕ) → Option PieceName
+name_in_piece (position ∷ name ∷ words) = spelled_name name
+name_in_piece _ = None

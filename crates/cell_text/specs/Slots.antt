@@ -1,13 +1,15 @@
 -- The operands that a name takes, and what each has to be.
 use Rattle.std.specs.Option.{option_map_or}
-use Rattle.std.specs.Prelude.{ℕ, Bool, false, true, ◌||◌, if◌then◌else◌, List, [], ◌∷◌, Option, Some, None, option_map, option_and_then, Result}
+use Rattle.std.specs.Prelude.{ℕ, Bool, false, true, ◌||◌, if◌then◌else◌, List, [], ◌∷◌, Option}
+use Rattle.std.specs.Prelude.{Some, None, option_map, option_and_then, Result}
 use lib.Pointwise.{pointwise}
 use Rattle.plant_types.specs.declared.reference.RefKind.{RefKind}
 use Rattle.plant_types.specs.declared.reference.Ref.{Ref}
 use Rattle.plant_types.specs.declared.element.Operand.{Operand}
 use Rattle.plant_types.specs.declared.element.Operand.TheVariants.{Const, At}
 use Rattle.plant_types.specs.declared.slot.Slot.{Slot}
-use Rattle.plant_types.specs.declared.slot.Slot.TheVariants.{Discrete, Driven, Number, Source, Target, Constant}
+use Rattle.plant_types.specs.declared.slot.Slot.TheVariants.{Discrete, Driven, Number, Source}
+use Rattle.plant_types.specs.declared.slot.Slot.TheVariants.{Target, Constant}
 use Rattle.plant_types.specs.Slots.{slots_of}
 use Rattle.plant_types.specs.Reference.{is_coil, is_discrete, is_register, is_holding}
 use Rattle.plant_types.specs.Operands.{is_length}
@@ -18,7 +20,8 @@ use Rattle.cell_text.specs.declared.slots.WordTest.TheVariants.{Form, Value}
 use Rattle.cell_text.specs.declared.piece.CellFault.{CellFault}
 use Rattle.cell_text.specs.declared.piece.CellFault.TheVariants.{BadCell, BadValue, BadRef}
 use Rattle.cell_text.specs.Steps.{◌>>=◌, or_fault, unless}
-use Rattle.cell_text.specs.Numbers.{is_number, number_of, is_reference_word, reference_of}
+use Rattle.cell_text.specs.Numbers.{is_spelled_number, spelled_number, is_reference_word}
+use Rattle.cell_text.specs.Numbers.{reference_of}
 
 -- The operands that a piece of a name takes, in their order; a short takes none. This project's
 -- own.
@@ -29,19 +32,19 @@ slots_of_piece Short = []
 -- The forms that an operand can have: five digits are a reference, one to four a constant. This
 -- project's own.
 abbrev pub takes_form : Slot → List ℕ → Bool
-takes_form (Number run) word = is_number word || is_reference_word word
-takes_form (Constant most) word = is_number word
+takes_form (Number run) word = is_spelled_number word || is_reference_word word
+takes_form (Constant most) word = is_spelled_number word
 takes_form _ word = is_reference_word word
 
 -- A constant of a limited range is from 1 to the largest. This project's own.
 abbrev pub takes_value : Slot → List ℕ → Bool
-takes_value (Constant most) word = option_map_or (is_length most) (number_of word) false
+takes_value (Constant most) word = option_map_or (is_length most) (spelled_number word) false
 takes_value _ word = true
 
 -- A word passes a test of an operand. This project's own.
-abbrev pub passes : WordTest → Slot → List ℕ → Bool
-passes Form slot word = takes_form slot word
-passes Value slot word = takes_value slot word
+abbrev pub passes_word_test : WordTest → Slot → List ℕ → Bool
+passes_word_test Form slot word = takes_form slot word
+passes_word_test Value slot word = takes_value slot word
 
 -- The kinds of reference that an operand can be. This project's own table of operands.
 abbrev pub takes_kind : Slot → RefKind → Bool
@@ -61,7 +64,7 @@ abbrev pub operand_in : Slot → List ℕ → Option Operand
 operand_in slot word =
     if is_reference_word word
     then option_and_then (taken_reference slot) (reference_of word)
-    else option_map Const (number_of word)
+    else option_map Const (spelled_number word)
 
 -- The operands that words stand for, one for each slot. This project's own.
 unfoldable pub operands_in : List Slot → List (List ℕ) → Option (List Operand)

@@ -1,5 +1,6 @@
 -- The words of a text.
-use Rattle.std.specs.Prelude.{ℕ, Bool, not, ◌||◌, ◌==◌, List, [], ◌∷◌, Option, Some, None, filter, length}
+use Rattle.std.specs.Prelude.{ℕ, Bool, not, ◌||◌, ◌==◌, List, [], ◌∷◌, Option, Some, None, filter}
+use Rattle.std.specs.Prelude.{length}
 use Rattle.std.specs.List.{slice_split}
 use Rattle.std.specs.Str.{bytes_eq}
 use lib.Pointwise.{pointwise}
@@ -9,8 +10,8 @@ abbrev pub is_blank : ℕ → Bool
 is_blank byte = (byte == 32) || (byte == 9)
 
 -- The words of a text: its longest runs of bytes that are no blanks. This project's own.
-unfoldable pub words_of : List ℕ → List (List ℕ)
-words_of text = filter (λ word. not (length word == 0)) (slice_split is_blank text)
+unfoldable pub text_words : List ℕ → List (List ℕ)
+text_words text = filter (λ word. not (length word == 0)) (slice_split is_blank text)
 
 -- The one word of a text that has one. This project's own.
 abbrev pub only_word : List (List ℕ) → Option (List ℕ)

@@ -1,6 +1,6 @@
 //! The names of pieces.
 ghost use Rattle.std.specs.Prelude.{◌≡◌};
-ghost use Rattle.cell_text.specs.Names.{element_text, name_text, name_of};
+ghost use Rattle.cell_text.specs.Names.{element_text, name_text, spelled_name};
 
 use crate::words::is_text;
 use plant_types::{ElementName, MathOp, MatrixOp, MoveOp, Unit};
@@ -111,9 +111,9 @@ impl PieceName {
 }
 
 /// What a word names.
-#[tactic(auto, unfolding(crate::specs::Names::name_of, crate::specs::Names::all_names))]
-pub fn name_of(word: &[u8]) -> Option<PieceName>
-    ensures { result ≡ name_of word.now }
+#[tactic(auto, unfolding(crate::specs::Names::spelled_name, crate::specs::Names::all_names))]
+pub fn spelled_name(word: &[u8]) -> Option<PieceName>
+    ensures { result ≡ spelled_name word.now }
 {
     NAMES
         .iter()

@@ -1,7 +1,9 @@
 //! The numbers, places and references that words stand for.
 ghost use Rattle.std.specs.Prelude.{◌≡◌, ◌≤◌, ◌==◌, true, length};
 ghost use Rattle.std.specs.List.{list_all, position, before_first, after_first};
-ghost use Rattle.cell_text.specs.Numbers.{is_digit, value_of, is_number, number_of, position_of, is_reference_word, reference_number, kind_of, reference_of};
+ghost use Rattle.cell_text.specs.Numbers.{is_digit, value_of, is_spelled_number, spelled_number};
+ghost use Rattle.cell_text.specs.Numbers.{position_of, is_reference_word, reference_number};
+ghost use Rattle.cell_text.specs.Numbers.{kind_by_digit, reference_of};
 
 use plant_types::{Ref, RefKind};
 
@@ -39,18 +41,18 @@ fn value_of(digits: &[u8]) -> u16
 }
 
 /// Whether a word is one to four digits without a leading zero.
-pub fn is_number(word: &[u8]) -> bool
-    ensures { result ≡ is_number word.now }
+pub fn is_spelled_number(word: &[u8]) -> bool
+    ensures { result ≡ is_spelled_number word.now }
 {
     let len = word.len();
     are_digits(word) && 1 <= len && len <= 4 && (len == 1 || word[0] != b'0')
 }
 
 /// The number that one to four digits without a leading zero stand for.
-pub fn number_of(word: &[u8]) -> Option<u16>
-    ensures { result ≡ number_of word.now }
+pub fn spelled_number(word: &[u8]) -> Option<u16>
+    ensures { result ≡ spelled_number word.now }
 {
-    if is_number(word) {
+    if is_spelled_number(word) {
         Some(value_of(word))
     } else {
         None
@@ -79,10 +81,10 @@ pub fn position_of(word: &[u8]) -> Option<(u8, u8)>
     ensures { result ≡ position_of word.now }
 {
     let (row, column) = comma_parts(word);
-    let Some(row) = number_of(row) else {
+    let Some(row) = spelled_number(row) else {
         return None;
     };
-    let Some(column) = number_of(column) else {
+    let Some(column) = spelled_number(column) else {
         return None;
     };
     if 1 <= row && row <= ROWS && 1 <= column && column <= COLUMNS {
@@ -110,8 +112,8 @@ pub fn reference_number(word: &[u8]) -> Option<u16>
     }
 }
 
-fn kind_of(digit: u8) -> Option<RefKind>
-    ensures { result ≡ kind_of digit }
+fn kind_by_digit(digit: u8) -> Option<RefKind>
+    ensures { result ≡ kind_by_digit digit }
 {
     match digit {
         b'0' => Some(RefKind::Coil),
@@ -129,7 +131,7 @@ pub fn reference_of(word: &[u8]) -> Option<Ref>
     if !is_reference_word(word) {
         return None;
     }
-    let kind = kind_of(word[0])?;
+    let kind = kind_by_digit(word[0])?;
     let number = value_of(&word[1..]);
     if 1 <= number && number <= REFERENCE_LIMIT {
         Some(Ref { kind, number })

@@ -1,10 +1,10 @@
 //! Reads one piece of a network's text.
 ghost use Rattle.std.specs.Prelude.{◌≡◌, true, IfOk};
-ghost use Rattle.cell_text.specs.Words.{words_of};
+ghost use Rattle.cell_text.specs.Words.{text_words};
 ghost use Rattle.cell_text.specs.Texts.{has_text};
-ghost use Rattle.cell_text.specs.Pieces.{short_at, piece_at, piece_of, named_by};
+ghost use Rattle.cell_text.specs.Pieces.{short_at, piece_at, piece_of, name_in_piece};
 
-use crate::names::{PieceName, name_of};
+use crate::names::{PieceName, spelled_name};
 use crate::numbers::{ROWS, position_of};
 use crate::piece::{CellFault, Piece};
 use crate::slots::read_operands;
@@ -38,7 +38,7 @@ fn piece_at(row: u8, column: u8, name: PieceName, operands: &[Operand]) -> Optio
 
 #[tactic(auto, unfolding(crate::specs::Pieces::piece_of))]
 fn read_piece(text: &[u8]) -> Result<Piece, CellFault>
-    ensures { result ≡ piece_of (words_of text.now) }
+    ensures { result ≡ piece_of (text_words text.now) }
 {
     let Some((position, rest)) = next_word(text) else {
         return Err(CellFault::BadCell);
@@ -47,7 +47,7 @@ fn read_piece(text: &[u8]) -> Result<Piece, CellFault>
         return Err(CellFault::BadCell);
     };
     let (row, column) = position_of(position).ok_or(CellFault::BadCell)?;
-    let name = name_of(name).ok_or(CellFault::BadCell)?;
+    let name = spelled_name(name).ok_or(CellFault::BadCell)?;
     let operands = read_operands(name.slots(), words)?;
     piece_at(row, column, name, operands.as_slice()).ok_or(CellFault::BadCell)
 }
@@ -55,17 +55,17 @@ fn read_piece(text: &[u8]) -> Result<Piece, CellFault>
 /// Reads a piece: `<row>,<column> <name> <operands>`. The fault is that of the first test that
 /// fails.
 pub fn read_cell(text: &str) -> Result<Piece, CellFault>
-    ensures read { result ≡ piece_of (words_of text.now) }
+    ensures read { result ≡ piece_of (text_words text.now) }
     ensures has_text { IfOk result (λ piece. has_text piece ≡ true) }
 {
     read_piece(text.as_bytes())
 }
 
 /// What the second word of a piece names.
-pub fn named_by(text: &[u8]) -> Option<PieceName>
-    ensures { result ≡ named_by (words_of text.now) }
+pub fn name_in_piece(text: &[u8]) -> Option<PieceName>
+    ensures { result ≡ name_in_piece (text_words text.now) }
 {
     let (_, rest) = next_word(text)?;
     let (name, _) = next_word(rest)?;
-    name_of(name)
+    spelled_name(name)
 }

@@ -1,12 +1,14 @@
 //! What the operands of each name have to be.
 ghost use Rattle.std.specs.Prelude.{◌≡◌, ◌≤◌, length};
 ghost use lib.Pointwise.{pointwise};
-ghost use Rattle.cell_text.specs.Words.{words_of};
+ghost use Rattle.cell_text.specs.Words.{text_words};
 ghost use Rattle.plant_types.specs.Operands.{is_length};
-ghost use Rattle.cell_text.specs.Slots.{slots_of_piece, takes_form, takes_value, passes, takes_kind, taken_reference, operand_in, operands_in, read_operands};
+ghost use Rattle.cell_text.specs.Slots.{slots_of_piece, takes_form, takes_value, passes_word_test};
+ghost use Rattle.cell_text.specs.Slots.{takes_kind, taken_reference, operand_in, operands_in};
+ghost use Rattle.cell_text.specs.Slots.{read_operands};
 
 use crate::names::PieceName;
-use crate::numbers::{is_number, is_reference_word, number_of, reference_of};
+use crate::numbers::{is_reference_word, is_spelled_number, reference_of, spelled_number};
 use crate::piece::CellFault;
 use crate::words::next_word;
 use plant_types::{OPERAND_LIMIT, Operand, Operands, Ref, RefKind, Slot, slots_of};
@@ -41,8 +43,8 @@ fn takes_form(slot: Slot, word: &[u8]) -> bool
     ensures { result ≡ takes_form slot word.now }
 {
     match slot {
-        Slot::Number(_) => is_number(word) || is_reference_word(word),
-        Slot::Constant(_) => is_number(word),
+        Slot::Number(_) => is_spelled_number(word) || is_reference_word(word),
+        Slot::Constant(_) => is_spelled_number(word),
         Slot::Discrete | Slot::Driven | Slot::Source(_) | Slot::Target(_) => is_reference_word(
             word,
         ),
@@ -53,13 +55,13 @@ fn takes_value(slot: Slot, word: &[u8]) -> bool
     ensures { result ≡ takes_value slot word.now }
 {
     match slot {
-        Slot::Constant(most) => number_of(word).is_some_and(|number| is_length(most, number)),
+        Slot::Constant(most) => spelled_number(word).is_some_and(|number| is_length(most, number)),
         _ => true,
     }
 }
 
-fn passes(test: WordTest, slot: Slot, word: &[u8]) -> bool
-    ensures { result ≡ passes test slot word.now }
+fn passes_word_test(test: WordTest, slot: Slot, word: &[u8]) -> bool
+    ensures { result ≡ passes_word_test test slot word.now }
 {
     match test {
         WordTest::Form => takes_form(slot, word),
@@ -97,18 +99,18 @@ fn operand_in(slot: Slot, word: &[u8]) -> Option<Operand>
     if is_reference_word(word) {
         return taken_reference(slot, reference_of(word)?);
     }
-    number_of(word).map(Operand::Const)
+    spelled_number(word).map(Operand::Const)
 }
 
 fn all_pass(test: WordTest, slots: &[Slot], text: &[u8]) -> bool
-    ensures { result ≡ pointwise (passes test) slots.now (words_of text.now) }
+    ensures { result ≡ pointwise (passes_word_test test) slots.now (text_words text.now) }
 {
     let mut rest = text;
     for slot in slots {
         let Some((word, behind)) = next_word(rest) else {
             return false;
         };
-        if !passes(test, *slot, word) {
+        if !passes_word_test(test, *slot, word) {
             return false;
         }
         rest = behind;
@@ -119,7 +121,7 @@ fn all_pass(test: WordTest, slots: &[Slot], text: &[u8]) -> bool
 #[tactic(auto, unfolding(crate::specs::Slots::operands_in))]
 fn operands_in(slots: &[Slot], text: &[u8]) -> Option<Operands>
     requires { length slots.now ≤ OPERAND_LIMIT }
-    ensures { result ≡ operands_in slots.now (words_of text.now) }
+    ensures { result ≡ operands_in slots.now (text_words text.now) }
 {
     let mut operands = Operands::new();
     let mut rest = text;
@@ -138,7 +140,7 @@ fn operands_in(slots: &[Slot], text: &[u8]) -> Option<Operands>
 #[tactic(auto, unfolding(crate::specs::Slots::read_operands))]
 pub fn read_operands(slots: &[Slot], text: &[u8]) -> Result<Operands, CellFault>
     requires { length slots.now ≤ OPERAND_LIMIT }
-    ensures { result ≡ read_operands slots.now (words_of text.now) }
+    ensures { result ≡ read_operands slots.now (text_words text.now) }
 {
     if !all_pass(WordTest::Form, slots, text) {
         return Err(CellFault::BadCell);

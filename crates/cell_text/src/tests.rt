@@ -319,10 +319,10 @@ fn other_pieces_have_faults(rt: HostRuntime) {
 #[test]
 fn words_are_told_apart(rt: HostRuntime) {
     let message = PieceName::Element(ElementName::Mstr);
-    assert_eq!(rt; named_by(b"9,9 MSTR"), Some(message));
-    assert_eq!(rt; named_by(b"1,1 V 7"), Some(PieceName::Short));
-    assert_eq!(rt; named_by(b"1,1 MST"), None);
-    assert_eq!(rt; named_by(b"MSTR"), None);
+    assert_eq!(rt; name_in_piece(b"9,9 MSTR"), Some(message));
+    assert_eq!(rt; name_in_piece(b"1,1 V 7"), Some(PieceName::Short));
+    assert_eq!(rt; name_in_piece(b"1,1 MST"), None);
+    assert_eq!(rt; name_in_piece(b"MSTR"), None);
     assert!(rt; has_words(b" 1 - ", &["1", "-"]));
     assert!(rt; !has_words(b"1 - -", &["1", "-"]));
     assert_eq!(rt; only_word(b"\t00001 "), Some(b"00001".as_slice()));

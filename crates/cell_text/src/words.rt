@@ -2,7 +2,7 @@
 ghost use Rattle.std.specs.Prelude.{◌≡◌, ◌≤◌, [], ◌∷◌, not, length, map, option_map, MatchOption};
 ghost use Rattle.std.specs.List.{position, position_or_len};
 ghost use Rattle.std.specs.Str.{bytes_eq};
-ghost use Rattle.cell_text.specs.Words.{is_blank, words_of, only_word, are_words};
+ghost use Rattle.cell_text.specs.Words.{is_blank, text_words, only_word, are_words};
 
 fn is_blank(byte: u8) -> bool
     ensures { result ≡ is_blank byte }
@@ -34,8 +34,8 @@ fn word_end(text: &[u8]) -> usize
 
 /// The first word of a text, and what stands behind it.
 pub fn next_word(text: &[u8]) -> Option<(&[u8], &[u8])>
-    ensures { MatchOption result (words_of text.now ≡ [])
-        (λ w. words_of text.now ≡ w.0.now ∷ words_of w.1.now) }
+    ensures { MatchOption result (text_words text.now ≡ [])
+        (λ w. text_words text.now ≡ w.0.now ∷ text_words w.1.now) }
 {
     let Some(start) = word_start(text) else {
         return None;
@@ -47,7 +47,7 @@ pub fn next_word(text: &[u8]) -> Option<(&[u8], &[u8])>
 
 /// The word of a text that has exactly one.
 pub fn only_word(text: &[u8]) -> Option<&[u8]>
-    ensures { option_map (λ w. w.now) result ≡ only_word (words_of text.now) }
+    ensures { option_map (λ w. w.now) result ≡ only_word (text_words text.now) }
 {
     let Some((word, rest)) = next_word(text) else {
         return None;
@@ -67,7 +67,7 @@ pub fn is_text(word: &[u8], text: &str) -> bool
 
 /// Whether a text has just these words.
 pub fn has_words(text: &[u8], words: &[&str]) -> bool
-    ensures { result ≡ are_words (words_of text.now) (map (λ w. w.now) words.now) }
+    ensures { result ≡ are_words (text_words text.now) (map (λ w. w.now) words.now) }
 {
     let mut rest = text;
     for word in words {

@@ -1,8 +1,9 @@
 //! Writes one piece of a network's text.
 ghost use Rattle.std.specs.Prelude.{◌≡◌, true, Some, Ok, IfOk, string_bytes};
-ghost use Rattle.cell_text.specs.Words.{words_of};
+ghost use Rattle.cell_text.specs.Words.{text_words};
 ghost use Rattle.cell_text.specs.Pieces.{piece_of};
-ghost use Rattle.cell_text.specs.Texts.{operand_text, piece_name, piece_operands, piece_place, has_text, piece_text};
+ghost use Rattle.cell_text.specs.Texts.{operand_text, piece_name, piece_operands, piece_place};
+ghost use Rattle.cell_text.specs.Texts.{has_text, piece_text};
 
 use crate::names::PieceName;
 use crate::piece::Piece;
@@ -76,7 +77,7 @@ impl fmt::Display for Piece {
 pub fn cell_text(alloc: Global, piece: &Piece) -> Result<String, AllocError>
     requires { has_text piece.now ≡ true }
     ensures text { IfOk result (λ text. string_bytes text ≡ piece_text piece.now) }
-    ensures reads_back { IfOk result (λ text. piece_of (words_of (string_bytes text))
+    ensures reads_back { IfOk result (λ text. piece_of (text_words (string_bytes text))
         ≡ Ok piece.now) }
 {
     piece.to_string(alloc)

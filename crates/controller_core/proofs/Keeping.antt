@@ -1,7 +1,9 @@
 -- What one more step keeps.
-use Rattle.std.proofs.Common.{◌≡◌, ◌≤◌, ◌<◌, ◌==◌, ℕ, suc, ◌+◌, ◌-◌, Bool, true, false, ◌&&◌, List, [], ◌∷◌, ◌++◌, length, drop, Option, Some, None, refl, sym, ap, ◌∙◌, subst, arith, append_assoc, append-nil, length-append}
+use Rattle.std.proofs.Common.{◌≡◌, ◌≤◌, ◌<◌, ◌==◌, ℕ, suc, ◌+◌, ◌-◌, Bool, true, false, ◌&&◌, List}
+use Rattle.std.proofs.Common.{[], ◌∷◌, ◌++◌, length, drop, Option, Some, None, refl, sym, ap, ◌∙◌}
+use Rattle.std.proofs.Common.{subst, arith, append_assoc, append-nil, length-append}
 use Rattle.std.specs.Prelude.{fold, not, if◌then◌else◌}
-use Rattle.std.specs.List.{flat_map, range_with_len}
+use Rattle.std.specs.List.{cons_option, flat_map, range_with_len}
 use Rattle.std.proofs.lemmas.List.Elements.{filter_map-append}
 use Rattle.std.proofs.Math.Seq.{drop-append_seam}
 use Rattle.plant_types.specs.declared.drops.IoDrop.{IoDrop}
@@ -13,20 +15,26 @@ use Rattle.scan_order.specs.declared.due.ScanPlace.{ScanPlace}
 use Rattle.scan_order.specs.declared.due.ScanPlace.TheVariants as places
 use Rattle.scan_order.specs.declared.due.ScanStep.{ScanStep}
 use Rattle.scan_order.specs.declared.due.ScanStep.TheVariants as steps
-use Rattle.scan_order.specs.Due.{output_steps, row_of, row_steps, rows_from, due_after, rest_after, place_after, IsStep}
+use Rattle.scan_order.specs.Due.{output_steps, row_of, row_steps, rows_from, due_after, rest_after}
+use Rattle.scan_order.specs.Due.{place_after, IsStep}
 use Rattle.controller_core.specs.declared.fixed.Fixed.{Fixed}
 use Rattle.mstr_block.specs.declared.call.CallId.{CallId}
-use Rattle.modbus_exec.specs.Answer.{answer_of}
+use Rattle.mstr_block.specs.declared.call.MstrResult.{MstrResult}
+use Rattle.controller_core.specs.declared.call.Call.{Call}
 use Rattle.controller_core.specs.declared.entry.Entry.{Entry}
 use Rattle.controller_core.specs.declared.entry.Entry.TheVariants as entries
 use Rattle.controller_core.specs.declared.entry.Maker.TheVariants as makers
 use Rattle.controller_core.specs.declared.entry.StepEnd.TheVariants as ends
 use Rattle.controller_core.specs.declared.machine.Machine.{Machine}
-use Rattle.controller_core.specs.Replay.{State, apply, control_is_on, read_in, replay, segment_solved, solved, start, watchdog_stop}
+use Rattle.controller_core.specs.Replay.{State, apply, control_is_on, read_in, replay}
+use Rattle.controller_core.specs.Replay.{segment_solved, solved, start, table_of, watchdog_stop}
 use Rattle.controller_core.specs.Event.{entry_of, maker_of, scan_steps, step_of}
-use Rattle.controller_core.specs.Machine.{state_is, CanSolve, Does, IsSound, IsTimely, Serves}
-use Rattle.controller_core.specs.Scans.{all_due, closes_scan, ended_after, is_done, is_over, remaining, scans_at, scans_from}
-use Rattle.controller_core.specs.Controller.{ControllerIs, EachFits, Fits, GoesOn, IsLegal, WentOn, answered, due_step, first_of, grown, left_of, state_of, has_ended, is_none, made, step_end, stepped}
+use Rattle.controller_core.specs.Machine.{state_is, CanSolve, Does, IsSound, IsTimely, Tells}
+use Rattle.controller_core.specs.Scans.{all_due, closes_scan, ended_after, is_done, is_over}
+use Rattle.controller_core.specs.Scans.{remaining, scans_at, scans_from}
+use Rattle.controller_core.specs.Controller.{ControllerIs, EachFits, Fits, GoesOn, IsLegal, WentOn}
+use Rattle.controller_core.specs.Controller.{answered, due_step, first_of, grown, left_of, state_of}
+use Rattle.controller_core.specs.Controller.{has_ended, is_none, made, step_end, stepped, store_of}
 use Rattle.controller_core.specs.Kept.{IsKept, IsWatched}
 use Rattle.controller_core.proofs.Lengths.{scans_few}
 
@@ -78,10 +86,10 @@ ended_made f s (steps.Solve row) = solved_ended f.plan.segments (row_of f.plan r
 ended_made f s (steps.Out row) = refl
 ended_made f s steps.End = refl
 
--- an answer to another node is no step
-pub scan_steps-peer : (h : List Entry) (id : CallId) (request reply : List ℕ) → scan_steps (h ++ entries.Peer id request reply ∷ []) ≡ scan_steps h
-scan_steps-peer h id request reply =
-    filter_map-append step_of h (entries.Peer id request reply ∷ []) ∙ append-nil (scan_steps h)
+-- what the communication does is no step
+pub scan_steps-quiet : (h : List Entry) (e : Entry) → step_of e ≡ None → scan_steps (h ++ e ∷ []) ≡ scan_steps h
+scan_steps-quiet h e none =
+    filter_map-append step_of h (e ∷ []) ∙ ap (λ (o : Option ScanStep). scan_steps h ++ cons_option o []) none ∙ append-nil (scan_steps h)
 
 -- ---- the watchdog
 
@@ -231,30 +239,76 @@ kept_step f m n h at step k goes lt next is does =
       timely = subst (IsTimely n) long (does.timely (length (scan_steps h)) k.timely);
     }
 
-watched_peer : (at : ScanPlace) (m n : Machine) → n.stop ≡ m.stop → n.watch.left ≡ m.watch.left → IsWatched at m → IsWatched at n
-watched_peer places.Start m n stop left watched = tt
-watched_peer places.Began m n stop left watched = λ goes. subst (λ x. 0 < x) (sym left) (watched (sym stop ∙ goes))
-watched_peer (places.DidIn row) m n stop left watched = λ goes. subst (λ x. 0 < x) (sym left) (watched (sym stop ∙ goes))
-watched_peer (places.DidSolve row) m n stop left watched = λ goes. subst (λ x. 0 < x) (sym left) (watched (sym stop ∙ goes))
-watched_peer (places.DidOut row) m n stop left watched = λ goes. subst (λ x. 0 < x) (sym left) (watched (sym stop ∙ goes))
+pub kept_as : (f g : Fixed) (n : Machine) (h l : List Entry) (at to : ScanPlace) → g ≡ f → l ≡ h → to ≡ at → IsKept f n h at → IsKept g n l to
+kept_as f g n h l at to fixed items place k =
+    let P : List Entry → Type 0 = λ x. IsKept g n x to in
+    let Q : ScanPlace → Type 0 = λ x. IsKept g n h x in
+    let R : Fixed → Type 0 = λ x. IsKept x n h at in
+    subst P (sym items) (subst Q (sym place) (subst R (sym fixed) k))
 
-pub kept_peer : (f : Fixed) (m n : Machine) (h : List Entry) (at : ScanPlace) (id : CallId) (request reply : List ℕ) → IsKept f m h at
-    → Serves request m n → reply ≡ (answer_of request m.ram).reply → IsKept f n (h ++ entries.Peer id request reply ∷ []) at
-kept_peer f m n h at id request reply k serves is =
-    let e = entries.Peer id request reply in
-    let same = scan_steps-peer h id request reply in
-    let ended : n.ended ≡ m.ended = ap (λ (t : State). t.ended) serves.state in
+watched_told : (at : ScanPlace) (m n : Machine) → n.stop ≡ m.stop → n.watch.left ≡ m.watch.left → IsWatched at m → IsWatched at n
+watched_told places.Start m n stop left watched = tt
+watched_told places.Began m n stop left watched = λ goes. subst (λ x. 0 < x) (sym left) (watched (sym stop ∙ goes))
+watched_told (places.DidIn row) m n stop left watched = λ goes. subst (λ x. 0 < x) (sym left) (watched (sym stop ∙ goes))
+watched_told (places.DidSolve row) m n stop left watched = λ goes. subst (λ x. 0 < x) (sym left) (watched (sym stop ∙ goes))
+watched_told (places.DidOut row) m n stop left watched = λ goes. subst (λ x. 0 < x) (sym left) (watched (sym stop ∙ goes))
+
+-- what the communication does is no step, and leaves what a scan counts by
+pub record IsTold (e : Entry) : Type 0 where
+  pub maker : maker_of e ≡ makers.Communication
+  pub step : step_of e ≡ None
+  pub left : (f : Fixed) (s : State) → (apply f s e).solving.left ≡ s.solving.left
+  pub ended : (f : Fixed) (s : State) → (apply f s e).ended ≡ s.ended
+  pub stop : (f : Fixed) (s : State) → (apply f s e).stop ≡ s.stop
+
+pub collect_told : (calls : List Call) → IsTold (entries.Collect calls)
+collect_told calls =
+    record { maker = refl; step = refl; left = λ f s. refl; ended = λ f s. refl; stop = λ f s. refl }
+
+pub peer_told : (id : CallId) (request reply : List ℕ) → IsTold (entries.Peer id request reply)
+peer_told id request reply =
+    record { maker = refl; step = refl; left = λ f s. refl; ended = λ f s. refl; stop = λ f s. refl }
+
+pub finish_told : (id : CallId) (result : MstrResult) → IsTold (entries.Finish id result)
+finish_told id result =
+    record { maker = refl; step = refl; left = λ f s. refl; ended = λ f s. refl; stop = λ f s. refl }
+
+pub told_entry : (e : Entry) → maker_of e ≡ makers.Communication → IsTold e
+told_entry entries.Begin of = absurd cc
+told_entry (entries.Input row) of = absurd cc
+told_entry (entries.Solve row) of = absurd cc
+told_entry (entries.Output row words) of = absurd cc
+told_entry entries.End of = absurd cc
+told_entry (entries.Collect calls) of = collect_told calls
+told_entry (entries.Peer id request reply) of = peer_told id request reply
+told_entry (entries.Finish id result) of = finish_told id result
+
+pub kept_told : (f : Fixed) (m n : Machine) (h : List Entry) (at : ScanPlace) (e : Entry) → IsTold e → IsKept f m h at
+    → Tells e m n → Fits f (state_is m) e → IsKept f n (h ++ e ∷ []) at
+kept_told f m n h at e told k tells fits =
+    let same = scan_steps-quiet h e told.step in
+    let fixed : m.fixed ≡ f = k.fixed_is in
+    let after : state_is n ≡ apply f (state_is m) e = tells.state ∙ ap (λ (g : Fixed). apply g (state_is m) e) fixed in
+    let ended : n.ended ≡ m.ended = ap (λ (t : State). t.ended) after ∙ told.ended f (state_is m) in
     record {
-      fixed_is = serves.fixed ∙ k.fixed_is;
-      sound = serves.sound;
-      each = EachFits-more f (start f.plan) h e k.each (is ∙ ap (λ (t : State). (answer_of request t.solving.map).reply) k.state);
-      state = serves.state ∙ ap (λ (t : State). apply f t e) k.state ∙ sym (replay_more f (start f.plan) h e);
+      fixed_is = tells.fixed ∙ fixed;
+      sound = tells.sound;
+      each = EachFits-more f (start f.plan) h e k.each (subst (λ (t : State). Fits f t e) k.state fits);
+      state = after ∙ ap (λ (t : State). apply f t e) k.state ∙ sym (replay_more f (start f.plan) h e);
       steps = ap (λ (l : List ScanStep). l ++ remaining f n.ended at) same ∙ ap (λ x. scan_steps h ++ remaining f x at) ended ∙ k.steps;
       place = k.place;
-      watched = watched_peer at m n (ap (λ (t : State). t.stop) serves.state) (ap (λ (t : State). t.solving.left) serves.state) k.watched;
+      watched = watched_told at m n (ap (λ (t : State). t.stop) after ∙ told.stop f (state_is m))
+          (ap (λ (t : State). t.solving.left) after ∙ told.left f (state_is m)) k.watched;
       within = subst (λ x. scans_at at x ≤ f.scans) (sym ended) k.within;
-      timely = subst (λ (l : List ScanStep). IsTimely n (length l)) (sym same) (serves.timely (length (scan_steps h)) k.timely);
+      timely = subst (λ (l : List ScanStep). IsTimely n (length l)) (sym same) (tells.timely (length (scan_steps h)) k.timely);
     }
+
+-- the same, with the entry's items as its calls answer them
+pub kept_with : (f : Fixed) (m n : Machine) (h l : List Entry) (at : ScanPlace) (e : Entry) → IsTold e → IsKept f m h at
+    → Tells e m n → Fits f (state_is m) e → l ≡ h ++ e ∷ [] → IsKept n.fixed n l at
+kept_with f m n h l at e told k tells fits items =
+    let after = kept_told f m n h at e told k tells fits in
+    kept_as f n.fixed n (h ++ e ∷ []) l at at after.fixed_is items refl after
 
 pub legal_of : (f : Fixed) (m : Machine) (h : List Entry) (at : ScanPlace) → IsKept f m h at → IsLegal f h
 legal_of f m h at k = record { each = k.each; due = (remaining f m.ended at, k.steps) }
@@ -280,13 +334,6 @@ not_done scans (places.DidIn row) ended within not = omega arith
 not_done scans (places.DidSolve row) ended within not = omega arith
 not_done scans (places.DidOut row) ended within not = omega arith
 
-pub kept_as : (f g : Fixed) (n : Machine) (h l : List Entry) (at to : ScanPlace) → g ≡ f → l ≡ h → to ≡ at → IsKept f n h at → IsKept g n l to
-kept_as f g n h l at to fixed items place k =
-    let P : List Entry → Type 0 = λ x. IsKept g n x to in
-    let Q : ScanPlace → Type 0 = λ x. IsKept g n h x in
-    let R : Fixed → Type 0 = λ x. IsKept x n h at in
-    subst P (sym items) (subst Q (sym place) (subst R (sym fixed) k))
-
 -- what a step leaves is kept, in what its calls answer
 pub kept_made : (f : Fixed) (m n : Machine) (h l : List Entry) (at to : ScanPlace) (step : ScanStep) → IsKept f m h at → m.stop ≡ 0 → m.ended < f.scans
     → due_after f.plan at ≡ step ∷ rest_after f.plan step → IsStep f.plan step → Does (entry_of f (state_is m) step) m n
@@ -297,7 +344,7 @@ kept_made f m n h l at to step k goes lt next is does items place =
 
 -- ---- what each call says of itself
 
-maker_of_made : (f : Fixed) (s : State) (step : ScanStep) → maker_of (entry_of f s step) ≡ makers.Scan
+pub maker_of_made : (f : Fixed) (s : State) (step : ScanStep) → maker_of (entry_of f s step) ≡ makers.Scan
 maker_of_made f s steps.Begin = refl
 maker_of_made f s (steps.In row) = refl
 maker_of_made f s (steps.Solve row) = refl
@@ -316,14 +363,31 @@ went_on_step f m n h l at to r after step v is k new fixed items = record {
   legal = legal_of n.fixed n l to new;
 }
 
-pub went_on_peer : (f : Fixed) (m n : Machine) (h l : List Entry) (at : ScanPlace) (r : Bool) (id : CallId) (request reply : List ℕ)
-    (v : ControllerIs) → record { fixed = f; history = h; reserved = r } ≡ v → IsKept n.fixed n l at → n.fixed ≡ f
-    → l ≡ h ++ entries.Peer id request reply ∷ []
-    → WentOn makers.Communication (entries.Peer id request reply ∷ []) v (record { fixed = n.fixed; history = l; reserved = r })
-went_on_peer f m n h l at r id request reply v is new fixed items = record {
+-- the table of the blocks is that of the state
+pub bank_is : (f : Fixed) (m : Machine) (h : List Entry) (at : ScanPlace) (r : Bool) (v : ControllerIs)
+    → record { fixed = f; history = h; reserved = r } ≡ v → IsKept f m h at → m.bank ≡ table_of (state_of v)
+bank_is f m h at r v is k = ap table_of k.state ∙ ap (λ (u : ControllerIs). table_of (state_of u)) is
+
+pub store_is : (f : Fixed) (m : Machine) (h : List Entry) (at : ScanPlace) (r : Bool) (v : ControllerIs)
+    → record { fixed = f; history = h; reserved = r } ≡ v → IsKept f m h at → m.ram ≡ store_of v
+store_is f m h at r v is k = ap (λ (t : State). t.solving.map) k.state ∙ ap store_of is
+
+-- a controller with one more entry
+pub view_more : (n : Machine) (f : Fixed) (h l : List Entry) (r : Bool) (e given : Entry) (v : ControllerIs)
+    → record { fixed = f; history = h; reserved = r } ≡ v → n.fixed ≡ f → l ≡ h ++ e ∷ [] → e ≡ given
+    → record { fixed = n.fixed; history = l; reserved = r } ≡ grown v (given ∷ []) v.reserved
+view_more n f h l r e given v is fixed items same =
+    ap (λ (g : Fixed). record { fixed = g; history = l; reserved = r }) fixed
+    ∙ ap (λ (x : List Entry). record { fixed = f; history = x; reserved = r }) (items ∙ ap (λ (x : Entry). h ++ x ∷ []) same)
+    ∙ ap (λ (u : ControllerIs). grown u (given ∷ []) u.reserved) is
+
+pub went_on_told : (f : Fixed) (m n : Machine) (h l : List Entry) (at : ScanPlace) (r : Bool) (e : Entry) (v : ControllerIs) → IsTold e
+    → record { fixed = f; history = h; reserved = r } ≡ v → IsKept n.fixed n l at → n.fixed ≡ f → l ≡ h ++ e ∷ []
+    → WentOn makers.Communication (e ∷ []) v (record { fixed = n.fixed; history = l; reserved = r })
+went_on_told f m n h l at r e v told is new fixed items = record {
   fixed = fixed ∙ ap (λ (u : ControllerIs). u.fixed) is;
-  history = items ∙ ap (λ (u : ControllerIs). u.history ++ entries.Peer id request reply ∷ []) is;
-  made = (refl, tt);
+  history = items ∙ ap (λ (u : ControllerIs). u.history ++ e ∷ []) is;
+  made = (told.maker, tt);
   legal = legal_of n.fixed n l at new;
 }
 

@@ -1,12 +1,14 @@
 -- How long the due lists are.
-use Rattle.std.proofs.Common.{◌≤◌, ℕ, zero, suc, ◌+◌, ◌-◌, ◌*◌, [], ◌∷◌, ◌++◌, length, Option, Some, None, arith, length-append}
+use Rattle.std.proofs.Common.{◌≤◌, ℕ, zero, suc, ◌+◌, ◌-◌, ◌*◌, [], ◌∷◌, ◌++◌, length, Option, Some}
+use Rattle.std.proofs.Common.{None, arith, length-append}
 use Rattle.std.specs.List.{flat_map, range_with_len}
 use Rattle.plant_types.specs.declared.plan.ControllerPlan.{ControllerPlan}
 use Rattle.scan_order.specs.declared.due.ScanPlace.{ScanPlace}
 use Rattle.scan_order.specs.declared.due.ScanPlace.TheVariants as places
 use Rattle.scan_order.specs.declared.due.ScanStep.{ScanStep}
 use Rattle.scan_order.specs.declared.due.ScanStep.TheVariants as steps
-use Rattle.scan_order.specs.Due.{due, due_after, row_of, input_of, output_of, step_with, row_steps, input_steps, output_steps, rows_from, IsPlace}
+use Rattle.scan_order.specs.Due.{due, due_after, row_of, input_of, output_of, step_with, row_steps}
+use Rattle.scan_order.specs.Due.{input_steps, output_steps, rows_from, IsPlace}
 use Rattle.controller_core.specs.declared.fixed.Fixed.{Fixed}
 use Rattle.controller_core.specs.Scans.{scans_from}
 

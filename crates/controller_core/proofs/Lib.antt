@@ -3,3 +3,5 @@ pub mod Lengths
 pub mod Keeping
 pub mod RunLemmas
 pub mod NextEntry
+pub mod Counting
+pub mod CallLaws

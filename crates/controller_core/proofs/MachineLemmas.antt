@@ -1,5 +1,6 @@
 -- What a machine keeps from event to event.
-use Rattle.std.proofs.Common.{◌≡◌, ◌≤◌, ◌<◌, ℕ, ◌+◌, ◌-◌, List, length, get_or, set, Option, Some, None, inl, inr, refl, sym, ap, subst, ◌∙◌, arith}
+use Rattle.std.proofs.Common.{◌≡◌, ◌≤◌, ◌<◌, ℕ, ◌+◌, ◌-◌, List, length, get_or, set, Option, Some}
+use Rattle.std.proofs.Common.{None, inl, inr, refl, sym, ap, subst, ◌∙◌, arith}
 use Rattle.std.proofs.lemmas.Bool.{cases_eq}
 use Rattle.std.proofs.lemmas.List.{get_or-set_same, get_or-set_other}
 use Rattle.std.proofs.lemmas.Option.{slice_get_within, slice_get-get_or}
@@ -7,10 +8,12 @@ use Rattle.plant_types.specs.declared.reference.Ref.{Ref}
 use Rattle.plant_types.specs.declared.drops.IoDrop.{IoDrop}
 use Rattle.plant_types.specs.declared.plan.OrderRow.{OrderRow}
 use Rattle.plant_types.specs.declared.plan.ControllerPlan.{ControllerPlan}
-use Rattle.plant_types.specs.Checks.{sizes_of, CheckedPlansFindAll, KeptStoresFindAll, HasSegmentPast}
+use Rattle.plant_types.specs.Checks.{sizes_of, CheckedPlansFindAll, KeptStoresFindAll}
+use Rattle.plant_types.specs.Checks.{HasSegmentPast}
 use Rattle.plant_types.specs.Sizes.{cleared, discretes, discretes_of, DiscretesFollow}
 use Rattle.plant_types.specs.Store.{Contents, Keeps}
 use Rattle.ladder_solver.specs.Conditions.{HasGridOperands, HasGridPast, GridsAskNoMore}
+use Rattle.ladder_solver.specs.Numbers.{mstr_count}
 use Rattle.ladder_solver.proofs.Stored.{all_at_item}
 use Rattle.scan_order.specs.Due.{row_of}
 use Rattle.traffic_cop.specs.Drops.{IsReady}
@@ -50,6 +53,13 @@ operands_there machine law checked kept sound =
     let found = checked plan sound.runs.plan.passes in
     subst (HasGridOperands machine.ram) sound.grids
     (law.operands machine.ram plan.segments (kept.operands (cleared (sizes_of plan)) machine.ram plan.segments sound.keeps found.operands))
+
+-- a block for each MSTR too
+pub blocks_there : (machine : Machine) → GridsAskNoMore → IsSound machine → mstr_count machine.ladder.grids ≤ length machine.bank.blocks
+blocks_there machine law sound =
+    let grids = ap mstr_count (sym sound.grids) ∙ law.blocks machine.fixed.plan.segments in
+    let blocks = sound.blocks in
+    omega (arith, grids, blocks)
 
 pub past_there : (machine : Machine) → GridsAskNoMore → CheckedPlansFindAll → KeptStoresFindAll → DiscretesFollow → IsSound machine
     → HasGridPast machine.past machine.ladder.grids

@@ -1,7 +1,9 @@
 -- Which entries may come next.
-use Rattle.std.proofs.Common.{◌≡◌, ◌==◌, ℕ, Bool, true, false, List, [], ◌∷◌, ◌++◌, length, drop, Option, Some, None, refl, sym, ap, subst, ◌∙◌, append_assoc, append-nil, arith}
+use Rattle.std.proofs.Common.{◌≡◌, ◌==◌, ℕ, Bool, true, false, List, [], ◌∷◌, ◌++◌, length, drop}
+use Rattle.std.proofs.Common.{Option, Some, None, refl, sym, ap, subst, ◌∙◌, append_assoc}
+use Rattle.std.proofs.Common.{append-nil, arith}
 use Rattle.std.specs.Prelude.{fold, if◌then◌else◌}
-use Rattle.std.specs.Prelude.{nat_eq}
+use Rattle.std.specs.Prelude.{nat_eq, IfOk, OnErr, Result, Ok, Err}
 use Rattle.std.specs.Cmp.Lexicographic.{same_text, other_text}
 use lib.Pointwise.{pointwise}
 use Rattle.std.specs.List.{cons_option}
@@ -10,6 +12,7 @@ use Rattle.std.proofs.Math.Seq.{drop-append_seam}
 use Rattle.mstr_block.specs.declared.call.CallId.{CallId}
 use Rattle.scan_order.specs.declared.due.ScanStep.{ScanStep}
 use Rattle.scan_order.specs.declared.due.ScanStep.TheVariants as steps
+use Rattle.controller_core.specs.declared.call.Call.{Call}
 use Rattle.controller_core.specs.declared.fixed.Fixed.{Fixed}
 use Rattle.controller_core.specs.declared.entry.Entry.{Entry}
 use Rattle.controller_core.specs.declared.entry.Entry.TheVariants as entries
@@ -18,9 +21,14 @@ use Rattle.controller_core.specs.declared.entry.Maker.TheVariants as makers
 use Rattle.controller_core.specs.Replay.{State, apply, start}
 use Rattle.controller_core.specs.Event.{entry_of, maker_of, scan_steps, step_of}
 use Rattle.controller_core.specs.Scans.{all_due}
-use Rattle.controller_core.specs.Controller.{AreOf, ControllerIs, EachFits, Fits, GoesOn, IsLegal, WentOn, due_entry, due_step, entry_for, first_of, grown, has_ended, is_none, left_of, made, reply_to, state_of, stepped}
-use Rattle.controller_core.specs.Following.{HasWords, MayFollow}
-use Rattle.controller_core.proofs.Keeping.{EachFits-more, fits_made, scan_steps-more, scan_steps-peer}
+use Rattle.controller_core.specs.Controller.{AreOf, ControllerIs, EachFits, Fits, GoesOn, IsLegal}
+use Rattle.controller_core.specs.Controller.{WentOn, due_entry, due_step, entry_for, first_of}
+use Rattle.controller_core.specs.Controller.{grown, has_ended, is_none, left_of, made, reply_to}
+use Rattle.controller_core.specs.Controller.{state_of, stepped, uncollected, collecting}
+use Rattle.controller_core.specs.Controller.{has_started}
+use Rattle.controller_core.specs.Following.{HasWords, MayFollow, followed, followed_step}
+use Rattle.controller_core.proofs.Keeping.{EachFits-more, fits_made, scan_steps-more}
+use Rattle.controller_core.proofs.Keeping.{scan_steps-quiet, told_entry}
 
 -- ---- the last entry of a legal history
 
@@ -33,6 +41,21 @@ each_last f s (x ∷ h) e each = each_last f (apply f s x) h e each.1
 left_is : (f : Fixed) (h : List Entry) (rest : List ScanStep) → scan_steps h ++ rest ≡ all_due f → left_of f h ≡ rest
 left_is f h rest is =
     ap (λ (l : List ScanStep). drop (length (scan_steps h)) l) (sym is) ∙ drop-append_seam (scan_steps h) rest
+
+front_fits : (f : Fixed) (s : State) (h rest : List Entry) → EachFits f s (h ++ rest) → EachFits f s h
+unfolding EachFits
+front_fits f s [] rest each = tt
+front_fits f s (x ∷ h) rest each = (each.0, front_fits f (apply f s x) h rest each.1)
+
+pub front_legal : (f : Fixed) (h rest : List Entry) → IsLegal f (h ++ rest) → IsLegal f h
+front_legal f h rest legal = record {
+  each = front_fits f (start f.plan) h rest legal.each;
+  due = (
+    scan_steps rest ++ legal.due.0,
+    sym (append_assoc (scan_steps h) (scan_steps rest) legal.due.0)
+        ∙ ap (λ (l : List ScanStep). l ++ legal.due.0) (sym (filter_map-append step_of h rest)) ∙ legal.due.1,
+  );
+}
 
 -- ---- an entry of a scan
 
@@ -47,7 +70,9 @@ entry_is f s (entries.Solve row) step is words = ap (entry_of f s) (sym (the_ste
 entry_is f s (entries.Output row given) step is words =
     ap (entry_of f s) (sym (the_step is)) ∙ ap (entries.Output row) (sym words)
 entry_is f s entries.End step is words = ap (entry_of f s) (sym (the_step is))
+entry_is f s (entries.Collect calls) step is words = absurd cc
 entry_is f s (entries.Peer id request reply) step is words = absurd cc
+entry_is f s (entries.Finish id result) step is words = absurd cc
 
 -- an entry of a step that fits is made where the controller goes on, and has the words of its row
 fits_goes : (f : Fixed) (s : State) (e : Entry) (step : ScanStep) → step_of e ≡ Some step → Fits f s e → GoesOn s × HasWords f s e
@@ -56,7 +81,9 @@ fits_goes f s (entries.Input row) step is fits = (fits, tt)
 fits_goes f s (entries.Solve row) step is fits = (fits, tt)
 fits_goes f s (entries.Output row given) step is fits = fits
 fits_goes f s entries.End step is fits = (fits, tt)
+fits_goes f s (entries.Collect calls) step is fits = absurd cc
 fits_goes f s (entries.Peer id request reply) step is fits = absurd cc
+fits_goes f s (entries.Finish id result) step is fits = absurd cc
 
 -- an entry of a scan is a step
 pub scan_step : (e : Entry) → maker_of e ≡ makers.Scan → (step : ScanStep) × (step_of e ≡ Some step)
@@ -65,7 +92,9 @@ scan_step (entries.Input row) of = (steps.In row, refl)
 scan_step (entries.Solve row) of = (steps.Solve row, refl)
 scan_step (entries.Output row words) of = (steps.Out row, refl)
 scan_step entries.End of = (steps.End, refl)
+scan_step (entries.Collect calls) of = absurd cc
 scan_step (entries.Peer id request reply) of = absurd cc
+scan_step (entries.Finish id result) of = absurd cc
 
 steps_with : (h : List Entry) (e : Entry) (step : ScanStep) → step_of e ≡ Some step → scan_steps (h ++ e ∷ []) ≡ scan_steps h ++ step ∷ []
 steps_with h e step is =
@@ -117,50 +146,49 @@ may_of v e legal is =
     } in
     subst (λ (x : Entry). IsLegal f (h ++ x ∷ [])) step.2 next
 
--- ---- an answer to another node
+-- ---- what the communication does
 
-pub reply_of : (v : ControllerIs) (id : CallId) (request reply : List ℕ) → MayFollow v (entries.Peer id request reply)
-    → reply ≡ reply_to v request
-reply_of v id request reply may = each_last v.fixed (start v.fixed.plan) v.history (entries.Peer id request reply) may.each
+pub fits_last : (v : ControllerIs) (e : Entry) → MayFollow v e → Fits v.fixed (state_of v) e
+fits_last v e may = each_last v.fixed (start v.fixed.plan) v.history e may.each
 
 pub legal_went : (maker : Maker) (added : List Entry) (old new : ControllerIs) → WentOn maker added old new → IsLegal old.fixed (old.history ++ added)
 legal_went maker added old new went =
     subst (λ (f : Fixed). IsLegal f (old.history ++ added)) went.fixed
     (subst (λ (h : List Entry). IsLegal new.fixed h) went.history went.legal)
 
-pub peer_may : (v : ControllerIs) (id : CallId) (request reply given : List ℕ) (e : Entry) → e ≡ entries.Peer id request reply
-    → given ≡ reply_to v request → IsLegal v.fixed (v.history ++ entries.Peer id request given ∷ []) → (b : Bool) → b ≡ pointwise nat_eq given reply
-    → (b ≡ true → MayFollow v e) × (MayFollow v e → b ≡ true)
-peer_may v id request reply given e is due legal true eq =
-    let same : entries.Peer id request given ≡ e = ap (entries.Peer id request) (same_text given reply eq) ∙ sym is in
+-- a reply may come next exactly where it is the one that was made
+pub peer_may : (v : ControllerIs) (id : CallId) (request reply given : List ℕ) → given ≡ reply_to v request
+    → IsLegal v.fixed (v.history ++ entries.Peer id request given ∷ []) → (b : Bool) → b ≡ pointwise nat_eq given reply
+    → (b ≡ true → MayFollow v (entries.Peer id request reply)) × (MayFollow v (entries.Peer id request reply) → b ≡ true)
+peer_may v id request reply given due legal true eq =
+    let same : entries.Peer id request given ≡ entries.Peer id request reply = ap (entries.Peer id request) (same_text given reply eq) in
     (λ yes. subst (λ (x : Entry). IsLegal v.fixed (v.history ++ x ∷ [])) same legal, λ may. refl)
-peer_may v id request reply given e is due legal false eq =
-    (λ no. absurd cc, λ may. absurd (other_text given reply eq (due ∙ sym (reply_of v id request reply (subst (MayFollow v) is may)))))
+peer_may v id request reply given due legal false eq =
+    (λ no. absurd cc, λ may. absurd (other_text given reply eq (due ∙ sym (fits_last v (entries.Peer id request reply) may))))
+
+-- so may calls exactly where they are those that were collected
+pub collect_may : (v : ControllerIs) (calls given : List Call) → given ≡ uncollected v
+    → IsLegal v.fixed (v.history ++ entries.Collect given ∷ []) → (b : Bool) → ((b ≡ true → given ≡ calls) × (given ≡ calls → b ≡ true))
+    → (b ≡ true → MayFollow v (entries.Collect calls)) × (MayFollow v (entries.Collect calls) → b ≡ true)
+collect_may v calls given due legal b both = (
+  λ yes. subst (λ (l : List Call). IsLegal v.fixed (v.history ++ entries.Collect l ∷ [])) (both.0 yes) legal,
+  λ may. both.1 (due ∙ sym (fits_last v (entries.Collect calls) may).1),
+)
 
 -- ---- other makers
 
 steps_stay : (h added : List Entry) → AreOf makers.Communication added → scan_steps (h ++ added) ≡ scan_steps h
 steps_stay h [] of = ap scan_steps (append-nil h)
-steps_stay h (entries.Peer id request reply ∷ added) of =
-    sym (ap scan_steps (append_assoc h (entries.Peer id request reply ∷ []) added))
-    ∙ steps_stay (h ++ entries.Peer id request reply ∷ []) added of.1
-    ∙ scan_steps-peer h id request reply
-steps_stay h (entries.Begin ∷ added) of = absurd cc
-steps_stay h (entries.Input row ∷ added) of = absurd cc
-steps_stay h (entries.Solve row ∷ added) of = absurd cc
-steps_stay h (entries.Output row words ∷ added) of = absurd cc
-steps_stay h (entries.End ∷ added) of = absurd cc
+steps_stay h (e ∷ added) of =
+    sym (ap scan_steps (append_assoc h (e ∷ []) added))
+    ∙ steps_stay (h ++ e ∷ []) added of.1
+    ∙ scan_steps-quiet h e (told_entry e of.0).step
 
 stop_from : (f : Fixed) (s : State) (added : List Entry) → AreOf makers.Communication added → (fold (apply f) s added).stop ≡ s.stop
 stop_from f s [] of = refl
-stop_from f s (entries.Peer id request reply ∷ added) of = stop_from f (apply f s (entries.Peer id request reply)) added of.1
-stop_from f s (entries.Begin ∷ added) of = absurd cc
-stop_from f s (entries.Input row ∷ added) of = absurd cc
-stop_from f s (entries.Solve row ∷ added) of = absurd cc
-stop_from f s (entries.Output row words ∷ added) of = absurd cc
-stop_from f s (entries.End ∷ added) of = absurd cc
+stop_from f s (e ∷ added) of = stop_from f (apply f s e) added of.1 ∙ (told_entry e of.0).stop f s
 
-replay_append : (f : Fixed) (s : State) (h added : List Entry) → fold (apply f) s (h ++ added) ≡ fold (apply f) (fold (apply f) s h) added
+pub replay_append : (f : Fixed) (s : State) (h added : List Entry) → fold (apply f) s (h ++ added) ≡ fold (apply f) (fold (apply f) s h) added
 replay_append f s [] added = refl
 replay_append f s (x ∷ h) added = replay_append f (apply f s x) h added
 
@@ -187,3 +215,66 @@ made_none v (Some step) none = absurd cc
 
 pub stays : (v : ControllerIs) → has_ended v ≡ true → stepped v ≡ v
 stays v ended = made_none v (due_step v) ended
+
+-- ---- following
+
+made_takes : (v : ControllerIs) (due : Option ScanStep) (e : Entry) → entry_for v due ≡ Some e → (made v due).history ≡ v.history ++ e ∷ []
+made_takes v None e is = absurd cc
+made_takes v (Some step) e is =
+    let same : entry_of v.fixed (state_of v) step ≡ e = cc in ap (λ (x : Entry). v.history ++ x ∷ []) same
+
+step_takes : (v : ControllerIs) (e : Entry) → maker_of e ≡ makers.Scan → MayFollow v e
+    → (followed_step v true).history ≡ v.history ++ e ∷ []
+step_takes v e of may =
+    let step = scan_step e of in
+    let w : ControllerIs = record v { reserved = true } in
+    made_takes w (due_step w) e (due_of w e step.0 step.1 may)
+
+pub takes : (v : ControllerIs) (e : Entry) → MayFollow v e → (followed v e true).history ≡ v.history ++ e ∷ []
+takes v entries.Begin may = step_takes v entries.Begin refl may
+takes v (entries.Input row) may = step_takes v (entries.Input row) refl may
+takes v (entries.Solve row) may = step_takes v (entries.Solve row) refl may
+takes v (entries.Output row words) may = step_takes v (entries.Output row words) refl may
+takes v entries.End may = step_takes v entries.End refl may
+takes v (entries.Collect calls) may =
+    let fits = fits_last v (entries.Collect calls) may in
+    ap (λ b. (if b then collecting v else v).history) fits.0 ∙ ap (λ (l : List Call). v.history ++ entries.Collect l ∷ []) (sym fits.1)
+takes v (entries.Peer id request reply) may =
+    ap (λ (l : List ℕ). v.history ++ entries.Peer id request l ∷ []) (sym (fits_last v (entries.Peer id request reply) may))
+takes v (entries.Finish id result) may = refl
+
+made_fixed : (v : ControllerIs) (due : Option ScanStep) → (made v due).fixed ≡ v.fixed
+made_fixed v None = refl
+made_fixed v (Some step) = refl
+
+step_fixed : (v : ControllerIs) (same : Bool) → (followed_step v same).fixed ≡ v.fixed
+step_fixed v true = let w : ControllerIs = record v { reserved = true } in made_fixed w (due_step w)
+step_fixed v false = refl
+
+pub fixed_stays : (v : ControllerIs) (e : Entry) (same : Bool) → (followed v e same).fixed ≡ v.fixed
+fixed_stays v entries.Begin same = step_fixed v same
+fixed_stays v (entries.Input row) same = step_fixed v same
+fixed_stays v (entries.Solve row) same = step_fixed v same
+fixed_stays v (entries.Output row words) same = step_fixed v same
+fixed_stays v entries.End same = step_fixed v same
+fixed_stays v (entries.Collect calls) same = either (has_started v)
+  where
+    either : (b : Bool) → (if b then collecting v else v).fixed ≡ v.fixed
+    either true = refl
+    either false = refl
+fixed_stays v (entries.Peer id request reply) same = refl
+fixed_stays v (entries.Finish id result) true = refl
+fixed_stays v (entries.Finish id result) false = refl
+
+-- the same of whatever is answered
+pub takes_ok : {E : Type 0} (v w : ControllerIs) (e : Entry) (r : Result Bool E) → IfOk r (λ same. w ≡ followed v e same)
+    → IfOk r (λ same. (same ≡ true → MayFollow v e) × (MayFollow v e → same ≡ true))
+    → IfOk r (λ same. same ≡ true → w.history ≡ v.history ++ e ∷ [])
+takes_ok v w e (Ok same) state legal =
+    λ yes. ap (λ (u : ControllerIs). u.history) (state ∙ ap (followed v e) yes) ∙ takes v e (legal.0 yes)
+takes_ok v w e (Err x) state legal = tt
+
+pub fixed_ok : {E : Type 0} (v w : ControllerIs) (e : Entry) (r : Result Bool E) → IfOk r (λ same. w ≡ followed v e same)
+    → OnErr r (w ≡ v) → w.fixed ≡ v.fixed
+fixed_ok v w e (Ok same) state err = ap (λ (u : ControllerIs). u.fixed) state ∙ fixed_stays v e same
+fixed_ok v w e (Err x) state err = ap (λ (u : ControllerIs). u.fixed) err

@@ -1,5 +1,7 @@
 -- How a history grows to the run of a controller, and its panel lines with it.
-use Rattle.std.proofs.Common.{◌≡◌, ◌==◌, ℕ, zero, suc, Bool, true, false, List, [], ◌∷◌, ◌++◌, length, drop, Option, Some, None, refl, sym, ap, ◌∙◌, arith, append_assoc, append-nil, length-append}
+use Rattle.std.proofs.Common.{◌≡◌, ◌==◌, ℕ, zero, suc, Bool, true, false, List, [], ◌∷◌, ◌++◌}
+use Rattle.std.proofs.Common.{length, drop, Option, Some, None, refl, sym, ap, ◌∙◌, arith}
+use Rattle.std.proofs.Common.{append_assoc, append-nil, length-append}
 use Rattle.std.specs.Prelude.{fold, if◌then◌else◌}
 use Rattle.scan_order.specs.declared.due.ScanStep.{ScanStep}
 use Rattle.scan_order.specs.declared.due.ScanStep.TheVariants as steps
@@ -9,7 +11,8 @@ use Rattle.controller_core.specs.declared.entry.StepEnd.TheVariants as ends
 use Rattle.controller_core.specs.Replay.{State, apply, replay, start}
 use Rattle.controller_core.specs.Event.{entry_of, scan_steps, step_of}
 use Rattle.controller_core.specs.Scans.{all_due}
-use Rattle.controller_core.specs.Controller.{ControllerIs, answered, due_step, first_of, has_ended, is_none, left_of, made, state_of, step_end, stepped}
+use Rattle.controller_core.specs.Controller.{ControllerIs, answered, due_step, first_of, has_ended}
+use Rattle.controller_core.specs.Controller.{is_none, left_of, made, state_of, step_end, stepped}
 use Rattle.controller_core.specs.Panel.{line_of_end, line_of_step, lines_from, panel_lines}
 use Rattle.controller_core.specs.Run.{ends_with, entries_from, run_of}
 use Rattle.controller_core.proofs.Keeping.{replay_more, scan_steps-more}
@@ -21,7 +24,7 @@ step_of_made f s (steps.Solve row) = refl
 step_of_made f s (steps.Out row) = refl
 step_of_made f s steps.End = refl
 
-lines_more : (f : Fixed) (s : State) (h : List Entry) (e : Entry) → lines_from f s (h ++ e ∷ [])
+pub lines_more : (f : Fixed) (s : State) (h : List Entry) (e : Entry) → lines_from f s (h ++ e ∷ [])
     ≡ lines_from f s h ++ line_of_step f.plan (step_of e) (fold (apply f) s (h ++ e ∷ []))
 unfolding lines_from
 lines_more f s [] e = append-nil (line_of_step f.plan (step_of e) (apply f s e))

@@ -1,17 +1,22 @@
 -- What contracts see of a controller, which histories are legal, and what a step does.
-use Rattle.std.specs.Prelude.{◌≡◌, ℕ, ◌==◌, Bool, true, false, ◌&&◌, not, if◌then◌else◌, List, [], ◌∷◌, ◌++◌, length, drop, Option, Some, None, Result, Ok, Err}
+use Rattle.std.specs.Prelude.{◌≡◌, ℕ, ◌==◌, Bool, true, false, ◌&&◌, not, if◌then◌else◌, List, []}
+use Rattle.std.specs.Prelude.{◌∷◌, ◌++◌, length, drop, Option, Some, None, Result, Ok, Err}
 use Rattle.std.specs.List.{AllByRecursion}
 use Rattle.plant_types.specs.Store.{Contents}
 use Rattle.mstr_block.specs.declared.call.CallId.{CallId}
+use Rattle.mstr_block.specs.declared.call.MstrResult.{MstrResult}
+use Rattle.mstr_block.specs.Table.{has_started as has_untaken, is_out as is_taken_out}
 use Rattle.modbus_exec.specs.Answer.{answer_of}
 use Rattle.scan_order.specs.declared.due.ScanStep.{ScanStep}
+use Rattle.controller_core.specs.declared.call.Call.{Call}
 use Rattle.controller_core.specs.declared.fixed.Fixed.{Fixed}
 use Rattle.controller_core.specs.declared.entry.Entry.{Entry}
 use Rattle.controller_core.specs.declared.entry.Entry.TheVariants as entries
 use Rattle.controller_core.specs.declared.entry.Maker.{Maker}
 use Rattle.controller_core.specs.declared.entry.StepEnd.{StepEnd}
 use Rattle.controller_core.specs.declared.entry.StepEnd.TheVariants as ends
-use Rattle.controller_core.specs.Replay.{State, apply, replay, start}
+use Rattle.controller_core.specs.Calls.{calls_of}
+use Rattle.controller_core.specs.Replay.{State, apply, replay, start, table_of}
 use Rattle.controller_core.specs.Event.{entry_of, maker_of, outputs_at, scan_steps}
 use Rattle.controller_core.specs.Scans.{all_due, closes_scan}
 
@@ -27,10 +32,15 @@ abbrev pub GoesOn : State → Type 0
 GoesOn s = s.stop ≡ 0
 
 -- What holds of an entry where it is made: an event of a scan is made where the controller has
--- not stopped; the words of an Output are those of the row's drop, and the reply of a Peer is the
--- answer to its request, also where the controller has stopped. This project's own.
+-- not stopped; the words of an Output are those of the row's drop. The others are made also where
+-- it has stopped: a Collect has all calls that were started and not yet collected, in block order,
+-- and at least one; the reply of a Peer is the answer to its request; a Finish names a call that
+-- was collected and has no result. This project's own.
 abbrev pub Fits : Fixed → State → Entry → Type 0
+Fits fixed s (entries.Collect calls) =
+    (has_untaken (table_of s) ≡ true) × (calls ≡ calls_of (table_of s))
 Fits fixed s (entries.Peer id request reply) = reply ≡ (answer_of request s.solving.map).reply
+Fits fixed s (entries.Finish id result) = is_taken_out (table_of s) id ≡ true
 Fits fixed s (entries.Output row words) = GoesOn s × (words ≡ outputs_at fixed s row)
 Fits fixed s _ = GoesOn s
 
@@ -130,10 +140,34 @@ abbrev pub peer_entries : {E : Type 0} → CallId → List ℕ → Result (List 
 peer_entries id request (Ok reply) = entries.Peer id request reply ∷ []
 peer_entries id request (Err end) = []
 
--- A call is there that was started and not yet collected: no block starts one, of those that a
--- plan that can be run has. This project's own.
+-- A call is there that was started and not yet collected. This project's own.
 abbrev pub has_started : ControllerIs → Bool
-has_started v = false
+has_started v = has_untaken (table_of (state_of v))
+
+-- The calls that were started and not yet collected, in block order. This project's own.
+abbrev pub uncollected : ControllerIs → List Call
+uncollected v = calls_of (table_of (state_of v))
+
+-- The call of a name was collected and has no result. This project's own.
+abbrev pub is_out : ControllerIs → CallId → Bool
+is_out v id = is_taken_out (table_of (state_of v)) id
+
+-- A controller after its started calls were collected. This project's own.
+abbrev pub collecting : ControllerIs → ControllerIs
+collecting v = grown v (entries.Collect (uncollected v) ∷ []) v.reserved
+
+-- A controller after a call came to its result. This project's own.
+abbrev pub finishing : ControllerIs → CallId → MstrResult → ControllerIs
+finishing v id result = grown v (entries.Finish id result ∷ []) v.reserved
+
+-- The entries that collecting and finishing made: one each. This project's own.
+abbrev pub collect_entries : {E : Type 0} → Result (List Call) E → List Entry
+collect_entries (Ok calls) = entries.Collect calls ∷ []
+collect_entries (Err end) = []
+
+abbrev pub finish_entries : {T E : Type 0} → CallId → MstrResult → Result T E → List Entry
+finish_entries id outcome (Ok done) = entries.Finish id outcome ∷ []
+finish_entries id outcome (Err end) = []
 
 -- Entries of one maker. This project's own.
 abbrev pub AreOf : Maker → List Entry → Type 0

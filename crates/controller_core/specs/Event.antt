@@ -31,14 +31,16 @@ entry_of fixed s (steps.Solve row) = entries.Solve row
 entry_of fixed s (steps.Out row) = entries.Output row (outputs_at fixed s row)
 entry_of fixed s steps.End = entries.End
 
--- The step of the scan that an entry is; none of an answer to another node. This project's own.
+-- The step of the scan that an entry is; none of what the communication does. This project's own.
 abbrev pub step_of : Entry → Option ScanStep
 step_of entries.Begin = Some steps.Begin
 step_of (entries.Input row) = Some (steps.In row)
 step_of (entries.Solve row) = Some (steps.Solve row)
 step_of (entries.Output row words) = Some (steps.Out row)
 step_of entries.End = Some steps.End
+step_of (entries.Collect calls) = None
 step_of (entries.Peer id request reply) = None
+step_of (entries.Finish id result) = None
 
 -- The steps of the scans in a history. This project's own.
 abbrev pub scan_steps : List Entry → List ScanStep
@@ -46,5 +48,7 @@ scan_steps history = filter_map step_of history
 
 -- Who makes an entry. This project's own.
 abbrev pub maker_of : Entry → Maker
+maker_of (entries.Collect calls) = makers.Communication
 maker_of (entries.Peer id request reply) = makers.Communication
+maker_of (entries.Finish id result) = makers.Communication
 maker_of _ = makers.Scan

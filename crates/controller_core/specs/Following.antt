@@ -1,12 +1,13 @@
 -- What it is to follow a history entry by entry.
-use Rattle.std.specs.Prelude.{◌≡◌, Bool, true, false, ◌∷◌, [], ◌++◌}
+use Rattle.std.specs.Prelude.{◌≡◌, Bool, true, false, if◌then◌else◌, ◌∷◌, [], ◌++◌}
 use Rattle.scan_order.specs.Due.{IsRow}
 use Rattle.controller_core.specs.declared.entry.Entry.{Entry}
 use Rattle.controller_core.specs.declared.entry.Entry.TheVariants as entries
 use Rattle.controller_core.specs.Replay.{State}
 use Rattle.controller_core.specs.declared.fixed.Fixed.{Fixed}
 use Rattle.controller_core.specs.Event.{outputs_at}
-use Rattle.controller_core.specs.Controller.{ControllerIs, IsLegal, answering, stepped}
+use Rattle.controller_core.specs.Controller.{ControllerIs, IsLegal, answering, collecting}
+use Rattle.controller_core.specs.Controller.{finishing, has_started, stepped}
 
 -- An entry may come next: the history with it is legal. This project's own.
 abbrev pub MayFollow : ControllerIs → Entry → Type 0
@@ -27,8 +28,11 @@ abbrev pub followed_step : ControllerIs → Bool → ControllerIs
 followed_step v true = stepped (record v { reserved = true })
 followed_step v false = v
 
--- A controller after it followed an entry: a step is made if it is the one of the entry, and a
--- request is answered, with whatever reply. This project's own.
+-- A controller after it followed an entry: a step is made if it is the one of the entry; calls are
+-- collected if there are any, and a request is answered, whatever the entry says of them; a call
+-- that is out comes to its result. This project's own.
 abbrev pub followed : ControllerIs → Entry → Bool → ControllerIs
+followed v (entries.Collect calls) same = if has_started v then collecting v else v
 followed v (entries.Peer id request reply) same = answering v id request
+followed v (entries.Finish id result) same = if same then finishing v id result else v
 followed v entry same = followed_step v same

@@ -1,4 +1,5 @@
 pub mod Replay
+pub mod Calls
 pub mod Event
 pub mod Machine
 pub mod Scans
@@ -7,3 +8,4 @@ pub mod Kept
 pub mod Panel
 pub mod Run
 pub mod Following
+pub mod Laws

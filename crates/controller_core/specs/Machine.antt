@@ -3,27 +3,31 @@ use Rattle.std.specs.Prelude.{◌≡◌, ◌≤◌, ◌<◌, ℕ, ◌+◌, ◌*�
 use Rattle.std.specs.List.{AllByRecursion}
 use Rattle.plant_types.specs.declared.plan.ControllerPlan.{ControllerPlan}
 use Rattle.plant_types.specs.Checks.{passes_check, sizes_of}
-use Rattle.plant_types.specs.Plain.{ArePlain}
+use Rattle.plant_types.specs.Discretes.{discretes_on}
+use Rattle.plant_types.specs.Standing.{cells_of_segments, message_count, message_limit}
 use Rattle.plant_types.specs.declared.sizes.Sizes.{Sizes}
 use Rattle.plant_types.specs.Sizes.{cleared, discretes}
 use Rattle.plant_types.specs.Store.{Contents, Keeps}
 use Rattle.grid_compile.specs.Layout.{grids_of}
-use Rattle.ladder_solver.specs.State.{state_of}
+use Rattle.ladder_solver.specs.Numbers.{mstr_blocks}
+use Rattle.ladder_solver.specs.State.{solve_state}
 use Rattle.ladder_solver.specs.declared.watch.SolveEnd.{SolveEnd}
 use Rattle.ladder_solver.specs.declared.watch.SolveEnd.TheVariants as ends
 use Rattle.scan_order.specs.declared.due.ScanStep.{ScanStep}
 use Rattle.scan_order.specs.declared.due.ScanStep.TheVariants as steps
 use Rattle.traffic_cop.specs.Rows.{FitsPlan}
+use Rattle.mstr_block.specs.declared.call.CallId.{CallId}
 use Rattle.controller_core.specs.declared.entry.Entry.{Entry}
+use Rattle.controller_core.specs.declared.entry.Entry.TheVariants as entries
 use Rattle.controller_core.specs.declared.fixed.Fixed.{Fixed}
 use Rattle.controller_core.specs.declared.machine.Machine.{Machine}
-use Rattle.controller_core.specs.Replay.{State, apply, exchanged, segment_solved, served, watchdog_stop}
+use Rattle.controller_core.specs.Replay.{State, apply, exchanged, segment_solved, watchdog_stop}
 
--- A plan that can be run: it passes its tests, and each row of its order of solve fits it. This
--- project's own.
+-- A plan that can be run: it passes its tests, has no more messages than a controller can have, and
+-- each row of its order of solve fits it. This project's own.
 pub record CanRun (plan : ControllerPlan) : Type 0 where
   pub passes : passes_check plan ≡ true
-  pub plain : ArePlain plan.segments
+  pub messages : message_count (cells_of_segments plan.segments) ≤ message_limit
   pub count : length plan.orders ≤ 32
   pub rows : AllByRecursion (FitsPlan plan) plan.orders
 
@@ -39,7 +43,8 @@ pub record IsRunnable (fixed : Fixed) : Type 0 where
 abbrev pub state_is : Machine → State
 state_is machine = record {
   solving =
-      state_of machine.ram machine.past machine.ladder.edges machine.clock machine.watch.left;
+      solve_state machine.ram (discretes_on machine.past) machine.ladder.edges machine.bank
+      machine.clock machine.watch.left;
   exchanges = machine.exchanges.items;
   ended = machine.ended;
   stop = machine.stop;
@@ -59,6 +64,9 @@ pub record IsSound (machine : Machine) : Type 0 where
   pub drops : machine.cop ≡ machine.fixed.plan.drops
   pub keeps : Keeps (cleared (sizes_of machine.fixed.plan)) machine.ram
   pub past : IsPast (sizes_of machine.fixed.plan) machine.past
+  pub node : machine.bank.node ≡ machine.fixed.plan.node
+  pub blocks : length machine.bank.blocks ≡ mstr_blocks machine.fixed.plan.segments
+  pub few : length machine.bank.blocks ≤ message_limit
   pub exchanges : length machine.exchanges.items ≡ 32
 
 -- After so many steps the clock and the counts are no further than these can bring them. This
@@ -99,9 +107,15 @@ abbrev pub CanSolve : ScanStep → Machine → Type 0
 CanSolve (steps.Solve row) machine = 0 < machine.watch.left
 CanSolve _ machine = Unit {0}
 
--- A call answers a request, once, and keeps what a machine's fields keep. This project's own.
-pub record Serves (request : List ℕ) (old new : Machine) : Type 0 where
+-- A call does what an event of the communication does, once, and keeps what a machine's fields
+-- keep; no step of a scan goes by. This project's own.
+pub record Tells (entry : Entry) (old new : Machine) : Type 0 where
   pub fixed : new.fixed ≡ old.fixed
-  pub state : state_is new ≡ served request (state_is old)
+  pub state : state_is new ≡ apply old.fixed (state_is old) entry
   pub sound : IsSound new
   pub timely : (steps : ℕ) → IsTimely old steps → IsTimely new steps
+
+-- A call answers a request, whoever asked, and whatever is told as its reply. This project's own.
+abbrev pub Serves : List ℕ → Machine → Machine → Type 0
+Serves request old new =
+    (id : CallId) (reply : List ℕ) → Tells (entries.Peer id request reply) old new

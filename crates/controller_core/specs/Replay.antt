@@ -1,5 +1,6 @@
 -- The state of a controller, what each event does to it, and the state after a history.
-use Rattle.std.specs.Prelude.{ℕ, ◌+◌, ◌-◌, ◌==◌, Bool, true, List, replicate, Option, Some, None, if◌then◌else◌, fold, slice_index, slice_set}
+use Rattle.std.specs.Prelude.{ℕ, ◌+◌, ◌-◌, ◌==◌, Bool, true, List, replicate, Option, Some, None}
+use Rattle.std.specs.Prelude.{if◌then◌else◌, fold, slice_index, slice_set}
 use Rattle.std.specs.FinSet.{empty}
 use Rattle.plant_types.specs.declared.reference.Ref.{Ref}
 use Rattle.plant_types.specs.declared.network.Segment.{Segment}
@@ -8,13 +9,17 @@ use Rattle.plant_types.specs.declared.plan.OrderRow.{OrderRow}
 use Rattle.plant_types.specs.declared.plan.ControllerPlan.{ControllerPlan}
 use Rattle.plant_types.specs.Checks.{sizes_of}
 use Rattle.plant_types.specs.declared.sizes.Sizes.{Sizes}
-use Rattle.plant_types.specs.Sizes.{cleared, discretes, discretes_of}
+use Rattle.plant_types.specs.Discretes.{discretes_on}
+use Rattle.plant_types.specs.Sizes.{cleared, discretes}
 use Rattle.plant_types.specs.Store.{Contents, is_on}
 use Rattle.ladder_solver.specs.State.{State as Solving}
+use Rattle.ladder_solver.specs.Numbers.{mstr_blocks}
 use Rattle.ladder_solver.specs.Segment.{segment_after}
 use Rattle.scan_order.specs.Due.{row_of, input_of}
 use Rattle.traffic_cop.specs.Drops.{input_after}
 use Rattle.modbus_exec.specs.Answer.{answer_of}
+use Rattle.mstr_block.specs.Table.{BlockTable, finished, idle_table}
+use Rattle.mstr_block.specs.Laws.{collected}
 use Rattle.controller_core.specs.declared.fixed.Fixed.{Fixed}
 use Rattle.controller_core.specs.declared.entry.Entry.{Entry}
 use Rattle.controller_core.specs.declared.entry.Entry.TheVariants as entries
@@ -28,14 +33,16 @@ pub record State : Type 0 where
   pub ended : ℕ
   pub stop : ℕ
 
--- A controller when it starts: each reference is 0 and each discrete was off before, no edge
--- bit is on, the clock stands at 0, nothing was exchanged, and it goes on. This project's own.
+-- A controller when it starts: each reference is 0 and no discrete was on before, no edge bit is
+-- on, all MSTR blocks are idle, the clock stands at 0, nothing was exchanged, and it goes on. This
+-- project's own.
 abbrev pub start : ControllerPlan → State
 start plan = record {
   solving = record {
     map = cleared (sizes_of plan);
-    past = cleared (discretes_of (sizes_of plan));
+    past = empty;
     edges = empty;
+    table = idle_table plan.node (mstr_blocks plan.segments);
     clock = record { before = 0; now = 0 };
     left = 0;
   };
@@ -89,10 +96,10 @@ solved segments None s = s
 solved segments (Some row) s =
     if control_is_on s.solving.map row.control then segment_solved segments row.segment s else s
 
--- End: the coils and inputs are kept as they stand, and transitional contacts of the next scan
--- compare with them. This project's own.
+-- End: which coils and inputs are on is kept, and transitional contacts of the next scan compare
+-- with them. This project's own.
 abbrev pub ended : Sizes → Solving → Solving
-ended sizes s = record s { past = discretes sizes s.map }
+ended sizes s = record s { past = discretes_on (discretes sizes s.map) }
 
 -- Peer: the store that the answer to the request leaves. This project's own.
 abbrev pub served : List ℕ → State → State
@@ -101,7 +108,14 @@ served request s =
       solving = record s.solving { map = (answer_of request s.solving.map).stored };
     }
 
--- What an event does. This project's own.
+-- The table of the MSTR blocks. This project's own.
+abbrev pub table_of : State → BlockTable
+table_of s = s.solving.table
+
+abbrev pub with_table : BlockTable → State → State
+with_table table s = record s { solving = record s.solving { table = table } }
+
+-- What an event does; calls that are collected count as such from then on. This project's own.
 abbrev pub apply : Fixed → State → Entry → State
 apply fixed s entries.Begin = record s { solving = begun fixed s.solving }
 apply fixed s (entries.Input row) =
@@ -112,7 +126,9 @@ apply fixed s entries.End = record s {
   solving = ended (sizes_of fixed.plan) s.solving;
   ended = s.ended + 1;
 }
+apply fixed s (entries.Collect calls) = with_table (collected (table_of s)) s
 apply fixed s (entries.Peer id request reply) = served request s
+apply fixed s (entries.Finish id result) = with_table (finished id result (table_of s)) s
 
 -- The state after a history: that of all its events, one after another, from the start. This
 -- project's own.

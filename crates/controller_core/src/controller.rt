@@ -1,12 +1,15 @@
 //! The controller: its machine, its place in the scan and its history.
-ghost use Rattle.std.specs.Prelude.{◌≡◌, ◌+◌, ◌*◌, length, ◌<◌, ◌≤◌, ◌&&◌, true, false, not, [], ◌∷◌, ◌++◌};
+ghost use Rattle.std.specs.Prelude.{◌≡◌, ◌+◌, ◌*◌, length, ◌<◌, ◌≤◌, ◌&&◌, true, false, not, []};
+ghost use Rattle.std.specs.Prelude.{◌∷◌, ◌++◌};
 ghost use Rattle.std.specs.Prelude.{IfOk, IfSome, OnErr, OnOk, vec_capacity, vec_len};
 ghost use Rattle.std.specs.FinMap.{contains_key};
 ghost use Rattle.plant_types.specs.Checks.{HasPanel};
 ghost use Rattle.plant_types.specs.Store.{value_at};
 ghost use Rattle.controller_core.specs.Controller.{answering, has_ended, reply_to, state_of};
 ghost use Rattle.controller_core.specs.Controller.{step_end, step_entries, stepped, store_of};
-ghost use Rattle.controller_core.specs.Controller.{due_step, has_started, peer_entries};
+ghost use Rattle.controller_core.specs.Controller.{due_step, has_started, is_out, peer_entries};
+ghost use Rattle.controller_core.specs.Controller.{collect_entries, collecting, uncollected};
+ghost use Rattle.controller_core.specs.Controller.{finish_entries, finishing};
 ghost use Rattle.controller_core.specs.Controller.{IsLegal, WentOn};
 ghost use Rattle.controller_core.specs.Following.{HasWords, IsRowOf};
 ghost use Rattle.controller_core.specs.Machine.{IsRunnable};
@@ -14,10 +17,11 @@ ghost use Rattle.scan_order.specs.Due.{IsStep};
 ghost use Rattle.controller_core.specs.Scans.{closes_scan, is_done, is_over};
 ghost use Rattle.controller_core.specs.Panel.{has_line};
 
+use crate::call::Call;
 use crate::entry::{Entry, Maker, StepEnd};
 use crate::fixed::Fixed;
 use crate::machine::Machine;
-use mstr_block::CallId;
+use mstr_block::{CallId, MstrResult};
 use plant_types::{
     ControllerPlan, Copied, List, Pdu, Ref, RefKind, RefStore, checked_plans_find_all,
     kept_stores_find_all,
@@ -30,6 +34,7 @@ use std::marker::Model;
 /// One controller with the history of its events. This project's own.
 #[derive(Drop)]
 pub struct Controller {
+    alloc: Global,
     machine: Machine,
     at: ScanPlace,
     history: Vec<Entry>,
@@ -143,11 +148,16 @@ impl Controller {
             },
         )?;
         Ok(Controller {
+            alloc,
             machine,
             at: ScanPlace::Start,
             history: Vec::new(alloc),
             reserved: false,
         })
+    }
+
+    pub(crate) fn alloc(&self) -> Global {
+        self.alloc
     }
 
     /// Whether a scan's steps have their memory.
@@ -240,11 +250,18 @@ impl Controller {
         List::from_vec(self.history)
     }
 
-    /// Whether a call was started and not yet collected; no block starts one.
+    /// Whether a call of an MSTR block was started and not yet collected.
     pub fn has_started(&self) -> bool
         ensures { result ≡ has_started self.now }
     {
-        false
+        self.machine.has_started()
+    }
+
+    /// Whether the call of this name was collected and has no result.
+    pub fn is_out(&self, id: CallId) -> bool
+        ensures { result ≡ is_out self.now id }
+    {
+        self.machine.is_out(id)
     }
 
     /// The step that is due; none where all scans are done or it has stopped.
@@ -307,20 +324,39 @@ impl Controller {
         StepEnd::Did(step)
     }
 
+    /// Collects the calls that were started and not yet collected, in the order of their blocks.
+    /// Goes also where all scans are done or the controller has stopped.
+    pub fn collect(&mut self) -> Result<List<Call>, AllocError>
+        requires { has_started self.old ≡ true }
+        ensures ok { OnOk result (self.new ≡ collecting self.old) }
+        ensures calls { IfOk result (λ calls. calls ≡ uncollected self.old) }
+        ensures err { OnErr result (self.new ≡ self.old) }
+        ensures went_on { WentOn Maker.Communication (collect_entries result)
+            self.old self.new }
+    {
+        // What is left of a scan keeps its room behind this entry.
+        let most = self.longest_scan() + 1;
+        self.history.try_reserve(most)?;
+        let calls = self.machine.uncollected(self.alloc)?;
+        let kept = calls.copied(self.alloc)?;
+        self.machine.collect();
+        note(&mut self.history, Entry::Collect(kept));
+        Ok(calls)
+    }
+
     /// Answers a request of another node, named by who asked: the bytes of the reply, which may be
     /// those of an exception. Answers too where all scans are done or the controller has stopped.
-    pub fn peer(&mut self, alloc: Global, id: CallId, request: &Pdu) -> Result<Pdu, AllocError>
+    pub fn peer(&mut self, id: CallId, request: &Pdu) -> Result<Pdu, AllocError>
         ensures ok { OnOk result (self.new ≡ answering self.old id request.now) }
         ensures reply { IfOk result (λ reply. reply ≡ reply_to self.old request.now) }
         ensures err { OnErr result (self.new ≡ self.old) }
         ensures went_on { WentOn Maker.Communication (peer_entries id request.now result)
             self.old self.new }
     {
-        // What is left of a scan keeps its room behind this entry.
         let most = self.longest_scan() + 1;
         self.history.try_reserve(most)?;
-        let kept = request.copied(alloc)?;
-        let (reply, copy) = self.machine.serve(alloc, request)?;
+        let kept = request.copied(self.alloc)?;
+        let (reply, copy) = self.machine.serve(self.alloc, request)?;
         let entry = Entry::Peer {
             id,
             request: kept,
@@ -328,5 +364,22 @@ impl Controller {
         };
         note(&mut self.history, entry);
         Ok(reply)
+    }
+
+    /// Gives a call that was collected its result, which its block finds when it is solved next.
+    /// Goes also where all scans are done or the controller has stopped.
+    pub fn finish(&mut self, id: CallId, outcome: MstrResult) -> Result<(), AllocError>
+        requires { is_out self.old id ≡ true }
+        ensures ok { OnOk result (self.new ≡ finishing self.old id outcome) }
+        ensures err { OnErr result (self.new ≡ self.old) }
+        ensures went_on { WentOn Maker.Communication (finish_entries id outcome result)
+            self.old self.new }
+    {
+        let most = self.longest_scan() + 1;
+        self.history.try_reserve(most)?;
+        let kept = outcome.copied(self.alloc)?;
+        self.machine.finish(id, outcome);
+        note(&mut self.history, Entry::Finish { id, result: kept });
+        Ok(())
     }
 }

@@ -2,8 +2,9 @@
 ghost use Rattle.std.specs.Prelude.{◌≡◌};
 ghost use Rattle.controller_core.specs.Event.{maker_of, step_of};
 
-use mstr_block::CallId;
-use plant_types::{Block, Pdu};
+use crate::call::Call;
+use mstr_block::{CallId, MstrResult};
+use plant_types::{Block, List, Pdu};
 use scan_order::ScanStep;
 
 /// One event of a controller; rows of its order of solve count from 1. This project's own.
@@ -22,11 +23,18 @@ pub enum Entry {
     },
     /// A scan ended.
     End,
+    /// The calls that its MSTR blocks had started were handed on, in the order of the blocks.
+    Collect(List<Call>),
     /// A request of another node was answered; it is named by who asked.
     Peer {
         id: CallId,
         request: Pdu,
         reply: Pdu,
+    },
+    /// A call that was handed on came to its result.
+    Finish {
+        id: CallId,
+        result: MstrResult,
     },
 }
 
@@ -40,7 +48,7 @@ pub enum Maker {
 }
 
 impl Entry {
-    /// The step of the scan that it is; none of an answer to another node.
+    /// The step of the scan that it is; none of what the communication does.
     pub fn step(&self) -> Option<ScanStep>
         ensures { result ≡ step_of self.now }
     {
@@ -50,7 +58,7 @@ impl Entry {
             Entry::Solve(row) => Some(ScanStep::Solve(*row)),
             Entry::Output { row, .. } => Some(ScanStep::Out(*row)),
             Entry::End => Some(ScanStep::End),
-            Entry::Peer { .. } => None,
+            Entry::Collect(_) | Entry::Peer { .. } | Entry::Finish { .. } => None,
         }
     }
 
@@ -61,7 +69,8 @@ impl Entry {
         match self {
             Entry::Begin | Entry::Input(_) | Entry::Solve(_) | Entry::End => Maker::Scan,
             Entry::Output { .. } => Maker::Scan,
-            Entry::Peer { .. } => Maker::Communication,
+            Entry::Collect(_) => Maker::Communication,
+            Entry::Peer { .. } | Entry::Finish { .. } => Maker::Communication,
         }
     }
 }

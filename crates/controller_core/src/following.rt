@@ -1,12 +1,15 @@
 //! Following a history entry by entry, on the calls of a controller.
-ghost use Rattle.std.specs.Prelude.{◌≡◌, ◌↔◌, Some, true, false, IfOk, OnErr};
-ghost use Rattle.controller_core.specs.Controller.{due_entry};
+ghost use Rattle.std.specs.Prelude.{◌≡◌, ◌↔◌, Some, true, false, [], ◌∷◌, ◌++◌, IfOk, OnErr};
+ghost use Rattle.controller_core.specs.Controller.{answering, due_entry};
 ghost use Rattle.controller_core.specs.Event.{maker_of};
 ghost use Rattle.controller_core.specs.Following.{followed, followed_step, HasWords, MayFollow};
 
+use crate::call::{Call, same_calls};
 use crate::controller::Controller;
 use crate::entry::{Entry, Maker};
-use std::alloc::{AllocError, Global};
+use mstr_block::{CallId, MstrResult};
+use plant_types::{Copied, List, Pdu};
+use std::alloc::AllocError;
 
 impl Controller {
     /// Whether an entry is that of the step that is due.
@@ -38,20 +41,76 @@ impl Controller {
         Ok(true)
     }
 
-    /// Follows an entry, and answers whether it may come next: the step that is due is made if it
-    /// is the one of the entry, and a request is answered and its reply compared. Where the answer
-    /// is false, the entry isn't legal here.
-    pub fn follow(&mut self, alloc: Global, entry: &Entry) -> Result<bool, AllocError>
+    /// Collects, if a call is there to collect, and answers whether these are the calls.
+    fn follow_collect(&mut self, calls: &List<Call>) -> Result<bool, AllocError>
+        ensures state { IfOk result (λ same.
+            self.new ≡ followed self.old (Entry.Collect calls.now) same) }
+        ensures legal { IfOk result (λ same.
+            (same ≡ true) ↔ MayFollow self.old (Entry.Collect calls.now)) }
+        ensures err { OnErr result (self.new ≡ self.old) }
+    {
+        if !self.has_started() {
+            return Ok(false);
+        }
+        let made = self.collect()?;
+        Ok(same_calls(made.as_slice(), calls.as_slice()))
+    }
+
+    /// Answers a request, and answers whether this is the reply.
+    fn follow_peer(&mut self, id: CallId, request: &Pdu, reply: &Pdu) -> Result<bool, AllocError>
+        ensures state { IfOk result (λ same.
+            self.new ≡ answering self.old id request.now) }
+        ensures legal { IfOk result (λ same.
+            (same ≡ true) ↔ MayFollow self.old (Entry.Peer id request.now reply.now)) }
+        ensures err { OnErr result (self.new ≡ self.old) }
+    {
+        let made = self.peer(id, request)?;
+        Ok(made.bytes() == reply.bytes())
+    }
+
+    /// Gives a call its result, if it is one that was collected and has none, and answers whether
+    /// it is.
+    fn follow_finish(&mut self, id: CallId, outcome: &MstrResult) -> Result<bool, AllocError>
+        ensures state { IfOk result (λ same.
+            self.new ≡ followed self.old (Entry.Finish id outcome.now) same) }
+        ensures legal { IfOk result (λ same.
+            (same ≡ true) ↔ MayFollow self.old (Entry.Finish id outcome.now)) }
+        ensures err { OnErr result (self.new ≡ self.old) }
+    {
+        if !self.is_out(id) {
+            return Ok(false);
+        }
+        let outcome = outcome.copied(self.alloc())?;
+        self.finish(id, outcome)?;
+        Ok(true)
+    }
+
+    /// Makes what an entry says, as far as it goes, and answers whether it may come next.
+    fn follow_entry(&mut self, entry: &Entry) -> Result<bool, AllocError>
         ensures state { IfOk result (λ same. self.new ≡ followed self.old entry.now same) }
         ensures legal { IfOk result (λ same. (same ≡ true) ↔ MayFollow self.old entry.now) }
         ensures err { OnErr result (self.new ≡ self.old) }
     {
         match entry {
-            Entry::Peer { id, request, reply } => {
-                let made = self.peer(alloc, *id, request)?;
-                Ok(made.bytes() == reply.bytes())
-            }
+            Entry::Collect(calls) => self.follow_collect(calls),
+            Entry::Peer { id, request, reply } => self.follow_peer(*id, request, reply),
+            Entry::Finish { id, result } => self.follow_finish(*id, result),
             _ => self.follow_step(entry),
         }
+    }
+
+    /// Follows an entry, and answers whether it may come next: the step that is due is made if it
+    /// is the one of the entry; calls are collected, and compared with those of the entry; a
+    /// request is answered, and its reply compared; a call that is out comes to its result. Where
+    /// the answer is false, the entry isn't legal here.
+    pub fn follow(&mut self, entry: &Entry) -> Result<bool, AllocError>
+        ensures state { IfOk result (λ same. self.new ≡ followed self.old entry.now same) }
+        ensures legal { IfOk result (λ same. (same ≡ true) ↔ MayFollow self.old entry.now) }
+        ensures takes { IfOk result (λ same. same ≡ true
+            → self.new.history ≡ self.old.history ++ entry.now ∷ []) }
+        ensures fixed { self.new.fixed ≡ self.old.fixed }
+        ensures err { OnErr result (self.new ≡ self.old) }
+    {
+        self.follow_entry(entry)
     }
 }

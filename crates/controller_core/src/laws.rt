@@ -5,8 +5,12 @@ ghost use Rattle.controller_core.specs.Controller.{ControllerIs, has_ended, stat
 ghost use Rattle.controller_core.specs.Controller.{due_step, grown, step_end, stepped, AreOf};
 ghost use Rattle.controller_core.specs.Panel.{line_of_end, panel_lines};
 ghost use Rattle.controller_core.specs.Run.{ends_with, run_of};
+ghost use Rattle.controller_core.specs.Laws.{CallsFollow, ConditionsStay};
+ghost use Rattle.controller_core.specs.Laws.{EntriesAddTheirLines, FrontsAreLegal};
 
 use crate::entry::Maker;
+use ladder_solver::segments_keep_calls;
+use mstr_block::{calls_are_taken_in_order, finishes_end_one_call};
 
 /// A controller that makes nothing but steps ends with the run of its fixed part: this holds at
 /// its start, each step keeps it, and its history is that run once it has ended.
@@ -37,4 +41,30 @@ pub fn answers_leave_the_scan()
 /// A step leaves a controller as it is where all scans are done or it has stopped.
 pub fn ended_controllers_stay()
     ensures { (v : ControllerIs) → has_ended v ≡ true → stepped v ≡ v }
+{}
+
+/// Steps and answers to other nodes keep that a call is there to collect, that a call is out, and
+/// that the controller has ended.
+pub fn conditions_stay()
+    ensures { ConditionsStay }
+{
+    segments_keep_calls();
+}
+
+/// A Collect takes all calls that were started; a Finish ends its call alone.
+pub fn calls_follow()
+    ensures { CallsFollow }
+{
+    calls_are_taken_in_order();
+    finishes_end_one_call();
+}
+
+/// A front of a legal history is legal.
+pub fn fronts_are_legal()
+    ensures { FrontsAreLegal }
+{}
+
+/// An entry adds its panel line.
+pub fn entries_add_their_lines()
+    ensures { EntriesAddTheirLines }
 {}

@@ -1,18 +1,22 @@
 //! One controller: its scan, its store and its history.
 #![tactic(auto)]
 
+mod call;
 mod controller;
+mod copied;
 mod entry;
 mod fixed;
 mod following;
 mod laws;
 mod machine;
 
+pub use call::{Call, CallKind};
 pub use controller::Controller;
 pub use entry::{Entry, Maker, StepEnd};
 pub use fixed::Fixed;
 pub use laws::{
-    answers_leave_the_scan, ended_controllers_stay, steps_add_their_lines, steps_make_the_run,
+    answers_leave_the_scan, calls_follow, conditions_stay, ended_controllers_stay,
+    entries_add_their_lines, fronts_are_legal, steps_add_their_lines, steps_make_the_run,
 };
 
 #[cfg(test)]

@@ -1,5 +1,5 @@
 //! The state of a controller, with what each event of a scan does to it.
-ghost use Rattle.std.specs.Prelude.{◌≡◌, ◌≤◌, ◌<◌, length, IfOk, OnErr, OnOk};
+ghost use Rattle.std.specs.Prelude.{◌≡◌, ◌≤◌, ◌<◌, length, true, IfOk, OnErr, OnOk};
 ghost use Rattle.modbus_exec.specs.Answer.{answer_of};
 ghost use Rattle.scan_order.specs.Due.{IsRow, IsStep};
 ghost use Rattle.controller_core.specs.Event.{entry_of, outputs_at};
@@ -7,15 +7,21 @@ ghost use Rattle.controller_core.specs.Replay.{control_is_on, start};
 ghost use Rattle.traffic_cop.specs.Rows.{HasControl, HasDrop};
 ghost use Rattle.controller_core.specs.Machine.{state_is, Does, Exchanges};
 ghost use Rattle.controller_core.specs.Machine.{CanSolve, IsRunnable, IsSound, IsTimely};
-ghost use Rattle.controller_core.specs.Machine.{Serves, Solves, stop_by};
+ghost use Rattle.controller_core.specs.Calls.{calls_of};
+ghost use Rattle.controller_core.specs.Machine.{Serves, Solves, Tells, stop_by};
+ghost use Rattle.mstr_block.specs.Laws.{collected};
+ghost use Rattle.mstr_block.specs.Table.{has_started, is_out};
 
+use crate::call::Call;
 use crate::entry::Entry;
 use crate::fixed::Fixed;
 use grid_compile::grids_of;
-use ladder_solver::{Ladder, SolveEnd, Watch, grids_ask_no_more};
+use ladder_solver::{Ladder, SolveEnd, Watch, grids_ask_no_more, segments_keep_calls};
 use modbus_exec::answer_twice;
+use mstr_block::{CallId, MstrBank, MstrResult, calls_are_taken_in_order};
 use plant_types::{
-    Block, Pdu, Ref, RefStore, checked_plans_find_all, discretes_follow, kept_stores_find_all,
+    Block, List, Pdu, Ref, RefStore, checked_plans_find_all, discretes_are_on, discretes_follow,
+    kept_stores_find_all,
 };
 use scan_order::{ScanStep, row_of};
 use state_ram::PackedRam;
@@ -34,6 +40,7 @@ const WATCHDOG_STOP: u16 = 1;
 pub(crate) struct Machine {
     pub(crate) fixed: Fixed,
     ladder: Ladder,
+    bank: MstrBank,
     cop: Cop,
     ram: PackedRam,
     /// The discretes as the scan before ended.
@@ -59,6 +66,14 @@ fn stop_behind(end: SolveEnd, stop: u16) -> u16
     }
 }
 
+/// All started calls count as taken. Takes no memory.
+fn take_all(bank: &mut MstrBank)
+    ensures { bank.new ≡ collected bank.old }
+{
+    calls_are_taken_in_order();
+    while bank.take_started().is_some() {}
+}
+
 impl Machine {
     /// A controller at its start.
     pub(crate) fn new(alloc: Global, fixed: Fixed) -> Result<Machine, AllocError>
@@ -70,12 +85,15 @@ impl Machine {
     {
         checked_plans_find_all();
         discretes_follow();
+        discretes_are_on();
         grids_ask_no_more();
         let plan = &fixed.plan;
         let (coils, inputs) = (plan.coils, plan.inputs);
         let (input_registers, registers) = (plan.input_registers, plan.registers);
         let grids = grids_of(alloc, plan.segments.as_slice())?;
         let ladder = Ladder::new(alloc, grids)?;
+        let count = ladder.blocks();
+        let bank = MstrBank::new(alloc, plan.node, count)?;
         let cop = Cop::new(alloc, plan.drops.as_slice())?;
         let ram = PackedRam::new(alloc, coils, inputs, input_registers, registers)?;
         let past = PackedRam::new(alloc, coils, inputs, 0, 0)?;
@@ -83,6 +101,7 @@ impl Machine {
         Ok(Machine {
             fixed,
             ladder,
+            bank,
             cop,
             ram,
             past,
@@ -165,11 +184,13 @@ impl Machine {
         kept_stores_find_all();
         discretes_follow();
         grids_ask_no_more();
+        segments_keep_calls();
         let end = self.ladder.solve(
             segment,
             self.clock,
             &mut self.ram,
             &self.past,
+            &mut self.bank,
             &mut self.watch,
         );
         self.stop = stop_behind(end, self.stop);
@@ -215,6 +236,42 @@ impl Machine {
         self.ended += 1;
     }
 
+    /// Whether a call was started and not yet collected.
+    pub(crate) fn has_started(&self) -> bool
+        ensures { result ≡ has_started self.now.bank }
+    {
+        self.bank.has_started()
+    }
+
+    /// Whether the call of this name was collected and has no result.
+    pub(crate) fn is_out(&self, id: CallId) -> bool
+        ensures { result ≡ is_out self.now.bank id }
+    {
+        self.bank.is_out(id)
+    }
+
+    /// The calls that were started and not yet collected.
+    pub(crate) fn uncollected(&self, alloc: Global) -> Result<List<Call>, AllocError>
+        requires { IsSound self.now }
+        ensures { IfOk result (λ calls. calls ≡ calls_of self.now.bank) }
+    {
+        let mut calls = List::new(alloc);
+        let mut next = 1;
+        while let Some(call) = self.bank.started(next) {
+            calls.push(Call::of(alloc, self.fixed.plan.node, &call)?)?;
+            next += 1;
+        }
+        Ok(calls)
+    }
+
+    /// All started calls count as collected. Takes no memory.
+    pub(crate) fn collect(&mut self)
+        requires { IsSound self.old }
+        ensures { Tells (Entry.Collect (calls_of self.old.bank)) self.old self.new }
+    {
+        take_all(&mut self.bank);
+    }
+
     /// Executes a request of another node, and answers the bytes of its reply twice. Their memory
     /// is taken before anything changes.
     pub(crate) fn serve(&mut self, alloc: Global, request: &Pdu) -> Result<(Pdu, Pdu), AllocError>
@@ -226,6 +283,15 @@ impl Machine {
         ensures unchanged { OnErr result (self.new ≡ self.old) }
     {
         answer_twice(alloc, request.bytes(), &mut self.ram)
+    }
+
+    /// A call comes to its result. Takes no memory.
+    pub(crate) fn finish(&mut self, id: CallId, outcome: MstrResult)
+        requires sound { IsSound self.old }
+        requires out { is_out self.old.bank id ≡ true }
+        ensures { Tells (Entry.Finish id outcome) self.old self.new }
+    {
+        self.bank.finish(id, outcome);
     }
 
     /// Makes an event, and answers its entry. Takes no memory.

@@ -2,7 +2,7 @@
 ghost use Rattle.std.specs.Prelude.{IfOk};
 ghost use Rattle.controller_core.specs.Machine.{CanRun};
 
-use crate::{Controller, Entry, Maker, StepEnd};
+use crate::{Controller, Entry, StepEnd};
 use mstr_block::CallId;
 use plant_types::{ControllerPlan, List, Pdu};
 use scan_order::ScanStep;
@@ -54,13 +54,11 @@ fn pdu_of(alloc: Global, bytes: &[u8]) -> Result<Pdu, Fail> {
 /// The bytes of the reply to a request.
 fn asked(alloc: Global, controller: &mut Controller, request: &[u8]) -> Result<Pdu, Fail> {
     let request = pdu_of(alloc, request)?;
-    Ok(controller.peer(alloc, ASKER, &request)?)
+    Ok(controller.peer(ASKER, &request)?)
 }
 
-/// A read of register 40001, and its reply where that is 0.
+/// A read of register 40001.
 const READ: [u8; 5] = [3, 0, 0, 0, 1];
-
-const ZERO: [u8; 4] = [3, 2, 0, 0];
 
 /// Requests, and the replies to them one after another.
 const ROWS: [(&[u8], &[u8]); 15] = [
@@ -95,12 +93,29 @@ fn requests_are_answered(rt: HostRuntime) -> Result<(), Fail> {
     Ok(())
 }
 
+/// What the first three events of a controller are.
+fn first_ends(controller: &mut Controller) -> Result<[StepEnd; 3], AllocError> {
+    Ok([next(controller)?, next(controller)?, next(controller)?])
+}
+
 #[test]
 fn a_scan_without_rows_begins_and_ends(rt: HostRuntime) -> Result<(), AllocError> {
     let mut controller = small_controller(rt.alloc())?;
-    assert_eq!(rt; next(&mut controller)?, StepEnd::Did(ScanStep::Begin));
-    assert_eq!(rt; next(&mut controller)?, StepEnd::Did(ScanStep::End));
-    assert_eq!(rt; next(&mut controller)?, StepEnd::Ended);
+    let ends = first_ends(&mut controller)?;
+    let due = [
+        StepEnd::Did(ScanStep::Begin),
+        StepEnd::Did(ScanStep::End),
+        StepEnd::Ended,
+    ];
+    assert!(rt; ends == due);
+    Ok(())
+}
+
+/// A scan with a request between its events.
+fn scan_with_a_request(alloc: Global, controller: &mut Controller) -> Result<(), Fail> {
+    let _begin = next(controller)?;
+    let _answer = asked(alloc, controller, &READ)?;
+    let _end = next(controller)?;
     Ok(())
 }
 
@@ -108,29 +123,29 @@ fn a_scan_without_rows_begins_and_ends(rt: HostRuntime) -> Result<(), AllocError
 fn a_history_has_each_event(rt: HostRuntime) -> Result<(), Fail> {
     let alloc = rt.alloc();
     let mut controller = small_controller(alloc)?;
-    let _begin = next(&mut controller)?;
-    let _answer = asked(alloc, &mut controller, &READ)?;
-    let _end = next(&mut controller)?;
-    assert!(rt; controller.has_ended());
+    scan_with_a_request(alloc, &mut controller)?;
     let history = controller.into_history();
     assert!(rt;
         matches!(
             history.as_slice(),
-            [Entry::Begin, Entry::Peer { .. }, Entry::End]
+            [Entry::Begin, Entry::Peer { id: ASKER, .. }, Entry::End]
         )
-    );
-    assert!(rt; matches!(history.as_slice(), [_, Entry::Peer { id: ASKER, .. }, _]));
-    assert!(rt;
-        matches!(history.as_slice(), [_, answer, _] if answer.maker() == Maker::Communication)
     );
     Ok(())
 }
 
+/// Whether the last event of a scan is followed at its begin, and then its first.
+fn follows(controller: &mut Controller) -> Result<[bool; 2], AllocError> {
+    Ok([
+        controller.follow(&Entry::End)?,
+        controller.follow(&Entry::Begin)?,
+    ])
+}
+
 #[test]
 fn the_entry_that_is_due_is_followed(rt: HostRuntime) -> Result<(), AllocError> {
-    let alloc = rt.alloc();
-    let mut controller = small_controller(alloc)?;
-    assert!(rt; !controller.follow(alloc, &Entry::End)?);
-    assert!(rt; controller.follow(alloc, &Entry::Begin)?);
+    let mut controller = small_controller(rt.alloc())?;
+    let followed = follows(&mut controller)?;
+    assert!(rt; followed == [false, true]);
     Ok(())
 }

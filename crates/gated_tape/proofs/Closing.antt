@@ -1,11 +1,15 @@
 -- The tapes at the end, as the closed gates give them.
-use Rattle.std.proofs.Common.{◌≡◌, ℕ, suc, ◌+◌, ◌||◌, ◌==◌, eqb, cond, Bool, true, false, List, [], ◌∷◌, ◌++◌, All, Result, Ok, Err, OnOk, length, nat_eq, slice_index_or, refl, sym, ap, ◌∙◌, subst, eqb-true, length-append, arith}
+use Rattle.std.proofs.Common.{◌≡◌, ℕ, suc, ◌+◌, ◌||◌, ◌==◌, eqb, cond, Bool, true, false, List, []}
+use Rattle.std.proofs.Common.{◌∷◌, ◌++◌, All, Result, Ok, Err, OnOk, length, nat_eq, slice_index_or}
+use Rattle.std.proofs.Common.{refl, sym, ap, ◌∙◌, subst, eqb-true, length-append, arith}
 use Rattle.std.proofs.lemmas.List.{append-nil}
 use Rattle.std.proofs.lemmas.List.Folds.{Any-from_list_any}
-use Rattle.turn_gate.specs.Known.{GateName, PassFacts, own, numbers, is_among, StartsWith, Owns, NamesKept}
+use Rattle.turn_gate.specs.Known.{GateName, PassFacts, own, numbers, is_among, StartsWith, Owns}
+use Rattle.turn_gate.specs.Known.{NamesKept}
 use Rattle.gated_tape.specs.declared.tapes.Mark.{Mark}
 use Rattle.gated_tape.specs.Marks.{node_of, marks_up_to, IsLegal}
-use Rattle.gated_tape.specs.Crews.{count_down, IsWithin, HasGiven, IsGathered, IsGathering, HasHeardFull, HasCountsOf, AreByWriters, AreWritten}
+use Rattle.gated_tape.specs.Crews.{count_down, IsWithin, HasGiven, IsGathered, IsGathering}
+use Rattle.gated_tape.specs.Crews.{HasHeardFull, HasCountsOf, AreByWriters, AreWritten}
 use Rattle.gated_tape.proofs.Gathering.{all_cons, firsts}
 
 -- where a node has no mark, no mark names it

@@ -1,5 +1,6 @@
 -- Passes dealt to writers.
-use Rattle.std.proofs.Common.{◌≡◌, ℕ, zero, suc, ◌<◌, ◌||◌, false, List, [], ◌∷◌, ◌++◌, All, Some, length, map, reverse, refl, sym, ap, ◌∙◌, ne_eqb, arith}
+use Rattle.std.proofs.Common.{◌≡◌, ℕ, zero, suc, ◌<◌, ◌||◌, false, List, [], ◌∷◌, ◌++◌, All, Some}
+use Rattle.std.proofs.Common.{length, map, reverse, refl, sym, ap, ◌∙◌, ne_eqb, arith}
 use Rattle.std.proofs.lemmas.List.{map-append, reverse-append}
 use Rattle.std.proofs.lemmas.List.Elements.{All-append}
 use Rattle.turn_gate.specs.Known.{GateName, GateFacts, first_pass, is_among}
@@ -7,7 +8,8 @@ use Rattle.gated_tape.specs.declared.tapes.Mark.{Mark}
 use Rattle.gated_tape.specs.Marks.{count_of}
 use Rattle.gated_tape.specs.Sides.{SideFacts, gated_frame}
 use Rattle.gated_tape.specs.Runs.{card_of, IsFresh}
-use Rattle.gated_tape.specs.Crews.{GatedWriter, count_down, seen_of, cards_of, nodes_of, frame_at, IsAt, AreDealt}
+use Rattle.gated_tape.specs.Crews.{GatedWriter, count_down, seen_of, cards_of, nodes_of, frame_at}
+use Rattle.gated_tape.specs.Crews.{IsAt, AreDealt}
 
 -- what holds of one element holds of all of a list of one
 pub all_one : {A : Type 0} (P : A → Type 0) (x : A) → P x → All P (x ∷ [])

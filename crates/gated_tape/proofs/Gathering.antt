@@ -8,7 +8,8 @@ use Rattle.std.proofs.Math.Seq.{take-append_seam}
 use Rattle.std.proofs.lemmas.List.{map-append, reverse-append, append_assoc, length-map}
 use Rattle.std.proofs.lemmas.List.Elements.{All-append}
 use Rattle.std.proofs.lemmas.List.Folds.{list_any-append}
-use Rattle.turn_gate.specs.Known.{GateName, GateFacts, PassFacts, first_pass, own, own_lists, taken_in, is_among, IsReady}
+use Rattle.turn_gate.specs.Known.{GateName, GateFacts, PassFacts, first_pass, own, own_lists}
+use Rattle.turn_gate.specs.Known.{taken_in, is_among, IsReady}
 use Rattle.gated_tape.specs.declared.tapes.Mark.{Mark}
 use Rattle.gated_tape.specs.declared.refusals.PutNo.{PutNo}
 use Rattle.gated_tape.specs.declared.refusals.PutNo.TheVariants.{Full}

@@ -1,6 +1,7 @@
 -- Two gates while their passes are dealt and gathered, and the tapes at the end. All of it is
 -- this project's own.
-use Rattle.std.specs.Prelude.{◌≡◌, ◌⊎◌, ℕ, zero, suc, ◌==◌, true, List, [], ◌∷◌, ◌++◌, All, length, Some, Result, Ok, Err, OnOk, map, reverse}
+use Rattle.std.specs.Prelude.{◌≡◌, ◌⊎◌, ℕ, zero, suc, ◌==◌, true, List, [], ◌∷◌, ◌++◌, All, length}
+use Rattle.std.specs.Prelude.{Some, Result, Ok, Err, OnOk, map, reverse}
 use Rattle.std.specs.List.{list_any}
 use Rattle.turn_gate.specs.Known.{GateName, GateFacts, PassFacts, own, is_among, IsOutside}
 use Rattle.gated_tape.specs.declared.tapes.Mark.{Mark}

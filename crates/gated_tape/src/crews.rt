@@ -1,12 +1,15 @@
 //! A crew of writers on two tapes, each behind a gate.
-ghost use Rattle.std.specs.Prelude.{◌≡◌, [], All, Err, IfOk, OnOk, length, vec_len, vec_capacity, false};
+ghost use Rattle.std.specs.Prelude.{◌≡◌, [], All, Err, IfOk, OnOk, length, vec_len, vec_capacity};
+ghost use Rattle.std.specs.Prelude.{false};
 ghost use Rattle.turn_gate.specs.Known.{first_pass, is_among};
 ghost use Rattle.gated_tape.specs.declared.refusals.PutNo.TheVariants.{Full};
 ghost use Rattle.gated_tape.specs.Sides.{gated_frame};
 ghost use Rattle.gated_tape.specs.Runs.{HasEnded};
 ghost use Rattle.gated_tape.specs.Crews.{count_down, seen_of, cards_of, no_refusal, first_refusal};
-ghost use Rattle.gated_tape.specs.Crews.{IsAt, AreDealt, AreGathering, IsWithin, HasGiven, IsGathered};
-ghost use Rattle.gated_tape.specs.Crews.{HasHeardFull, HasCountsOf, AreByWriters, AreWritten, IsOneFull};
+ghost use Rattle.gated_tape.specs.Crews.{IsAt, AreDealt, AreGathering, IsWithin, HasGiven};
+ghost use Rattle.gated_tape.specs.Crews.{IsGathered};
+ghost use Rattle.gated_tape.specs.Crews.{HasHeardFull, HasCountsOf, AreByWriters, AreWritten};
+ghost use Rattle.gated_tape.specs.Crews.{IsOneFull};
 
 use crate::cells::TapeCell;
 use crate::gated::GatedSide;

@@ -1,6 +1,7 @@
 //! What a worker needs of a tape.
 ghost use Rattle.std.specs.Prelude.{◌≡◌, ℕ, List, [], Bool, true, None};
-ghost use Rattle.gated_tape.specs.Marks.{node_of, mark, added_on, count_of, IsNext, IsLegal, TellsRoom};
+ghost use Rattle.gated_tape.specs.Marks.{node_of, mark, added_on, count_of, IsNext, IsLegal};
+ghost use Rattle.gated_tape.specs.Marks.{TellsRoom};
 ghost use Rattle.gated_tape.specs.Sides.{WentOn, Serves};
 
 use crate::refusals::PutNo;

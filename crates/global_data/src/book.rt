@@ -1,6 +1,7 @@
 //! A book of the global words, by node.
 ghost use Rattle.std.specs.Prelude.{◌≡◌, ◌≢◌, ◌≤◌, length, IfOk, IfSome, None, Some};
-ghost use Rattle.global_data.specs.Book.{place_at, heard_at, waiting_at, with_put, with_passed, new_book, word_limit};
+ghost use Rattle.global_data.specs.Book.{place_at, heard_at, waiting_at, with_put, with_passed};
+ghost use Rattle.global_data.specs.Book.{new_book, word_limit};
 
 use crate::words::GlobalWords;
 use std::alloc::{AllocError, Global};

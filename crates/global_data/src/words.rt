@@ -24,6 +24,7 @@ impl Model for GlobalWords {
 }
 
 impl GlobalWords {
+    /// No words.
     pub fn new() -> GlobalWords
         ensures { result ≡ no_words }
     {
@@ -33,6 +34,7 @@ impl GlobalWords {
         }
     }
 
+    /// Puts words, at most 32, in the place of those put before.
     pub fn put(&mut self, words: &[u16])
         requires { length words.now ≤ word_limit }
         ensures { self.new ≡ record { put = words.now; heard = self.old.heard } }
@@ -40,12 +42,14 @@ impl GlobalWords {
         self.put = Block::of(words);
     }
 
+    /// The words that were put go with the token.
     pub fn pass(&mut self)
         ensures { self.new ≡ record { put = self.old.put; heard = self.old.put } }
     {
         self.heard = Block::of(self.put.words());
     }
 
+    /// The words that were put.
     pub fn waiting(&self) -> &[u16]
         ensures words { result.now ≡ self.now.put }
         ensures fits { length self.now.put ≤ word_limit }
@@ -53,6 +57,7 @@ impl GlobalWords {
         self.put.words()
     }
 
+    /// The words that went with the latest token.
     pub fn heard(&self) -> &[u16]
         ensures words { result.now ≡ self.now.heard }
         ensures fits { length self.now.heard ≤ word_limit }

@@ -1,5 +1,7 @@
 -- A grid is that of the network that it lists.
-use Rattle.std.proofs.Common.{◌≡◌, ℕ, ◌+◌, ◌-◌, ◌*◌, ◌/◌, ◌%◌, ◌^◌, ◌≤◌, ◌<◌, zero, suc, Bool, true, false, cond, ◌&&◌, ◌||◌, ◌==◌, List, [], ◌∷◌, ◌++◌, Option, Some, None, ◌⊎◌, inl, inr, length, refl, sym, ap, ◌∙◌, subst, arith}
+use Rattle.std.proofs.Common.{◌≡◌, ℕ, ◌+◌, ◌-◌, ◌*◌, ◌/◌, ◌%◌, ◌^◌, ◌≤◌, ◌<◌, zero, suc, Bool, true}
+use Rattle.std.proofs.Common.{false, cond, ◌&&◌, ◌||◌, ◌==◌, List, [], ◌∷◌, ◌++◌, Option, Some}
+use Rattle.std.proofs.Common.{None, ◌⊎◌, inl, inr, length, refl, sym, ap, ◌∙◌, subst, arith}
 use Rattle.std.specs.Prelude.{find, map}
 use Rattle.std.specs.List.{AllByRecursion, list_any}
 use Rattle.std.proofs.lemmas.Bool.Decides.{nat_tests}
@@ -17,7 +19,9 @@ use Rattle.grid_compile.specs.Cells.{cell_at, before, cells_from, marks_of}
 use Rattle.grid_compile.specs.Masks.{row_on}
 use Rattle.grid_compile.specs.Layout.{op_of, column_of, columns_from, grid_of}
 use Rattle.grid_compile.specs.Lists.{Rises}
-use Rattle.grid_compile.specs.Listed.{cell_in, cells_in, short_if, shorts_of, shorts_at, shorts_in, network_of, EachGridListed}
+use Rattle.grid_compile.specs.Listed.{listed_cell, cells_in, short_if, shorts_of, shorts_at}
+use Rattle.grid_compile.specs.Listed.{shorts_in}
+use Rattle.grid_compile.specs.Listed.{listed_network, EachGridListed}
 use Rattle.grid_compile.specs.Bounds.{IsColumn}
 
 -- what the first cells lack is found among the others
@@ -61,7 +65,7 @@ and_yes true = refl
 and_yes false = refl
 
 -- no cell of another column
-ops_elsewhere : (column c r : ℕ) (ops : List Op) → (column == c) ≡ false → cell_at (map (cell_in column) ops) c r ≡ None
+ops_elsewhere : (column c r : ℕ) (ops : List Op) → (column == c) ≡ false → cell_at (map (listed_cell column) ops) c r ≡ None
 ops_elsewhere column c r [] h = refl
 ops_elsewhere column c r (op ∷ ops) h = rw h (ops_elsewhere column c r ops h)
 
@@ -70,7 +74,7 @@ cells_elsewhere : (column c r : ℕ) (columns : List Column) → c < column → 
 unfolding cells_in
 cells_elsewhere column c r [] h = refl
 cells_elsewhere column c r (laid ∷ columns) h =
-    find_none (λ cell. (cell.column == c) && (cell.row == r)) (map (cell_in column) laid.ops) (cells_in (column + 1) columns)
+    find_none (λ cell. (cell.column == c) && (cell.row == r)) (map (listed_cell column) laid.ops) (cells_in (column + 1) columns)
     (ops_elsewhere column c r laid.ops (apart_above column c h)) (cells_elsewhere (column + 1) c r columns (omega (arith, h)))
 
 -- columns list the same where their cells are found alike
@@ -90,12 +94,12 @@ past_head c x xs row (suc count) h =
     λ i. before (skipped i) (past_head c x xs (row + 1) count (omega (arith, h)) i)
 
 -- no cell above the first
-none_above : (c r : ℕ) (row : ℕ) (ops : List Op) → Rises row ops → r < row → cell_at (map (cell_in c) ops) c r ≡ None
+none_above : (c r : ℕ) (row : ℕ) (ops : List Op) → Rises row ops → r < row → cell_at (map (listed_cell c) ops) c r ≡ None
 none_above c r row [] rises h = refl
 none_above c r row (op ∷ ops) rises h =
     let above : r < op.row = omega (arith, rises.0.0, h) in
-    ap (λ b. cond ((c == c) && b) (Some (cell_in c op)) (cell_at (map (cell_in c) ops) c r)) (apart_above op.row r above)
-    ∙ ap (λ b. cond b (Some (cell_in c op)) (cell_at (map (cell_in c) ops) c r)) (and_no (c == c))
+    ap (λ b. cond ((c == c) && b) (Some (listed_cell c op)) (cell_at (map (listed_cell c) ops) c r)) (apart_above op.row r above)
+    ∙ ap (λ b. cond b (Some (listed_cell c op)) (cell_at (map (listed_cell c) ops) c r)) (and_no (c == c))
     ∙ none_above c r (op.row + 1) ops rises.1 (omega (arith, above))
 
 here_or_later : (a b : ℕ) → a ≤ b → (b ≡ a) ⊎ (a < b)
@@ -103,7 +107,7 @@ here_or_later a b h = grind arith
 
 -- the cells of a column are listed as they stand
 ops_listed : (c : ℕ) (ops : List Op) (row count : ℕ) → row + count ≡ 8 → Rises row ops
-    → cells_from (map (cell_in c) ops) c row count ≡ map (cell_in c) ops
+    → cells_from (map (listed_cell c) ops) c row count ≡ map (listed_cell c) ops
 unfolding cells_from
 ops_listed c [] row zero all rises = refl
 ops_listed c (op ∷ ops) row zero all rises = absurd (omega (arith, all, rises.0.0, rises.0.1))
@@ -111,18 +115,18 @@ ops_listed c [] row (suc count) all rises = ops_listed c [] (row + 1) count (ome
 ops_listed c (op ∷ ops) row (suc count) all rises =
     elim (here_or_later row op.row rises.0.0) [
       | inl e ↦
-          let found : cell_at (map (cell_in c) (op ∷ ops)) c row ≡ Some (cell_in c op) =
+          let found : cell_at (map (listed_cell c) (op ∷ ops)) c row ≡ Some (listed_cell c op) =
           rw (itself c, ap (λ r. r == row) e ∙ itself row) refl in
-          ap (λ o. before o (cells_from (map (cell_in c) (op ∷ ops)) c (row + 1) count)) found
-          ∙ ap (λ cells. cell_in c op ∷ cells) (past_head c (cell_in c op) (map (cell_in c) ops) (row + 1) count (omega (arith, e))
+          ap (λ o. before o (cells_from (map (listed_cell c) (op ∷ ops)) c (row + 1) count)) found
+          ∙ ap (λ cells. listed_cell c op ∷ cells) (past_head c (listed_cell c op) (map (listed_cell c) ops) (row + 1) count (omega (arith, e))
           ∙ ops_listed c ops (row + 1) count (omega (arith, all)) (subst (λ r. Rises (r + 1) ops) e rises.1))
       | inr later ↦
-          ap (λ o. before o (cells_from (map (cell_in c) (op ∷ ops)) c (row + 1) count))
+          ap (λ o. before o (cells_from (map (listed_cell c) (op ∷ ops)) c (row + 1) count))
           (none_above c row op.row (op ∷ ops) ((omega arith, rises.0.1), rises.1) later)
           ∙ ops_listed c (op ∷ ops) (row + 1) count (omega (arith, all)) ((omega (arith, later), rises.0.1), rises.1)
     ]
 
-ops_again : (c : ℕ) (ops : List Op) → map op_of (map (cell_in c) ops) ≡ ops
+ops_again : (c : ℕ) (ops : List Op) → map op_of (map (listed_cell c) ops) ≡ ops
 ops_again c [] = refl
 ops_again c (op ∷ ops) = ap (λ rest. op ∷ rest) (ops_again c ops)
 
@@ -228,14 +232,14 @@ columns_listed : (cells : List Cell) (shorts : List Short) (column : ℕ) (colum
 unfolding columns_from cells_in shorts_in
 columns_listed cells shorts column [] none off formed = refl
 columns_listed cells shorts column (laid ∷ columns) none off formed =
-    let here = map (cell_in column) laid.ops in
+    let here = map (listed_cell column) laid.ops in
     let rest = cells_in (column + 1) columns in
     let marks = shorts_at laid.shorts column in
     let others = shorts_in (column + 1) columns in
     let found : (r : ℕ) → cell_at (cells ++ (here ++ rest)) column r ≡ cell_at here column r =
     λ r. find_behind (λ cell. (cell.column == column) && (cell.row == r)) cells (here ++ rest) (none column r (omega arith))
     ∙ find_first (λ cell. (cell.column == column) && (cell.row == r)) here rest (cells_elsewhere (column + 1) column r columns (omega arith)) in
-    let joined : (r : ℕ) → is_shorted (shorts ++ (marks ++ others)) column r ≡ is_shorted marks column r =
+    let rows_joined : (r : ℕ) → is_shorted (shorts ++ (marks ++ others)) column r ≡ is_shorted marks column r =
     λ r. list_any-append (λ (s : Short). (s.column == column) && (s.row == r)) shorts (marks ++ others)
     ∙ ap (λ b. b || is_shorted (marks ++ others) column r) (off column r (omega arith))
     ∙ list_any-append (λ (s : Short). (s.column == column) && (s.row == r)) marks others
@@ -245,7 +249,7 @@ columns_listed cells shorts column (laid ∷ columns) none off formed =
     ap (map op_of) (same_found (cells ++ (here ++ rest)) here column 1 7 found ∙ ops_listed column laid.ops 1 7 refl formed.0.rises)
     ∙ ops_again column laid.ops in
     let mask : marks_of (shorts ++ (marks ++ others)) column ≡ laid.shorts =
-    same_marks (shorts ++ (marks ++ others)) marks column joined ∙ marks_at laid.shorts column formed.0.shorts in
+    same_marks (shorts ++ (marks ++ others)) marks column rows_joined ∙ marks_at laid.shorts column formed.0.shorts in
     let behind = columns_listed (cells ++ here) (shorts ++ marks) (column + 1) columns
     (λ c r h. find_none (λ cell. (cell.column == c) && (cell.row == r)) cells here (none c r (omega (arith, h)))
     (ops_elsewhere column c r laid.ops (apart column c (omega (arith, h)))))
@@ -262,6 +266,6 @@ columns_listed cells shorts column (laid ∷ columns) none off formed =
 pub grid_listed : EachGridListed
 grid_listed grid formed =
     λ i. record {
-      columns = (ap (columns_from (network_of grid) 1) (sym formed.eleven)
+      columns = (ap (columns_from (listed_network grid) 1) (sym formed.eleven)
           ∙ columns_listed [] [] 1 grid.columns (λ c r h. refl) (λ c r h. refl) formed.columns) i;
     }

@@ -11,14 +11,14 @@ use Rattle.grid_compile.specs.Bounds.{IsGrid}
 use Rattle.grid_compile.specs.Layout.{grid_of}
 
 -- A cell of a column, with its column. This project's own.
-abbrev pub cell_in : ℕ → Op → Cell
-cell_in column op = record { row = op.row; column = column; element = op.element }
+abbrev pub listed_cell : ℕ → Op → Cell
+listed_cell column op = record { row = op.row; column = column; element = op.element }
 
 -- The cells of columns, which count from one on. This project's own.
 unfoldable pub cells_in : ℕ → List Column → List Cell
 cells_in column [] = []
 cells_in column (laid ∷ columns) =
-    map (cell_in column) laid.ops ++ cells_in (column + 1) columns
+    map (listed_cell column) laid.ops ++ cells_in (column + 1) columns
 
 -- The short below a row, where there is one. This project's own.
 abbrev pub short_if : Bool → ℕ → ℕ → List Short
@@ -43,10 +43,10 @@ shorts_in column (laid ∷ columns) =
     shorts_at laid.shorts column ++ shorts_in (column + 1) columns
 
 -- The network that a grid lists. This project's own.
-abbrev pub network_of : Grid → Network
-network_of grid =
+abbrev pub listed_network : Grid → Network
+listed_network grid =
     record { cells = cells_in 1 grid.columns; shorts = shorts_in 1 grid.columns }
 
 -- A grid is that of the network that it lists. This project's own.
 abbrev pub EachGridListed : Type 0
-EachGridListed = (grid : Grid) → IsGrid grid → grid_of (network_of grid) ≡ grid
+EachGridListed = (grid : Grid) → IsGrid grid → grid_of (listed_network grid) ≡ grid

@@ -1,15 +1,16 @@
 -- What a call makes of a state: nothing, or what the run of its subroutine makes.
-use Rattle.std.proofs.Common.{◌≡◌, ℕ, ◌+◌, ◌-◌, ◌≤◌, zero, suc, Bool, true, false, ◌==◌, List, [], ◌∷◌, Option, Some, None, refl, ◌∙◌, sym, ap, length, arith}
+use Rattle.std.proofs.Common.{◌≡◌, ℕ, ◌+◌, ◌-◌, zero, suc, List, Option, Some, None, refl, ◌∙◌, sym}
+use Rattle.std.proofs.Common.{ap, length, arith}
 use Rattle.std.specs.List.{slice_range}
 use Rattle.std.specs.Option.{option_map}
-use Rattle.plant_types.specs.declared.network.Network.{Network}
 use Rattle.plant_types.specs.declared.network.Segment.{Segment}
 use Rattle.integer_ops.specs.Arithmetic.{top_output, middle_output}
 use Rattle.ladder_solver.specs.declared.flow.Solved.{Solved}
 use Rattle.ladder_solver.specs.declared.program.Span.{Span}
 use Rattle.ladder_solver.specs.State.{State}
 use Rattle.ladder_solver.specs.Flow.{Flow, GoesOn, flow_behind, called}
-use Rattle.ladder_solver.specs.Segment.{networks_of, networks_after, calls_within}
+use Rattle.ladder_solver.specs.Numbers.{networks_of}
+use Rattle.ladder_solver.specs.Segment.{networks_after, calls_within, setting_within}
 use Rattle.ladder_solver.specs.Subroutine.{subroutine_of}
 use Rattle.ladder_solver.specs.Program.{subroutine_in}
 
@@ -45,7 +46,7 @@ pub call-found : (segments : List Segment) (depth number last : ℕ) (s after : 
     → (depth ≡ 0 → ⊥)
     → option_map (subroutine_in (networks_of segments (length segments))) span ≡ subroutine_of (networks_of segments (length segments)) number
     → span ≡ Some some → last ≡ length segments
-    → networks_after (calls_within (depth - 1) segments) last (some.first + 1) (slice_range (networks_of segments last) some.first some.end) 0 s ≡ after
+    → networks_after (setting_within (depth - 1) segments) last (some.first + 1) (slice_range (networks_of segments last) some.first some.end) 0 s ≡ after
     → calls_within depth segments number s ≡ Some after
 unfolding calls_within
 call-found segments zero number last s after span some deep found is there ran = absurd (deep refl)

@@ -1,5 +1,7 @@
 -- One edge bit among all that are kept.
-use Rattle.std.proofs.Common.{◌≡◌, ◌≢◌, ℕ, ◌-◌, ◌<◌, ◌≤◌, zero, suc, Bool, true, false, cond, ◌&&◌, ◌==◌, List, [], ◌∷◌, length, get_or, set, refl, sym, ap, ◌∙◌, arith, get_or-set_same, get_or-set_other, Vec, Global}
+use Rattle.std.proofs.Common.{◌≡◌, ◌≢◌, ℕ, ◌-◌, ◌<◌, ◌≤◌, zero, suc, Bool, true, false, cond, ◌&&◌}
+use Rattle.std.proofs.Common.{◌==◌, List, [], ◌∷◌, length, get_or, set, refl, sym, ap, ◌∙◌, arith}
+use Rattle.std.proofs.Common.{get_or-set_same, get_or-set_other, Vec, Global}
 use Rattle.std.specs.Prelude.{map}
 use Rattle.std.specs.FinSet.{contains, same_set}
 use Rattle.std.specs.Vec.{with_item}
@@ -9,9 +11,11 @@ use Rattle.std.proofs.lemmas.Bool.Decides.{nat_tests}
 use Rattle.std.proofs.lemmas.List.{length-map, length-set, map-set}
 use Rattle.ladder_solver.specs.declared.edges.Edges.TheInside.{Inside}
 use Rattle.ladder_solver.specs.State.{BlockPlace, with_place}
-use Rattle.ladder_solver.specs.Edges.{numbered, row_bit, network_bit, segment_bit, edge_bit, edges_of, HasNetworks, HasPlace}
+use Rattle.ladder_solver.specs.Edges.{numbered, row_bit, network_bit, segment_bit, edge_bit}
+use Rattle.ladder_solver.specs.Edges.{edges_of, HasNetworks, HasEdgeBit}
 use Rattle.ladder_solver.specs.Kept.{bits_in, edge_bits_of}
-use Rattle.ladder_solver.proofs.PlaceSets.{places_total, exact_places, is_place, contains-with_place}
+use Rattle.ladder_solver.proofs.PlaceSets.{places_total, exact_places, is_place}
+use Rattle.ladder_solver.proofs.PlaceSets.{contains-with_place}
 use Rattle.ladder_solver.proofs.EdgeBits.{contains-edges_of}
 
 -- items by their numbers and by their places
@@ -149,7 +153,7 @@ module _ (e : Inside) (kept : Vec (List (List Bool)) Global) where
       get_or-map length (bits_in e) (segment - 1) [] ∙ ap length (networks_at segment count h is) in
       omega (arith, h.many, one)
 
-  module _ (place : BlockPlace) (columns : List (List Bool)) (h : HasPlace (map length (bits_in e)) place)
+  module _ (place : BlockPlace) (columns : List (List Bool)) (h : HasEdgeBit (map length (bits_in e)) place)
       (is : kept ≡ get_or e.segments.items (place.segment - 1) kept) (there : columns ≡ get_or kept.items (place.network - 1) columns) where
     networks_is : get_or (bits_in e) (place.segment - 1) [] ≡ kept.items
     networks_is = networks_at place.segment place.network h.networks is

@@ -1,10 +1,14 @@
 -- What holds of the elements of a plan holds of those that its grids list.
-use Rattle.std.proofs.Common.{◌≡◌, ℕ, ◌+◌, ◌≤◌, zero, suc, Bool, true, false, cond, ◌&&◌, ◌==◌, nat_le, List, [], ◌∷◌, Option, Some, None, refl, arith}
+use Rattle.std.proofs.Common.{◌≡◌, ℕ, ◌+◌, ◌≤◌, zero, suc, Bool, true, false, cond, ◌&&◌, ◌==◌}
+use Rattle.std.proofs.Common.{nat_le, List, [], ◌∷◌, Option, Some, None, refl, arith}
 use Rattle.std.specs.Prelude.{find, map, IfSome}
 use Rattle.std.specs.List.{AllByRecursion}
 use Rattle.std.proofs.lemmas.Bool.Decides.{nat_tests}
 use Rattle.plant_types.specs.declared.element.Element.{Element}
-use Rattle.plant_types.specs.declared.element.Element.TheVariants.{Open, Closed, Rise, Fall, Coil, Latch, Wire, Timer, Counter, Math, Move, Matrix, Skip, Label, Call, Return, Mstr}
+use Rattle.plant_types.specs.declared.element.Element.TheVariants.{Open, Closed, Rise, Fall, Coil}
+use Rattle.plant_types.specs.declared.element.Element.TheVariants.{Latch, Wire, Timer, Counter}
+use Rattle.plant_types.specs.declared.element.Element.TheVariants.{Math, Move, Matrix, Skip, Label}
+use Rattle.plant_types.specs.declared.element.Element.TheVariants.{Call, Return, Mstr}
 use Rattle.plant_types.specs.declared.network.Cell.{Cell}
 use Rattle.plant_types.specs.declared.network.Network.{Network}
 use Rattle.plant_types.specs.declared.network.Segment.{Segment}
@@ -15,10 +19,9 @@ use Rattle.grid_compile.specs.declared.grid.Op.{Op}
 use Rattle.grid_compile.specs.declared.grid.Column.{Column}
 use Rattle.grid_compile.specs.declared.grid.Grid.{Grid}
 use Rattle.grid_compile.specs.Cells.{cell_at, before, cells_from}
-use Rattle.grid_compile.specs.Lists.{op_at}
 use Rattle.grid_compile.specs.Layout.{op_of, columns_from, grid_of, grids_of}
 use Rattle.ladder_solver.specs.Subroutine.{label_number}
-use Rattle.ladder_solver.specs.Program.{label_of_op, label_in_columns, label_in, most_labels, HasLabels}
+use Rattle.ladder_solver.specs.Program.{label_of_op, label_in_columns, most_labels, HasLabels}
 use Rattle.ladder_solver.specs.Conditions.{EachOfColumns, EachOfGrids, EachInGrids}
 use Rattle.ladder_solver.proofs.Steps.{each_found}
 use Rattle.ladder_solver.proofs.Subroutines.{AreSmall}

@@ -1,5 +1,7 @@
 -- What each step leaves of the agreement between flags and definitions.
-use Rattle.std.proofs.Common.{◌≡◌, ◌≢◌, ℕ, ◌+◌, ◌-◌, ◌<◌, ◌≤◌, zero, suc, get_or, set, Bool, true, false, ◌&&◌, ◌||◌, ◌==◌, List, ◌∷◌, refl, ◌∙◌, sym, ap, subst, length, ◌⊎◌, inl, inr, arith, get_or-set_same, get_or-set_other}
+use Rattle.std.proofs.Common.{◌≡◌, ◌≢◌, ℕ, ◌+◌, ◌-◌, ◌<◌, ◌≤◌, zero, suc, get_or, set, Bool, true}
+use Rattle.std.proofs.Common.{false, ◌&&◌, ◌||◌, ◌==◌, List, ◌∷◌, refl, ◌∙◌, sym, ap, subst, length}
+use Rattle.std.proofs.Common.{◌⊎◌, inl, inr, arith, get_or-set_same, get_or-set_other}
 use Rattle.std.specs.Prelude.{if◌then◌else◌, bit_or}
 use Rattle.std.proofs.lemmas.Bool.Decides.{nat_tests}
 use Rattle.ladder_solver.specs.declared.layout.Spot.{Spot}
@@ -9,11 +11,13 @@ use Rattle.plant_types.specs.declared.power.NodePower.{NodePower}
 use Rattle.plant_types.specs.Network.{is_row}
 use Rattle.ladder_solver.specs.State.{State}
 use Rattle.ladder_solver.specs.declared.flow.Solved.{Solved}
-use Rattle.ladder_solver.specs.Flow.{Flow, Calls, Left, solved_element}
-use Rattle.ladder_solver.specs.Network.{Power, Place, Site, is_live, is_fed, inputs_at, place_in, with_output, with_outputs, element_at}
+use Rattle.ladder_solver.specs.Flow.{Flow, Setting, Left, solved_element}
+use Rattle.ladder_solver.specs.Network.{Power, Place, Site, is_live, is_fed, inputs_at, place_in}
+use Rattle.ladder_solver.specs.Network.{with_output, with_outputs, element_at}
 use Rattle.grid_compile.specs.Cells.{marks_of}
 use Rattle.grid_compile.proofs.Listing.{marks-small}
-use Rattle.ladder_solver.specs.Rows.{flag_of, flags_at, reaches_of, three_from, fed_rows, reaches, FeedsAll}
+use Rattle.ladder_solver.specs.Rows.{flag_of, flags_at, reaches_of, three_from, fed_rows}
+use Rattle.ladder_solver.specs.Rows.{output_reaches, FeedsAll}
 use Rattle.grid_compile.specs.Masks.{are_linked}
 use Rattle.ladder_solver.specs.Agreement.{AgreesPower, AgreesSolved}
 use Rattle.ladder_solver.proofs.Spread.{are_linked-joined, fed_rows-feeds, fed_rows-small}
@@ -46,22 +50,23 @@ live_place shorts on column row r true low high from to = rw (same_column column
 -- the same of an output that counts in the seven rows alone
 live_output : (shorts : List Short) (on : List Place) (column row r : ℕ) (output : Bool) → 1 ≤ row
     → 1 ≤ r → r ≤ 7
-    → is_live shorts (with_output output column row on) column r ≡ reaches output (marks_of shorts column) row r || is_live shorts on column r
+    → is_live shorts (with_output output column row on) column r ≡ output_reaches output (marks_of shorts column) row r || is_live shorts on column r
 live_output shorts on column row r output low from to = live_place shorts on column row r (output && is_row row) low (last_row row output) from to
 
 -- the same of three outputs
 live_outputs : (shorts : List Short) (on : List Place) (column row r : ℕ) (outputs : NodePower) → 1 ≤ row
     → 1 ≤ r → r ≤ 7
     → is_live shorts (with_outputs outputs column row on) column r
-    ≡ reaches outputs.bottom (marks_of shorts column) (row + 2) r
-    || (reaches outputs.middle (marks_of shorts column) (row + 1) r || (reaches outputs.top (marks_of shorts column) row r || is_live shorts on column r))
+    ≡ output_reaches outputs.bottom (marks_of shorts column) (row + 2) r
+    || (output_reaches outputs.middle (marks_of shorts column) (row + 1) r || (output_reaches outputs.top (marks_of shorts column)
+    row r || is_live shorts on column r))
 live_outputs shorts on column row r outputs low from to =
     let top = with_output outputs.top column row on in
     let middle = with_output outputs.middle column (row + 1) top in
     live_output shorts middle column (row + 2) r outputs.bottom (omega arith) from to
-    ∙ ap (λ b. reaches outputs.bottom (marks_of shorts column) (row + 2) r || b)
+    ∙ ap (λ b. output_reaches outputs.bottom (marks_of shorts column) (row + 2) r || b)
     (live_output shorts top column (row + 1) r outputs.middle (omega arith) from to
-    ∙ ap (λ b. reaches outputs.middle (marks_of shorts column) (row + 1) r || b) (live_output shorts on column row r outputs.top low from to))
+    ∙ ap (λ b. output_reaches outputs.middle (marks_of shorts column) (row + 1) r || b) (live_output shorts on column row r outputs.top low from to))
 
 -- and nowhere else
 elsewhere_place : (shorts : List Short) (on : List Place) (c column row r : ℕ) (b : Bool)
@@ -136,8 +141,8 @@ AgreesPower-outputs shorts column row live next p outputs s flow first within lo
     | inl e ↦
         ap (λ k. is_live shorts (with_outputs outputs column row p.on) k r) e
         ∙ live_outputs shorts p.on column row r outputs low from to
-        ∙ ap (λ x. reaches outputs.bottom (marks_of shorts column) (row + 2) r
-        || (reaches outputs.middle (marks_of shorts column) (row + 1) r || (reaches outputs.top (marks_of shorts column) row r || x)))
+        ∙ ap (λ x. output_reaches outputs.bottom (marks_of shorts column) (row + 2) r
+        || (output_reaches outputs.middle (marks_of shorts column) (row + 1) r || (output_reaches outputs.top (marks_of shorts column) row r || x)))
         (h.live column r first from to)
         ∙ sym (feeds r from to)
         ∙ ap (λ n. flag_of n r) (sym (ap (λ k. get_or (set live column next) k 0) e ∙ get_or-set_same live column next 0 within))
@@ -175,15 +180,15 @@ inputs_at-flags shorts column row live p first low h =
     λ i. record { top = fed row low i; middle = fed (row + 1) (omega arith) i; bottom = fed (row + 2) (omega arith) i }
 
 -- a whole cell
-pub spot-done : (calls : Calls) (spot : Spot) (site : Site) (live : List ℕ) (next : ℕ) (s after : State) (solved : Solved)
+pub spot-done : (setting : Setting) (spot : Spot) (site : Site) (live : List ℕ) (next : ℕ) (s after : State) (solved : Solved)
     → 1 ≤ spot.column → spot.column < length live → 1 ≤ spot.row → spot.row ≤ 7
-    → solved_element calls spot.element (place_in site spot.column spot.row) (flags_at (get_or live (spot.column - 1) 0) spot.row) s
+    → solved_element setting spot.element (place_in site spot.column spot.row) (flags_at (get_or live (spot.column - 1) 0) spot.row) s
     ≡ ((solved.outputs, after), solved.flow)
     → next ≡ bit_or (get_or live spot.column 0) (fed_rows solved.outputs spot.reaches)
     → (shorts : List Short) (p : Power) → spot.reaches ≡ three_from (reaches_of (marks_of shorts spot.column)) spot.row
     → AgreesPower shorts live p → p.state ≡ s
-    → AgreesSolved shorts (set live spot.column next) after solved.flow (element_at calls shorts site spot.column spot.row spot.element p)
-spot-done calls spot site live next s after solved first within low high does fed shorts p same power state =
+    → AgreesSolved shorts (set live spot.column next) after solved.flow (element_at setting shorts site spot.column spot.row spot.element p)
+spot-done setting spot site live next s after solved first within low high does fed shorts p same power state =
     let column = spot.column in
     let row = spot.row in
     let outputs = solved.outputs in
@@ -194,9 +199,9 @@ spot-done calls spot site live next s after solved first within low high does fe
     let small : next < 128 = subst (λ n. n < 128) (sym is) (fed_rows-small outputs marks row was (marks-small shorts column) low high (power.small column)) in
     let feeds : FeedsAll outputs marks row was next = subst (λ n. FeedsAll outputs marks row was n) (sym is)
     (fed_rows-feeds outputs marks row was (marks-small shorts column) low high) in
-    let done : solved_element calls spot.element place (inputs_at shorts p.on column row) p.state ≡ ((outputs, after), solved.flow) =
-    (λ i. solved_element calls spot.element place (inputs_at-flags shorts column row live p first low power i) (state i)) ∙ does in
-    let e : element_at calls shorts site column row spot.element p
+    let done : solved_element setting spot.element place (inputs_at shorts p.on column row) p.state ≡ ((outputs, after), solved.flow) =
+    (λ i. solved_element setting spot.element place (inputs_at-flags shorts column row live p first low power i) (state i)) ∙ does in
+    let e : element_at setting shorts site column row spot.element p
     ≡ record { state = after; on = with_outputs outputs column row p.on; flow = solved.flow } =
     ap (λ (d : Left). record { state = d.0.1; on = with_outputs d.0.0 column row p.on; flow = d.1 }) done in
     record {

@@ -1,9 +1,14 @@
 -- Where subroutines stand: the spans under the numbers of LABs, one network more, and what they are in a plan.
-use Rattle.std.proofs.Common.{◌≡◌, ◌≢◌, ℕ, ◌+◌, ◌-◌, ◌≤◌, ◌<◌, zero, suc, Bool, true, false, cond, not, ◌==◌, List, [], ◌∷◌, ◌++◌, Option, Some, None, ◌⊎◌, inl, inr, refl, sym, ap, ◌∙◌, subst, length, take, drop, get_or, set, add-zero, append_assoc, arith}
+use Rattle.std.proofs.Common.{◌≡◌, ℕ, ◌+◌, ◌-◌, ◌≤◌, ◌<◌, zero, suc, Bool, true, false, cond, not}
+use Rattle.std.proofs.Common.{◌==◌, List, [], ◌∷◌, ◌++◌, Option, Some, None, inl, inr, refl, sym}
+use Rattle.std.proofs.Common.{ap, ◌∙◌, subst, length, take, drop, get_or, set, add-zero}
+use Rattle.std.proofs.Common.{append_assoc, arith}
 use Rattle.std.specs.Prelude.{map, is_none, IfSome, slice_get}
 use Rattle.std.specs.Option.{option_map}
-use Rattle.std.specs.List.{prefix_len, position_or_len, slice_range, before_first, AllByRecursion}
-use Rattle.std.proofs.lemmas.List.{drop_more, drop-map, get_or-replicate, get_or-set_same, get_or-set_other, length-set, length-replicate, length-append, length-map}
+use Rattle.std.specs.List.{prefix_len, position_or_len, before_first, AllByRecursion}
+use Rattle.std.proofs.lemmas.List.{drop_more, drop-map, get_or-replicate, get_or-set_same}
+use Rattle.std.proofs.lemmas.List.{get_or-set_other, length-set, length-replicate, length-append}
+use Rattle.std.proofs.lemmas.List.{length-map}
 use Rattle.std.proofs.lemmas.Bool.Decides.{eqb_tells}
 use Rattle.std.proofs.Math.Seq.{drop-append_seam, drop-length}
 use Rattle.std.proofs.lemmas.List.Sums.{prefix_len-le-length}
@@ -12,13 +17,16 @@ use Rattle.plant_types.specs.declared.network.Segment.{Segment}
 use Rattle.plant_types.specs.declared.network.Cell.{Cell}
 use Rattle.grid_compile.specs.declared.grid.Grid.{Grid}
 use Rattle.grid_compile.specs.Cells.{cell_at}
-use Rattle.grid_compile.specs.Lists.{op_at, op_found}
-use Rattle.grid_compile.specs.Layout.{column_of, columns_from, grid_of, grids_of}
+use Rattle.grid_compile.specs.Lists.{op_found}
+use Rattle.grid_compile.specs.Layout.{columns_from, grid_of, grids_of}
 use Rattle.grid_compile.proofs.Listing.{lists_column}
 use Rattle.ladder_solver.specs.declared.program.Span.{Span}
-use Rattle.ladder_solver.specs.Segment.{networks_in, networks_of}
-use Rattle.ladder_solver.specs.Subroutine.{Subroutine, label_of_cell, label_of, is_labelled, is_number, has_label, subroutine_from, subroutine_of}
-use Rattle.ladder_solver.specs.Program.{label_of_op, label_in, most_labels, HasLabels, grids_at, last_grids, no_spans, with_span, spans_from, spans_of, subroutine_in, IsSpanOf, IsWithinNetworks}
+use Rattle.ladder_solver.specs.Numbers.{networks_if, networks_of}
+use Rattle.ladder_solver.specs.Subroutine.{Subroutine, label_of_cell, network_label, is_labelled}
+use Rattle.ladder_solver.specs.Subroutine.{is_label, has_label_number, subroutine_from}
+use Rattle.ladder_solver.specs.Program.{label_of_op, label_in, most_labels, HasLabels, grids_at}
+use Rattle.ladder_solver.specs.Program.{last_grids, no_spans, spans_from, spans_of, subroutine_in}
+use Rattle.ladder_solver.specs.Program.{IsSpanOf, IsWithinNetworks}
 
 -- the LABs from a network on
 drop_labels : (grids : List Grid) (i : ℕ) (grid : Grid) → i < length grids → grid ≡ get_or grids i grid
@@ -80,7 +88,7 @@ behind_none grids i k end grid spans next within is label h =
 unfoldable pub span_from : ℕ → ℕ → List (Option ℕ) → Option Span
 span_from label first [] = None
 span_from label first (here ∷ labels) =
-    cond (is_number label here) (Some (record { first = first; end = suc first + prefix_len is_none labels })) (span_from label (suc first) labels)
+    cond (is_label label here) (Some (record { first = first; end = suc first + prefix_len is_none labels })) (span_from label (suc first) labels)
 
 length-spans : (first : ℕ) (labels : List (Option ℕ)) → length (spans_from first labels) ≡ most_labels + 1
 unfolding spans_from
@@ -126,23 +134,23 @@ pub span_within : (label first : ℕ) (labels : List (Option ℕ))
 unfolding span_from
 span_within label first [] = tt
 span_within label first (here ∷ labels) =
-    choice_within (is_number label here) first labels (span_from label (suc first) labels) (span_within label (suc first) labels)
+    choice_within (is_label label here) first labels (span_from label (suc first) labels) (span_within label (suc first) labels)
 
 -- the networks before the next LAB, counted over the LABs
-pub before_label : (networks : List Network) → before_first is_labelled networks ≡ take (prefix_len is_none (map label_of networks)) networks
+pub before_label : (networks : List Network) → before_first is_labelled networks ≡ take (prefix_len is_none (map network_label networks)) networks
 before_label networks = ap (λ n. take n networks) (same networks)
   where
-    same : (networks : List Network) → position_or_len is_labelled networks ≡ prefix_len is_none (map label_of networks)
+    same : (networks : List Network) → position_or_len is_labelled networks ≡ prefix_len is_none (map network_label networks)
     same [] = refl
     same (network ∷ networks) = ap (λ n. cond (not (is_labelled network)) (1 + n) 0) (same networks)
 
 -- the subroutine at a network, read off the whole list
 subroutine_here : (earlier : List Network) (network : Network) (networks : List Network)
     → subroutine_in (earlier ++ network ∷ networks)
-    (record { first = length earlier; end = suc (length earlier) + prefix_len is_none (map label_of networks) })
+    (record { first = length earlier; end = suc (length earlier) + prefix_len is_none (map network_label networks) })
     ≡ record { first = length earlier + 1; networks = network ∷ before_first is_labelled networks }
 subroutine_here earlier network networks =
-    let count = prefix_len is_none (map label_of networks) in
+    let count = prefix_len is_none (map network_label networks) in
     let many : suc (length earlier) + count - length earlier ≡ suc count = omega arith in
     λ j. record {
       first = length earlier + 1;
@@ -157,7 +165,7 @@ choice_is false f span here later rest h k = k
 
 -- the span from a network on is the subroutine from it on
 pub span_is : (earlier networks : List Network) (label : ℕ)
-    → option_map (subroutine_in (earlier ++ networks)) (span_from label (length earlier) (map label_of networks))
+    → option_map (subroutine_in (earlier ++ networks)) (span_from label (length earlier) (map network_label networks))
     ≡ subroutine_from label (length earlier + 1) networks
 unfolding span_from subroutine_from
 span_is earlier [] label = refl
@@ -165,8 +173,8 @@ span_is earlier (network ∷ networks) label =
     let one_more : (earlier ++ network ∷ []) ++ networks ≡ earlier ++ network ∷ networks = rw append_assoc refl in
     let longer : length (earlier ++ network ∷ []) ≡ suc (length earlier) = length-append earlier (network ∷ []) ∙ omega arith in
     let number : length (earlier ++ network ∷ []) + 1 ≡ length earlier + 1 + 1 = omega (arith, longer) in
-    choice_is (has_label label network) (subroutine_in (earlier ++ network ∷ networks)) _ _ _ _ (subroutine_here earlier network networks)
-    ((λ j. option_map (subroutine_in (sym one_more j)) (span_from label (sym longer j) (map label_of networks)))
+    choice_is (has_label_number label network) (subroutine_in (earlier ++ network ∷ networks)) _ _ _ _ (subroutine_here earlier network networks)
+    ((λ j. option_map (subroutine_in (sym one_more j)) (span_from label (sym longer j) (map network_label networks)))
     ∙ span_is (earlier ++ network ∷ []) networks label ∙ ap (λ n. subroutine_from label n networks) number)
 
 -- LABs whose numbers are not above the largest
@@ -174,7 +182,7 @@ abbrev pub AreSmall : List Grid → Type 0
 AreSmall grids = AllByRecursion (λ grid. IfSome (label_in grid) (λ number. number ≤ most_labels)) grids
 
 -- no such LAB has a larger number
-not_number : (label : ℕ) (here : Option ℕ) → most_labels < label → IfSome here (λ number. number ≤ most_labels) → is_number label here ≡ false
+not_number : (label : ℕ) (here : Option ℕ) → most_labels < label → IfSome here (λ number. number ≤ most_labels) → is_label label here ≡ false
 not_number label None large small = refl
 not_number label (Some number) large small =
     elim (eqb_tells number label) [
@@ -193,16 +201,16 @@ label_found : (found : Option Cell) → label_of_op (op_found found) ≡ label_o
 label_found None = refl
 label_found (Some cell) = refl
 
-label_in-grid : (network : Network) → label_in (grid_of network) ≡ label_of network
+label_in-grid : (network : Network) → label_in (grid_of network) ≡ network_label network
 unfolding columns_from
 label_in-grid network = ap label_of_op ((lists_column network 1).cells 1 (omega arith) (omega arith)) ∙ label_found (cell_at network.cells 1 1)
 
-labels_in : (networks : List Network) → map label_in (map grid_of networks) ≡ map label_of networks
+labels_in : (networks : List Network) → map label_in (map grid_of networks) ≡ map network_label networks
 labels_in [] = refl
 labels_in (network ∷ networks) = λ j. label_in-grid network j ∷ labels_in networks j
 
 -- the grids of a segment
-grids_by : (segments : List Segment) (i : ℕ) → get_or (grids_of segments) i [] ≡ map grid_of (networks_in (slice_get segments i))
+grids_by : (segments : List Segment) (i : ℕ) → get_or (grids_of segments) i [] ≡ map grid_of (networks_if (slice_get segments i))
 grids_by [] i = refl
 grids_by (segment ∷ segments) zero = refl
 grids_by (segment ∷ segments) (suc i) = grids_by segments i
@@ -220,7 +228,7 @@ pub is_span_of : (grids : List (List Grid)) (label : ℕ) (span : Option Span) �
     → IsSpanOf grids label span
 is_span_of grids label span found segments same =
     let networks = networks_of segments (length segments) in
-    let labels : map label_in (last_grids grids) ≡ map label_of networks =
+    let labels : map label_in (last_grids grids) ≡ map network_label networks =
     ap (λ gs. map label_in (last_grids gs)) (sym same) ∙ ap (map label_in) (last_grids-of segments) ∙ labels_in networks in
     ap (option_map (subroutine_in networks)) (found ∙ ap (span_from label 0) labels) ∙ span_is [] networks label
 

@@ -8,7 +8,7 @@ use Rattle.std.specs.Prelude.{ℕ, Bool, true, false, ◌==◌, if◌then◌else
 use Rattle.plant_types.specs.declared.element.Element.{Element}
 use Rattle.plant_types.specs.declared.element.Element.TheVariants.{Skip, Call, Return}
 use Rattle.plant_types.specs.declared.power.NodePower.{NodePower}
-use Rattle.plant_types.specs.Operands.{number_of}
+use Rattle.plant_types.specs.Operands.{operand_number}
 use Rattle.integer_ops.specs.Arithmetic.{no_output, top_output, middle_output}
 use Rattle.ladder_solver.specs.State.{BlockPlace, State}
 use Rattle.ladder_solver.specs.Element.{effect}
@@ -22,6 +22,12 @@ is_going flow = false
 -- there is no such subroutine, or calls are as deep as they can be. This project's own.
 abbrev pub Calls : Type 0
 Calls = ℕ → State → Option State
+
+-- What the networks of a controller share while they are solved: what calls make of a state, and
+-- the numbers of the MSTR blocks by their places. This project's own.
+pub record Setting : Type 0 where
+  pub calls : Calls
+  pub numbers : BlockPlace → ℕ
 
 -- What an element leaves: the power at its output nodes, the state, and where the solve goes on.
 -- This project's own.
@@ -52,10 +58,11 @@ call_left power behind s = if power then called behind s else ((no_output, s), G
 -- What an element leaves, from its place and its inputs: SKP, RET and JSR direct the solve, each
 -- other element has its effect and the solve goes on. Modicon Ladder Logic Block Library User
 -- Guide.
-abbrev pub solved_element : Calls → Element → BlockPlace → NodePower → State → Left
-solved_element calls (Skip count) place inputs s =
-    directed inputs.top (Skips (number_of s.map count)) s
-solved_element calls Return place inputs s = directed inputs.top Returns s
-solved_element calls (Call number) place inputs s =
-    call_left inputs.top (calls (number_of s.map number) s) s
-solved_element calls element place inputs s = (effect element place inputs s, GoesOn)
+abbrev pub solved_element : Setting → Element → BlockPlace → NodePower → State → Left
+solved_element setting (Skip count) place inputs s =
+    directed inputs.top (Skips (operand_number s.map count)) s
+solved_element setting Return place inputs s = directed inputs.top Returns s
+solved_element setting (Call number) place inputs s =
+    call_left inputs.top (setting.calls (operand_number s.map number) s) s
+solved_element setting element place inputs s =
+    (effect element place (setting.numbers place) inputs s, GoesOn)

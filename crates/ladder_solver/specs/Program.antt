@@ -1,5 +1,6 @@
 -- Where each subroutine stands among the grids of a segment.
-use Rattle.std.specs.Prelude.{◌≡◌, ℕ, suc, ◌+◌, ◌-◌, ◌≤◌, ◌<◌, List, [], ◌∷◌, Option, Some, None, is_none, length, map, replicate, slice_set, slice_index_or, IfSome}
+use Rattle.std.specs.Prelude.{◌≡◌, ℕ, suc, ◌+◌, ◌-◌, ◌≤◌, ◌<◌, List, [], ◌∷◌, Option, Some, None}
+use Rattle.std.specs.Prelude.{is_none, length, map, replicate, slice_set, slice_index_or, IfSome}
 use Rattle.std.specs.List.{prefix_len, slice_range, AllByRecursion}
 use Rattle.std.specs.Option.{option_map}
 use Rattle.plant_types.specs.declared.network.Network.{Network}
@@ -10,10 +11,12 @@ use Rattle.grid_compile.specs.declared.grid.Grid.{Grid}
 use Rattle.grid_compile.specs.Bounds.{IsGrid}
 use Rattle.grid_compile.specs.Layout.{grids_of}
 use Rattle.grid_compile.specs.Lists.{op_at}
+use Rattle.ladder_solver.specs.declared.layout.Spot.{Spot}
 use Rattle.ladder_solver.specs.declared.program.Span.{Span}
 use Rattle.ladder_solver.specs.declared.program.Program.TheInside.{Inside}
 use Rattle.ladder_solver.specs.Layout.{spots_of}
-use Rattle.ladder_solver.specs.Segment.{networks_of}
+use Rattle.plant_types.specs.Standing.{message_limit}
+use Rattle.ladder_solver.specs.Numbers.{mstr_count, networks_of}
 use Rattle.ladder_solver.specs.Subroutine.{label_number, Subroutine, subroutine_of}
 
 -- The number of a grid's LAB, in row 1 of column 1. Modicon Ladder Logic Block Library User Guide.
@@ -38,10 +41,12 @@ HasLabels segments =
     AllByRecursion
     (AllByRecursion (λ grid. IfSome (label_in grid) (λ number. number ≤ most_labels))) segments
 
--- What a program asks of its grids: their form, and the numbers of their LABs. This project's own.
+-- What a program asks of its grids: their form, the numbers of their LABs, and no more MSTR blocks
+-- than a controller can have. This project's own.
 pub record CanLay (segments : List (List Grid)) : Type 0 where
   pub grids : AllByRecursion (AllByRecursion IsGrid) segments
   pub labels : HasLabels segments
+  pub few : mstr_count segments ≤ message_limit
 
 -- The grids of a segment, counted from 1, and of the last. This project's own.
 abbrev pub grids_at : List (List Grid) → ℕ → List Grid
@@ -49,6 +54,10 @@ grids_at segments number = slice_index_or segments (number - 1) []
 
 abbrev pub last_grids : List (List Grid) → List Grid
 last_grids segments = grids_at segments (length segments)
+
+-- The cells of the networks of a segment, counted from 1. This project's own.
+abbrev pub spots_at : List (List Grid) → ℕ → List (List Spot)
+spots_at segments number = slice_index_or (spots_of segments) (number - 1) []
 
 -- No subroutine stands under any number. This project's own.
 abbrev pub no_spans : List (Option Span)
@@ -92,8 +101,10 @@ IsWithinNetworks count span = (span.first < span.end) × (span.end ≤ count)
 abbrev pub program_of : Inside → List (List Grid)
 program_of p = p.grids
 
--- The cells of each network are listed, and the span of each subroutine. This project's own.
+-- The cells of each network are listed, the MSTR blocks counted, and the span of each subroutine
+-- listed. This project's own.
 pub record IsProgram (p : Inside) : Type 0 where
   pub can_lay : CanLay p.grids
   pub networks : p.networks ≡ spots_of p.grids
+  pub blocks : p.blocks ≡ mstr_count p.grids
   pub spans : p.spans ≡ spans_of (last_grids p.grids)

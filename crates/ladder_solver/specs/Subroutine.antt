@@ -1,5 +1,6 @@
 -- Where a subroutine stands: in the last segment, from the network of its LAB on.
-use Rattle.std.specs.Prelude.{ℕ, ◌+◌, Bool, false, ◌==◌, if◌then◌else◌, List, [], ◌∷◌, Option, Some, None, is_some}
+use Rattle.std.specs.Prelude.{ℕ, ◌+◌, Bool, false, ◌==◌, if◌then◌else◌, List, [], ◌∷◌, Option, Some}
+use Rattle.std.specs.Prelude.{None, is_some}
 use Rattle.std.specs.List.{before_first}
 use Rattle.plant_types.specs.declared.element.Element.{Element}
 use Rattle.plant_types.specs.declared.element.Element.TheVariants.{Label}
@@ -18,19 +19,19 @@ abbrev pub label_of_cell : Option Cell → Option ℕ
 label_of_cell None = None
 label_of_cell (Some cell) = label_number cell.element
 
-abbrev pub label_of : Network → Option ℕ
-label_of network = label_of_cell (cell_at network.cells 1 1)
+abbrev pub network_label : Network → Option ℕ
+network_label network = label_of_cell (cell_at network.cells 1 1)
 
 -- A network has a LAB, and one of this number. This project's own.
 abbrev pub is_labelled : Network → Bool
-is_labelled network = is_some (label_of network)
+is_labelled network = is_some (network_label network)
 
-abbrev pub is_number : ℕ → Option ℕ → Bool
-is_number number None = false
-is_number number (Some other) = other == number
+abbrev pub is_label : ℕ → Option ℕ → Bool
+is_label number None = false
+is_label number (Some other) = other == number
 
-abbrev pub has_label : ℕ → Network → Bool
-has_label number network = is_number number (label_of network)
+abbrev pub has_label_number : ℕ → Network → Bool
+has_label_number number network = is_label number (network_label network)
 
 -- A subroutine: the number of its first network in the segment, counted from 1, and its networks.
 -- This project's own.
@@ -44,7 +45,7 @@ pub record Subroutine : Type 0 where
 unfoldable pub subroutine_from : ℕ → ℕ → List Network → Option Subroutine
 subroutine_from label number [] = None
 subroutine_from label number (network ∷ networks) =
-    if has_label label network
+    if has_label_number label network
     then Some (record { first = number; networks = network ∷ before_first is_labelled networks })
     else subroutine_from label (number + 1) networks
 

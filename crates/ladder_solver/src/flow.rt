@@ -5,6 +5,7 @@ ghost use Rattle.ladder_solver.specs.Flow.{GoesOn, Stopped, is_going};
 
 use plant_types::NodePower;
 
+/// Where a solve goes on behind an element or a network.
 #[derive(Clone, Copy)]
 pub(crate) enum Flow {
     /// With the next place and the next network.
@@ -18,6 +19,7 @@ pub(crate) enum Flow {
 }
 
 impl Flow {
+    /// Whether the network goes on with its next place.
     pub fn goes_on(self) -> bool
         ensures { result ≡ is_going self }
     {

@@ -2,6 +2,8 @@
 ghost use Rattle.std.specs.Prelude.{◌≡◌};
 ghost use Rattle.ladder_solver.specs.Network.{place_in};
 
+use plant_types::Element;
+
 /// The place of a block: its segment, its network in the segment, and the column and row of its
 /// top node, each counted from 1.
 #[derive(Clone, Copy)]
@@ -10,6 +12,14 @@ pub(crate) struct BlockPlace {
     pub network: usize,
     pub column: u8,
     pub row: u8,
+}
+
+/// An element at its place, and the number of its MSTR block.
+#[derive(Clone, Copy)]
+pub(crate) struct Placed {
+    pub element: Element,
+    pub place: BlockPlace,
+    pub block: u16,
 }
 
 /// Which network of a controller: its segment, and its number in the segment, each counted from 1.

@@ -1,10 +1,10 @@
 //! Networks as solving walks them, and where each subroutine stands among them.
-ghost use Rattle.std.specs.Prelude.{◌≡◌, ◌<◌, ◌≤◌, length, map, slice_set, IfOk, IfSome};
+ghost use Rattle.std.specs.Prelude.{◌≡◌, ◌<◌, ◌≤◌, length, slice_set, IfOk, IfSome};
 ghost use Rattle.std.specs.Option.{option_copied};
 ghost use Rattle.grid_compile.specs.Lists.{op_at};
-ghost use Rattle.ladder_solver.specs.Layout.{spots_in};
+ghost use Rattle.ladder_solver.specs.Numbers.{mstr_count};
 ghost use Rattle.ladder_solver.specs.Subroutine.{label_number};
-ghost use Rattle.ladder_solver.specs.Program.{label_in, CanLay, grids_at, last_grids};
+ghost use Rattle.ladder_solver.specs.Program.{label_in, CanLay, last_grids, spots_at};
 ghost use Rattle.ladder_solver.specs.Program.{no_spans, spans_of, IsSpanOf, IsWithinNetworks};
 
 use crate::layout::{Spot, spots_of};
@@ -89,11 +89,13 @@ fn last_spans(segments: &[List<Grid>]) -> Spans
     spans_of(segments[segments.len() - 1].as_slice())
 }
 
-/// The grids of all segments, their cells as solving walks them, and their subroutines.
+/// The grids of all segments, their cells as solving walks them, how many MSTR blocks they have, and
+/// their subroutines.
 #[derive(Drop)]
 pub(crate) struct Program {
     grids: List<List<Grid>>,
     networks: List<List<List<Spot>>>,
+    blocks: u16,
     spans: Spans,
 }
 
@@ -115,15 +117,18 @@ impl Model for Program {
 }
 
 impl Program {
+    /// Lays out these grids, by segment.
     pub fn new(alloc: Global, grids: List<List<Grid>>) -> Result<Program, AllocError>
         requires { CanLay grids }
         ensures { IfOk result (λ program. program ≡ grids) }
     {
-        let networks = spots_of(alloc, grids.as_slice())?;
+        let mut block = 1;
+        let networks = spots_of(alloc, grids.as_slice(), &mut block)?;
         let spans = last_spans(grids.as_slice());
         Ok(Program {
             grids,
             networks,
+            blocks: block - 1,
             spans,
         })
     }
@@ -132,9 +137,16 @@ impl Program {
     pub fn networks(&self, segment: usize) -> &[List<Spot>]
         requires first { 0 < segment }
         requires last { segment ≤ length self.now }
-        ensures { result.now ≡ map spots_in (grids_at self.now segment) }
+        ensures { result.now ≡ spots_at self.now segment }
     {
         self.networks.as_slice()[segment - 1].as_slice()
+    }
+
+    /// How many MSTR blocks there are.
+    pub fn blocks(&self) -> u16
+        ensures { result ≡ mstr_count self.now }
+    {
+        self.blocks
     }
 
     /// The grids of each segment.

@@ -1,12 +1,23 @@
 //! What a solve carries from one network to the next.
 use crate::edges::Edges;
+use crate::program::Program;
+use mstr_block::MstrBank;
 use timer_ops::Clock;
 
 /// What is lent to each cell beside the references: the clock of the scan, the edge bits of all
-/// networks, and the networks left to the watchdog.
+/// networks, the MSTR blocks, and the networks left to the watchdog.
 #[derive(Drop)]
 pub(crate) struct Scan {
     pub clock: Clock,
     pub edges: Edges,
+    pub bank: MstrBank,
     pub left: u32,
+}
+
+/// What is lent to each cell and stays as it is: the program, and the discretes as the scan before
+/// ended.
+#[derive(Drop)]
+pub(crate) struct Lent<'a, P> {
+    pub program: &'a Program,
+    pub past: &'a P,
 }

@@ -7,10 +7,12 @@ use Rattle.std.specs.Prelude.{bit_and, bit_or}
 use Rattle.std.specs.List.{range_with_len}
 use Rattle.std.proofs.lemmas.Bool.{cases_eq}
 use Rattle.std.proofs.lemmas.Bool.Decides.{nat_tests}
-use Rattle.std.proofs.lemmas.List.{length-append, get_or_append_left, get_or-append-add, length-set, get_or-set_same, get_or-set_other, ext_get_or}
+use Rattle.std.proofs.lemmas.List.{length-append, get_or_append_left, get_or-append-add, length-set}
+use Rattle.std.proofs.lemmas.List.{get_or-set_same, get_or-set_other, ext_get_or}
 use Rattle.std.proofs.lemmas.List.FromFn.{fill_by_all}
 use Rattle.std.proofs.lemmas.Nat.{mod-pow-add, or_of_16, and_le_l}
-use Rattle.std.proofs.lemmas.Nat.Bits.{bit_at-lt, bit_at_set_same, bit_at_set_other, bit_at_clear_same, bit_at_clear_other}
+use Rattle.std.proofs.lemmas.Nat.Bits.{bit_at-lt, bit_at_set_same, bit_at_set_other}
+use Rattle.std.proofs.lemmas.Nat.Bits.{bit_at_clear_same, bit_at_clear_other}
 use Rattle.std.proofs.Math.Nat.{pow-suc}
 use Rattle.plant_types.specs.Power.{bit_of}
 use Rattle.plant_types.proofs.DiscretesLemmas.{length-bits_high_first, get_or-bits_high_first}

@@ -1,11 +1,13 @@
 -- One bit of a matrix in registers is one bit of the list of all its bits.
 use Rattle.std.proofs.Common.{◌≡◌, ℕ, zero, suc, ◌+◌, ◌-◌, ◌*◌, ◌/◌, ◌%◌, ◌^◌, ◌<◌, ◌≤◌, Bool, true}
-use Rattle.std.proofs.Common.{false, ◌==◌, List, [], ◌∷◌, ◌++◌, length, get_or, set, take, drop, fold}
+use Rattle.std.proofs.Common.{false, ◌==◌, List, [], ◌∷◌, ◌++◌, length, get_or, set, take, drop}
+use Rattle.std.proofs.Common.{fold}
 use Rattle.std.proofs.Common.{unwrap_or, refl, sym, ap, ◌∙◌, inl, inr, arith}
 use Rattle.std.specs.Int.{bit_at}
 use Rattle.std.specs.FinMap.{insert}
 use Rattle.std.proofs.lemmas.Bool.{cases_eq}
-use Rattle.std.proofs.lemmas.List.{length-set, get_or-set_same, get_or-set_other, set-append_left, set-append_right, ext_get_or}
+use Rattle.std.proofs.lemmas.List.{length-set, get_or-set_same, get_or-set_other, set-append_left}
+use Rattle.std.proofs.lemmas.List.{set-append_right, ext_get_or}
 use Rattle.std.proofs.lemmas.List.FromFn.{get_or-map-range_with_len}
 use Rattle.std.proofs.lemmas.Nat.Bits.{bit_at_cat_low, bit_at_cat_high}
 use Rattle.std.proofs.Math.Nat.{pow-suc}
@@ -13,7 +15,8 @@ use Rattle.plant_types.specs.declared.reference.Ref.{Ref}
 use Rattle.plant_types.specs.Power.{bit_of}
 use Rattle.plant_types.specs.Reference.{ref_from}
 use Rattle.plant_types.specs.Store.{Contents, word_at, words_from}
-use Rattle.plant_types.proofs.RunLemmas.{length-words_from, get_or-words_from, words_from-by_place, ref_from-apart, get-insert_same, get-insert_other}
+use Rattle.plant_types.proofs.RunLemmas.{length-words_from, get_or-words_from, words_from-by_place}
+use Rattle.plant_types.proofs.RunLemmas.{ref_from-apart, get-insert_same, get-insert_other}
 use Rattle.plant_types.specs.Discretes.{bits_high_first, word_bits, number_of_bits}
 use Rattle.matrix_ops.specs.Bits.{matrix_bits, matrix_words}
 use Rattle.matrix_ops.specs.Matrices.{with_matrix_bit, SetsOneBit}

@@ -4,15 +4,18 @@ use Rattle.std.proofs.Common.{false, ◌==◌, List, [], ◌∷◌, length, get_
 use Rattle.std.proofs.Common.{◌∙◌, lit<, arith}
 use Rattle.std.specs.Int.{bit_at}
 use Rattle.std.specs.Prelude.{bit_and, bit_or}
-use Rattle.std.proofs.lemmas.List.{length-append, length-drop, length-take-le, get_or-take, get_or-drop, get_or_append_left, get_or_push}
+use Rattle.std.proofs.lemmas.List.{length-append, length-drop, length-take-le, get_or-take}
+use Rattle.std.proofs.lemmas.List.{get_or-drop, get_or_append_left, get_or_push}
 use Rattle.std.proofs.lemmas.Nat.{or_shifted, shr_split}
-use Rattle.std.proofs.lemmas.Nat.Bits.{bit_at-lt, bit_at-suc, bit_at_cat_low, bit_at_cat_high, shr_and_one}
+use Rattle.std.proofs.lemmas.Nat.Bits.{bit_at-lt, bit_at-suc, bit_at_cat_low, bit_at_cat_high}
+use Rattle.std.proofs.lemmas.Nat.Bits.{shr_and_one}
 use mir.Val.{bool_byte}
 use Rattle.plant_types.specs.Power.{bit_of}
 use Rattle.matrix_ops.specs.Bits.{matrix_bits}
 use Rattle.matrix_ops.specs.Matrices.{left_turned, right_turned}
 use Rattle.plant_types.specs.Discretes.{number_of_bits}
-use Rattle.matrix_ops.proofs.BitLemmas.{length-matrix_bits, get_or-matrix_bits_at, number_of_bits-of_word}
+use Rattle.matrix_ops.proofs.BitLemmas.{length-matrix_bits, get_or-matrix_bits_at}
+use Rattle.matrix_ops.proofs.BitLemmas.{number_of_bits-of_word}
 
 -- a bit of the low bits of a number is that of the number
 bit_at-mod : (w n i : ℕ) → i < n → bit_at (w % 2 ^ n) i ≡ bit_at w i

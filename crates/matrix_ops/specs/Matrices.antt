@@ -1,6 +1,7 @@
 -- What each block that works on the bits of a matrix does when it is solved.
 use Rattle.std.specs.Prelude.{◌≡◌, ◌≤◌, ℕ, ◌+◌, ◌-◌, ◌*◌, ◌/◌, Bool, false, not, ◌&&◌, nat_le}
-use Rattle.std.specs.Prelude.{if◌then◌else◌, List, [], ◌∷◌, ◌++◌, take, drop, map, zip, slice_index_or, slice_set}
+use Rattle.std.specs.Prelude.{if◌then◌else◌, List, [], ◌∷◌, ◌++◌, take, drop, map, zip}
+use Rattle.std.specs.Prelude.{slice_index_or, slice_set}
 use Rattle.std.specs.Prelude.{Option, is_some, option_map, unwrap_or}
 use Rattle.std.specs.Int.{bit_not, w16}
 use Rattle.std.specs.List.{position_from}
@@ -10,7 +11,7 @@ use Rattle.plant_types.specs.declared.element.Operand.TheVariants.{Const, At}
 use Rattle.plant_types.specs.declared.power.NodePower.{NodePower}
 use Rattle.plant_types.specs.declared.reference.Ref.{Ref}
 use Rattle.plant_types.specs.Effect.{Effect}
-use Rattle.plant_types.specs.Operands.{number_of}
+use Rattle.plant_types.specs.Operands.{operand_number}
 use Rattle.plant_types.specs.Reference.{ref_from, is_holding}
 use Rattle.plant_types.specs.Store.{Contents, word_at, words_from, with_words}
 use Rattle.matrix_ops.specs.Bits.{matrix_bits, bit_number, matrix_words}
@@ -129,7 +130,7 @@ SetsOneBit =
 -- project's own.
 abbrev pub mbit_effect : Operand → Ref → ℕ → NodePower → Contents → Effect
 mbit_effect top mid length inputs m =
-    let k = number_of m top in
+    let k = operand_number m top in
     let changed = with_matrix_bit m mid length k inputs.middle in
     record {
       outputs = record {
@@ -147,7 +148,7 @@ mbit_effect top mid length inputs m =
 -- Ladder Logic Block Library User Guide; the exact inputs and outputs are this project's own.
 abbrev pub sens_effect : Operand → Ref → ℕ → NodePower → Contents → Effect
 sens_effect top mid length inputs m =
-    let k = if inputs.bottom && is_pointer top then 1 else number_of m top in
+    let k = if inputs.bottom && is_pointer top then 1 else operand_number m top in
     record {
       outputs = record {
         top = inputs.top;

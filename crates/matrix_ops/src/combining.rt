@@ -1,7 +1,11 @@
 //! AND, OR, XOR and COMP.
 ghost use Rattle.std.specs.Prelude.{◌≡◌, ◌≤◌, false, length, map, bit_and, bit_or, bit_xor};
 ghost use Rattle.std.specs.Int.{bit_not, w16};
+ghost use Rattle.plant_types.specs.declared.element.Element.{Element};
+ghost use Rattle.plant_types.specs.declared.element.MatrixOp.{MatrixOp};
+ghost use Rattle.plant_types.specs.declared.element.Operand.{Operand};
 ghost use Rattle.plant_types.specs.Effect.{Does};
+ghost use Rattle.plant_types.specs.Operands.{HasOperands};
 ghost use Rattle.plant_types.specs.Power.{nodes_of, bits_of};
 ghost use Rattle.plant_types.specs.Slots.{matrix_limit};
 ghost use Rattle.plant_types.specs.Store.{HasRegisters, Keeps, words_from, with_words};
@@ -90,9 +94,8 @@ fn combine<R: RefStore>(rule: Rule, top: Ref, mid: Ref, length: u16, inputs: u8,
 /// Input: the top node works. Output: the top node passes power on. Matrices have `length`
 /// registers.
 pub fn and<R: RefStore>(top: Ref, mid: Ref, length: u16, inputs: u8, ram: &mut R) -> u8
-    requires length { length ≤ matrix_limit }
-    requires source { HasRegisters (R.contents ram.old) top length }
-    requires matrix { HasRegisters (R.contents ram.old) mid length }
+    requires { HasOperands (R.contents ram.old)
+        (Element.Matrix MatrixOp.And (Operand.At top) mid length) }
     ensures { Does (combine_effect bit_and top mid length (nodes_of inputs)) result
         (R.contents ram.old) (R.contents ram.new) }
 {
@@ -103,9 +106,8 @@ pub fn and<R: RefStore>(top: Ref, mid: Ref, length: u16, inputs: u8, ram: &mut R
 ///
 /// Input, output and length are those of `and`.
 pub fn or<R: RefStore>(top: Ref, mid: Ref, length: u16, inputs: u8, ram: &mut R) -> u8
-    requires length { length ≤ matrix_limit }
-    requires source { HasRegisters (R.contents ram.old) top length }
-    requires matrix { HasRegisters (R.contents ram.old) mid length }
+    requires { HasOperands (R.contents ram.old)
+        (Element.Matrix MatrixOp.Or (Operand.At top) mid length) }
     ensures { Does (combine_effect bit_or top mid length (nodes_of inputs)) result
         (R.contents ram.old) (R.contents ram.new) }
 {
@@ -116,9 +118,8 @@ pub fn or<R: RefStore>(top: Ref, mid: Ref, length: u16, inputs: u8, ram: &mut R)
 ///
 /// Input, output and length are those of `and`.
 pub fn xor<R: RefStore>(top: Ref, mid: Ref, length: u16, inputs: u8, ram: &mut R) -> u8
-    requires length { length ≤ matrix_limit }
-    requires source { HasRegisters (R.contents ram.old) top length }
-    requires matrix { HasRegisters (R.contents ram.old) mid length }
+    requires { HasOperands (R.contents ram.old)
+        (Element.Matrix MatrixOp.Xor (Operand.At top) mid length) }
     ensures { Does (combine_effect bit_xor top mid length (nodes_of inputs)) result
         (R.contents ram.old) (R.contents ram.new) }
 {
@@ -137,9 +138,8 @@ fn invert_words(words: &mut [u16])
 ///
 /// Input, output and length are those of `and`.
 pub fn comp<R: RefStore>(top: Ref, mid: Ref, length: u16, inputs: u8, ram: &mut R) -> u8
-    requires length { length ≤ matrix_limit }
-    requires source { HasRegisters (R.contents ram.old) top length }
-    requires matrix { HasRegisters (R.contents ram.old) mid length }
+    requires { HasOperands (R.contents ram.old)
+        (Element.Matrix MatrixOp.Comp (Operand.At top) mid length) }
     ensures { Does (comp_effect top mid length (nodes_of inputs)) result
         (R.contents ram.old) (R.contents ram.new) }
 {

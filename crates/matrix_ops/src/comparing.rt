@@ -1,6 +1,10 @@
 //! CMPR.
 ghost use Rattle.std.specs.Prelude.{◌≡◌, ◌≤◌, ◌+◌, ◌*◌, length, IfSome};
+ghost use Rattle.plant_types.specs.declared.element.Element.{Element};
+ghost use Rattle.plant_types.specs.declared.element.MatrixOp.{MatrixOp};
+ghost use Rattle.plant_types.specs.declared.element.Operand.{Operand};
 ghost use Rattle.plant_types.specs.Effect.{Does};
+ghost use Rattle.plant_types.specs.Operands.{HasOperands};
 ghost use Rattle.plant_types.specs.Power.{nodes_of};
 ghost use Rattle.plant_types.specs.Slots.{matrix_limit};
 ghost use Rattle.plant_types.specs.Store.{HasRegisters, words_from};
@@ -63,9 +67,8 @@ fn register_difference<R: RefStore>(
 /// Outputs: the top node passes power on, the middle one says that a bit differs, the bottom one is
 /// that bit of `top`.
 pub fn cmpr<R: RefStore>(top: Ref, mid: Ref, length: u16, inputs: u8, ram: &mut R) -> u8
-    requires length { length ≤ matrix_limit }
-    requires source { HasRegisters (R.contents ram.old) top length }
-    requires pointer { HasRegisters (R.contents ram.old) mid (length + 1) }
+    requires { HasOperands (R.contents ram.old)
+        (Element.Matrix MatrixOp.Cmpr (Operand.At top) mid length) }
     ensures { Does (cmpr_effect top mid length (nodes_of inputs)) result
         (R.contents ram.old) (R.contents ram.new) }
 {

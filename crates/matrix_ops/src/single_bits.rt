@@ -1,6 +1,8 @@
 //! MBIT and SENS.
-ghost use Rattle.std.specs.Prelude.{◌≡◌, ◌≤◌, true, ◌*◌};
-ghost use Rattle.plant_types.specs.Operands.{HasNumber};
+ghost use Rattle.std.specs.Prelude.{◌≡◌, ◌≤◌, true, ◌*◌, ◌&&◌, if◌then◌else◌};
+ghost use Rattle.plant_types.specs.Operands.{HasOperands, HasNumber, operand_number};
+ghost use Rattle.plant_types.specs.declared.element.Element.{Element};
+ghost use Rattle.plant_types.specs.declared.element.MatrixOp.{MatrixOp};
 ghost use Rattle.plant_types.specs.Effect.{Does};
 ghost use Rattle.plant_types.specs.Power.{nodes_of};
 ghost use Rattle.plant_types.specs.Slots.{matrix_limit};
@@ -79,9 +81,8 @@ pub fn sets_one_bit()
 /// Outputs: the top node passes power on, the middle one is the bit, the bottom one says that the
 /// matrix has no such bit.
 pub fn mbit<R: RefStore>(top: Operand, mid: Ref, length: u16, inputs: u8, ram: &mut R) -> u8
-    requires length { length ≤ matrix_limit }
-    requires number { HasNumber (R.contents ram.old) top }
-    requires matrix { HasRegisters (R.contents ram.old) mid length }
+    requires { HasOperands (R.contents ram.old)
+        (Element.Matrix MatrixOp.Mbit top mid length) }
     ensures { Does (mbit_effect top mid length (nodes_of inputs)) result
         (R.contents ram.old) (R.contents ram.new) }
 {
@@ -105,15 +106,27 @@ pub fn mbit<R: RefStore>(top: Operand, mid: Ref, length: u16, inputs: u8, ram: &
     outputs.bits()
 }
 
+/// The number of the bit that SENS tells: 1 where the bottom node sets a pointer back.
+fn number_to_tell<R: RefStore>(nodes: NodePower, top: Operand, ram: &R) -> u16
+    requires { HasNumber (R.contents ram.now) top }
+    ensures { result ≡ (if nodes.bottom && is_pointer top then 1
+        else operand_number (R.contents ram.now) top) }
+{
+    if nodes.bottom && is_pointer_operand(top) {
+        1
+    } else {
+        top.number(ram)
+    }
+}
+
 /// SENS: tells the bit of the matrix `mid` whose number is `top`; bit 1 is the highest of the first
 /// register.
 ///
 /// Inputs: the top node asks, the middle one steps `top` where it is a holding register,
 /// the bottom one sets such a register to 1 first. Outputs are those of `mbit`.
 pub fn sens<R: RefStore>(top: Operand, mid: Ref, length: u16, inputs: u8, ram: &mut R) -> u8
-    requires length { length ≤ matrix_limit }
-    requires number { HasNumber (R.contents ram.old) top }
-    requires matrix { HasRegisters (R.contents ram.old) mid length }
+    requires { HasOperands (R.contents ram.old)
+        (Element.Matrix MatrixOp.Sens top mid length) }
     ensures { Does (sens_effect top mid length (nodes_of inputs)) result
         (R.contents ram.old) (R.contents ram.new) }
 {
@@ -121,11 +134,7 @@ pub fn sens<R: RefStore>(top: Operand, mid: Ref, length: u16, inputs: u8, ram: &
     if !nodes.top {
         return NodePower::OFF.bits();
     }
-    let k = if nodes.bottom && is_pointer_operand(top) {
-        1
-    } else {
-        top.number(ram)
-    };
+    let k = number_to_tell(nodes, top, ram);
     let inside = has_bit(length, k);
     let on = inside && bit(mid, length, k, ram);
     if inside && nodes.middle {

@@ -1,8 +1,8 @@
 //! What the tests of the blocks share. Registers count from 40001. Of the bits of inputs and
 //! outputs 1 is the top node, 2 the middle one and 4 the bottom one.
-ghost use Rattle.std.specs.Prelude.{◌≡◌};
+ghost use Rattle.std.specs.Prelude.{◌≡◌, true};
 ghost use Rattle.std.specs.Bool.{OnTrue};
-ghost use Rattle.plant_types.specs.Operands.{HasNumber};
+ghost use Rattle.plant_types.specs.Operands.{HasNumber, is_constant};
 ghost use Rattle.plant_types.specs.Store.{HasRegisters};
 
 use crate::{and, brot, cmpr, comp, mbit, or, sens, xor};
@@ -51,17 +51,18 @@ fn has_run(ram: &MapRam, at: Ref, count: u16) -> bool
 }
 
 fn has_number(ram: &MapRam, operand: Operand) -> bool
-    ensures { OnTrue result (HasNumber ram.now operand) }
+    ensures number { OnTrue result (HasNumber ram.now operand) }
+    ensures digits { OnTrue result (is_constant operand ≡ true) }
 {
     match operand {
-        Operand::Const(_) => true,
+        Operand::Const(number) => number <= 9999,
         Operand::At(at) => has_run(ram, at, 1),
     }
 }
 
 fn solve_bit(rt: &impl Abort, op: MatrixOp, case: Case<'_>, ram: &mut MapRam) -> u8 {
     let mid = register(case.mid);
-    assert!(rt; case.length <= 100);
+    assert!(rt; case.length >= 1 && case.length <= 100);
     assert!(rt; has_number(ram, case.top));
     assert!(rt; has_run(ram, mid, case.length));
     match op {

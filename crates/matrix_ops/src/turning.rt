@@ -1,6 +1,10 @@
 //! BROT.
 ghost use Rattle.std.specs.Prelude.{◌≡◌, ◌≤◌, ◌<◌, ◌*◌, length, take, drop};
+ghost use Rattle.plant_types.specs.declared.element.Element.{Element};
+ghost use Rattle.plant_types.specs.declared.element.MatrixOp.{MatrixOp};
+ghost use Rattle.plant_types.specs.declared.element.Operand.{Operand};
 ghost use Rattle.plant_types.specs.Effect.{Does};
+ghost use Rattle.plant_types.specs.Operands.{HasOperands};
 ghost use Rattle.plant_types.specs.Power.{nodes_of};
 ghost use Rattle.plant_types.specs.Slots.{matrix_limit};
 ghost use Rattle.plant_types.specs.Store.{HasRegisters};
@@ -65,10 +69,8 @@ fn turn_right(words: &[u16], bit_in: bool, turned: &mut [u16])
 /// the bottom one lets the bit that goes out come in again.
 /// Outputs: the top node passes power on, the middle one is the bit that went out.
 pub fn brot<R: RefStore>(top: Ref, mid: Ref, length: u16, inputs: u8, ram: &mut R) -> u8
-    requires some { 1 ≤ length }
-    requires length { length ≤ matrix_limit }
-    requires source { HasRegisters (R.contents ram.old) top length }
-    requires matrix { HasRegisters (R.contents ram.old) mid length }
+    requires { HasOperands (R.contents ram.old)
+        (Element.Matrix MatrixOp.Brot (Operand.At top) mid length) }
     ensures { Does (brot_effect top mid length (nodes_of inputs)) result
         (R.contents ram.old) (R.contents ram.new) }
 {

@@ -8,8 +8,9 @@ use Rattle.plant_types.specs.declared.reference.RefKind.{RefKind}
 use Rattle.plant_types.specs.declared.reference.RefKind.TheVariants as kinds
 use Rattle.plant_types.specs.Reference.{ref_from}
 use Rattle.plant_types.specs.Store.{Contents, Keeps, word_at, with_words}
-use Rattle.plant_types.proofs.RunLemmas.{length-words_from, get-insert_other, get-with_words_other, Keeps-insert, Keeps-with_words}
-use Rattle.modbus_pdu.specs.Spelling.{IsInRange, IsReplyInRange, IsReplyTo}
+use Rattle.plant_types.proofs.RunLemmas.{length-words_from, get-insert_other, get-with_words_other}
+use Rattle.plant_types.proofs.RunLemmas.{Keeps-insert, Keeps-with_words}
+use Rattle.modbus_pdu.specs.Spelling.{IsRequestInRange, IsReplyInRange, IsReplyTo}
 use Rattle.modbus_pdu.specs.declared.request.Request.{Request}
 use Rattle.modbus_pdu.specs.declared.request.Request.TheVariants.{ReadCoils, ReadInputs}
 use Rattle.modbus_pdu.specs.declared.request.Request.TheVariants.{ReadRegisters, ReadInputRegisters}
@@ -21,7 +22,8 @@ use Rattle.modbus_exec.specs.declared.end.ExecEnd.{ExecEnd}
 use Rattle.modbus_exec.specs.declared.end.ExecEnd.TheVariants.{Exception, NoMemory}
 use Rattle.plant_types.specs.Discretes.{bit_words}
 use Rattle.modbus_exec.specs.Runs.{reference_at}
-use Rattle.modbus_exec.specs.Answer.{Outcome, outcome_of, has_references, reply_by, stored_by, masked, IsOneOf, Writes}
+use Rattle.modbus_exec.specs.Answer.{Outcome, outcome_of, has_named_references, reply_by, stored_by}
+use Rattle.modbus_exec.specs.Answer.{masked, IsOneOf, Writes}
 use Rattle.modbus_exec.specs.Executing.{Executes}
 use Rattle.plant_types.proofs.DiscretesLemmas.{length-bits_from, length-bit_words}
 use Rattle.modbus_exec.proofs.Outcomes.{chosen}
@@ -38,13 +40,13 @@ of_test false outcome found e = absurd cc
 
 -- Where there is an outcome, the map has the references, and the outcome is what is due.
 came : (request : Request) (m : Contents) (outcome : Outcome) → outcome_of request m ≡ Ok outcome
-    → (has_references m request ≡ true) × (due request m ≡ outcome)
+    → (has_named_references m request ≡ true) × (due request m ≡ outcome)
 came (Stats clear) m outcome e = absurd cc
-came request m outcome e = of_test (has_references m request) (due request m) outcome e
+came request m outcome e = of_test (has_named_references m request) (due request m) outcome e
 
 -- Where there is an outcome, the map has the references.
 pub answered_has : (request : Request) (m : Contents) (outcome : Outcome)
-    → outcome_of request m ≡ Ok outcome → has_references m request ≡ true
+    → outcome_of request m ≡ Ok outcome → has_named_references m request ≡ true
 answered_has request m outcome e = (came request m outcome e).0
 
 -- A reply that fits a request, in range.
@@ -53,7 +55,7 @@ pub record Fits (request : Request) (reply : Reply) : Type 0 where
   pub to : IsReplyTo request reply
 
 -- The reply that is due fits, if it is of the map.
-reply_fits : (request : Request) (m : Contents) (outcome : Outcome) → IsInRange request
+reply_fits : (request : Request) (m : Contents) (outcome : Outcome) → IsRequestInRange request
     → outcome_of request m ≡ Ok outcome → Fits request (reply_by request m)
 reply_fits (ReadCoils address quantity) m outcome range e =
     let long = length-bits_from m (reference_at kinds.Coil address) quantity in
@@ -80,7 +82,7 @@ reply_fits (ReadWrite read quantity write words) m outcome range e =
 reply_fits _ m outcome range e = record { range = tt; to = refl }
 
 -- The reply of every answer fits the request.
-pub answer_fits : (request : Request) (m : Contents) (outcome : Outcome) → IsInRange request
+pub answer_fits : (request : Request) (m : Contents) (outcome : Outcome) → IsRequestInRange request
     → outcome_of request m ≡ Ok outcome → Fits request outcome.reply
 answer_fits request m outcome range e =
     let is = ap (λ (o : Outcome). o.reply) (came request m outcome e).1 in
@@ -162,7 +164,7 @@ same_kept m at h = h
 
 -- A reply is one that fits.
 pub executed_fits : (request : Request) (old new : Contents) (result : Result Reply ExecEnd)
-    → IsInRange request → Executes request old result new → IfOk result (Fits request)
+    → IsRequestInRange request → Executes request old result new → IfOk result (Fits request)
 executed_fits request old new (Ok reply) range h = answer_fits request old (record { reply = reply; stored = new }) range h
 executed_fits request old new (Err end) range h = tt
 

@@ -1,5 +1,6 @@
 -- Outcomes where the references are in the map, and registers once words are stored.
-use Rattle.std.proofs.Common.{◌≡◌, ◌≢◌, ℕ, ◌<◌, Bool, true, false, cond, List, length, get_or, unwrap_or, Result, Ok, Err, refl, ap, ◌∙◌}
+use Rattle.std.proofs.Common.{◌≡◌, ◌≢◌, ℕ, ◌<◌, Bool, true, false, cond, List, length, get_or}
+use Rattle.std.proofs.Common.{unwrap_or, Result, Ok, Err, refl, ap, ◌∙◌}
 use Rattle.plant_types.specs.declared.reference.Ref.{Ref}
 use Rattle.plant_types.specs.declared.reference.RefKind.TheVariants as kinds
 use Rattle.plant_types.specs.Reference.{ref_from}

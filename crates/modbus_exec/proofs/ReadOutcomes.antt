@@ -1,7 +1,8 @@
 -- What a read of references of a kind comes to.
 use Rattle.std.proofs.Common.{◌≡◌, ℕ, true, false, arith, ◌≤◌, refl}
 use Rattle.plant_types.specs.declared.reference.RefKind.{RefKind}
-use Rattle.plant_types.specs.declared.reference.RefKind.TheVariants.{Coil, Input, InputRegister, Register}
+use Rattle.plant_types.specs.declared.reference.RefKind.TheVariants.{Coil, Input, InputRegister}
+use Rattle.plant_types.specs.declared.reference.RefKind.TheVariants.{Register}
 use Rattle.plant_types.specs.Reference.{is_discrete}
 use Rattle.plant_types.specs.Store.{Contents, words_from}
 use Rattle.modbus_pdu.specs.Quantities.{most_discretes_read, most_registers_read}

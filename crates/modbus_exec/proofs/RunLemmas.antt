@@ -11,7 +11,8 @@ use Rattle.std.specs.FinMap.{contains_key, insert}
 use Rattle.plant_types.specs.declared.reference.Ref.{Ref}
 use Rattle.plant_types.specs.Reference.{ref_from}
 use Rattle.plant_types.specs.Store.{Contents, is_on, words_from, with_words}
-use Rattle.plant_types.proofs.RunLemmas.{ref_from-zero, ref_from-ref_from, length-words_from, get_or-words_from, with_words-push}
+use Rattle.plant_types.proofs.RunLemmas.{ref_from-zero, ref_from-ref_from, length-words_from}
+use Rattle.plant_types.proofs.RunLemmas.{get_or-words_from, with_words-push}
 use Rattle.plant_types.specs.Discretes.{bits_from, bit_words}
 use Rattle.modbus_exec.specs.Runs.{last_number, is_in_map, are_in_map, HasRun}
 

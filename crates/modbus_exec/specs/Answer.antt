@@ -30,28 +30,29 @@ masked value and_mask or_mask =
 
 -- Whether the map has every reference that a request names.
 -- Modicon Modbus Protocol Reference Guide.
-abbrev pub has_references : Contents → Request → Bool
-has_references m (requests.ReadCoils address quantity) =
+abbrev pub has_named_references : Contents → Request → Bool
+has_named_references m (requests.ReadCoils address quantity) =
     are_in_map m (reference_at kinds.Coil address) quantity
-has_references m (requests.ReadInputs address quantity) =
+has_named_references m (requests.ReadInputs address quantity) =
     are_in_map m (reference_at kinds.Input address) quantity
-has_references m (requests.ReadRegisters address quantity) =
+has_named_references m (requests.ReadRegisters address quantity) =
     are_in_map m (reference_at kinds.Register address) quantity
-has_references m (requests.ReadInputRegisters address quantity) =
+has_named_references m (requests.ReadInputRegisters address quantity) =
     are_in_map m (reference_at kinds.InputRegister address) quantity
-has_references m (requests.WriteCoil address on) = is_in_map m (reference_at kinds.Coil address)
-has_references m (requests.WriteRegister address value) =
+has_named_references m (requests.WriteCoil address on) = is_in_map m (reference_at kinds.Coil
+    address)
+has_named_references m (requests.WriteRegister address value) =
     is_in_map m (reference_at kinds.Register address)
-has_references m (requests.WriteCoils address bits) =
+has_named_references m (requests.WriteCoils address bits) =
     are_in_map m (reference_at kinds.Coil address) (length bits)
-has_references m (requests.WriteRegisters address words) =
+has_named_references m (requests.WriteRegisters address words) =
     are_in_map m (reference_at kinds.Register address) (length words)
-has_references m (requests.Mask address and_mask or_mask) =
+has_named_references m (requests.Mask address and_mask or_mask) =
     is_in_map m (reference_at kinds.Register address)
-has_references m (requests.ReadWrite read quantity write words) =
+has_named_references m (requests.ReadWrite read quantity write words) =
     are_in_map m (reference_at kinds.Register read) quantity
     && are_in_map m (reference_at kinds.Register write) (length words)
-has_references m _ = true
+has_named_references m _ = true
 
 -- The contents after a request. Modicon Modbus Protocol Reference Guide.
 abbrev pub stored_by : Request → Contents → Contents
@@ -91,7 +92,7 @@ reply_by request m = replies.Same request
 abbrev pub outcome_of : Request → Contents → Result Outcome ℕ
 outcome_of (requests.Stats clear) m = Err illegal_function
 outcome_of request m =
-    if has_references m request
+    if has_named_references m request
     then Ok (record { reply = reply_by request m; stored = stored_by request m })
     else Err illegal_address
 

@@ -7,7 +7,8 @@ use Rattle.modbus_pdu.specs.declared.request.Request.{Request}
 use Rattle.modbus_pdu.specs.declared.reply.Reply.{Reply}
 use Rattle.modbus_exec.specs.declared.end.ExecEnd.{ExecEnd}
 use Rattle.modbus_exec.specs.declared.end.ExecEnd.TheVariants as ends
-use Rattle.modbus_exec.specs.Answer.{Outcome, outcome_of, stored_by, answer_of, Writes, has_references}
+use Rattle.modbus_exec.specs.Answer.{Outcome, outcome_of, stored_by, answer_of, Writes}
+use Rattle.modbus_exec.specs.Answer.{has_named_references}
 
 -- The outcome of a request is this reply and these contents. This project's own.
 abbrev pub ComesTo : Request → Contents → Contents → Reply → Type 0
@@ -45,7 +46,7 @@ written_by (Some request) m = stored_by request m
 -- A map has the references of what is left to be written. This project's own.
 abbrev pub HasToWrite : Contents → Option Request → Type 0
 HasToWrite m None = Unit {0}
-HasToWrite m (Some request) = has_references m request ≡ true
+HasToWrite m (Some request) = has_named_references m request ≡ true
 
 -- The bytes of an answer, and what is left to be written of it, for which the map has the
 -- references. This project's own.

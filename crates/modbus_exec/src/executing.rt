@@ -1,6 +1,6 @@
 //! Requests on the references of a store.
 ghost use Rattle.std.specs.Prelude.{◌≡◌, ℕ, ◌↔◌, Ok, Err, IfOk, OnErr, IsErrOf};
-ghost use Rattle.modbus_pdu.specs.Spelling.{IsInRange, IsReplyInRange, IsReplyTo};
+ghost use Rattle.modbus_pdu.specs.Spelling.{IsRequestInRange, IsReplyInRange, IsReplyTo};
 ghost use Rattle.plant_types.specs.Store.{Keeps};
 ghost use Rattle.modbus_exec.specs.Answer.{outcome_of};
 ghost use Rattle.modbus_exec.specs.Executing.{ComesTo, Executes, KeepsOthers, Replies};
@@ -21,7 +21,7 @@ pub(crate) fn reply_to<R: RefStore>(
     request: &Request,
     ram: &R,
 ) -> Result<Reply, ExecEnd>
-    requires { IsInRange request.now }
+    requires { IsRequestInRange request.now }
     ensures { Replies request.now (R.contents ram.now) result }
 {
     match request {
@@ -59,7 +59,7 @@ pub(crate) fn reply_to<R: RefStore>(
 
 #[tactic(auto, using(crate::proofs::AnswerLemmas::answered_has))]
 fn execute<R: RefStore>(alloc: Global, request: &Request, ram: &mut R) -> Result<Reply, ExecEnd>
-    requires { IsInRange request.now }
+    requires { IsRequestInRange request.now }
     ensures { Executes request.now (R.contents ram.old) result (R.contents ram.new) }
 {
     match reply_to(alloc, request, ram) {
@@ -75,7 +75,7 @@ fn execute<R: RefStore>(alloc: Global, request: &Request, ram: &mut R) -> Result
 /// where a reference is outside the map. Without a reply nothing is changed: the reply's memory is
 /// taken first.
 pub fn exec<R: RefStore>(alloc: Global, request: &Request, ram: &mut R) -> Result<Reply, ExecEnd>
-    requires { IsInRange request.now }
+    requires { IsRequestInRange request.now }
     ensures answered { IfOk result
         (ComesTo request.now (R.contents ram.old) (R.contents ram.new)) }
     ensures exception { (code : ℕ) → IsErrOf result (ExecEnd.Exception code)

@@ -2,7 +2,7 @@
 ghost use Rattle.std.specs.Prelude.{◌≡◌, true};
 ghost use Rattle.std.specs.FinMap as map;
 ghost use Rattle.plant_types.specs.Store.{word_at, with_bit};
-ghost use Rattle.modbus_exec.specs.Answer.{has_references, stored_by, masked};
+ghost use Rattle.modbus_exec.specs.Answer.{has_named_references, stored_by, masked};
 ghost use Rattle.modbus_exec.specs.Runs.{reference_at, is_in_map};
 
 use crate::runs::{reference_of, write_bits, write_words};
@@ -40,7 +40,7 @@ fn store_masked<R: RefStore>(ram: &mut R, address: u16, and_mask: u16, or_mask: 
 
 /// Writes what a request writes. No memory is taken.
 pub(crate) fn store<R: RefStore>(request: &Request, ram: &mut R)
-    requires { has_references (R.contents ram.old) request.now ≡ true }
+    requires { has_named_references (R.contents ram.old) request.now ≡ true }
     ensures { R.contents ram.new ≡ stored_by request.now (R.contents ram.old) }
 {
     match request {

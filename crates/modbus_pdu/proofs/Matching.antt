@@ -1,8 +1,9 @@
 -- Which replies answer a request.
-use Rattle.std.proofs.Common.{◌≡◌, ℕ, ◌+◌, ◌<◌, Bool, List, [], ◌∷◌, length, Result, Ok, Err, refl, ap, subst, sym, ◌∙◌, inl, inr, arith}
+use Rattle.std.proofs.Common.{◌≡◌, ℕ, ◌+◌, ◌<◌, Bool, List, [], ◌∷◌, length, Result, Ok, Err, refl}
+use Rattle.std.proofs.Common.{ap, subst, sym, ◌∙◌, inl, inr, arith}
 use Rattle.std.specs.Prelude.{if◌then◌else◌, IfOk, IsErrOf, ◌↔◌}
 use Rattle.std.proofs.lemmas.Bool.Decides.{nat_tests}
-use Rattle.modbus_pdu.specs.Quantities.{statistics_words}
+use Rattle.plant_types.specs.Words.{statistics_words}
 use Rattle.modbus_pdu.specs.Spelling.{SpellsReply, IsEchoed, function_of, exception_code}
 use Rattle.modbus_pdu.specs.Decoding.{IsSpelledReply, IsOnlyReply, HasNoReply}
 use Rattle.modbus_pdu.specs.Steps.{Finds, IsBits, IsWords, IsWritten, IsStats, IsSame, IsNormal}

@@ -3,16 +3,20 @@ use Rattle.std.proofs.Common.{◌≡◌, ◌≢◌, ℕ, zero, suc, ◌+◌, ◌
 use Rattle.std.proofs.Common.{List, [], ◌∷◌, ◌++◌, length, take, drop, replicate, get_or, Ok, Err}
 use Rattle.std.proofs.Common.{refl, ap, subst, sym, ◌∙◌, arith}
 use Rattle.std.specs.Prelude.{◌⊎◌}
-use Rattle.std.proofs.lemmas.List.{take_at, drop_at, take-append-drop, length-append, length-take, length-drop, length-replicate, get_or-drop}
-use Rattle.modbus_pdu.specs.Bytes.{word_bytes, words_bytes, words_in, packed, unpacked, bytes_for, clear_spare, spare_count, counted_bits, counted_words}
-use Rattle.modbus_pdu.specs.Quantities.{IsUpTo, most_discretes_read, most_registers_read, statistics_words}
+use Rattle.std.proofs.lemmas.List.{take_at, drop_at, take-append-drop, length-append, length-take}
+use Rattle.std.proofs.lemmas.List.{length-drop, length-replicate, get_or-drop}
+use Rattle.modbus_pdu.specs.Bytes.{word_bytes, words_bytes, words_in, packed, unpacked, bytes_for}
+use Rattle.modbus_pdu.specs.Bytes.{clear_spare, spare_count, counted_bits, counted_words}
+use Rattle.plant_types.specs.Words.{statistics_words}
+use Rattle.modbus_pdu.specs.Quantities.{IsUpTo, most_discretes_read, most_registers_read}
 use Rattle.modbus_pdu.specs.Spelling.{operation_for}
 use Rattle.modbus_pdu.specs.Steps.{IsOperation, IsClear, Finds, IsBits, IsWords, IsStats}
 use Rattle.modbus_pdu.specs.declared.end.BadReply.TheVariants.{NoMemory}
 use Rattle.modbus_pdu.specs.declared.reply.Reply.{Reply}
 use Rattle.modbus_pdu.specs.declared.reply.Reply.TheVariants as replies
 use Rattle.modbus_pdu.proofs.Bytes.{IsBytes, word_is, length-words_bytes, words_is, words_again}
-use Rattle.modbus_pdu.proofs.Packing.{length-packed, length-unpacked, packed-unpacked, unpacked-packed}
+use Rattle.modbus_pdu.proofs.Packing.{length-packed, length-unpacked, packed-unpacked}
+use Rattle.modbus_pdu.proofs.Packing.{unpacked-packed}
 use Rattle.modbus_pdu.proofs.Registers.{counted_is}
 
 -- What stands behind a function code and a byte that counts it.

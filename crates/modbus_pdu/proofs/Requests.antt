@@ -3,7 +3,8 @@ use Rattle.std.proofs.Common.{◌≡◌, ◌≢◌, ℕ, ◌≤◌, List, [], �
 use Rattle.std.proofs.Common.{cond, Result, Ok, Err, refl, ap, inr, arith, ◌↔◌}
 use Rattle.std.specs.Prelude.{IfOk, IfErr, IsErrOf}
 use Rattle.plant_types.specs.declared.reference.RefKind.{RefKind}
-use Rattle.plant_types.specs.declared.reference.RefKind.TheVariants.{Coil, Input, InputRegister, Register}
+use Rattle.plant_types.specs.declared.reference.RefKind.TheVariants.{Coil, Input, InputRegister}
+use Rattle.plant_types.specs.declared.reference.RefKind.TheVariants.{Register}
 use Rattle.modbus_pdu.specs.Bytes.{word_bytes}
 use Rattle.modbus_pdu.specs.Decoding.{IsSpelled, IsOnlyRequest, IsUnspelled, IsDecodeEnd}
 use Rattle.modbus_pdu.specs.Exceptions.{illegal_function, illegal_value}

@@ -21,10 +21,6 @@ most_registers_written = 123
 abbrev pub most_registers_exchanged : ℕ
 most_registers_exchanged = 121
 
--- Words of network statistics.
-abbrev pub statistics_words : ℕ
-statistics_words = 20
-
 -- From one up to a number.
 abbrev pub IsUpTo : ℕ → ℕ → Type 0
 IsUpTo most count = (1 ≤ count) × (count ≤ most)

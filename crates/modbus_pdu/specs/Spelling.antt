@@ -6,7 +6,8 @@ use Rattle.modbus_pdu.specs.Bytes.{counted_bits, counted_words}
 use Rattle.modbus_pdu.specs.Quantities.{EachUpTo, IsUpTo, Quantity, at_most}
 use Rattle.modbus_pdu.specs.Quantities.{most_discretes_read, most_registers_read}
 use Rattle.modbus_pdu.specs.Quantities.{most_coils_written, most_registers_written}
-use Rattle.modbus_pdu.specs.Quantities.{most_registers_exchanged, statistics_words}
+use Rattle.plant_types.specs.Words.{statistics_words}
+use Rattle.modbus_pdu.specs.Quantities.{most_registers_exchanged}
 use Rattle.modbus_pdu.specs.declared.request.Request.{Request}
 use Rattle.modbus_pdu.specs.declared.request.Request.TheVariants as requests
 use Rattle.modbus_pdu.specs.declared.reply.Reply.{Reply}
@@ -52,8 +53,8 @@ quantities_of (requests.ReadWrite read quantity write words) =
 quantities_of _ = []
 
 -- Each quantity of a request is at least 1 and within its bound. This project's own.
-abbrev pub IsInRange : Request → Type 0
-IsInRange request = EachUpTo (quantities_of request)
+abbrev pub IsRequestInRange : Request → Type 0
+IsRequestInRange request = EachUpTo (quantities_of request)
 
 -- The bytes behind the function code of a request, with these spare bits behind its coils.
 -- Modicon Modbus Protocol Reference Guide.
@@ -97,7 +98,7 @@ HasForm bytes request = bytes ≡ request_bytes [] request
 
 -- The bytes are a spelling of the request. Modicon Modbus Protocol Reference Guide.
 pub record Spells (bytes : List ℕ) (request : Request) : Type 0 where
-  pub range : IsInRange request
+  pub range : IsRequestInRange request
   pub form : HasForm bytes request
 
 -- The spelling with spare bits that are 0. This project's own choice of the spellings.

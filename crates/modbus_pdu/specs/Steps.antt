@@ -8,7 +8,8 @@ use Rattle.modbus_pdu.specs.Bytes.{word_bytes, spare_count, unpacked}
 use Rattle.modbus_pdu.specs.Exceptions.{illegal_value}
 use Rattle.modbus_pdu.specs.Quantities.{most_discretes_read, most_registers_read}
 use Rattle.modbus_pdu.specs.Quantities.{most_coils_written, most_registers_written}
-use Rattle.modbus_pdu.specs.Spelling.{IsInRange, function_of, fields_of, SpellsReply, IsReplyTo}
+use Rattle.modbus_pdu.specs.Spelling.{IsRequestInRange, function_of, fields_of, SpellsReply}
+use Rattle.modbus_pdu.specs.Spelling.{IsReplyTo}
 use Rattle.modbus_pdu.specs.declared.end.BadReply.{BadReply}
 use Rattle.modbus_pdu.specs.declared.end.BadReply.TheVariants as bad
 use Rattle.modbus_pdu.specs.declared.reply.Reply.{Reply}
@@ -57,7 +58,7 @@ HasFields fields request = fields ≡ fields_of [] request
 -- What stands behind a function code is a request of that function.
 pub record SpellsFields (function : ℕ) (fields : List ℕ) (request : Request) : Type 0 where
   pub code : function ≡ function_of request
-  pub range : IsInRange request
+  pub range : IsRequestInRange request
   pub form : HasFields fields request
 
 -- The function that reads references of a kind.

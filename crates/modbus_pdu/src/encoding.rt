@@ -5,8 +5,8 @@ ghost use Rattle.modbus_pdu.specs.Bytes.{clear_spare};
 ghost use Rattle.modbus_pdu.specs.Quantities.{most_coils_written, most_registers_written};
 ghost use Rattle.modbus_pdu.specs.Quantities.{most_registers_exchanged};
 ghost use Rattle.modbus_pdu.specs.Quantities.{most_discretes_read, most_registers_read};
-ghost use Rattle.modbus_pdu.specs.Quantities.{statistics_words};
-ghost use Rattle.modbus_pdu.specs.Spelling.{IsInRange, Spells, spelling_of, IsReplyInRange};
+ghost use Rattle.plant_types.specs.Words.{statistics_words};
+ghost use Rattle.modbus_pdu.specs.Spelling.{IsRequestInRange, Spells, spelling_of, IsReplyInRange};
 ghost use Rattle.modbus_pdu.specs.Spelling.{SpellsReply, reply_bytes, exception_code};
 ghost use Rattle.modbus_pdu.specs.Spelling.{operation_for};
 
@@ -95,7 +95,7 @@ fn read_write(
 
 /// The bytes of a request; the spare bits behind its coils are 0.
 pub fn encode_request(alloc: Global, request: &Request) -> Result<Pdu, AllocError>
-    requires { IsInRange request.now }
+    requires { IsRequestInRange request.now }
     ensures spelled { IfOk result (λ pdu. Spells pdu request.now) }
     ensures bytes { IfOk result (λ pdu. pdu ≡ spelling_of request.now) }
 {

@@ -3,7 +3,7 @@ ghost use Rattle.std.specs.Prelude.{◌≡◌, ◌≢◌, if◌then◌else◌, �
 ghost use Rattle.std.specs.Prelude.{length, IsTrue, IfOk, IsErrOf, ◌↔◌, MatchOption};
 ghost use Rattle.modbus_pdu.specs.Bytes.{word_bytes};
 ghost use Rattle.modbus_pdu.specs.Decoding.{IsSpelledReply, IsOnlyReply, HasReply, HasNoReply};
-ghost use Rattle.modbus_pdu.specs.Quantities.{statistics_words};
+ghost use Rattle.plant_types.specs.Words.{statistics_words};
 ghost use Rattle.modbus_pdu.specs.Spelling.{function_of, exception_code, IsReplyTo, SpellsReply};
 ghost use Rattle.modbus_pdu.specs.Steps.{Finds, IsBits, IsWords, IsWritten, IsStats, IsSame};
 ghost use Rattle.modbus_pdu.specs.Steps.{IsNormal, IsOperation, IsWriting};

@@ -78,17 +78,12 @@ fn exchanges_are_read_and_written(rt: HostRuntime) -> Result<(), Fail> {
 }
 
 #[test]
-fn exceptions_are_due(rt: HostRuntime) {
-    let cases: [(&[u8], u8); 52] = [
+fn exceptions_of_reads_are_due(rt: HostRuntime) {
+    let cases: [(&[u8], u8); 23] = [
         (&[3, 0, 0, 0, 0x7d], 0),
         (&[3, 0, 0, 0, 0x7e], 3),
         (&[3, 0, 0, 0, 0], 3),
         (&[3, 0, 0, 0], 3),
-        (&[7], 1),
-        (&[5, 0, 0, 0x12, 0x34], 3),
-        (&[8, 0, 1, 0, 0], 3),
-        (&[0, 0, 0, 0, 1], 1),
-        (&[0x83, 0, 0, 0, 1], 1),
         (&[1, 0, 0, 0, 0], 3),
         (&[1, 0, 0, 0, 1], 0),
         (&[1, 0xff, 0xff, 7, 0xd0], 0),
@@ -108,6 +103,16 @@ fn exceptions_are_due(rt: HostRuntime) {
         (&[4, 0, 0, 0, 0x7d], 0),
         (&[4, 0, 0, 0, 0x7e], 3),
         (&[4, 0, 0, 0], 3),
+    ];
+    for (bytes, code) in cases {
+        assert_eq!(rt; code_of(rt.alloc(), bytes), code);
+    }
+}
+
+#[test]
+fn exceptions_of_writes_are_due(rt: HostRuntime) {
+    let cases: [(&[u8], u8); 16] = [
+        (&[5, 0, 0, 0x12, 0x34], 3),
         (&[5, 0, 0, 0, 0], 0),
         (&[5, 0, 0, 0xff, 0], 0),
         (&[5, 0, 0, 0xff, 1], 3),
@@ -117,6 +122,25 @@ fn exceptions_are_due(rt: HostRuntime) {
         (&[6, 0, 0, 0xff, 0xff], 0),
         (&[6, 0, 0, 0xff], 3),
         (&[6, 0, 0, 0xff, 0xff, 0], 3),
+        (&[0x16, 0, 0, 1, 2, 3, 4], 0),
+        (&[0x16, 0, 0, 1, 2, 3], 3),
+        (&[0x16, 0, 0, 1, 2, 3, 4, 5], 3),
+        (&[0x17, 0, 0, 0, 1, 0, 0, 0, 1], 3),
+        (&[15], 3),
+        (&[16, 0, 0, 0, 1], 3),
+    ];
+    for (bytes, code) in cases {
+        assert_eq!(rt; code_of(rt.alloc(), bytes), code);
+    }
+}
+
+#[test]
+fn exceptions_of_others_are_due(rt: HostRuntime) {
+    let cases: [(&[u8], u8); 13] = [
+        (&[7], 1),
+        (&[8, 0, 1, 0, 0], 3),
+        (&[0, 0, 0, 0, 1], 1),
+        (&[0x83, 0, 0, 0, 1], 1),
         (&[8, 0, 0, 1, 2], 0),
         (&[8, 0, 0, 1], 3),
         (&[8, 0, 0, 1, 2, 3], 3),
@@ -125,12 +149,6 @@ fn exceptions_are_due(rt: HostRuntime) {
         (&[8, 0, 0x15, 0, 4], 0),
         (&[8, 0, 0x15, 0, 5], 3),
         (&[8, 1, 0x15, 0, 3], 3),
-        (&[0x16, 0, 0, 1, 2, 3, 4], 0),
-        (&[0x16, 0, 0, 1, 2, 3], 3),
-        (&[0x16, 0, 0, 1, 2, 3, 4, 5], 3),
-        (&[0x17, 0, 0, 0, 1, 0, 0, 0, 1], 3),
-        (&[15], 3),
-        (&[16, 0, 0, 0, 1], 3),
         (&[24, 0, 0, 0, 1], 1),
     ];
     for (bytes, code) in cases {
@@ -139,9 +157,9 @@ fn exceptions_are_due(rt: HostRuntime) {
 }
 
 #[test]
-fn counts_are_exact(rt: HostRuntime) -> Result<(), Fail> {
+fn counts_of_writes_are_exact(rt: HostRuntime) -> Result<(), Fail> {
     let alloc = rt.alloc();
-    let cases: [(&[u8], u8, usize, u8); 31] = [
+    let cases: [(&[u8], u8, usize, u8); 20] = [
         (&[15, 0, 0, 0, 0], 0, 0, 3),
         (&[15, 0, 0, 0, 1], 1, 1, 0),
         (&[15, 0, 0, 0, 8], 1, 1, 0),
@@ -162,6 +180,18 @@ fn counts_are_exact(rt: HostRuntime) -> Result<(), Fail> {
         (&[16, 0, 0, 0, 1], 3, 3, 3),
         (&[16, 0, 0, 0, 1], 2, 1, 3),
         (&[16, 0, 0, 0, 1], 2, 3, 3),
+    ];
+    for (head, count, extra, code) in cases {
+        let bytes = long_request(alloc, head, count, extra)?;
+        assert_eq!(rt; code_of(alloc, &bytes), code);
+    }
+    Ok(())
+}
+
+#[test]
+fn counts_of_reads_with_writes_are_exact(rt: HostRuntime) -> Result<(), Fail> {
+    let alloc = rt.alloc();
+    let cases: [(&[u8], u8, usize, u8); 11] = [
         (&[0x17, 0, 0, 0, 0, 0, 0, 0, 1], 2, 2, 3),
         (&[0x17, 0, 0, 0, 1, 0, 0, 0, 0], 0, 0, 3),
         (&[0x17, 0, 0, 0, 1, 0, 0, 0, 1], 2, 2, 0),
@@ -194,9 +224,9 @@ fn cut_requests_are_exceptions(rt: HostRuntime) {
 }
 
 #[test]
-fn replies_fit_their_requests(rt: HostRuntime) -> Result<(), Fail> {
+fn replies_fit_what_was_read(rt: HostRuntime) -> Result<(), Fail> {
     let alloc = rt.alloc();
-    let cases: [(&[u8], &[u8], bool); 28] = [
+    let cases: [(&[u8], &[u8], bool); 17] = [
         (&[1, 0, 0, 0, 10], &[1, 2, 0xff, 3], true),
         (&[1, 0, 0, 0, 10], &[1, 2, 0xff, 4], false),
         (&[1, 0, 0, 0, 10], &[1, 1, 0xff], false),
@@ -214,6 +244,21 @@ fn replies_fit_their_requests(rt: HostRuntime) -> Result<(), Fail> {
         (&[3, 0, 0, 0, 1], &[3, 1, 0, 1], false),
         (&[3, 0, 0, 0, 1], &[3, 4, 0, 1, 0, 2], false),
         (&[3, 0, 0, 0, 1], &[4, 2, 0, 1], false),
+    ];
+    for (request, reply, fits) in cases {
+        assert!(rt; !request.is_empty());
+        let Ok(decoded) = decode(alloc, request) else {
+            return Err("no request".into());
+        };
+        assert_eq!(rt; decode_reply(alloc, &decoded, reply).is_ok(), fits);
+    }
+    Ok(())
+}
+
+#[test]
+fn replies_fit_what_was_written(rt: HostRuntime) -> Result<(), Fail> {
+    let alloc = rt.alloc();
+    let cases: [(&[u8], &[u8], bool); 11] = [
         (&[5, 0, 0, 0xff, 0], &[5, 0, 0, 0, 0], false),
         (&[5, 0, 0, 0xff, 0], &[5, 0, 1, 0xff, 0], false),
         (&[6, 0, 0, 0, 7], &[6, 0, 0, 0, 8], false),

@@ -1,12 +1,16 @@
 -- Which calls stay started and out.
-use Rattle.std.proofs.Common.{◌≡◌, ℕ, zero, suc, ◌-◌, Bool, true, false, None, List, [], ◌∷◌, get_or, set, map, is_some, refl, sym, ap, ◌∙◌}
+use Rattle.std.proofs.Common.{◌≡◌, ℕ, zero, suc, ◌-◌, Bool, true, false, None, List, [], ◌∷◌}
+use Rattle.std.proofs.Common.{get_or, set, map, is_some, refl, sym, ap, ◌∙◌}
 use Rattle.std.specs.Prelude.{◌||◌, option_and_then}
 use Rattle.std.specs.List.{list_any}
 use Rattle.std.proofs.lemmas.Bool.{false≢true}
+use Rattle.std.proofs.lemmas.List.{length-set}
 use Rattle.mstr_block.specs.declared.state.Running.{Running}
 use Rattle.mstr_block.specs.declared.state.BlockState.{BlockState}
-use Rattle.mstr_block.specs.declared.state.BlockState.TheVariants.{Idle, Waiting, Active, Aborted, Ready}
-use Rattle.mstr_block.specs.Table.{BlockTable, state_of, with_state, running_in, runs_such, call_of, is_untaken, is_awaited}
+use Rattle.mstr_block.specs.declared.state.BlockState.TheVariants.{Idle, Waiting, Active, Aborted}
+use Rattle.mstr_block.specs.declared.state.BlockState.TheVariants.{Ready}
+use Rattle.mstr_block.specs.Table.{BlockTable, block_state, with_state, running_in, runs_such}
+use Rattle.mstr_block.specs.Table.{call_of, is_untaken, is_awaited}
 use Rattle.mstr_block.specs.Laws.{KeepsCalls, SolvesKeepCalls}
 use Rattle.mstr_block.proofs.Steps.{Step, stays, rests, gives_up, launches, step_of}
 
@@ -50,25 +54,29 @@ never : (a b : Bool) → a ≡ false → a ≡ true → b ≡ true
 never a b off on = absurd (false≢true (sym off ∙ on))
 
 -- so any state may follow such a block
-follows : (table : BlockTable) (block : ℕ) (s : BlockState) → running_in (state_of table block) ≡ None → KeepsCalls table (with_state table block s)
+follows : (table : BlockTable) (block : ℕ) (s : BlockState) → running_in (block_state table block) ≡ None → KeepsCalls table (with_state table block s)
 follows table block s none = record {
-  started = any-set is_untaken table.blocks (block - 1) s Idle (never _ (is_untaken s) (rests-untaken (state_of table block) none));
-  out = λ id. any-set (is_awaited id) table.blocks (block - 1) s Idle (never _ (is_awaited id s) (rests-such _ (state_of table block) none));
+  node = refl;
+  count = length-set table.blocks (block - 1) _;
+  started = any-set is_untaken table.blocks (block - 1) s Idle (never _ (is_untaken s) (rests-untaken (block_state table block) none));
+  out = λ id. any-set (is_awaited id) table.blocks (block - 1) s Idle (never _ (is_awaited id s) (rests-such _ (block_state table block) none));
 }
 
 -- and a call that is given up is still the same call
-given : (table : BlockTable) (block : ℕ) (r : Running) → state_of table block ≡ Active r → KeepsCalls table (with_state table block (Aborted r))
+given : (table : BlockTable) (block : ℕ) (r : Running) → block_state table block ≡ Active r → KeepsCalls table (with_state table block (Aborted r))
 given table block r e = record {
+  node = refl;
+  count = length-set table.blocks (block - 1) _;
   started = any-set is_untaken table.blocks (block - 1) (Aborted r) Idle (λ h. sym (ap is_untaken e) ∙ h);
   out = λ id. any-set (is_awaited id) table.blocks (block - 1) (Aborted r) Idle (λ h. sym (ap (is_awaited id) e) ∙ h);
 }
 
 step-keeps : (table : BlockTable) (block : ℕ) (after : BlockTable) → Step table block after → KeepsCalls table after
-step-keeps table block after stays = record { started = λ h. h; out = λ id h. h }
+step-keeps table block after stays = record { node = refl; count = refl; started = λ h. h; out = λ id h. h }
 step-keeps table block after (rests s none rest) = follows table block s none
 step-keeps table block after (gives_up r e) = given table block r e
-step-keeps table block after (launches op control words path none e) =
-    let kept = follows table block _ none in record { started = kept.started; out = kept.out }
+step-keeps table block after (launches op control words path none e passed long) =
+    let kept = follows table block _ none in record { node = kept.node; count = kept.count; started = kept.started; out = kept.out }
 
 pub solves-keep_calls : SolvesKeepCalls
 solves-keep_calls table block site inputs m = step-keeps table block _ (step_of table block site inputs m)

@@ -1,21 +1,31 @@
 -- The name of a new call is none of those that a table has.
-use Rattle.std.proofs.Common.{◌≡◌, ◌≢◌, ◌⊎◌, ℕ, zero, suc, ◌+◌, ◌-◌, ◌<◌, ◌≤◌, Bool, true, false, cond, Option, Some, None, List, [], ◌∷◌, length, get_or, set, replicate, unwrap_or, refl, sym, ap, ◌∙◌, subst, arith, inl, inr}
-use Rattle.std.specs.Prelude.{if◌then◌else◌, ◌==◌, ◌||◌, not}
+use Rattle.std.proofs.Common.{◌≡◌, ◌≢◌, ◌⊎◌, ℕ, zero, suc, ◌+◌, ◌-◌, ◌<◌, ◌≤◌, Bool, true, false}
+use Rattle.std.proofs.Common.{cond, Option, Some, None, is_some, List, [], ◌∷◌, length, get_or, set}
+use Rattle.std.proofs.Common.{replicate, unwrap_or, refl, sym, ap, ◌∙◌, subst, arith, inl, inr}
+use Rattle.std.specs.Prelude.{if◌then◌else◌, ◌==◌, ◌||◌, not, nat_le}
 use Rattle.std.specs.List.{list_any, find, position, AllByRecursion}
-use Rattle.std.proofs.lemmas.Bool.{false≢true, and_parts, eq-eqb}
+use Rattle.std.proofs.lemmas.Bool.{false≢true, and_parts, eq-eqb, ne_eqb, leb-false, not-true}
+use Rattle.std.proofs.lemmas.Bool.{not_from_false}
 use Rattle.std.proofs.lemmas.List.{get_or-set_same, length-set}
 use Rattle.mstr_block.specs.declared.control.Control.{Control}
 use Rattle.mstr_block.specs.declared.operation.Operation.{Operation}
 use Rattle.mstr_block.specs.declared.state.Running.{Running}
 use Rattle.mstr_block.specs.declared.state.BlockState.{BlockState}
-use Rattle.mstr_block.specs.declared.state.BlockState.TheVariants.{Idle, Waiting, Active, Aborted, Ready}
+use Rattle.mstr_block.specs.declared.state.BlockState.TheVariants.{Idle, Waiting, Active, Aborted}
+use Rattle.mstr_block.specs.declared.state.BlockState.TheVariants.{Ready}
 use Rattle.mstr_block.specs.Control.{ask_of}
 use Rattle.mstr_block.specs.Operations.{uses_network}
-use Rattle.mstr_block.specs.Table.{BlockTable, idle_table, with_state, running_in, runs_such, runs_on, is_untaken, is_spent, is_free, path_for, network_paths, own_path, path_count, next_call}
+use Rattle.mstr_block.specs.Table.{BlockTable, resting_table, with_state, running_in, runs_such}
+use Rattle.mstr_block.specs.Table.{runs_on, is_untaken, is_spent, is_free, path_for, network_paths}
+use Rattle.mstr_block.specs.Table.{own_path, path_count, last_call_number, next_call}
 use Rattle.mstr_block.specs.Solve.{kept_of, launched}
-use Rattle.mstr_block.specs.Laws.{RunsAt, RanAt, IsNamed, IsTable, StaysTable, GivesNewNumbers, SolvesGiveNewNumbers}
+use Rattle.mstr_block.specs.Running.{RunsAt, IsAsk, AsksFor, IsCallName, IsRunning, IsStateOf}
+use Rattle.mstr_block.specs.Running.{IsTable}
+use Rattle.mstr_block.specs.Laws.{StaysTable, GivesNewNumbers, SolvesGiveNewNumbers}
+use Rattle.mstr_block.proofs.Passing.{Passes, can_move, is_ask, asks_for}
 use Rattle.mstr_block.proofs.Steps.{Step, stays, rests, gives_up, launches, step_of}
-use Rattle.mstr_block.proofs.Names.{nothing, same_name, set-cases, written, rests-stay, gives-stay, finished-stays, taken-stays}
+use Rattle.mstr_block.proofs.Names.{nothing, the_same, same_name, set-cases, set-states, runs_none}
+use Rattle.mstr_block.proofs.Names.{rests-stay, gives-stay, finished-stays, taken-stays}
 
 -- what a search finds passes, and stands in the list
 found_here : (p : ℕ → Bool) (P : ℕ → Type 0) (y x : ℕ) (rest : Option ℕ) (b : Bool) → P y → p y ≡ b → (rest ≡ Some x → (p x ≡ true) × P x)
@@ -30,33 +40,41 @@ found p P [] x all e = absurd (nothing x e)
 found p P (y ∷ ys) x all e = found_here p P y x (find p ys) (p y) all.0 refl (found p P ys x all.1) e
 
 -- a path that may be given is one of the five, and nothing runs on it if it is one of the network
-pub record IsOpen (table : BlockTable) (at : ℕ) : Type 0 where
+pub record IsOpen (table : BlockTable) (network : Bool) (at : ℕ) : Type 0 where
   pub path : at < path_count
+  pub kind : network ≡ not (at == own_path)
+  pub number : get_or table.numbers at 0 < last_call_number
   pub free : (at ≡ own_path) ⊎ (list_any (runs_on at) table.blocks ≡ false)
 
-not-true : (b : Bool) → not b ≡ true → b ≡ false
-not-true true e = absurd (false≢true e)
-not-true false e = refl
+left_over : (n : ℕ) → nat_le last_call_number n ≡ false → n < last_call_number
+left_over n e = leb-false last_call_number n e
 
-by_network : (table : BlockTable) (path : ℕ) → find (is_free table) network_paths ≡ Some path → IsOpen table path
+by_network : (table : BlockTable) (path : ℕ) → find (is_free table) network_paths ≡ Some path → IsOpen table true path
 by_network table path e =
-    let low : AllByRecursion (λ n. n < path_count) network_paths = (omega arith, (omega arith, (omega arith, (omega arith, tt)))) in
-    let facts = found (is_free table) (λ n. n < path_count) network_paths path low e in
+    let low : AllByRecursion (λ n. (1 ≤ n) × (n < path_count)) network_paths =
+    ((omega arith, omega arith), ((omega arith, omega arith), ((omega arith, omega arith), ((omega arith, omega arith), tt)))) in
+    let facts = found (is_free table) (λ n. (1 ≤ n) × (n < path_count)) network_paths path low e in
     let parts = and_parts (not (is_spent table path)) (not (list_any (runs_on path) table.blocks)) facts.0 in
-    record { path = facts.1; free = inr (not-true _ parts.1) }
+    let first = facts.1.0 in
+    record {
+      path = facts.1.1;
+      kind = sym (not_from_false (path == own_path) (ne_eqb path own_path (λ h. omega arith)));
+      number = left_over _ (not-true _ parts.0);
+      free = inr (not-true _ parts.1);
+    }
 
-own_at : (table : BlockTable) (path : ℕ) (b : Bool) → (if b then None else Some own_path) ≡ Some path → IsOpen table path
-own_at table path true e = absurd (nothing path e)
-own_at table path false e =
+own_at : (table : BlockTable) (path : ℕ) (b : Bool) → is_spent table own_path ≡ b → (if b then None else Some own_path) ≡ Some path → IsOpen table false path
+own_at table path true spent e = absurd (nothing path e)
+own_at table path false spent e =
     let same : own_path ≡ path = ap (λ o. unwrap_or o 0) e in
-    record { path = subst (λ n. n < path_count) same (omega arith); free = inl (sym same) }
+    subst (λ (at : ℕ). IsOpen table false at) same (record { path = omega arith; kind = refl; number = left_over _ spent; free = inl refl })
 
 open_at : (table : BlockTable) (path : ℕ) (b : Bool)
-    → (if b then find (is_free table) network_paths else (if is_spent table own_path then None else Some own_path)) ≡ Some path → IsOpen table path
+    → (if b then find (is_free table) network_paths else (if is_spent table own_path then None else Some own_path)) ≡ Some path → IsOpen table b path
 open_at table path true e = by_network table path e
-open_at table path false e = own_at table path (is_spent table own_path) e
+open_at table path false e = own_at table path (is_spent table own_path) refl e
 
-is_open : (table : BlockTable) (op : Operation) (path : ℕ) → path_for table op ≡ Some path → IsOpen table path
+is_open : (table : BlockTable) (op : Operation) (path : ℕ) → path_for table op ≡ Some path → IsOpen table (uses_network op) path
 is_open table op path e = open_at table path (uses_network op) e
 
 -- where no block runs on a path, none at a place does
@@ -93,44 +111,91 @@ new_call table op control words path =
 above : (table : BlockTable) (path : ℕ) → get_or table.numbers path 0 < (next_call table path).seq
 above table path = omega arith
 
+-- the call of a state that runs one
+running_at : (own : ℕ) (numbers : List ℕ) (s : BlockState) (r : Running) → running_in s ≡ Some r → IsStateOf own numbers s → IsRunning own numbers r
+running_at own numbers Idle r e is = absurd (nothing r e)
+running_at own numbers Waiting r e is = absurd (nothing r e)
+running_at own numbers (Active a) r e is = the_same (IsRunning own numbers) a r is e
+running_at own numbers (Aborted a) r e is = the_same (IsRunning own numbers) a r is e
+running_at own numbers (Ready kept result) r e is = absurd (nothing r e)
+
 module _ (table : BlockTable) (block : ℕ) (op : Operation) (control : Control) (words : List ℕ) (path : ℕ) where
   -- a block of the new table runs what it ran, or the new call
   old_or_new : (place : ℕ) (r : Running) → RunsAt (launched table block op control words (Some path)) place r
-      → RunsAt table place r ⊎ ((place ≡ block - 1) × (next_call table path ≡ r.id))
+      → RunsAt table place r ⊎ ((place ≡ block - 1) × (next_call table path ≡ r.id) × (is_some r.ask ≡ true))
   old_or_new place r runs = elim (set-cases table.blocks (block - 1) (Active (new_call table op control words path)) Idle place) [
     | inl e ↦ inl (sym (ap running_in e) ∙ runs)
-    | inr w ↦ inr (w.0, same_name (new_call table op control words path) r (sym (ap running_in w.1) ∙ runs))
+    | inr w ↦ (let is = sym (ap running_in w.1) ∙ runs in
+        let call = new_call table op control words path in
+        inr (w.0, same_name call r is, the_same (λ (q : Running). is_some q.ask ≡ true) call r refl is))
   ]
 
   launched-new : GivesNewNumbers table (launched table block op control words (Some path))
   launched-new = record {
     rises = λ q. rises table.numbers path q;
-    new = λ place r runs. elim (old_or_new place r runs) as (λ _. RanAt table place r.id ⊎ (get_or table.numbers r.id.path 0 < r.id.seq)) [
-      | inl old ↦ inl (r, old, refl)
-      | inr new ↦ inr (subst (λ id. get_or table.numbers id.path 0 < id.seq) new.1 (above table path))
-    ];
+    new = λ place r runs. elim (old_or_new place r runs)
+        as (λ _. RunsAt table place r ⊎ ((get_or table.numbers r.id.path 0 < r.id.seq) × (is_some r.ask ≡ true))) [
+          | inl old ↦ inl old
+          | inr new ↦ inr (subst (λ id. get_or table.numbers id.path 0 < id.seq) new.1 (above table path), new.2)
+        ];
   }
 
-module _ (table : BlockTable) (block : ℕ) (op : Operation) (control : Control) (words : List ℕ) (path : ℕ) (may : IsOpen table path) (t : IsTable table) where
-  named_new : IsNamed (launched table block op control words (Some path)) (next_call table path)
-  named_new =
-      let within : path < length table.numbers = subst (λ n. path < n) (sym t.paths) may.path in
-      let last = get_or-set_same table.numbers path (get_or table.numbers path 0 + 1) 0 within in
-      record { node = refl; path = may.path; first = omega arith; given = omega arith }
+-- numbers rise and go no further than the last
+within_last : (numbers : List ℕ) (path : ℕ) → ((q : ℕ) → get_or numbers q 0 ≤ last_call_number) → get_or numbers path 0 < last_call_number
+    → (q : ℕ) → get_or (set numbers path (get_or numbers path 0 + 1)) q 0 ≤ last_call_number
+within_last numbers path were left q = elim (set-cases numbers path (get_or numbers path 0 + 1) 0 q) [
+  | inl e ↦ (let was = were q in omega arith)
+  | inr w ↦ (let new = w.1 in omega arith)
+]
 
-  named_old : (place : ℕ) (r : Running) → RunsAt table place r → IsNamed (launched table block op control words (Some path)) r.id
-  named_old place r runs =
-      let was = t.named place r runs in
-      let up = rises table.numbers path r.id.path in
-      let low = was.given in
-      record { node = was.node; path = was.path; first = was.first; given = omega arith }
+-- and a call that was named is still named
+still_runs : (own : ℕ) (numbers : List ℕ) (path : ℕ) (r : Running) → IsRunning own numbers r → IsRunning own (set numbers path (get_or numbers path 0 + 1)) r
+still_runs own numbers path r is =
+    let up = rises numbers path r.id.path in
+    let low = is.named.given in
+    record {
+      named = record { node = is.named.node; path = is.named.path; first = is.named.first; given = omega arith };
+      network = is.network;
+      kept = is.kept;
+      ask = is.ask;
+    }
+
+still_is : (own : ℕ) (numbers : List ℕ) (path : ℕ) (s : BlockState) → IsStateOf own numbers s → IsStateOf own (set numbers path (get_or numbers path 0 + 1)) s
+still_is own numbers path Idle is = tt
+still_is own numbers path Waiting is = tt
+still_is own numbers path (Active r) is = still_runs own numbers path r is
+still_is own numbers path (Aborted r) is = still_runs own numbers path r is
+still_is own numbers path (Ready kept result) is = is
+
+-- what a call to be stands on
+pub record MayRun (table : BlockTable) (op : Operation) (control : Control) (words : List ℕ) (at : ℕ) : Type 0 where
+  pub opened : IsOpen table (uses_network op) at
+  pub passed : Passes table.node op control
+  pub long : length words ≡ control.length
+
+module _ (table : BlockTable) (block : ℕ) (op : Operation) (control : Control) (words : List ℕ) (path : ℕ) (may : MayRun table op
+    control words path) (t : IsTable table) where
+  named_new : IsCallName table.node (set table.numbers path (get_or table.numbers path 0 + 1)) (next_call table path)
+  named_new =
+      let within : path < length table.numbers = subst (λ n. path < n) (sym t.paths) may.opened.path in
+      let last = get_or-set_same table.numbers path (get_or table.numbers path 0 + 1) 0 within in
+      record { node = refl; path = may.opened.path; first = omega arith; given = omega arith }
+
+  running_new : IsRunning table.node (set table.numbers path (get_or table.numbers path 0 + 1)) (new_call table op control words path)
+  running_new = record {
+    named = named_new;
+    network = may.opened.kind;
+    kept = can_move table.node op control may.passed;
+    ask = λ ask e. the_same (λ a. IsAsk table.node a × AsksFor (kept_of op control) a) (ask_of op control words) ask
+        (is_ask table.node op control words may.passed may.long, asks_for op control words may.long) e;
+  }
 
   -- an old call on the path of the new one
   meets : (place : ℕ) (r : Running) → RunsAt table place r → r.id.path ≡ path → (path ≡ own_path) × (r.id.seq ≢ get_or table.numbers path 0 + 1)
   meets place r runs same =
-      let low = (t.named place r runs).given in
+      let low = (running_at table.node table.numbers (get_or table.blocks place Idle) r runs (t.states place)).named.given in
       let number : get_or table.numbers r.id.path 0 ≡ get_or table.numbers path 0 = ap (λ n. get_or table.numbers n 0) same in (
-        elim may.free as (λ _. path ≡ own_path) [
+        elim may.opened.free as (λ _. path ≡ own_path) [
           | inl own ↦ own
           | inr none ↦ absurd (false≢true (sym (none_at (runs_on path) refl table.blocks none place)
               ∙ such-at (λ q. q.id.path == path) (get_or table.blocks place Idle) r runs ∙ eq-eqb r.id.path path same))
@@ -141,10 +206,10 @@ module _ (table : BlockTable) (block : ℕ) (op : Operation) (control : Control)
   launched-stays : IsTable (launched table block op control words (Some path))
   launched-stays = record {
     paths = length-set table.numbers path (get_or table.numbers path 0 + 1) ∙ t.paths;
-    named = λ place r runs. elim (old_or_new table block op control words path place r runs) [
-      | inl old ↦ named_old place r old
-      | inr new ↦ subst (λ id. IsNamed (launched table block op control words (Some path)) id) new.1 named_new
-    ];
+    numbers = within_last table.numbers path t.numbers may.opened.number;
+    states = set-states table.node (set table.numbers path (get_or table.numbers path 0 + 1)) table.blocks (block - 1) (Active
+        (new_call table op control words path))
+        (λ place. still_is table.node table.numbers path (get_or table.blocks place Idle) (t.states place)) running_new;
     apart = λ one other r s differ runs1 runs2 paths. elim (old_or_new table block op control words path one r runs1) [
       | inl old1 ↦ elim (old_or_new table block op control words path other s runs2) [
         | inl old2 ↦ t.apart one other r s differ old1 old2 paths
@@ -160,27 +225,31 @@ module _ (table : BlockTable) (block : ℕ) (op : Operation) (control : Control)
   }
 
 -- a block that is written gives no number
-written-new : (table : BlockTable) (block : ℕ) (s : BlockState) → ((r : Running) → running_in s ≡ Some r → RanAt table (block - 1) r.id)
+written-new : (table : BlockTable) (block : ℕ) (s : BlockState) → ((r : Running) → running_in s ≡ Some r → RunsAt table (block - 1) r)
     → GivesNewNumbers table (with_state table block s)
 written-new table block s from = record {
   rises = λ q. omega arith;
-  new = λ place r runs. inl (written table (block - 1) s place r from runs);
+  new = λ place r runs. elim (set-cases table.blocks (block - 1) s Idle place) [
+    | inl e ↦ inl (sym (ap running_in e) ∙ runs)
+    | inr w ↦ inl (subst (λ n. RunsAt table n r) (sym w.0) (from r (sym (ap running_in w.1) ∙ runs)))
+  ];
 }
 
 step-new : (table : BlockTable) (block : ℕ) (after : BlockTable) → Step table block after → GivesNewNumbers table after
-step-new table block after stays = record { rises = λ q. omega arith; new = λ place r runs. inl (r, runs, refl) }
-step-new table block after (rests s was none) = written-new table block s (λ r e. absurd (nothing r (sym none ∙ e)))
-step-new table block after (gives_up r e) = written-new table block (Aborted r) (λ q h. (r, ap running_in e, same_name r q h))
-step-new table block after (launches op control words path none e) = launched-new table block op control words path
+step-new table block after stays = record { rises = λ q. omega arith; new = λ place r runs. inl runs }
+step-new table block after (rests s was rest) = written-new table block s (λ r e. absurd (nothing r (sym (runs_none s rest) ∙ e)))
+step-new table block after (gives_up r e) = written-new table block (Aborted r) (λ q h. ap running_in e ∙ h)
+step-new table block after (launches op control words path none e passed long) = launched-new table block op control words path
 
 pub solves-give_new_numbers : SolvesGiveNewNumbers
 solves-give_new_numbers table block site inputs m = step-new table block _ (step_of table block site inputs m)
 
 step-stays : (table : BlockTable) (block : ℕ) (after : BlockTable) → Step table block after → IsTable table → IsTable after
 step-stays table block after stays t = t
-step-stays table block after (rests s was none) t = rests-stay table block s none t
+step-stays table block after (rests s was rest) t = rests-stay table block s rest t
 step-stays table block after (gives_up r e) t = gives-stay table block r e t
-step-stays table block after (launches op control words path none e) t = launched-stays table block op control words path (is_open table op path e) t
+step-stays table block after (launches op control words path none e passed long) t =
+    launched-stays table block op control words path (record { opened = is_open table op path e; passed = passed; long = long }) t
 
 -- at first no block runs a call
 idle_at : (count place : ℕ) → get_or (replicate count Idle) place Idle ≡ Idle
@@ -188,16 +257,26 @@ idle_at zero place = refl
 idle_at (suc count) zero = refl
 idle_at (suc count) (suc place) = idle_at count place
 
-idle-table : (node count : ℕ) → IsTable (idle_table node count)
-idle-table node count = record {
-  paths = refl;
-  named = λ place r runs. absurd (nothing r (sym (ap running_in (idle_at count place)) ∙ runs));
+none_given : (path : ℕ) → get_or (replicate path_count 0) path 0 ≤ last_call_number
+none_given zero = omega arith
+none_given (suc zero) = omega arith
+none_given (suc (suc zero)) = omega arith
+none_given (suc (suc (suc zero))) = omega arith
+none_given (suc (suc (suc (suc zero)))) = omega arith
+none_given (suc (suc (suc (suc (suc path))))) = omega arith
+
+pub resting-table : (node count : ℕ) (numbers : List ℕ) → length numbers ≡ path_count → ((path : ℕ) → get_or numbers path 0 ≤ last_call_number)
+    → IsTable (resting_table node count numbers)
+resting-table node count numbers five given = record {
+  paths = five;
+  numbers = given;
+  states = λ place. subst (IsStateOf node numbers) (sym (idle_at count place)) tt;
   apart = λ one other r s differ runs1 runs2 paths. absurd (nothing r (sym (ap running_in (idle_at count one)) ∙ runs1));
 }
 
 pub stays-table : StaysTable
 stays-table = record {
-  idle = idle-table;
+  idle = λ node count. resting-table node count (replicate path_count 0) refl none_given;
   solved = λ table block site inputs m. step-stays table block _ (step_of table block site inputs m);
   taken = λ table. taken-stays table (position is_untaken table.blocks);
   finished = finished-stays;

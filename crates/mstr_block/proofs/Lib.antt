@@ -1,7 +1,9 @@
 pub mod Untaken
+pub mod Passing
 pub mod Steps
 pub mod Keeping
 pub mod Ending
 pub mod Taking
 pub mod Names
 pub mod Launching
+pub mod Calling

@@ -1,18 +1,27 @@
 -- The names of the calls of a table.
-use Rattle.std.proofs.Common.{◌≡◌, ◌⊎◌, ℕ, zero, suc, ◌-◌, Bool, true, false, Option, Some, None, List, [], ◌∷◌, get_or, set, map, is_some, unwrap_or, refl, sym, ap, ◌∙◌, subst, inl, inr}
+use Rattle.std.proofs.Common.{◌≡◌, ◌⊎◌, ℕ, zero, suc, ◌-◌, Bool, true, false, Option, Some, None}
+use Rattle.std.proofs.Common.{List, [], ◌∷◌, get_or, set, map, is_some, unwrap_or, refl, sym, ap}
+use Rattle.std.proofs.Common.{◌∙◌, subst, inl, inr}
 use Rattle.std.specs.Prelude.{if◌then◌else◌}
 use Rattle.std.proofs.lemmas.Bool.{false≢true}
 use Rattle.mstr_block.specs.declared.call.CallId.{CallId}
 use Rattle.mstr_block.specs.declared.call.MstrResult.{MstrResult}
 use Rattle.mstr_block.specs.declared.state.Running.{Running}
 use Rattle.mstr_block.specs.declared.state.BlockState.{BlockState}
-use Rattle.mstr_block.specs.declared.state.BlockState.TheVariants.{Idle, Waiting, Active, Aborted, Ready}
-use Rattle.mstr_block.specs.Table.{BlockTable, state_of, with_state, running_in, is_awaited, taken, taken_at, ended, with_result, finished}
-use Rattle.mstr_block.specs.Laws.{RunsAt, RanAt, IsNamed, IsTable}
+use Rattle.mstr_block.specs.declared.state.BlockState.TheVariants.{Idle, Waiting, Active, Aborted}
+use Rattle.mstr_block.specs.declared.state.BlockState.TheVariants.{Ready}
+use Rattle.mstr_block.specs.Table.{BlockTable, block_state, with_state, running_in, is_awaited}
+use Rattle.mstr_block.specs.Table.{call_taken, taken_at, call_ended, with_result, finished}
+use Rattle.mstr_block.specs.Running.{RunsAt, IsRunning, IsStateOf, IsTable}
+use Rattle.mstr_block.proofs.Steps.{IsResting, idle, waiting}
 
 -- nothing is no running call
 pub nothing : {X : Type 0} (x : X) → None ≡ Some x → ⊥
 nothing x e = false≢true (ap is_some e)
+
+-- what holds of a value holds of the same one
+pub the_same : {X : Type 0} (P : X → Type 0) (x y : X) → P x → Some x ≡ Some y → P y
+the_same P x y has e = subst P (ap (λ o. unwrap_or o x) e) has
 
 -- one element written: what stands at a place
 pub set-cases : {X : Type 0} (xs : List X) (k : ℕ) (y d : X) (place : ℕ)
@@ -28,15 +37,31 @@ map-at f e [] place = sym e
 map-at f e (x ∷ xs) zero = refl
 map-at f e (x ∷ xs) (suc place) = map-at f e xs place
 
--- what runs in a table ran in another by the same name: so its names are those of the other
+-- the states of a table after one of them is written, or after a function of each
+pub set-states : (own : ℕ) (numbers : List ℕ) (xs : List BlockState) (k : ℕ) (s : BlockState)
+    → ((place : ℕ) → IsStateOf own numbers (get_or xs place Idle)) → IsStateOf own numbers s
+    → (place : ℕ) → IsStateOf own numbers (get_or (set xs k s) place Idle)
+set-states own numbers xs k s were now place = elim (set-cases xs k s Idle place) [
+  | inl e ↦ subst (IsStateOf own numbers) (sym e) (were place)
+  | inr w ↦ subst (IsStateOf own numbers) (sym w.1) now
+]
+
+map-states : (own : ℕ) (numbers : List ℕ) (f : BlockState → BlockState) → f Idle ≡ Idle → ((s : BlockState) → IsStateOf own
+    numbers s → IsStateOf own numbers (f s))
+    → (xs : List BlockState) → ((place : ℕ) → IsStateOf own numbers (get_or xs place Idle)) → (place : ℕ) → IsStateOf own numbers (get_or (map f xs) place Idle)
+map-states own numbers f rests keeps xs were place = subst (IsStateOf own numbers) (sym (map-at f rests xs place)) (keeps _ (were place))
+
+-- a block ran a call of this name
+abbrev pub RanAt : BlockTable → ℕ → CallId → Type 0
+RanAt table place id = (was : Running) × RunsAt table place was × (was.id ≡ id)
+
+-- what runs in a table ran in another by the same name: so its names are apart as those of the other
 names-stay : (table : BlockTable) (xs : List BlockState) → ((place : ℕ) (r : Running) → RunsAt (record table { blocks = xs }) place r → RanAt table place r.id)
-    → IsTable table → IsTable (record table { blocks = xs })
-names-stay table xs from t = record {
+    → ((place : ℕ) → IsStateOf table.node table.numbers (get_or xs place Idle)) → IsTable table → IsTable (record table { blocks = xs })
+names-stay table xs from states t = record {
   paths = t.paths;
-  named = λ place r runs.
-      let was = from place r runs in
-      let named = subst (λ (id : CallId). IsNamed table id) was.2 (t.named place was.0 was.1) in
-      record { node = named.node; path = named.path; first = named.first; given = named.given };
+  numbers = t.numbers;
+  states = states;
   apart = λ one other r s differ runs1 runs2 paths.
       let first = from one r runs1 in
       let second = from other s runs2 in
@@ -58,39 +83,80 @@ written table k s place r here runs = elim (set-cases table.blocks k s Idle plac
   | inr w ↦ subst (λ n. RanAt table n r.id) (sym w.0) (here r (sym (ap running_in w.1) ∙ runs))
 ]
 
-pub rests-stay : (table : BlockTable) (block : ℕ) (s : BlockState) → running_in s ≡ None → IsTable table → IsTable (with_state table block s)
-rests-stay table block s none = names-stay table _ (λ place r. written table (block - 1) s place r (λ q e. absurd (nothing q (sym none ∙ e))))
+-- no call runs in a state of rest
+pub runs_none : (s : BlockState) → IsResting s → running_in s ≡ None
+runs_none _ idle = refl
+runs_none _ waiting = refl
 
-pub gives-stay : (table : BlockTable) (block : ℕ) (a : Running) → state_of table block ≡ Active a → IsTable table → IsTable (with_state table block (Aborted a))
-gives-stay table block a is = names-stay table _ (λ place r. written table (block - 1) (Aborted a) place r (λ q e. (a, ap running_in is, same_name a q e)))
+at_rest : (own : ℕ) (numbers : List ℕ) (s : BlockState) → IsResting s → IsStateOf own numbers s
+at_rest own numbers _ idle = tt
+at_rest own numbers _ waiting = tt
+
+pub rests-stay : (table : BlockTable) (block : ℕ) (s : BlockState) → IsResting s → IsTable table → IsTable (with_state table block s)
+rests-stay table block s rest t =
+    names-stay table _ (λ place r. written table (block - 1) s place r (λ q e. absurd (nothing q (sym (runs_none s rest) ∙ e))))
+    (set-states table.node table.numbers table.blocks (block - 1) s t.states (at_rest table.node table.numbers s rest)) t
+
+pub gives-stay : (table : BlockTable) (block : ℕ) (a : Running) → block_state table block ≡ Active a → IsTable table → IsTable
+    (with_state table block (Aborted a))
+gives-stay table block a is t =
+    let running : IsRunning table.node table.numbers a = subst (IsStateOf table.node table.numbers) is (t.states (block - 1)) in
+    names-stay table _ (λ place r. written table (block - 1) (Aborted a) place r (λ q e. (a, ap running_in is, same_name a q e)))
+    (set-states table.node table.numbers table.blocks (block - 1) (Aborted a) t.states running) t
 
 -- a finish
-ended-rests : (result : MstrResult) (s : BlockState) → running_in (ended result s) ≡ None
+ended-rests : (result : MstrResult) (s : BlockState) → running_in (call_ended result s) ≡ None
 ended-rests result Idle = refl
 ended-rests result Waiting = refl
 ended-rests result (Active r) = refl
 ended-rests result (Aborted r) = refl
 ended-rests result (Ready kept outcome) = refl
 
-still : (result : MstrResult) (s : BlockState) (b : Bool) (r : Running) → running_in (if b then ended result s else s) ≡ Some r → running_in s ≡ Some r
+still : (result : MstrResult) (s : BlockState) (b : Bool) (r : Running) → running_in (if b then call_ended result s else s) ≡ Some r → running_in s ≡ Some r
 still result s true r e = absurd (nothing r (sym (ended-rests result s) ∙ e))
 still result s false r e = e
 
+ended-state : (own : ℕ) (numbers : List ℕ) (result : MstrResult) (s : BlockState) → IsStateOf own numbers s → IsStateOf own numbers (call_ended result s)
+ended-state own numbers result Idle is = tt
+ended-state own numbers result Waiting is = tt
+ended-state own numbers result (Active r) is = is.kept
+ended-state own numbers result (Aborted r) is = tt
+ended-state own numbers result (Ready kept outcome) is = is
+
+result-state : (own : ℕ) (numbers : List ℕ) (result : MstrResult) (s : BlockState) (b : Bool) → IsStateOf own numbers s
+    → IsStateOf own numbers (if b then call_ended result s else s)
+result-state own numbers result s true is = ended-state own numbers result s is
+result-state own numbers result s false is = is
+
 pub finished-stays : (table : BlockTable) (id : CallId) (result : MstrResult) → IsTable table → IsTable (finished id result table)
-finished-stays table id result = names-stay table _ (λ place r runs.
+finished-stays table id result t = names-stay table _ (λ place r runs.
     let block = get_or table.blocks place Idle in
     let after = map-at (with_result id result) refl table.blocks place in
     (r, still result block (is_awaited id block) r (sym (ap running_in after) ∙ runs), refl))
+    (map-states table.node table.numbers (with_result id result) refl (λ s. result-state table.node table.numbers result s
+    (is_awaited id s)) table.blocks t.states) t
 
 -- a call that is taken keeps its name
-taken-name : (s : BlockState) (r : Running) → running_in (taken s) ≡ Some r → (was : Running) × (running_in s ≡ Some was) × (was.id ≡ r.id)
+taken-name : (s : BlockState) (r : Running) → running_in (call_taken s) ≡ Some r → (was : Running) × (running_in s ≡ Some was) × (was.id ≡ r.id)
 taken-name Idle r e = absurd (nothing r e)
 taken-name Waiting r e = absurd (nothing r e)
 taken-name (Active a) r e = (a, refl, same_name (record a { ask = None }) r e)
 taken-name (Aborted a) r e = (a, refl, same_name (record a { ask = None }) r e)
 taken-name (Ready kept result) r e = absurd (nothing r e)
 
+taken-running : (own : ℕ) (numbers : List ℕ) (r : Running) → IsRunning own numbers r → IsRunning own numbers (record r { ask = None })
+taken-running own numbers r is = record { named = is.named; network = is.network; kept = is.kept; ask = λ ask e. absurd (nothing ask e) }
+
+taken-state : (own : ℕ) (numbers : List ℕ) (s : BlockState) → IsStateOf own numbers s → IsStateOf own numbers (call_taken s)
+taken-state own numbers Idle is = tt
+taken-state own numbers Waiting is = tt
+taken-state own numbers (Active r) is = taken-running own numbers r is
+taken-state own numbers (Aborted r) is = taken-running own numbers r is
+taken-state own numbers (Ready kept result) is = is
+
 pub taken-stays : (table : BlockTable) (o : Option ℕ) → IsTable table → IsTable (taken_at table o)
 taken-stays table None t = t
 taken-stays table (Some k) t =
-    names-stay table _ (λ place r. written table k (taken (get_or table.blocks k Idle)) place r (λ q e. taken-name (get_or table.blocks k Idle) q e)) t
+    let block = get_or table.blocks k Idle in
+    names-stay table _ (λ place r. written table k (call_taken block) place r (λ q e. taken-name block q e))
+    (set-states table.node table.numbers table.blocks k (call_taken block) t.states (taken-state table.node table.numbers block (t.states k))) t

@@ -1,5 +1,7 @@
 -- The started calls are taken in block order.
-use Rattle.std.proofs.Common.{◌≡◌, ℕ, suc, ◌+◌, ◌<◌, Bool, true, false, cond, Option, Some, None, List, [], ◌∷◌, length, get_or, set, map, drop, is_some, refl, sym, ap, ◌∙◌, arith, one-add}
+use Rattle.std.proofs.Common.{◌≡◌, ℕ, suc, ◌+◌, ◌<◌, Bool, true, false, cond, Option, Some, None}
+use Rattle.std.proofs.Common.{List, [], ◌∷◌, length, get_or, set, map, drop, is_some, refl, sym, ap}
+use Rattle.std.proofs.Common.{◌∙◌, arith, one-add}
 use Rattle.std.specs.Prelude.{nat_lt, ◌||◌, ◌&&◌, not, option_map}
 use Rattle.std.specs.Option.{is_none}
 use Rattle.std.specs.List.{filter_map, cons_option, list_any, slice_get, position, position_or_len}
@@ -10,19 +12,21 @@ use Rattle.mstr_block.specs.declared.call.MstrAsk.{MstrAsk}
 use Rattle.mstr_block.specs.declared.state.Kept.{Kept}
 use Rattle.mstr_block.specs.declared.state.Running.{Running}
 use Rattle.mstr_block.specs.declared.state.BlockState.{BlockState}
-use Rattle.mstr_block.specs.declared.state.BlockState.TheVariants.{Idle, Waiting, Active, Aborted, Ready}
-use Rattle.mstr_block.specs.Call.{is_same}
-use Rattle.mstr_block.specs.Table.{BlockTable, is_awaited, call_of, untaken, is_untaken, taken, taken_at, first_taken, started_calls}
+use Rattle.mstr_block.specs.declared.state.BlockState.TheVariants.{Idle, Waiting, Active, Aborted}
+use Rattle.mstr_block.specs.declared.state.BlockState.TheVariants.{Ready}
+use Rattle.mstr_block.specs.Call.{is_same_call}
+use Rattle.mstr_block.specs.Table.{BlockTable, is_awaited, call_of, untaken, is_untaken, call_taken}
+use Rattle.mstr_block.specs.Table.{taken_at, first_taken, started_calls}
 use Rattle.mstr_block.specs.Laws.{collected, CallsAreTakenInOrder}
 
 -- the blocks after the call of the first block that has one is taken
 abbrev first : List BlockState → List BlockState
 first [] = []
-first (s ∷ rest) = cond (is_untaken s) (taken s ∷ rest) (s ∷ first rest)
+first (s ∷ rest) = cond (is_untaken s) (call_taken s ∷ rest) (s ∷ first rest)
 
 abbrev at_place : List BlockState → Option ℕ → List BlockState
 at_place xs None = xs
-at_place xs (Some k) = set xs k (taken (get_or xs k Idle))
+at_place xs (Some k) = set xs k (call_taken (get_or xs k Idle))
 
 later : (k n : ℕ) (b : Bool) → nat_lt k n ≡ b → nat_lt (1 + k) (suc n) ≡ b
 later k n true e = lt-ltb (1 + k) (suc n) (let h = ltb-true k n e in omega arith)
@@ -30,14 +34,14 @@ later k n false e = le-ltb (1 + k) (suc n) (let h = ltb-false k n e in omega ari
 
 place_later : (x : BlockState) (xs : List BlockState) (k : ℕ) (b : Bool)
     → at_place (x ∷ xs) (cond b (Some (1 + k)) None) ≡ x ∷ at_place xs (cond b (Some k) None)
-place_later x xs k true = ap (λ n. set (x ∷ xs) n (taken (get_or (x ∷ xs) n Idle))) (one-add k)
+place_later x xs k true = ap (λ n. set (x ∷ xs) n (call_taken (get_or (x ∷ xs) n Idle))) (one-add k)
 place_later x xs k false = refl
 
 abbrev place_of : Bool → ℕ → ℕ → Option ℕ
 place_of here k n = cond (nat_lt (cond (not here) (1 + k) 0) (suc n)) (Some (cond (not here) (1 + k) 0)) None
 
 at_head : (x : BlockState) (xs : List BlockState) (k : ℕ) (here : Bool) → at_place xs (cond (nat_lt k (length xs)) (Some k) None) ≡ first xs
-    → at_place (x ∷ xs) (place_of here k (length xs)) ≡ cond here (taken x ∷ xs) (x ∷ first xs)
+    → at_place (x ∷ xs) (place_of here k (length xs)) ≡ cond here (call_taken x ∷ xs) (x ∷ first xs)
 at_head x xs k true ih =
     let within : 0 < suc (length xs) = omega arith in
     ap (λ b. at_place (x ∷ xs) (cond b (Some 0) None)) (lt-ltb 0 (suc (length xs)) within)
@@ -50,14 +54,14 @@ first_is [] = refl
 first_is (x ∷ xs) = at_head x xs (position_or_len is_untaken xs) (is_untaken x) (first_is xs)
 
 -- a block whose call is taken
-taken-untaken : (s : BlockState) → untaken (taken s) ≡ None
+taken-untaken : (s : BlockState) → untaken (call_taken s) ≡ None
 taken-untaken Idle = refl
 taken-untaken Waiting = refl
 taken-untaken (Active r) = refl
 taken-untaken (Aborted r) = refl
 taken-untaken (Ready kept result) = refl
 
-taken-taken : (s : BlockState) → taken (taken s) ≡ taken s
+taken-taken : (s : BlockState) → call_taken (call_taken s) ≡ call_taken s
 taken-taken Idle = refl
 taken-taken Waiting = refl
 taken-taken (Active r) = refl
@@ -66,7 +70,7 @@ taken-taken (Ready kept result) = refl
 
 -- the rest of the started calls
 rest_at : (x : BlockState) (xs : List BlockState) (o : Option MstrCall) → untaken x ≡ o → filter_map untaken (first xs) ≡ drop 1 (filter_map untaken xs)
-    → filter_map untaken (cond (is_some o) (taken x ∷ xs) (x ∷ first xs)) ≡ drop 1 (cons_option o (filter_map untaken xs))
+    → filter_map untaken (cond (is_some o) (call_taken x ∷ xs) (x ∷ first xs)) ≡ drop 1 (cons_option o (filter_map untaken xs))
 rest_at x xs None e ih = ap (λ o. cons_option o (filter_map untaken (first xs))) e ∙ ih
 rest_at x xs (Some call) e ih = ap (λ o. cons_option o (filter_map untaken xs)) (taken-untaken x)
 
@@ -75,12 +79,12 @@ rest_of [] = refl
 rest_of (x ∷ xs) = rest_at x xs (untaken x) refl (rest_of xs)
 
 -- the same blocks once all are taken
-same_at : (x : BlockState) (xs : List BlockState) (here : Bool) → map taken (first xs) ≡ map taken xs
-    → map taken (cond here (taken x ∷ xs) (x ∷ first xs)) ≡ map taken (x ∷ xs)
-same_at x xs true ih = ap (λ s. s ∷ map taken xs) (taken-taken x)
-same_at x xs false ih = ap (λ rest. taken x ∷ rest) ih
+same_at : (x : BlockState) (xs : List BlockState) (here : Bool) → map call_taken (first xs) ≡ map call_taken xs
+    → map call_taken (cond here (call_taken x ∷ xs) (x ∷ first xs)) ≡ map call_taken (x ∷ xs)
+same_at x xs true ih = ap (λ s. s ∷ map call_taken xs) (taken-taken x)
+same_at x xs false ih = ap (λ rest. call_taken x ∷ rest) ih
 
-same_of : (xs : List BlockState) → map taken (first xs) ≡ map taken xs
+same_of : (xs : List BlockState) → map call_taken (first xs) ≡ map call_taken xs
 same_of [] = refl
 same_of (x ∷ xs) = same_at x xs (is_untaken x) (same_of xs)
 
@@ -91,7 +95,7 @@ left_alone : (wrap : Running → BlockState) (id : CallId) (ask : Option MstrAsk
 left_alone wrap id None kept e = refl
 left_alone wrap id (Some ask) kept e = absurd (false≢true (sym (ap is_some e)))
 
-alone : (s : BlockState) → untaken s ≡ None → taken s ≡ s
+alone : (s : BlockState) → untaken s ≡ None → call_taken s ≡ s
 alone Idle e = refl
 alone Waiting e = refl
 alone (Active r) e = left_alone (λ q. Active q) r.id r.ask r.kept e
@@ -99,11 +103,11 @@ alone (Aborted r) e = left_alone (λ q. Aborted q) r.id r.ask r.kept e
 alone (Ready kept result) e = refl
 
 all_at : (x : BlockState) (xs : List BlockState) (o : Option MstrCall) → untaken x ≡ o → cons_option o (filter_map untaken xs) ≡ []
-    → (filter_map untaken xs ≡ [] → map taken xs ≡ xs) → taken x ∷ map taken xs ≡ x ∷ xs
+    → (filter_map untaken xs ≡ [] → map call_taken xs ≡ xs) → call_taken x ∷ map call_taken xs ≡ x ∷ xs
 all_at x xs None e none ih = λ i. alone x e i ∷ ih none i
 all_at x xs (Some call) e none ih = absurd (cc)
 
-all_of : (xs : List BlockState) → filter_map untaken xs ≡ [] → map taken xs ≡ xs
+all_of : (xs : List BlockState) → filter_map untaken xs ≡ [] → map call_taken xs ≡ xs
 all_of [] none = refl
 all_of (x ∷ xs) none = all_at x xs (untaken x) refl none (all_of xs)
 
@@ -117,15 +121,15 @@ past_or true true c r e = refl
 past_or true false c r e = refl
 past_or false b c r e = e
 
-out_at : (id : CallId) (ask : Option MstrAsk) (name : CallId) (calls : List MstrCall) (b r : Bool) → r ≡ (b || list_any (λ call. is_same call.id id) calls)
-    → (is_same name id || r)
-    ≡ (((is_none ask && is_same name id) || b)
-    || list_any (λ call. is_same call.id id) (cons_option (option_map (λ a. record { id = name; ask = a }) ask) calls))
-out_at id None name calls b r e = assoc_or (is_same name id) b _ r e
-out_at id (Some ask) name calls b r e = past_or (is_same name id) b _ r e
+out_at : (id : CallId) (ask : Option MstrAsk) (name : CallId) (calls : List MstrCall) (b r : Bool) → r ≡ (b || list_any (λ call. is_same_call call.id id) calls)
+    → (is_same_call name id || r)
+    ≡ (((is_none ask && is_same_call name id) || b)
+    || list_any (λ call. is_same_call call.id id) (cons_option (option_map (λ a. record { id = name; ask = a }) ask) calls))
+out_at id None name calls b r e = assoc_or (is_same_call name id) b _ r e
+out_at id (Some ask) name calls b r e = past_or (is_same_call name id) b _ r e
 
 out_of : (id : CallId) (xs : List BlockState)
-    → list_any (is_awaited id) (map taken xs) ≡ (list_any (is_awaited id) xs || list_any (λ call. is_same call.id id) (filter_map untaken xs))
+    → list_any (is_awaited id) (map call_taken xs) ≡ (list_any (is_awaited id) xs || list_any (λ call. is_same_call call.id id) (filter_map untaken xs))
 out_of id [] = refl
 out_of id (Idle ∷ xs) = out_of id xs
 out_of id (Waiting ∷ xs) = out_of id xs

@@ -1,18 +1,23 @@
 -- The control block of an MSTR block, the tests of a start and the call that it asks for. Modicon
 -- Ladder Logic Block Library User Guide; the exact limits and the order of the tests are this
 -- project's own.
-use Rattle.std.specs.Prelude.{◌≡◌, ℕ, ◌+◌, ◌-◌, Bool, false, nat_lt, nat_le, ◌==◌, not, ◌&&◌, ◌||◌, if◌then◌else◌, List, [], ◌∷◌, Option, Some, None, is_some, Result, Ok, Err}
+use Rattle.std.specs.Prelude.{◌≡◌, ℕ, ◌+◌, ◌-◌, Bool, false, nat_lt, nat_le, ◌==◌, not, ◌&&◌, ◌||◌}
+use Rattle.std.specs.Prelude.{if◌then◌else◌, List, [], ◌∷◌, Option, Some, None, is_some, Result, Ok}
+use Rattle.std.specs.Prelude.{Err}
 use Rattle.std.specs.List.{list_all}
 use Rattle.plant_types.specs.declared.reference.Ref.{Ref}
 use Rattle.plant_types.specs.Reference.{ref_from, most_references}
 use Rattle.plant_types.specs.Operands.{is_length}
 use Rattle.plant_types.specs.Store.{Contents, word_at, words_from}
 use Rattle.mstr_block.specs.declared.call.MstrAsk.{MstrAsk}
-use Rattle.mstr_block.specs.declared.call.MstrAsk.TheVariants.{Write, Read, LocalStats, ClearLocal, PutGlobal, GetGlobal, RemoteStats, ClearRemote}
+use Rattle.mstr_block.specs.declared.call.MstrAsk.TheVariants.{Write, Read, LocalStats, ClearLocal}
+use Rattle.mstr_block.specs.declared.call.MstrAsk.TheVariants.{PutGlobal, GetGlobal, RemoteStats}
+use Rattle.mstr_block.specs.declared.call.MstrAsk.TheVariants.{ClearRemote}
 use Rattle.mstr_block.specs.declared.control.Control.{Control}
 use Rattle.mstr_block.specs.declared.operation.Operation.{Operation}
 use Rattle.mstr_block.specs.declared.operation.Operation.TheVariants as op
-use Rattle.mstr_block.specs.Operations.{operation_of, uses_network, moves_registers, reads_statistics, names_node, most_words, statistics_words}
+use Rattle.mstr_block.specs.Operations.{operation_of, uses_network, moves_registers}
+use Rattle.mstr_block.specs.Operations.{reads_statistics, names_node, most_words, statistics_words}
 
 -- The nine registers of a control block: operation, status, length, first register there or first
 -- word of the statistics, and the route with the node first.
@@ -38,8 +43,8 @@ abbrev pub hop_count : ℕ
 hop_count = 4
 
 -- What a control block says.
-abbrev pub control_of : Contents → Ref → Control
-control_of m control = record {
+abbrev pub control_block_of : Contents → Ref → Control
+control_block_of m control = record {
   code = word_at m (code_register control);
   length = word_at m (length_register control);
   start = word_at m (start_register control);
@@ -129,14 +134,14 @@ tests_of own room operation control =
     ∷ []
 
 -- The operation of a start, or its error word: an unknown operation, or the first test that fails.
-abbrev pub passed : Operation → Option ℕ → Result Operation ℕ
-passed operation None = Ok operation
-passed operation (Some word) = Err word
+abbrev pub tests_passed : Operation → Option ℕ → Result Operation ℕ
+tests_passed operation None = Ok operation
+tests_passed operation (Some word) = Err word
 
 abbrev pub checked : ℕ → ℕ → Control → Option Operation → Result Operation ℕ
 checked own room control None = Err illegal_operation
 checked own room control (Some operation) =
-    passed operation (first_failing (tests_of own room operation control))
+    tests_passed operation (first_failing (tests_of own room operation control))
 
 abbrev pub start_of : ℕ → ℕ → Control → Result Operation ℕ
 start_of own room control = checked own room control (operation_of control.code)
@@ -153,7 +158,7 @@ ask_of op.RemoteStatistics control words = RemoteStats control.node
 ask_of op.ClearRemote control words = ClearRemote control.node
 
 -- What a start that passed its tests knows: the length and the node are in their ranges.
-pub record Fits (room : ℕ) (operation : Operation) (control : Control) : Type 0 where
+pub record FitsStart (room : ℕ) (operation : Operation) (control : Control) : Type 0 where
   pub long : has_bad_length operation control ≡ false
   pub area : has_small_area room operation control ≡ false
   pub route : has_bad_route operation control ≡ false

@@ -3,7 +3,10 @@
 use Rattle.std.specs.Prelude.{ℕ, Bool, true, false, ◌==◌, ◌||◌, List, [], ◌∷◌, Option, Some, None}
 use Rattle.std.specs.List.{find}
 use Rattle.mstr_block.specs.declared.operation.Operation.{Operation}
-use Rattle.mstr_block.specs.declared.operation.Operation.TheVariants.{WriteData, ReadData, LocalStatistics, ClearLocal, WriteGlobal, ReadGlobal, RemoteStatistics, ClearRemote}
+use Rattle.mstr_block.specs.declared.operation.Operation.TheVariants.{WriteData, ReadData}
+use Rattle.mstr_block.specs.declared.operation.Operation.TheVariants.{LocalStatistics, ClearLocal}
+use Rattle.mstr_block.specs.declared.operation.Operation.TheVariants.{WriteGlobal, ReadGlobal}
+use Rattle.mstr_block.specs.declared.operation.Operation.TheVariants.{RemoteStatistics, ClearRemote}
 
 -- The number of an operation.
 abbrev pub code_of : Operation → ℕ

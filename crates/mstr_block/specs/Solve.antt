@@ -1,6 +1,7 @@
 -- What an MSTR block does when it is solved. Modicon Ladder Logic Block Library User Guide; the
 -- states and their exact outputs are this project's own.
-use Rattle.std.specs.Prelude.{◌≡◌, ℕ, min, true, false, not, ◌&&◌, if◌then◌else◌, List, [], set, take, drop, Option, Some, None, Result, Ok, Err}
+use Rattle.std.specs.Prelude.{◌≡◌, ℕ, min, true, false, not, ◌&&◌, if◌then◌else◌, List, [], set}
+use Rattle.std.specs.Prelude.{take, drop, Option, Some, None, Result, Ok, Err}
 use Rattle.std.specs.FinMap.{insert}
 use Rattle.plant_types.specs.declared.power.NodePower.{NodePower}
 use Rattle.plant_types.specs.Power.{bits_of}
@@ -9,13 +10,17 @@ use Rattle.mstr_block.specs.declared.call.MstrResult.{MstrResult}
 use Rattle.mstr_block.specs.declared.call.MstrResult.TheVariants.{Good, Bad}
 use Rattle.mstr_block.specs.declared.control.Control.{Control}
 use Rattle.mstr_block.specs.declared.operation.Operation.{Operation}
-use Rattle.mstr_block.specs.declared.operation.Operation.TheVariants.{ReadData, LocalStatistics, ReadGlobal, RemoteStatistics}
+use Rattle.mstr_block.specs.declared.operation.Operation.TheVariants.{ReadData, LocalStatistics}
+use Rattle.mstr_block.specs.declared.operation.Operation.TheVariants.{ReadGlobal, RemoteStatistics}
 use Rattle.mstr_block.specs.declared.state.Kept.{Kept}
 use Rattle.mstr_block.specs.declared.state.BlockState.{BlockState}
-use Rattle.mstr_block.specs.declared.state.BlockState.TheVariants.{Idle, Waiting, Active, Aborted, Ready}
+use Rattle.mstr_block.specs.declared.state.BlockState.TheVariants.{Idle, Waiting, Active, Aborted}
+use Rattle.mstr_block.specs.declared.state.BlockState.TheVariants.{Ready}
 use Rattle.mstr_block.specs.declared.site.Site.{Site}
-use Rattle.mstr_block.specs.Control.{control_of, status_register, start_register, start_of, ask_of, user_abort}
-use Rattle.mstr_block.specs.Table.{BlockTable, state_of, with_state, given_up, path_for, next_call}
+use Rattle.mstr_block.specs.Control.{control_block_of, status_register, start_register, start_of}
+use Rattle.mstr_block.specs.Control.{ask_of, user_abort}
+use Rattle.mstr_block.specs.Table.{BlockTable, block_state, with_state, given_up, path_for}
+use Rattle.mstr_block.specs.Table.{next_call}
 
 -- What a solve leaves and gives: the table, the power of the block's nodes, the contents.
 pub record Solved : Type 0 where
@@ -25,7 +30,7 @@ pub record Solved : Type 0 where
 
 -- A call has done what is said: the table that it leaves, the power that it answers as bits, the
 -- contents that it leaves; and no reference of the store goes.
-pub record Solves (solved : Solved) (left : BlockTable) (answer : ℕ) (old new : Contents)
+pub record SolvesBlock (solved : Solved) (left : BlockTable) (answer : ℕ) (old new : Contents)
     : Type 0 where
   pub table : left ≡ solved.table
   pub outputs : answer ≡ bits_of solved.outputs
@@ -75,10 +80,10 @@ launched table block operation control words (Some path) =
 
 -- A start with the registers as they are: the error word of the first test that fails, else a call
 -- on the least free path, or the block waits for one.
-abbrev pub begun : BlockTable → ℕ → Site → Contents → Result Operation ℕ → Solved
-begun table block site m (Err word) = ended_with word Idle table block site m
-begun table block site m (Ok operation) =
-    let control = control_of m site.control in
+abbrev pub start_by : BlockTable → ℕ → Site → Contents → Result Operation ℕ → Solved
+start_by table block site m (Err word) = ended_with word Idle table block site m
+start_by table block site m (Ok operation) =
+    let control = control_block_of m site.control in
     let words = words_from m site.area control.length in
     record {
       table = launched table block operation control words (path_for table operation);
@@ -88,7 +93,7 @@ begun table block site m (Ok operation) =
 
 abbrev pub started : BlockTable → ℕ → Site → Contents → Solved
 started table block site m =
-    begun table block site m (start_of table.node site.room (control_of m site.control))
+    start_by table block site m (start_of table.node site.room (control_block_of m site.control))
 
 -- The words that an operation answers, of those of a good result: statistics from the first that
 -- was asked for on, and global words behind the number of words available.
@@ -128,8 +133,8 @@ power_of (Good words) = success
 power_of (Bad word) = error
 
 -- The block ends by the result of its call.
-abbrev pub closed : Kept → MstrResult → BlockTable → ℕ → Site → Contents → Solved
-closed kept result table block site m = record {
+abbrev pub block_ended : Kept → MstrResult → BlockTable → ℕ → Site → Contents → Solved
+block_ended kept result table block site m = record {
   table = with_state table block Idle;
   outputs = power_of result;
   stored = with_outcome kept result site m;
@@ -147,9 +152,9 @@ solved_in (Active running) table block site inputs m =
     if inputs.middle then ended_with user_abort (given_up (Active running)) table block site m
     else unchanged table active m
 solved_in (Aborted running) table block site inputs m = unchanged table silent m
-solved_in (Ready kept result) table block site inputs m = closed kept result table block site m
+solved_in (Ready kept result) table block site inputs m = block_ended kept result table block site m
 
 -- A block is solved.
-unfoldable pub solved : BlockTable → ℕ → Site → NodePower → Contents → Solved
-solved table block site inputs m =
-    solved_in (state_of table block) table block site inputs m
+unfoldable pub block_solved : BlockTable → ℕ → Site → NodePower → Contents → Solved
+block_solved table block site inputs m =
+    solved_in (block_state table block) table block site inputs m

@@ -1,6 +1,8 @@
 -- The table of MSTR blocks: what each block is in the middle of, and the calls of each path. This
 -- project's own.
-use Rattle.std.specs.Prelude.{ℕ, ◌+◌, ◌-◌, ◌<◌, ◌≤◌, nat_le, Bool, false, ◌==◌, not, ◌&&◌, if◌then◌else◌, List, [], ◌∷◌, length, get_or, set, map, replicate, Option, Some, None, is_some, option_map, option_and_then}
+use Rattle.std.specs.Prelude.{ℕ, ◌+◌, ◌-◌, ◌<◌, ◌≤◌, nat_le, Bool, false, ◌==◌, not, ◌&&◌}
+use Rattle.std.specs.Prelude.{if◌then◌else◌, List, [], ◌∷◌, length, get_or, set, map, replicate}
+use Rattle.std.specs.Prelude.{Option, Some, None, is_some, option_map, option_and_then}
 use Rattle.std.specs.Option.{is_none}
 use Rattle.std.specs.List.{list_any, filter_map, find, position}
 use Rattle.mstr_block.specs.declared.call.CallId.{CallId}
@@ -9,8 +11,9 @@ use Rattle.mstr_block.specs.declared.call.MstrResult.{MstrResult}
 use Rattle.mstr_block.specs.declared.operation.Operation.{Operation}
 use Rattle.mstr_block.specs.declared.state.Running.{Running}
 use Rattle.mstr_block.specs.declared.state.BlockState.{BlockState}
-use Rattle.mstr_block.specs.declared.state.BlockState.TheVariants.{Idle, Waiting, Active, Aborted, Ready}
-use Rattle.mstr_block.specs.Call.{is_same}
+use Rattle.mstr_block.specs.declared.state.BlockState.TheVariants.{Idle, Waiting, Active, Aborted}
+use Rattle.mstr_block.specs.declared.state.BlockState.TheVariants.{Ready}
+use Rattle.mstr_block.specs.Call.{is_same_call}
 use Rattle.mstr_block.specs.Operations.{uses_network}
 
 -- The own address, the blocks by their numbers, and the last number that each path gave a call,
@@ -31,20 +34,21 @@ abbrev pub path_count : ℕ
 path_count = 5
 
 -- The last number of a path.
-abbrev pub last_number : ℕ
-last_number = 4294967295
+abbrev pub last_call_number : ℕ
+last_call_number = 4294967295
+
+-- All blocks are idle, and the paths have given these numbers.
+abbrev pub resting_table : ℕ → ℕ → List ℕ → BlockTable
+resting_table node count numbers =
+    record { node = node; blocks = replicate count Idle; numbers = numbers }
 
 -- At first all blocks are idle, and no path has given a number.
 abbrev pub idle_table : ℕ → ℕ → BlockTable
-idle_table node count = record {
-  node = node;
-  blocks = replicate count Idle;
-  numbers = replicate path_count 0;
-}
+idle_table node count = resting_table node count (replicate path_count 0)
 
 -- The state of a block, which is found by its number, from 1 on.
-abbrev pub state_of : BlockTable → ℕ → BlockState
-state_of table block = get_or table.blocks (block - 1) Idle
+abbrev pub block_state : BlockTable → ℕ → BlockState
+block_state table block = get_or table.blocks (block - 1) Idle
 
 abbrev pub with_state : BlockTable → ℕ → BlockState → BlockTable
 with_state table block state = record table { blocks = set table.blocks (block - 1) state }
@@ -84,22 +88,22 @@ has_started table = list_any is_untaken table.blocks
 -- The call of this name was taken and has no result.
 abbrev pub is_awaited : CallId → BlockState → Bool
 is_awaited id state =
-    runs_such (λ running. is_none running.ask && is_same running.id id) state
+    runs_such (λ running. is_none running.ask && is_same_call running.id id) state
 
 abbrev pub is_out : BlockTable → CallId → Bool
 is_out table id = list_any (is_awaited id) table.blocks
 
 -- A block whose call is taken.
-abbrev pub taken : BlockState → BlockState
-taken (Active running) = Active (record running { ask = None })
-taken (Aborted running) = Aborted (record running { ask = None })
-taken state = state
+abbrev pub call_taken : BlockState → BlockState
+call_taken (Active running) = Active (record running { ask = None })
+call_taken (Aborted running) = Aborted (record running { ask = None })
+call_taken state = state
 
 -- The table after the first of the started calls is taken, if there is one.
 abbrev pub taken_at : BlockTable → Option ℕ → BlockTable
 taken_at table None = table
 taken_at table (Some place) =
-    record table { blocks = set table.blocks place (taken (get_or table.blocks place Idle)) }
+    record table { blocks = set table.blocks place (call_taken (get_or table.blocks place Idle)) }
 
 abbrev pub first_taken : BlockTable → BlockTable
 first_taken table = taken_at table (position is_untaken table.blocks)
@@ -110,14 +114,14 @@ given_up (Active running) = Aborted running
 given_up state = state
 
 -- A block whose call ends: it is ready where it awaits the call, and idle where it gave it up.
-abbrev pub ended : MstrResult → BlockState → BlockState
-ended result (Active running) = Ready running.kept result
-ended result (Aborted running) = Idle
-ended result state = state
+abbrev pub call_ended : MstrResult → BlockState → BlockState
+call_ended result (Active running) = Ready running.kept result
+call_ended result (Aborted running) = Idle
+call_ended result state = state
 
 -- A block after the taken call of this name ends with a result; other blocks stay as they are.
 abbrev pub with_result : CallId → MstrResult → BlockState → BlockState
-with_result id result state = if is_awaited id state then ended result state else state
+with_result id result state = if is_awaited id state then call_ended result state else state
 
 abbrev pub finished : CallId → MstrResult → BlockTable → BlockTable
 finished id result table =
@@ -125,7 +129,7 @@ finished id result table =
 
 -- A path has given its last number.
 abbrev pub is_spent : BlockTable → ℕ → Bool
-is_spent table path = nat_le last_number (get_or table.numbers path 0)
+is_spent table path = nat_le last_call_number (get_or table.numbers path 0)
 
 -- A path is busy while a call runs on it, whether or not its block awaits it, and once it is spent.
 abbrev pub runs_on : ℕ → BlockState → Bool
@@ -148,7 +152,7 @@ next_call table path =
 -- The path has a number left.
 pub record CanGive (table : BlockTable) (at : ℕ) : Type 0 where
   pub path : at < path_count
-  pub number : get_or table.numbers at 0 < last_number
+  pub number : get_or table.numbers at 0 < last_call_number
 
 -- Blocks are numbered from 1 on.
 abbrev pub IsBlock : BlockTable → ℕ → Type 0

@@ -3,7 +3,8 @@ ghost use Rattle.std.specs.Prelude.{◌≡◌, ◌≤◌, length, drop};
 ghost use Rattle.plant_types.specs.Power.{bits_of};
 ghost use Rattle.plant_types.specs.Slots.{control_block};
 ghost use Rattle.plant_types.specs.Store.{HasRegisters, Keeps};
-ghost use Rattle.mstr_block.specs.Solve.{words_answered, available, area_words, with_answer, power_of, with_outcome};
+ghost use Rattle.mstr_block.specs.Solve.{words_answered, available, area_words, with_answer};
+ghost use Rattle.mstr_block.specs.Solve.{power_of, with_outcome};
 
 use crate::call::MstrResult;
 use crate::control::{start_register, status_register};

@@ -1,62 +1,37 @@
 //! The MSTR blocks of a controller.
-ghost use Rattle.std.specs.Prelude.{◌≡◌, ◌-◌, ◌==◌, ◌<◌, true, set, replicate, if◌then◌else◌, None, slice_get, IfOk, IfSome};
-ghost use Rattle.std.specs.Bool.{OnTrue};
-ghost use Rattle.std.specs.List.{position, find, list_any};
+ghost use Rattle.std.specs.Prelude.{◌≡◌, ◌-◌, ◌==◌, true, None, if◌then◌else◌, slice_get, IfOk};
+ghost use Rattle.std.specs.Prelude.{IfSome};
 ghost use Rattle.plant_types.specs.Power.{nodes_of};
 ghost use Rattle.plant_types.specs.Slots.{control_block};
-ghost use Rattle.plant_types.specs.Store.{HasRegisters, words_from};
-ghost use Rattle.mstr_block.specs.Control.{Fits, user_abort};
-ghost use Rattle.mstr_block.specs.Solve.{Solves, launched, ended_with, started, solved_in, solved};
-ghost use Rattle.mstr_block.specs.Table.{path_count, network_paths, runs_on, is_spent, is_free, path_for, next_call, state_of, with_state, given_up, CanGive, IsBlock, idle_table, started_calls, has_started, is_untaken, first_taken, is_out, finished};
+ghost use Rattle.plant_types.specs.Store.{HasRegisters};
+ghost use Rattle.mstr_block.specs.Running.{IsCall, IsTable};
+ghost use Rattle.mstr_block.specs.Solve.{SolvesBlock, block_solved};
+ghost use Rattle.mstr_block.specs.Table.{IsBlock, idle_table, started_calls, has_started};
+ghost use Rattle.mstr_block.specs.Table.{first_taken, is_out, finished};
 
-use crate::answer::{ACTIVE, ERROR, SILENT};
+use crate::blocks::{Blocks, PATHS};
 use crate::call::{CallId, MstrCall, MstrResult};
-use crate::control::{Control, status_register};
-use crate::operation::Operation;
 use crate::site::Site;
-use crate::state::{BlockState, Kept, Running};
 use plant_types::{NodePower, Ref, RefStore};
 use std::alloc::{AllocError, Global};
 use std::marker::Model;
-
-/// The paths of a station: that of its own calls, and four by the network.
-const PATHS: usize = 5;
-
-/// The paths by the network.
-const NETWORK_PATHS: [u8; 4] = [1, 2, 3, 4];
-
-/// The path of calls of the own station.
-const OWN_PATH: u8 = 0;
-
-/// The status where a block is told to give up.
-const USER_ABORT: u16 = 0x1001;
 
 /// The MSTR blocks of a controller, numbered from 1 on, and the calls that they started
 /// (*Modicon Ladder Logic Block Library User Guide*).
 #[derive(Drop)]
 pub struct MstrBank {
-    node: u8,
-    blocks: Vec<BlockState>,
-    numbers: [u32; PATHS],
+    blocks: Blocks,
 }
 
 impl Model for MstrBank {
     ghost use Rattle.mstr_block.specs.Table.{BlockTable};
+    ghost use Rattle.mstr_block.specs.Running.{IsTable};
 
     ghost Value = { BlockTable };
 
-    ghost view = { λ b. record { node = b.node; blocks = b.blocks.items; numbers = b.numbers } };
-}
+    ghost view = { λ b. b.blocks };
 
-/// As many idle blocks.
-fn idle_blocks(alloc: Global, count: u16) -> Result<Vec<BlockState>, AllocError>
-    ensures { IfOk result (λ made. made.items ≡ replicate count BlockState.Idle) }
-{
-    let mut blocks = Vec::new(alloc);
-    for _ in 0..count {
-        blocks.push(BlockState::Idle)?;
-    }
-    Ok(blocks)
+    ghost invariant = { λ b. IsTable b.blocks };
 }
 
 impl MstrBank {
@@ -64,32 +39,35 @@ impl MstrBank {
     pub fn new(alloc: Global, node: u8, blocks: u16) -> Result<MstrBank, AllocError>
         ensures { IfOk result (λ bank. bank ≡ idle_table node blocks) }
     {
-        Ok(MstrBank {
-            node,
-            blocks: idle_blocks(alloc, blocks)?,
-            numbers: [0; PATHS],
-        })
+        let blocks = Blocks::new(alloc, node, blocks, [0; PATHS])?;
+        Ok(MstrBank { blocks })
     }
 
+    /// As many idle blocks whose paths have given these numbers.
     #[cfg(test)]
-    pub(crate) fn has(&self, block: u16) -> bool
-        ensures { OnTrue result (IsBlock self.now block) }
-    {
-        block >= 1 && usize::from(block) <= self.blocks.len()
+    pub(crate) fn with_numbers(
+        alloc: Global,
+        node: u8,
+        blocks: u16,
+        numbers: [u32; PATHS],
+    ) -> Result<MstrBank, AllocError> {
+        let blocks = Blocks::new(alloc, node, blocks, numbers)?;
+        Ok(MstrBank { blocks })
     }
 
-    /// The last number that a path gave, as though so many calls had been made.
-    #[cfg(test)]
-    pub(crate) fn set_number(&mut self, path: u8, number: u32) {
-        if let Some(place) = self.numbers.get_mut(usize::from(path)) {
-            *place = number;
-        }
+    /// What holds of every bank, whatever its calls were; it does nothing.
+    pub fn holds_table(&self)
+        ensures { IsTable self.now }
+    {
+        let _blocks = &self.blocks;
     }
 
-    fn next_untaken(&self) -> Option<usize>
-        ensures { result ≡ position is_untaken self.now.blocks }
+    /// Whether it has a block of this number.
+    pub fn has(&self, block: u16) -> bool
+        ensures only { result ≡ true → IsBlock self.now block }
+        ensures all { IsBlock self.now block → result ≡ true }
     {
-        self.blocks.iter().position(|block| block.is_untaken())
+        self.blocks.has(block)
     }
 
     /// The first, by block, of the started calls that were not taken yet; it is taken from then on.
@@ -97,42 +75,33 @@ impl MstrBank {
     pub fn take_started(&mut self) -> Option<MstrCall>
         ensures call { result ≡ slice_get (started_calls self.old) 0 }
         ensures taken { self.new ≡ first_taken self.old }
+        ensures named { IfSome result (IsCall self.old.node) }
+        ensures table { IsTable self.new }
     {
-        match self.next_untaken() {
-            Some(place) => self.blocks[place].take(),
-            None => None,
-        }
+        self.blocks.take_started()
     }
 
     /// The k-th, from 1 on, of the started calls that were not taken yet, by block. Takes no
     /// memory.
     pub fn started(&self, k: u32) -> Option<MstrCall>
-        ensures { result ≡ (if k == 0 then None else slice_get (started_calls self.now) (k - 1)) }
+        ensures call { result ≡ (if k == 0 then None else slice_get (started_calls self.now) (k - 1)) }
+        ensures named { IfSome result (IsCall self.now.node) }
     {
-        let mut left = k.checked_sub(1)?;
-        for block in self.blocks.iter() {
-            if let Some(call) = block.untaken() {
-                if left == 0 {
-                    return Some(call);
-                }
-                left -= 1;
-            }
-        }
-        None
+        self.blocks.started(k)
     }
 
     /// Whether there is a started call that was not taken yet.
     pub fn has_started(&self) -> bool
         ensures { result ≡ has_started self.now }
     {
-        self.blocks.iter().any(|block| block.is_untaken())
+        self.blocks.has_started()
     }
 
     /// Whether the call of this name was taken and has no result.
     pub fn is_out(&self, id: CallId) -> bool
         ensures { result ≡ is_out self.now id }
     {
-        self.blocks.iter().any(|block| block.is_awaited(id))
+        self.blocks.is_out(id)
     }
 
     /// Ends a call that was taken: its block is ready with the result, or idle where it gave the
@@ -141,198 +110,7 @@ impl MstrBank {
         requires { is_out self.old id ≡ true }
         ensures { self.new ≡ finished id outcome self.old }
     {
-        for block in self.blocks.iter_mut() {
-            block.finish(id, &outcome);
-        }
-    }
-
-    fn is_spent(&self, path: u8) -> bool
-        requires { path < path_count }
-        ensures { result ≡ is_spent self.now path }
-    {
-        self.numbers[usize::from(path)] == u32::MAX
-    }
-
-    /// Whether a call runs on a path.
-    fn is_used(&self, path: u8) -> bool
-        ensures { result ≡ list_any (runs_on path) self.now.blocks }
-    {
-        self.blocks.iter().any(|block| block.runs_on(path))
-    }
-
-    fn is_free(&self, path: u8) -> bool
-        requires { path < path_count }
-        ensures { result ≡ is_free self.now path }
-    {
-        !self.is_spent(path) && !self.is_used(path)
-    }
-
-    fn free_path(&self) -> Option<u8>
-        ensures free { result ≡ find (is_free self.now) network_paths }
-        ensures gives { IfSome result (λ path. CanGive self.now path) }
-    {
-        for path in NETWORK_PATHS {
-            if self.is_free(path) {
-                return Some(path);
-            }
-        }
-        None
-    }
-
-    fn path_for(&self, operation: Operation) -> Option<u8>
-        ensures path { result ≡ path_for self.now operation }
-        ensures gives { IfSome result (λ path. CanGive self.now path) }
-    {
-        if operation.uses_network() {
-            self.free_path()
-        } else if self.is_spent(OWN_PATH) {
-            None
-        } else {
-            Some(OWN_PATH)
-        }
-    }
-
-    /// The name of the next call of a path.
-    fn next_call(&mut self, path: u8) -> CallId
-        requires { CanGive self.old path }
-        ensures call { result ≡ next_call self.old path }
-        ensures given { self.new ≡
-            record self.old { numbers = set self.old.numbers path result.seq } }
-    {
-        let place = usize::from(path);
-        self.numbers[place] += 1;
-        CallId {
-            node: self.node,
-            path,
-            seq: self.numbers[place],
-        }
-    }
-
-    fn set_state(&mut self, block: u16, state: BlockState)
-        requires { IsBlock self.old block }
-        ensures { self.new ≡ with_state self.old block state }
-    {
-        self.blocks[usize::from(block - 1)] = state;
-    }
-
-    /// Runs a call whose start passed its tests, or waits for a path.
-    fn launch<R: RefStore>(
-        &mut self,
-        block: u16,
-        site: Site,
-        operation: Operation,
-        control: &Control,
-        ram: &R,
-    )
-        requires block { IsBlock self.old block }
-        requires fits { Fits site.room operation control.now }
-        requires area { HasRegisters (R.contents ram.now) site.area site.room }
-        ensures { self.new ≡ launched self.old block operation control.now
-            (words_from (R.contents ram.now) site.area control.now.length)
-            (path_for self.old operation) }
-    {
-        let state = match self.path_for(operation) {
-            Some(path) => BlockState::Active(Running {
-                id: self.next_call(path),
-                ask: Some(control.ask(operation, site.area, site.room, ram)),
-                kept: Kept {
-                    operation,
-                    start: control.start,
-                    length: control.length,
-                },
-            }),
-            None => BlockState::Waiting,
-        };
-        self.set_state(block, state);
-    }
-
-    /// The block ends with an error word.
-    fn end_with<R: RefStore>(
-        &mut self,
-        word: u16,
-        state: BlockState,
-        block: u16,
-        site: Site,
-        ram: &mut R,
-    ) -> u8
-        requires block { IsBlock self.old block }
-        requires control { HasRegisters (R.contents ram.old) site.control control_block }
-        ensures { Solves (ended_with word state self.old block site (R.contents ram.old))
-            self.new result (R.contents ram.old) (R.contents ram.new) }
-    {
-        ram.set_word(status_register(site.control), word);
-        self.set_state(block, state);
-        ERROR.bits()
-    }
-
-    /// A start with the registers as they are now.
-    fn start<R: RefStore>(&mut self, block: u16, site: Site, ram: &mut R) -> u8
-        requires block { IsBlock self.old block }
-        requires control { HasRegisters (R.contents ram.old) site.control control_block }
-        requires area { HasRegisters (R.contents ram.old) site.area site.room }
-        ensures { Solves (started self.old block site (R.contents ram.old))
-            self.new result (R.contents ram.old) (R.contents ram.new) }
-    {
-        let control = Control::read(site.control, ram);
-        match control.start(self.node, site.room) {
-            Ok(operation) => {
-                self.launch(block, site, operation, &control, ram);
-                ram.set_word(status_register(site.control), 0);
-                ACTIVE.bits()
-            }
-            Err(word) => self.end_with(word, BlockState::Idle, block, site, ram),
-        }
-    }
-
-    /// The block gives its call up.
-    fn abort<R: RefStore>(&mut self, block: u16, site: Site, ram: &mut R) -> u8
-        requires block { IsBlock self.old block }
-        requires control { HasRegisters (R.contents ram.old) site.control control_block }
-        ensures { Solves (ended_with user_abort (given_up (state_of self.old block)) self.old
-            block site (R.contents ram.old))
-            self.new result (R.contents ram.old) (R.contents ram.new) }
-    {
-        ram.set_word(status_register(site.control), USER_ABORT);
-        self.blocks[usize::from(block - 1)].give_up();
-        ERROR.bits()
-    }
-
-    fn solve_at<R: RefStore>(&mut self, block: u16, site: Site, nodes: NodePower, ram: &mut R) -> u8
-        requires block { IsBlock self.old block }
-        requires control { HasRegisters (R.contents ram.old) site.control control_block }
-        requires area { HasRegisters (R.contents ram.old) site.area site.room }
-        ensures { Solves (solved_in (state_of self.old block) self.old block site nodes
-            (R.contents ram.old)) self.new result (R.contents ram.old) (R.contents ram.new) }
-    {
-        match &self.blocks[usize::from(block - 1)] {
-            BlockState::Idle => {
-                if nodes.top && !nodes.middle {
-                    self.start(block, site, ram)
-                } else {
-                    SILENT.bits()
-                }
-            }
-            BlockState::Waiting => {
-                if nodes.middle {
-                    self.end_with(USER_ABORT, BlockState::Idle, block, site, ram)
-                } else {
-                    self.start(block, site, ram)
-                }
-            }
-            BlockState::Active(_) => {
-                if nodes.middle {
-                    self.abort(block, site, ram)
-                } else {
-                    ACTIVE.bits()
-                }
-            }
-            BlockState::Aborted(_) => SILENT.bits(),
-            BlockState::Ready { kept, result } => {
-                let outputs = kept.answer(result, site, ram);
-                self.set_state(block, BlockState::Idle);
-                outputs
-            }
-        }
+        self.blocks.finish(id, outcome);
     }
 
     /// Solves a block of this number, from 1 on, with its nine control registers from `control` on
@@ -341,7 +119,6 @@ impl MstrBank {
     /// Inputs: the top node enables it, the middle one aborts it. Outputs: the top node is on while
     /// a call runs, the middle one as it ends with an error, whose word is then the status, the
     /// bottom one as it ends with success.
-    #[tactic(auto, unfolding(crate::specs::Solve::solved))]
     pub fn solve<R: RefStore>(
         &mut self,
         block: u16,
@@ -354,7 +131,7 @@ impl MstrBank {
         requires block { IsBlock self.old block }
         requires control { HasRegisters (R.contents ram.old) control control_block }
         requires area { HasRegisters (R.contents ram.old) area length }
-        ensures { Solves (solved self.old block
+        ensures { SolvesBlock (block_solved self.old block
             (record { control = control; area = area; room = length }) (nodes_of inputs)
             (R.contents ram.old)) self.new result (R.contents ram.old) (R.contents ram.new) }
     {
@@ -363,6 +140,7 @@ impl MstrBank {
             area,
             room: length,
         };
-        self.solve_at(block, site, NodePower::of_bits(inputs), ram)
+        self.blocks
+            .solve(block, site, NodePower::of_bits(inputs), ram)
     }
 }

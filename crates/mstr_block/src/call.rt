@@ -1,6 +1,6 @@
 //! Calls, their names and their results.
 ghost use Rattle.std.specs.Prelude.{◌≡◌};
-ghost use Rattle.mstr_block.specs.Call.{is_same};
+ghost use Rattle.mstr_block.specs.Call.{is_same_call};
 
 use plant_types::{Block, Copied};
 use std::alloc::{AllocError, Global};
@@ -54,8 +54,9 @@ pub enum MstrResult {
 }
 
 impl CallId {
-    pub(crate) fn is_same(self, other: CallId) -> bool
-        ensures { result ≡ is_same self other }
+    /// Whether two names name one call.
+    pub fn is_same(self, other: CallId) -> bool
+        ensures { result ≡ is_same_call self other }
     {
         self.node == other.node && (self.path == other.path && self.seq == other.seq)
     }

@@ -4,7 +4,9 @@ ghost use Rattle.std.specs.List.{list_all};
 ghost use Rattle.plant_types.specs.Reference.{ref_from};
 ghost use Rattle.plant_types.specs.Slots.{control_block};
 ghost use Rattle.plant_types.specs.Store.{HasRegisters, word_at, words_from};
-ghost use Rattle.mstr_block.specs.Control.{control_of, has_bad_length, has_bad_start, has_bad_end, has_small_area, has_bad_route, asks_itself, start_of, ask_of, Fits};
+ghost use Rattle.mstr_block.specs.Control.{control_block_of, has_bad_length, has_bad_start};
+ghost use Rattle.mstr_block.specs.Control.{has_bad_end, has_small_area, has_bad_route, asks_itself};
+ghost use Rattle.mstr_block.specs.Control.{start_of, ask_of, FitsStart};
 
 use crate::call::MstrAsk;
 use crate::operation::{Operation, STATISTICS_WORDS};
@@ -110,9 +112,10 @@ fn words_to_write<R: RefStore>(area: Ref, count: u16, ram: &R) -> Block
 }
 
 impl Control {
+    /// The control block whose first register is `control`.
     pub fn read<R: RefStore>(control: Ref, ram: &R) -> Control
         requires { HasRegisters (R.contents ram.now) control control_block }
-        ensures { result ≡ control_of (R.contents ram.now) control }
+        ensures { result ≡ control_block_of (R.contents ram.now) control }
     {
         Control {
             code: number_in(control, CODE, ram),
@@ -175,7 +178,7 @@ impl Control {
     /// The operation of a start, or the error word of the first test that fails.
     pub fn start(&self, own: u8, room: u16) -> Result<Operation, u16>
         ensures start { result ≡ start_of own room self.now }
-        ensures fits { IfOk result (λ operation. Fits room operation self.now) }
+        ensures fits { IfOk result (λ operation. FitsStart room operation self.now) }
     {
         let operation = Operation::of_code(self.code).ok_or(ILLEGAL_OPERATION)?;
         if self.has_bad_length(operation) {
@@ -201,7 +204,7 @@ impl Control {
 
     /// The call of an operation, with the words that the data area has now.
     pub fn ask<R: RefStore>(&self, operation: Operation, area: Ref, room: u16, ram: &R) -> MstrAsk
-        requires fits { Fits room operation self.now }
+        requires fits { FitsStart room operation self.now }
         requires area { HasRegisters (R.contents ram.now) area room }
         ensures { result ≡
             ask_of operation self.now (words_from (R.contents ram.now) area self.now.length) }

@@ -1,5 +1,6 @@
 //! What stays true of the calls of a bank.
-ghost use Rattle.mstr_block.specs.Laws.{SolvesKeepCalls, FinishesEndOneCall, CallsAreTakenInOrder, SolvesGiveNewNumbers, StaysTable};
+ghost use Rattle.mstr_block.specs.Laws.{SolvesKeepCalls, FinishesEndOneCall, CallsAreTakenInOrder};
+ghost use Rattle.mstr_block.specs.Laws.{SolvesGiveNewNumbers, StaysTable};
 
 /// A solve keeps that there is a started call that was not taken, and that a call is out.
 pub fn solves_keep_calls()

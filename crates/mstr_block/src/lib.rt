@@ -4,6 +4,7 @@
 
 mod answer;
 mod bank;
+mod blocks;
 mod call;
 mod control;
 mod laws;

@@ -1,6 +1,7 @@
 //! The eight operations of an MSTR block.
 ghost use Rattle.std.specs.Prelude.{◌≡◌};
-ghost use Rattle.mstr_block.specs.Operations.{operation_of, uses_network, moves_registers, reads_statistics, names_node, most_words};
+ghost use Rattle.mstr_block.specs.Operations.{operation_of, uses_network, moves_registers};
+ghost use Rattle.mstr_block.specs.Operations.{reads_statistics, names_node, most_words};
 
 /// What the first register of a control block asks for.
 #[derive(Clone, Copy, Drop)]

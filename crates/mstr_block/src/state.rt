@@ -1,6 +1,7 @@
 //! What an MSTR block is in the middle of.
 ghost use Rattle.std.specs.Prelude.{◌≡◌, option_copied, None};
-ghost use Rattle.mstr_block.specs.Table.{running_in, call_of, runs_on, is_awaited, untaken, is_untaken, taken, given_up, ended, with_result};
+ghost use Rattle.mstr_block.specs.Table.{running_in, call_of, runs_on, is_awaited, untaken};
+ghost use Rattle.mstr_block.specs.Table.{is_untaken, call_taken, given_up, call_ended, with_result};
 
 use crate::call::{CallId, MstrAsk, MstrCall, MstrResult};
 use crate::operation::Operation;
@@ -70,6 +71,7 @@ impl BlockState {
         }
     }
 
+    /// Whether it runs a call on this path.
     pub fn runs_on(&self, path: u8) -> bool
         ensures { result ≡ runs_on path self.now }
     {
@@ -89,6 +91,7 @@ impl BlockState {
         }
     }
 
+    /// Whether it started a call that was not taken yet.
     pub fn is_untaken(&self) -> bool
         ensures { result ≡ is_untaken self.now }
     {
@@ -105,9 +108,10 @@ impl BlockState {
         self.running()?.untaken()
     }
 
+    /// The call that was started and not taken yet; it is taken from then on.
     pub fn take(&mut self) -> Option<MstrCall>
         ensures call { result ≡ untaken self.old }
-        ensures taken { self.new ≡ taken self.old }
+        ensures taken { self.new ≡ call_taken self.old }
     {
         match self {
             BlockState::Active(running) => running.take(),
@@ -128,7 +132,7 @@ impl BlockState {
     }
 
     fn end(&mut self, outcome: &MstrResult)
-        ensures { self.new ≡ ended outcome.now self.old }
+        ensures { self.new ≡ call_ended outcome.now self.old }
     {
         match self {
             BlockState::Active(running) => {

@@ -12,10 +12,11 @@ use Rattle.clap.specs.Walk.{Rule, Text, first_of}
 use Rattle.clap.specs.Simple.{App, matches_of, new_app, new_rule, on_top, with_rule}
 use Rattle.clap.specs.Faults.{fault_of}
 use Rattle.clap.proofs.OnLiterals.{clap_on_literals}
-use Rattle.plant984.specs.Words.{IsNumberOfScans, Spells, without_dashes}
+use Rattle.plant984.specs.Words.{IsNumberOfScans, SpellsCommand, without_dashes}
 use Rattle.plant984.specs.declared.words.Command.{Command}
 use Rattle.plant984.specs.declared.words.Command.TheVariants.{Run}
-use Rattle.plant984.proofs.Positionals.{IsPositional, fault_after_dashes, is_plain, matches_after, passes_after}
+use Rattle.plant984.proofs.Positionals.{IsPositional, fault_after_dashes, is_plain, matches_after}
+use Rattle.plant984.proofs.Positionals.{passes_after}
 
 -- a command of which a word is no program's name, and that has no help
 abbrev pub bare : Text → App
@@ -52,7 +53,8 @@ scans_passed words passed =
     (ap (first_of (codes "N")) (matches_after scans_app words scans_positional))
   where
     go : (left : List Text) → without_dashes words ≡ left → fault_of scans_app (codes "--" ∷ without_dashes words) ≡ []
-        → first_of (codes "N") (matches_of scans_app words) ≡ first_of (codes "N") (matches_of scans_app (codes "--" ∷ without_dashes words))
+        → first_of (codes "N") (matches_of scans_app words)
+        ≡ first_of (codes "N") (matches_of scans_app (codes "--" ∷ without_dashes words))
         → (word : Text) × (without_dashes words ≡ word ∷ []) × (first_of (codes "N") (matches_of scans_app words) ≡ Some word)
     go [] same none found = absurd (cc (rw same at none))
     go (word ∷ []) same none found = (word, same, found ∙ ap (λ left. first_of (codes "N") (matches_of scans_app (codes "--" ∷ left))) same)
@@ -75,7 +77,8 @@ asked_is words passed value is word =
     only_is a b e = cc
 
 -- a number alone passes
-pub scans_pass : (words : List Text) (scans : ℕ) → scans < 2 ^ 64 → without_dashes words ≡ decimal scans ∷ [] → fault_of scans_app words ≡ []
+pub scans_pass : (words : List Text) (scans : ℕ) → scans < 2 ^ 64 → without_dashes words ≡ decimal scans ∷ []
+    → fault_of scans_app words ≡ []
 unfolding clap_on_literals
 scans_pass words scans small same =
     let clear : list_all is_plain (without_dashes words) ≡ true = rw (same, decimal_is_plain scans small) refl in
@@ -85,7 +88,7 @@ scans_pass words scans small same =
 pub Spells-run : (words behind : List Text) (read : Option ℕ) (made : Option Command)
     → words ≡ codes "run" ∷ behind → made ≡ option_map Run read
     → ((scans : ℕ) → (read ≡ Some scans) ↔ ((without_dashes behind ≡ decimal scans ∷ []) × IsNumberOfScans scans))
-    → (command : Command) → (made ≡ Some command) ↔ Spells words command
+    → (command : Command) → (made ≡ Some command) ↔ SpellsCommand words command
 Spells-run words behind None made named is reads (Run scans) = (
   λ e. absurd (cc),
   λ spells.

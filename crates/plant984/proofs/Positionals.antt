@@ -1,6 +1,9 @@
 -- A simple command of `clap` that has positionals alone takes words as it takes `--` and then the words without their first `--`.
-use Rattle.std.proofs.Common.{◌≡◌, ◌∙◌, ◌+◌, ℕ, Bool, cond, true, false, zero, suc, refl, sym, ap, ap₂, List, [], ◌∷◌, length, Option, Some, None}
-use Rattle.std.specs.Prelude.{◌==◌, ◌&&◌, ◌||◌, if◌then◌else◌, not, is_some, codes, drop, fold, find, map, min, slice_get}
+use Rattle.std.proofs.Common.{◌≡◌, ◌∙◌, ◌+◌, ℕ, Bool, cond, true, false, zero, suc, refl, sym, ap}
+use Rattle.std.proofs.Common.{ap₂}
+use Rattle.std.proofs.Common.{List, [], ◌∷◌, length, Option, Some, None}
+use Rattle.std.specs.Prelude.{◌==◌, ◌&&◌, ◌||◌, if◌then◌else◌, not, is_some, codes, drop, fold}
+use Rattle.std.specs.Prelude.{find, map, min, slice_get}
 use Rattle.std.specs.List.{list_all}
 use Rattle.std.specs.Str.{bytes_eq, chars}
 use Rattle.std.proofs.lemmas.Bool.{and_parts}
@@ -44,7 +47,8 @@ no_short (a ∷ c) x h =
 find_place : (c : List Rule) (p : Rule → Bool) (a : Rule) → list_all is_place c ≡ true → find p c ≡ Some a → is_place a ≡ true
 find_place [] p a h found = cc
 find_place (b ∷ c) p a h found =
-    go (p b) (and_parts (is_place b) (list_all is_place c) h).0 (λ e. find_place c p a (and_parts (is_place b) (list_all is_place c) h).1 e) found
+    let parts = and_parts (is_place b) (list_all is_place c) h in
+    go (p b) parts.0 (λ e. find_place c p a parts.1 e) found
   where
     go : (t : Bool) → is_place b ≡ true → (find p c ≡ Some a → is_place a ≡ true) → cond t (Some b) (find p c) ≡ Some a → is_place a ≡ true
     go true here rest e =
@@ -181,7 +185,8 @@ is_plain w = not (has_dash w)
 -- what the word and the rest fail by, before `--`, at it and after it
 turn_before : (s : Shape) (p : ℕ) (w : Text) (h : Held) → list_all is_place s.rules ≡ true → h.skip ≡ 0
     → turn_fault s [] (standing false p h) w
-    ≡ (if bytes_eq w (codes "--") then [] else or_else (flag_word_fault s.rules s.args_override_self (long_of w) w h) (step_fault s p h value))
+    ≡ (if bytes_eq w (codes "--") then []
+    else or_else (flag_word_fault s.rules s.args_override_self (long_of w) w h) (step_fault s p h value))
 turn_before s p w h all none = go (bytes_eq w (codes "--"))
   where
     go : (t : Bool)
@@ -268,7 +273,8 @@ less_fault s p h (w ∷ ws) all none passed =
     go false e rest =
         let parts = or_else_none _ _ (sym (fault_before s p h w ws all none e) ∙ passed) in
         let here = (or_else_none _ _ parts.0).1 in
-        ap (walk_fault s [] (standing true p h)) (keeps w ws e) ∙ (fault_after s p h w (without_dashes ws) all ∙ ap₂ or_else here (rest parts.1))
+        ap (walk_fault s [] (standing true p h)) (keeps w ws e)
+        ∙ (fault_after s p h w (without_dashes ws) all ∙ ap₂ or_else here (rest parts.1))
 
 -- what is held after the words is what is held after `--` and the words without their first `--`
 abbrev seen : Walk → Held × Option (Text × List Text)
@@ -304,10 +310,13 @@ pub record IsPositional (a : App) : Type 0 where
 
 abbrev fault_after_walk : App → Held × Option (Text × List Text) → Kinds
 fault_after_walk b end = or_else (entered_fault b end.1) (or_else (settle_fault b.top.rules b.top.args_override_self end.0)
-    (or_else (defaults_fault (settled b.top.rules end.0).rows b.top.rules) (check_fault b.top (finished b.top.rules end.0) (is_some (entered b end.1)))))
+    (or_else (defaults_fault (settled b.top.rules end.0).rows b.top.rules)
+    (check_fault b.top (finished b.top.rules end.0) (is_some (entered b end.1)))))
 
 abbrev fault_with : App → Names → List Text → Kinds
-fault_with b names ws = or_else (walk_fault b.top names (walk_from nothing_held) ws) (fault_after_walk b (seen (walk b.top.rules names nothing_held ws)))
+fault_with b names ws =
+    or_else (walk_fault b.top names (walk_from nothing_held) ws)
+    (fault_after_walk b (seen (walk b.top.rules names nothing_held ws)))
 
 fault_is : (a : App) (ws : List Text) → IsPositional a → fault_of a ws ≡ fault_with (built a) [] ws
 fault_is a ws is =
@@ -329,7 +338,8 @@ seen_after c ws all =
 -- the matches are those of the words after `--`
 pub matches_after : (a : App) (ws : List Text) → IsPositional a → matches_of a ws ≡ matches_of a (codes "--" ∷ without_dashes ws)
 matches_after a ws is =
-    matches_are a ws is ∙ (ap (λ (end : Held × Option (Text × List Text)). finished (built a).top.rules end.0) (seen_after (built a).top.rules ws is.places)
+    matches_are a ws is
+    ∙ (ap (λ (end : Held × Option (Text × List Text)). finished (built a).top.rules end.0) (seen_after (built a).top.rules ws is.places)
     ∙ sym (matches_are a (codes "--" ∷ without_dashes ws) is))
 
 -- what passes passes after `--`

@@ -1,16 +1,19 @@
 -- One more step of a controller, and the run of a plant with one.
-use Rattle.std.proofs.Common.{◌≡◌, ℕ, suc, ◌+◌, ◌-◌, ◌<◌, ◌≤◌, Bool, true, false, List, [], ◌∷◌, ◌++◌, length, get_or, map}
-use Rattle.std.proofs.Common.{Option, Some, None, ap, ap₂, sym, refl, ◌∙◌, arith, append_assoc, append-nil, length-append}
+use Rattle.std.proofs.Common.{◌≡◌, ℕ, suc, ◌+◌, ◌-◌, ◌<◌, ◌≤◌, Bool, true, false, List, [], ◌∷◌}
+use Rattle.std.proofs.Common.{◌++◌, length, get_or, map}
+use Rattle.std.proofs.Common.{Option, Some, None, ap, ap₂, sym, refl, ◌∙◌, arith, append_assoc}
+use Rattle.std.proofs.Common.{append-nil, length-append}
 use Rattle.std.specs.Prelude.{fold, max, if◌then◌else◌}
 use Rattle.std.specs.List.{flat_map, range_with_len}
 use Rattle.std.proofs.Math.Seq.{get_or-append_seam}
 use Rattle.std.proofs.lemmas.Grind.{flat_map-append}
 use Rattle.plant_types.specs.declared.plan.ControllerPlan.{ControllerPlan}
-use Rattle.plant_loader.specs.Plant.{IsSolvable}
+use Rattle.plant_loader.specs.Accepted.{IsSolvable}
 use Rattle.scan_order.specs.declared.due.ScanStep.{ScanStep}
 use Rattle.controller_core.specs.declared.entry.Entry.{Entry}
 use Rattle.controller_core.specs.declared.fixed.Fixed.{Fixed}
-use Rattle.controller_core.specs.Controller.{ControllerIs, due_step, has_ended, is_none, left_of, made, state_of, step_end, stepped}
+use Rattle.controller_core.specs.Controller.{ControllerIs, due_step, has_ended, is_none, left_of}
+use Rattle.controller_core.specs.Controller.{made, state_of, step_end, stepped}
 use Rattle.controller_core.specs.Machine.{CanRun}
 use Rattle.controller_core.specs.Panel.{has_line, line_of_end, lines_from, panel_line, panel_lines}
 use Rattle.controller_core.specs.Replay.{State}
@@ -143,7 +146,8 @@ lines-by-place before (line ∷ after) =
     let all = before ++ line ∷ after in
     let here : more ++ after ≡ all = append_assoc before (line ∷ []) after in
     let long : length more ≡ length before + 1 = length-append before (line ∷ []) in
-    let first : get_or all (length before) [] ++ [] ≡ line = append-nil (get_or all (length before) []) ∙ get_or-append_seam before line after [] in
+    let first : get_or all (length before) [] ++ [] ≡ line =
+    append-nil (get_or all (length before) []) ∙ get_or-append_seam before line after [] in
     let shift = ap (λ n. flat_map (λ k. get_or all k [] ++ []) (range_with_len n (length after))) (sym long) in
     let rest = ap (λ (l : List (List ℕ)). flat_map (λ k. get_or l k [] ++ []) (range_with_len (length more) (length after))) (sym here) in
     ap₂ (λ a b. a ++ b) first (shift ∙ rest ∙ lines-by-place more after)
@@ -155,17 +159,18 @@ by_scan-single lines =
     ap (λ n. flat_map (scan_lines (lines ∷ [])) (range_with_len 0 n)) long ∙ lines-by-place [] lines
 
 -- the first of a list of one
-pub list-single : {A : Type 0} (xs ys : List A) (x only : A) → x ≡ get_or ys 0 x → ys ≡ xs → xs ≡ only ∷ [] → xs ≡ x ∷ []
-list-single {A} xs ys x only first same single =
-    let e : x ≡ only = first ∙ ap (λ (l : List A). get_or l 0 x) (same ∙ single) in
-    single ∙ ap (λ (a : A). a ∷ []) (sym e)
+pub list-single : {A : Type 0} (xs ys : List A) (x : A) → x ≡ get_or ys 0 x → ys ≡ xs → length xs ≡ 1 → xs ≡ x ∷ []
+list-single (only ∷ []) ys x first same one =
+    ap (λ a. a ∷ []) (sym (first ∙ ap (λ l. get_or l 0 x) same))
+list-single [] ys x first same one = absurd (omega (arith, one))
+list-single (y ∷ z ∷ zs) ys x first same one = absurd (omega (arith, one))
 
 -- ---- a plan that was loaded can be run
 
 pub solvable-runs : (plan : ControllerPlan) → IsSolvable plan → CanRun plan
 solvable-runs plan solvable = record {
   passes = solvable.passes;
-  plain = solvable.plain;
+  messages = solvable.messages;
   count = solvable.orders.few;
   rows = solvable.orders.rows;
 }

@@ -14,7 +14,7 @@ use Rattle.plant984.specs.declared.status.Status.{Status}
 use Rattle.plant984.specs.declared.status.Status.TheVariants as ends
 use Rattle.plant984.specs.declared.words.Command.{Command}
 use Rattle.plant984.specs.declared.words.Command.TheVariants.{Run}
-use Rattle.plant984.specs.Words.{IsCommand, Spells}
+use Rattle.plant984.specs.Words.{IsCommand, SpellsCommand}
 use Rattle.plant984.specs.Run.{panel}
 
 -- A status and the text that goes with it.
@@ -34,8 +34,8 @@ due_of (Run scans) (Err fault) =
     record { status = ends.Refused; text = refusal_text fault.0 fault.1 }
 
 -- What is due for a command and an input.
-abbrev pub due : Command → List ℕ → Due
-due command input = due_of command (plant_of input)
+abbrev pub due_for : Command → List ℕ → Due
+due_for command input = due_of command (plant_of input)
 
 -- The most bytes of input that are taken, 64 MiB.
 abbrev pub input_limit : ℕ
@@ -45,7 +45,7 @@ input_limit = 64 * 2 ^ 20
 -- limit.
 pub record Asked (words : List (List ℕ)) (left rest : Option (List ℕ)) : Type 0 where
   pub command : Command
-  pub spelled : Spells words command
+  pub spelled : SpellsCommand words command
   pub input : List ℕ
   pub whole : IsWhole left rest input
   pub within : length input ≤ input_limit
@@ -56,8 +56,8 @@ abbrev pub WroteDue :
     → Option (List ℕ) → Type 0
 WroteDue status words left rest had has =
     (asked : Asked words left rest)
-    × ((due asked.command asked.input).status ≡ status)
-    × Took had has (due asked.command asked.input).text
+    × ((due_for asked.command asked.input).status ≡ status)
+    × Took had has (due_for asked.command asked.input).text
 
 -- Of the text that was due for what was asked a front was written, but not all of it.
 abbrev pub WroteFrontOfDue :
@@ -65,7 +65,7 @@ abbrev pub WroteFrontOfDue :
     → Type 0
 WroteFrontOfDue words left rest had has =
     (asked : Asked words left rest)
-    × TookFront had has (due asked.command asked.input).text
+    × TookFront had has (due_for asked.command asked.input).text
 
 -- The status is what was due, and the text that was due was written; or memory ran out.
 abbrev pub EndsAsDue : Due → Status → Option (List ℕ) → Option (List ℕ) → Type 0
@@ -116,10 +116,10 @@ pub record Promised
       × WroteFrontOfDue words source.bytes source_now.bytes sink.bytes sink_now.bytes
   pub later_source : source.faults ≤ source_now.faults
   pub later_sink : sink.faults ≤ sink_now.faults
-  pub complete : (command : Command) (input : List ℕ) → Spells words command
+  pub complete : (command : Command) (input : List ℕ) → SpellsCommand words command
       → source.bytes ≡ Some input → length input ≤ input_limit
       → ¬ (Failed source source_now) → ¬ (Failed sink sink_now)
-      → EndsAsDue (due command input) status sink.bytes sink_now.bytes
+      → EndsAsDue (due_for command input) status sink.bytes sink_now.bytes
   pub long : (input : List ℕ) → IsCommand words
       → source.bytes ≡ Some input → input_limit < length input → ¬ (Failed source source_now)
       → (status ≡ ends.TooLong) ⊎ (status ≡ ends.NoMemory)

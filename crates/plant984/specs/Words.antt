@@ -11,28 +11,28 @@ without_dashes (word ∷ words) =
     if bytes_eq word (codes "--") then words else word ∷ without_dashes words
 
 -- The word that names a command.
-abbrev pub name_of : Command → List ℕ
-name_of (Run scans) = codes "run"
+abbrev pub command_name : Command → List ℕ
+command_name (Run scans) = codes "run"
 
 -- The numbers of a command, in decimal digits with no sign and no leading zero.
-abbrev pub numbers_of : Command → List (List ℕ)
-numbers_of (Run scans) = decimal scans ∷ []
+abbrev pub command_numbers : Command → List (List ℕ)
+command_numbers (Run scans) = decimal scans ∷ []
 
 -- A run has 1 to 2000 scans.
 abbrev pub IsNumberOfScans : ℕ → Type 0
 IsNumberOfScans scans = (1 ≤ scans) × (scans ≤ 2000)
 
-abbrev pub IsInRange : Command → Type 0
-IsInRange (Run scans) = IsNumberOfScans scans
+abbrev pub IsCommandInRange : Command → Type 0
+IsCommandInRange (Run scans) = IsNumberOfScans scans
 
 -- The words are those of this command: its name, and behind it its numbers, among which one `--`
 -- may stand.
-pub record Spells (words : List (List ℕ)) (command : Command) : Type 0 where
+pub record SpellsCommand (words : List (List ℕ)) (command : Command) : Type 0 where
   pub behind : List (List ℕ)
-  pub named : words ≡ name_of command ∷ behind
-  pub numbers : without_dashes behind ≡ numbers_of command
-  pub in_range : IsInRange command
+  pub named : words ≡ command_name command ∷ behind
+  pub numbers : without_dashes behind ≡ command_numbers command
+  pub in_range : IsCommandInRange command
 
 -- The words are those of some command.
 abbrev pub IsCommand : List (List ℕ) → Type 0
-IsCommand words = (command : Command) × Spells words command
+IsCommand words = (command : Command) × SpellsCommand words command

@@ -1,7 +1,7 @@
 // What is due for a command and an input.
 ghost use Rattle.std.specs.Prelude.{◌≡◌, ◌≤◌, IfOk, string_bytes};
-ghost use Rattle.plant984.specs.Words.{IsInRange};
-ghost use Rattle.plant984.specs.Due.{due, refusal_text};
+ghost use Rattle.plant984.specs.Words.{IsCommandInRange};
+ghost use Rattle.plant984.specs.Due.{due_for, refusal_text};
 
 use crate::run::panel_of;
 use crate::status::Status;
@@ -25,7 +25,7 @@ fn refusal_text(alloc: Global, fault: PlantFault, place: Place) -> Result<String
 
 fn answer_to_run(alloc: Global, scans: u32, input: &[u8]) -> Result<Answer, AllocError>
     requires { scans ≤ 2000 }
-    ensures { IfOk result (λ answer. due (Command.Run scans) input.now
+    ensures { IfOk result (λ answer. due_for (Command.Run scans) input.now
         ≡ record { status = answer.status; text = string_bytes answer.text }) }
 {
     match load(alloc, input) {
@@ -50,8 +50,8 @@ fn answer_to_run(alloc: Global, scans: u32, input: &[u8]) -> Result<Answer, Allo
 
 /// The answer to a command over an input.
 pub fn answer_to(alloc: Global, command: Command, input: &[u8]) -> Result<Answer, AllocError>
-    requires { IsInRange command }
-    ensures { IfOk result (λ answer. due command input.now
+    requires { IsCommandInRange command }
+    ensures { IfOk result (λ answer. due_for command input.now
         ≡ record { status = answer.status; text = string_bytes answer.text }) }
 {
     match command {

@@ -7,7 +7,8 @@ use std::alloc::{AllocError, Global};
 use std::process::ExitCode;
 use std::test::Fail;
 
-const CONTACT_AND_COIL: &str = r#"version = 1
+fn contact_and_coil() -> &'static str {
+    r#"version = 1
 [[controller]]
 node = 1
 coils = 16
@@ -17,9 +18,11 @@ orders = ["1 - - -"]
 panel = ["00001"]
 [[controller.segment]]
 networks = ["1,1 NC 10001; 1,2 CO 00001"]
-"#;
+"#
+}
 
-const OTHER_NODE: &str = r#"version = 1
+fn other_node() -> &'static str {
+    r#"version = 1
 [[controller]]
 node = 64
 coils = 16
@@ -29,104 +32,49 @@ orders = ["1 - - -"]
 panel = ["40100", "10016", "00016"]
 [[controller.segment]]
 networks = []
-"#;
+"#
+}
 
-// One call: its words, input and failing calls; the status, its number and the text that are
-// wanted.
+// One call: its words and its input, and the reads and writes that fail; the status and the text
+// that are wanted.
+#[derive(Clone, Copy)]
 struct Case {
     words: &'static str,
     input: &'static str,
     failing_reads: &'static [u64],
     failing_writes: &'static [u64],
     status: Status,
-    number: u8,
     text: &'static str,
 }
 
-const CASES: [Case; 9] = [
+fn done(words: &'static str, input: &'static str, status: Status, text: &'static str) -> Case {
     Case {
-        words: "run 1",
-        input: CONTACT_AND_COIL,
+        words,
+        input,
         failing_reads: &[],
         failing_writes: &[],
-        status: Status::Ok,
-        number: 0,
-        text: "S 1 N 1 00001=1\n",
-    },
+        status,
+        text,
+    }
+}
+
+fn failing_at_a_read(failing_reads: &'static [u64]) -> Case {
     Case {
-        words: "run 1",
-        input: OTHER_NODE,
-        failing_reads: &[],
-        failing_writes: &[],
-        status: Status::Ok,
-        number: 0,
-        text: "S 1 N 64 40100=0 10016=0 00016=0\n",
-    },
+        failing_reads,
+        ..done("run 1", contact_and_coil(), Status::ReadFault, "")
+    }
+}
+
+fn failing_at_a_write(
+    failing_writes: &'static [u64],
+    input: &'static str,
+    text: &'static str,
+) -> Case {
     Case {
-        words: "run 1",
-        input: "",
-        failing_reads: &[],
-        failing_writes: &[],
-        status: Status::Refused,
-        number: 5,
-        text: "refused 2 BadKey plant\n",
-    },
-    Case {
-        words: "run 1",
-        input: "version = \n",
-        failing_reads: &[],
-        failing_writes: &[],
-        status: Status::Refused,
-        number: 5,
-        text: "refused 1 BadToml plant\n",
-    },
-    Case {
-        words: "run 1",
-        input: CONTACT_AND_COIL,
-        failing_reads: &[1],
-        failing_writes: &[],
-        status: Status::ReadFault,
-        number: 3,
-        text: "",
-    },
-    Case {
-        words: "run 1",
-        input: CONTACT_AND_COIL,
-        failing_reads: &[],
-        failing_writes: &[1],
-        status: Status::WriteFault,
-        number: 4,
-        text: "",
-    },
-    // A sink that takes 7 bytes at a time.
-    Case {
-        words: "run 1",
-        input: CONTACT_AND_COIL,
-        failing_reads: &[],
-        failing_writes: &[3],
-        status: Status::WriteFault,
-        number: 4,
-        text: "S 1 N 1 00001=",
-    },
-    Case {
-        words: "run 1",
-        input: "",
-        failing_reads: &[],
-        failing_writes: &[2],
-        status: Status::WriteFault,
-        number: 4,
-        text: "refused",
-    },
-    Case {
-        words: "walk 1",
-        input: CONTACT_AND_COIL,
-        failing_reads: &[],
-        failing_writes: &[],
-        status: Status::Usage,
-        number: 2,
-        text: "",
-    },
-];
+        failing_writes,
+        ..done("run 1", input, Status::WriteFault, text)
+    }
+}
 
 pub fn words_of(alloc: Global, line: &str) -> Result<Vec<String>, AllocError> {
     let mut words = Vec::new(alloc);
@@ -136,57 +84,116 @@ pub fn words_of(alloc: Global, line: &str) -> Result<Vec<String>, AllocError> {
     Ok(words)
 }
 
+fn source_of(alloc: Global, input: &str, fails: &[u64]) -> Result<MemSource, AllocError> {
+    let fails = Vec::from_slice(alloc, fails)?;
+    let bytes = Vec::from_slice(alloc, input.as_bytes())?;
+    Ok(MemSource::new(bytes, 7, fails))
+}
+
+fn sink_of(alloc: Global, fails: &[u64]) -> Result<MemSink, AllocError> {
+    Ok(MemSink::new(alloc, 7, Vec::from_slice(alloc, fails)?))
+}
+
+// How a call ended, and what it wrote.
+#[derive(Drop)]
+pub struct Outcome {
+    pub status: Status,
+    pub written: Vec<u8>,
+}
+
+pub fn outcome_of(
+    alloc: Global,
+    line: &str,
+    mut source: MemSource,
+    mut sink: MemSink,
+) -> Result<Outcome, AllocError> {
+    let words = words_of(alloc, line)?;
+    let status = plant_top(alloc, &words, &mut source, &mut sink);
+    let written = Vec::from_slice(alloc, sink.bytes())?;
+    Ok(Outcome { status, written })
+}
+
+// Whether the case ends as it is to, over a source and a sink that take 7 bytes at a time.
+fn holds(alloc: Global, case: &Case) -> Result<bool, AllocError> {
+    let sink = sink_of(alloc, case.failing_writes)?;
+    let source = source_of(alloc, case.input, case.failing_reads)?;
+    let outcome = outcome_of(alloc, case.words, source, sink)?;
+    Ok(outcome.status == case.status && outcome.written.as_slice() == case.text.as_bytes())
+}
+
 #[test]
 fn answers_each_case(rt: HostRuntime) -> Result<(), Fail> {
-    let alloc = rt.alloc();
-    for case in &CASES {
-        let words = words_of(alloc, case.words)?;
-        let bytes = Vec::from_slice(alloc, case.input.as_bytes())?;
-        let fails = Vec::from_slice(alloc, case.failing_reads)?;
-        let mut source = MemSource::new(bytes, 7, fails);
-        let mut sink = MemSink::new(alloc, 7, Vec::from_slice(alloc, case.failing_writes)?);
-        let status = plant_top(alloc, &words, &mut source, &mut sink);
-        assert_eq!(rt; status, case.status, "{} {}", case.words, case.input);
-        assert_eq!(rt;
-            sink.bytes(),
-            case.text.as_bytes(),
-            "{} {}",
-            case.words,
-            case.input
-        );
+    let run = contact_and_coil();
+    for case in [
+        done("run 1", run, Status::Ok, "S 1 N 1 00001=1\n"),
+        done(
+            "run 1",
+            other_node(),
+            Status::Ok,
+            "S 1 N 64 40100=0 10016=0 00016=0\n",
+        ),
+        done("run 1", "", Status::Refused, "refused 2 BadKey plant\n"),
+        done(
+            "run 1",
+            "version = \n",
+            Status::Refused,
+            "refused 1 BadToml plant\n",
+        ),
+        done("walk 1", run, Status::Usage, ""),
+        failing_at_a_read(&[1]),
+        failing_at_a_write(&[1], run, ""),
+        failing_at_a_write(&[3], run, "S 1 N 1 00001="),
+        failing_at_a_write(&[2], "", "refused"),
+    ] {
+        assert!(rt; holds(rt.alloc(), &case)?, "{} {}", case.words, case.input);
     }
     Ok(())
 }
 
 // The number with which the process ends.
 #[test]
+fn each_status_has_its_number(rt: HostRuntime) {
+    for (status, number) in [
+        (Status::Ok, 0),
+        (Status::NoMemory, 1),
+        (Status::Usage, 2),
+        (Status::ReadFault, 3),
+        (Status::WriteFault, 4),
+        (Status::Refused, 5),
+        (Status::TooLong, 6),
+    ] {
+        assert_eq!(rt; ExitCode::from(status), ExitCode::from(number));
+    }
+}
+
+#[test]
 fn ends_with_the_number_of_its_status(rt: HostRuntime) -> Result<(), Fail> {
     let alloc = rt.alloc();
-    for case in &CASES {
-        let words = words_of(alloc, case.words)?;
-        let bytes = Vec::from_slice(alloc, case.input.as_bytes())?;
-        let fails = Vec::from_slice(alloc, case.failing_reads)?;
-        let mut source = MemSource::new(bytes, 7, fails);
-        let mut sink = MemSink::new(alloc, 7, Vec::from_slice(alloc, case.failing_writes)?);
-        let code = exit_of(alloc, &words, &mut source, &mut sink);
-        assert_eq!(rt;
-            code,
-            ExitCode::from(case.number),
-            "{} {}",
-            case.words,
-            case.input
-        );
-    }
-    assert_eq!(rt; ExitCode::from(Status::NoMemory), ExitCode::from(1));
-    assert_eq!(rt; ExitCode::from(Status::TooLong), ExitCode::from(6));
+    let words = words_of(alloc, "run 1")?;
+    let mut sink = sink_of(alloc, &[])?;
+    let mut source = source_of(alloc, "", &[])?;
+    let code = exit_of(alloc, &words, &mut source, &mut sink);
+    assert_eq!(rt; code, ExitCode::from(5));
     Ok(())
 }
 
-// Behind words that are no command, a run still finds the whole input.
+// Whether the words of the line are told to be no command, and a run behind them still finds the
+// whole input.
+fn touches_nothing(alloc: Global, line: &str) -> Result<bool, AllocError> {
+    let words = words_of(alloc, line)?;
+    let mut sink = sink_of(alloc, &[])?;
+    let mut source = source_of(alloc, contact_and_coil(), &[])?;
+    let status = plant_top(alloc, &words, &mut source, &mut sink);
+    let outcome = outcome_of(alloc, "run 1", source, sink)?;
+    Ok(
+        status == Status::Usage
+            && outcome.status == Status::Ok
+            && outcome.written.as_slice() == b"S 1 N 1 00001=1\n".as_slice(),
+    )
+}
+
 #[test]
 fn other_words_touch_nothing(rt: HostRuntime) -> Result<(), Fail> {
-    let alloc = rt.alloc();
-    let run = words_of(alloc, "run 1")?;
     for line in [
         "",
         "run",
@@ -210,16 +217,7 @@ fn other_words_touch_nothing(rt: HostRuntime) -> Result<(), Fail> {
         "run 1x",
         "--help",
     ] {
-        let words = words_of(alloc, line)?;
-        let bytes = Vec::from_slice(alloc, CONTACT_AND_COIL.as_bytes())?;
-        let mut source = MemSource::new(bytes, 64, Vec::new(alloc));
-        let mut sink = MemSink::new(alloc, 64, Vec::new(alloc));
-        let status = plant_top(alloc, &words, &mut source, &mut sink);
-        assert_eq!(rt; status, Status::Usage, "{line}");
-        assert!(rt; sink.bytes().is_empty(), "{line}");
-        let status = plant_top(alloc, &run, &mut source, &mut sink);
-        assert_eq!(rt; status, Status::Ok, "{line}");
-        assert_eq!(rt; sink.bytes(), b"S 1 N 1 00001=1\n".as_slice(), "{line}");
+        assert!(rt; touches_nothing(rt.alloc(), line)?, "{line}");
     }
     Ok(())
 }
@@ -227,36 +225,28 @@ fn other_words_touch_nothing(rt: HostRuntime) -> Result<(), Fail> {
 // One `--` behind the command word counts for nothing, wherever it stands.
 #[test]
 fn two_dashes_are_dropped_once(rt: HostRuntime) -> Result<(), Fail> {
-    let alloc = rt.alloc();
     for line in ["run 1", "run -- 1", "run 1 --"] {
-        let words = words_of(alloc, line)?;
-        let bytes = Vec::from_slice(alloc, CONTACT_AND_COIL.as_bytes())?;
-        let mut source = MemSource::new(bytes, 64, Vec::new(alloc));
-        let mut sink = MemSink::new(alloc, 64, Vec::new(alloc));
-        let status = plant_top(alloc, &words, &mut source, &mut sink);
-        assert_eq!(rt; status, Status::Ok, "{line}");
-        assert_eq!(rt; sink.bytes(), b"S 1 N 1 00001=1\n".as_slice(), "{line}");
+        let case = done(line, contact_and_coil(), Status::Ok, "S 1 N 1 00001=1\n");
+        assert!(rt; holds(rt.alloc(), &case)?, "{line}");
     }
     Ok(())
 }
 
-// The limit, and one byte more, by a comment behind the plant.
+// The outcome of a run over so many bytes: a plant, and a comment behind it.
+fn with_comment(alloc: Global, len: usize) -> Result<Outcome, AllocError> {
+    let sink = sink_of(alloc, &[])?;
+    let mut bytes = Vec::from_slice(alloc, contact_and_coil().as_bytes())?;
+    bytes.resize(len, b'#')?;
+    let source = MemSource::new(bytes, 65_536, Vec::new(alloc));
+    outcome_of(alloc, "run 1", source, sink)
+}
+
 #[test]
 fn stops_behind_the_limit(rt: HostRuntime) -> Result<(), Fail> {
-    let alloc = rt.alloc();
-    let words = words_of(alloc, "run 1")?;
-    for (len, want) in [
-        (INPUT_LIMIT, Status::Ok),
-        (INPUT_LIMIT + 1, Status::TooLong),
-    ] {
-        let mut bytes = Vec::from_slice(alloc, CONTACT_AND_COIL.as_bytes())?;
-        bytes.resize(len, b'#')?;
-        let mut source = MemSource::new(bytes, 65_536, Vec::new(alloc));
-        let mut sink = MemSink::new(alloc, 64, Vec::new(alloc));
-        let status = plant_top(alloc, &words, &mut source, &mut sink);
-        assert_eq!(rt; status, want);
-        assert_eq!(rt; sink.bytes().is_empty(), want == Status::TooLong);
-    }
+    let within = with_comment(rt.alloc(), INPUT_LIMIT)?;
+    assert!(rt; within.status == Status::Ok && !within.written.is_empty());
+    let beyond = with_comment(rt.alloc(), INPUT_LIMIT + 1)?;
+    assert!(rt; beyond.status == Status::TooLong && beyond.written.is_empty());
     Ok(())
 }
 
@@ -264,16 +254,11 @@ fn stops_behind_the_limit(rt: HostRuntime) -> Result<(), Fail> {
 #[test]
 fn runs_two_thousand_scans(rt: HostRuntime) -> Result<(), Fail> {
     let alloc = rt.alloc();
-    let words = words_of(alloc, "run 2000")?;
-    let bytes = Vec::from_slice(alloc, CONTACT_AND_COIL.as_bytes())?;
-    let mut source = MemSource::new(bytes, 4096, Vec::new(alloc));
-    let mut sink = MemSink::new(alloc, 4096, Vec::new(alloc));
-    let status = plant_top(alloc, &words, &mut source, &mut sink);
-    assert_eq!(rt; status, Status::Ok);
-    assert_eq!(rt; sink.bytes().len(), 36_893);
-    assert!(rt;
-        sink.bytes()
-            .ends_with(b"S 1999 N 1 00001=1\nS 2000 N 1 00001=1\n".as_slice())
-    );
+    let sink = sink_of(alloc, &[])?;
+    let source = source_of(alloc, contact_and_coil(), &[])?;
+    let outcome = outcome_of(alloc, "run 2000", source, sink)?;
+    let end = b"S 1999 N 1 00001=1\nS 2000 N 1 00001=1\n".as_slice();
+    assert_eq!(rt; outcome.written.len(), 36_893);
+    assert!(rt; outcome.status == Status::Ok && outcome.written.ends_with(end));
     Ok(())
 }

@@ -1,6 +1,6 @@
 // The words of the command line.
 ghost use Rattle.std.specs.Prelude.{◌≡◌, ◌↔◌, IfOk, map, string_bytes};
-ghost use Rattle.plant984.specs.Words.{Spells};
+ghost use Rattle.plant984.specs.Words.{SpellsCommand};
 
 use crate::arguments::scans_of;
 use std::alloc::{AllocError, Global};
@@ -15,7 +15,7 @@ pub enum Command {
 /// The command that the words after the program's name spell.
 pub fn command_of(alloc: Global, words: &[String]) -> Result<Option<Command>, AllocError>
     ensures { IfOk result (λ read. (command : Command)
-        → (read ≡ Some command) ↔ Spells (map string_bytes words.now) command) }
+        → (read ≡ Some command) ↔ SpellsCommand (map string_bytes words.now) command) }
 {
     match words {
         [name, behind @ ..] if name.as_str() == "run" => {

@@ -1,5 +1,6 @@
 -- Reads one after another, and writes one after another.
-use Rattle.std.proofs.Common.{ℕ, ◌+◌, List, ◌++◌, take, take-add, drop, Option, Some, None, ◌∙◌, sym, ap, subst, append_assoc}
+use Rattle.std.proofs.Common.{ℕ, ◌+◌, List, ◌++◌, take, take-add, drop, Option, Some, None, ◌∙◌}
+use Rattle.std.proofs.Common.{sym, ap, subst, append_assoc}
 use Rattle.plant_io.specs.Streams.{Gave, Took}
 
 -- what two reads gave went from the front, one after the other

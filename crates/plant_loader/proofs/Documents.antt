@@ -1,5 +1,6 @@
 -- Bytes that are text or not, tables with known keys, and arrays of few items.
-use Rattle.std.proofs.Common.{◌≡◌, ℕ, ◌≢◌, Bool, true, false, List, [], ◌∷◌, length, map, ap, suc, le-leb, arith, Bor, Option, None, refl, String, Global, string_bytes}
+use Rattle.std.proofs.Common.{◌≡◌, ℕ, Bool, true, false, List, [], ◌∷◌, length, map, suc}
+use Rattle.std.proofs.Common.{le-leb, arith, Bor, Option, None, refl, String, Global, string_bytes}
 use Rattle.std.specs.Prelude.{bytes_eq, nat_lt, if◌then◌else◌}
 use Rattle.std.specs.List.{list_any, list_all}
 use Rattle.std.specs.Map.{keys_of}
@@ -10,7 +11,7 @@ use Rattle.toml.specs.Parse.{parse_document}
 use Rattle.toml.specs.View.{members_view, items_view}
 use Rattle.toml.specs.declared.value.Value.{Value}
 use Rattle.plant_loader.specs.Keys.{has_only}
-use Rattle.plant_loader.specs.Plant.{document_of, has_more_items, only_table}
+use Rattle.plant_loader.specs.Plant.{document_of, has_more_items}
 
 -- a test that fails gives no document
 not_text : (b : Bool) (r : Option Members) → (b ≡ true → ⊥) → (if b then r else None) ≡ None
@@ -41,9 +42,3 @@ pub has_more_items_view : (vs : List Value) → has_more_items (items_view vs) �
 has_more_items_view [] = refl
 has_more_items_view (v ∷ []) = refl
 has_more_items_view (v ∷ w ∷ vs) = rw (le-leb 2 (suc (suc (length vs))) (omega arith)) refl
-
--- an array of another length has no one table
-pub only_table-other : (vs : List Value) → length vs ≢ 1 → only_table (items_view vs) ≡ None
-only_table-other [] h = refl
-only_table-other (v ∷ []) h = absurd (h refl)
-only_table-other (v ∷ w ∷ vs) h = refl

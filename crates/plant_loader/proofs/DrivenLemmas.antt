@@ -1,24 +1,23 @@
 -- A set of references beside a list of them.
-use Rattle.std.proofs.Common.{◌≡◌, ℕ, Bool, true, false, cond, ◌&&◌, ◌||◌, ◌==◌, List, [], ◌∷◌, ◌++◌, Option, Some, None, Result, Ok, Err, is_some, nat_cmp, refl, sym, ap, ◌∙◌, append_assoc, arith}
-use Rattle.std.specs.List.{list_any, flat_map, cons_option}
+use Rattle.std.proofs.Common.{◌≡◌, ℕ, Bool, true, false, cond, ◌&&◌, ◌||◌, ◌==◌, List, [], ◌∷◌}
+use Rattle.std.proofs.Common.{◌++◌, Option, Some, None, is_some, nat_cmp, refl}
+use Rattle.std.proofs.Common.{sym, ap, ◌∙◌, arith}
+use Rattle.std.specs.List.{list_any, cons_option}
 use Rattle.std.specs.Ordering.{is_eq, ordering_then}
 use Rattle.std.specs.BTreeMap.{is_at}
-use Rattle.std.specs.Result.{is_err, OnOk}
 use Rattle.std.proofs.lemmas.Bool.Decides.{nat_tests}
 use Rattle.std.proofs.lemmas.List.Folds.{list_any-append}
+use Rattle.std.proofs.lemmas.List.Elements.{filter_map-append}
 use Rattle.plant_types.specs.declared.reference.Ref.{Ref}
 use Rattle.plant_types.specs.declared.network.Cell.{Cell}
 use Rattle.plant_types.specs.contracts.reference.RefOrd.TheImpl as derived
 use Rattle.plant_types.specs.Reference.{ref_cmp, rank_of}
 use Rattle.plant_types.specs.Network.{driven_by}
-use Rattle.plant_types.specs.Checks.{is_same, coils_of_network}
+use Rattle.plant_types.specs.Checks.{is_same}
+use Rattle.plant_types.specs.Standing.{coils_in}
 use Rattle.plant_types.proofs.Contents.{found_by_code}
 use Rattle.plant_loader.specs.Driven.{HoldsJust}
-use Rattle.cell_text.specs.declared.piece.Piece.TheVariants as pieces
-use Rattle.plant_loader.specs.Pieces.{networks_in}
-use Rattle.plant_loader.specs.Program.{ReadProgram, open_network, driven_coils, added, with_network, with_segment}
-use Rattle.plant_loader.proofs.Checked.{coils-push, driven_coils-with_network, driven_coils-with_segment}
-use Rattle.plant_loader.proofs.GridLemmas.{same_symm}
+use Rattle.plant_types.proofs.GridLemmas.{same_symm}
 
 -- two references are one where their kinds and their numbers are
 same_then : (a b m n : ℕ) → is_eq (ordering_then (nat_cmp a b) (nat_cmp m n)) ≡ (a == b) && (m == n)
@@ -61,26 +60,19 @@ HoldsJust-gain old new drives coil e put = λ at.
     (or_last (is_same at coil) (list_any (is_same at) old))
     ∙ sym (list_any-append (is_same at) old (coil ∷ [])) ∙ ap (λ (o : Option Ref). list_any (is_same at) (old ++ cons_option o [])) e
 
+-- the coils of one more cell
+pub coils_in-push : (cells : List Cell) (cell : Cell) → coils_in (cells ++ cell ∷ []) ≡ coils_in cells ++ cons_option (driven_by cell.element) []
+coils_in-push cells cell = filter_map-append (λ (c : Cell). driven_by c.element) cells (cell ∷ [])
+
 -- the keys hold the coils of one more cell
-pub HoldsJust-cell : (old new : List Ref) (read : ReadProgram) (cell : Cell) (drives : Option Ref) → drives ≡ driven_by cell.element
-    → HoldsJust old (driven_coils read) → HoldsJust new (old ++ cons_option drives []) → HoldsJust new (driven_coils (added read (pieces.Cell cell)))
-HoldsJust-cell old new read cell drives d held gained = λ at.
-    let before = flat_map coils_of_network (networks_in read.segments ++ read.networks) in
-    let more = cons_option (driven_by cell.element) [] in
-    let same : driven_coils read ++ more ≡ driven_coils (added read (pieces.Cell cell)) =
-    append_assoc before (coils_of_network (open_network read)) more ∙ ap (λ xs. before ++ xs) (sym (coils-push read.cells read.shorts cell)) in
-    gained at ∙ ap (λ (o : Option Ref). list_any (is_same at) (old ++ cons_option o [])) d ∙ list_any-append (is_same at) old more
-    ∙ rw (held at) (sym (list_any-append (is_same at) (driven_coils read) more)) ∙ ap (list_any (is_same at)) same
+pub HoldsJust-cell : (old new : List Ref) (cells more : List Cell) (cell : Cell) (drives : Option Ref) → drives ≡ driven_by cell.element
+    → more ≡ cells ++ cell ∷ [] → HoldsJust old (coils_in cells) → HoldsJust new (old ++ cons_option drives []) → HoldsJust new (coils_in more)
+HoldsJust-cell old new cells more cell drives d m held gained = λ at.
+    let one = cons_option (driven_by cell.element) [] in
+    gained at ∙ ap (λ (o : Option Ref). list_any (is_same at) (old ++ cons_option o [])) d ∙ list_any-append (is_same at) old one
+    ∙ rw (held at) (sym (list_any-append (is_same at) (coils_in cells) one))
+    ∙ ap (list_any (is_same at)) (sym (ap coils_in m ∙ coils_in-push cells cell))
 
--- the keys hold the coils of a network that is whole
-pub HoldsJust-network : (keys : List Ref) (read : ReadProgram) → HoldsJust keys (driven_coils read) → HoldsJust keys (driven_coils (with_network read))
-HoldsJust-network keys read held = λ at. held at ∙ ap (list_any (is_same at)) (sym (driven_coils-with_network read))
-
--- the keys hold the coils of a segment that is whole
-pub HoldsJust-segment : (keys : List Ref) (read : ReadProgram) → HoldsJust keys (driven_coils read) → HoldsJust keys (driven_coils (with_segment read))
-HoldsJust-segment keys read held = λ at. held at ∙ ap (list_any (is_same at)) (sym (driven_coils-with_segment read))
-
--- what holds after a call that went well
-pub on_ok : {T E P : Type 0} (r : Result T E) → is_err r ≡ false → OnOk r P → P
-on_ok (Ok x) e h = h
-on_ok (Err d) e h = cc
+-- the keys hold the coils of the same cells
+pub HoldsJust-same : (keys : List Ref) (cells other : List Cell) → other ≡ cells → HoldsJust keys (coils_in cells) → HoldsJust keys (coils_in other)
+HoldsJust-same keys cells other e held = λ at. held at ∙ ap (λ (c : List Cell). list_any (is_same at) (coils_in c)) (sym e)

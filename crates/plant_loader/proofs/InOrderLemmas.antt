@@ -1,5 +1,6 @@
 -- What is read piece by piece, network by network and segment by segment is what the lists of pieces, networks and segments stand for.
-use Rattle.std.proofs.Common.{◌≡◌, ℕ, ◌+◌, List, [], ◌∷◌, ◌++◌, length, Result, Ok, Err, refl, sym, ap, ◌∙◌, arith, length-append}
+use Rattle.std.proofs.Common.{◌≡◌, ℕ, ◌+◌, List, [], ◌∷◌, ◌++◌, length, Result, Ok, Err, refl, sym}
+use Rattle.std.proofs.Common.{ap, ◌∙◌, arith, length-append}
 use Rattle.std.specs.List.{filter_map}
 use Rattle.std.proofs.lemmas.List.{append-nil}
 use Rattle.std.proofs.lemmas.List.Elements.{filter_map-append}
@@ -8,17 +9,22 @@ use Rattle.plant_types.specs.declared.network.Network.{Network}
 use Rattle.plant_types.specs.declared.network.Segment.{Segment}
 use Rattle.plant_types.specs.declared.fault.PlantFault.{PlantFault}
 use Rattle.plant_types.specs.declared.fault.Place.{Place}
-use Rattle.plant_types.specs.declared.sizes.Sizes.{Sizes}
+use Rattle.plant_types.specs.Fault.{at_place}
+use Rattle.plant_loader.specs.declared.owner.Owner.{Owner}
 use Rattle.cell_text.specs.declared.piece.Piece.{Piece}
 use Rattle.cell_text.specs.declared.piece.Piece.TheVariants as pieces
 use Rattle.cell_text.specs.Steps.{◌>>=◌}
 use Rattle.plant_loader.specs.declared.refusal.LoadEnd.{LoadEnd}
 use Rattle.plant_loader.specs.declared.refusal.LoadEnd.TheVariants as ends
-use Rattle.plant_loader.specs.Refusals.{Refusal, Stops, cell_place, at_place}
-use Rattle.plant_loader.specs.InOrder.{numbered_from, numbered, each_behind}
+use Rattle.plant_loader.specs.Refusals.{Refusal, Stops}
+use Rattle.plant_loader.specs.InOrder.{numbered_from, with_positions, each_behind}
 use Rattle.plant_loader.specs.Texts.{network_texts}
-use Rattle.plant_loader.specs.Pieces.{cell_in, short_in, network_of, before_in, piece_behind, placed_behind, pieces_of, network_behind, next_network, segment_behind, segments_of}
-use Rattle.plant_loader.specs.Program.{ReadProgram, nothing_read, added, with_tested, next_place, with_piece, with_pieces, with_network, with_text, with_texts, with_segment, with_segment_texts, with_table, with_tables}
+use Rattle.plant_loader.specs.Pieces.{cell_in, short_in, network_from, site_behind, place_of_piece}
+use Rattle.plant_loader.specs.Pieces.{piece_behind, placed_behind, pieces_of, network_behind}
+use Rattle.plant_loader.specs.Pieces.{next_network, segment_behind, segments_of}
+use Rattle.plant_loader.specs.Program.{ReadProgram, nothing_read, added, with_tested, place_of_next}
+use Rattle.plant_loader.specs.Program.{with_piece, with_pieces, with_network, with_text, with_texts}
+use Rattle.plant_loader.specs.Program.{with_segment, with_segment_texts, with_table, with_tables}
 
 -- one item more
 length-more : {B : Type 0} (bs : List B) (b : B) → length (bs ++ b ∷ []) + 1 ≡ (length bs + 1) + 1
@@ -87,18 +93,19 @@ placed-each count segments networks ps place other (Ok piece) e = ap Ok (added-s
 placed-each count segments networks ps place other (Err fault) e = ap (λ p. Err (fault, p)) e
 
 -- pieces one after another
-pieces_in_order : (sizes : Sizes) (count : ℕ) (segments : List Segment) (networks : List Network) (texts : List (List ℕ)) (ps : List Piece)
-    → with_pieces sizes (state_of count segments networks ps) texts
-    ≡ (each_behind (placed_behind (length segments + 1) (length networks + 1) (before_in sizes count segments networks)) ps
+pieces_in_order : (owner : Owner) (count : ℕ) (segments : List Segment) (networks : List Network) (texts : List (List ℕ)) (ps : List Piece)
+    → with_pieces owner (state_of count segments networks ps) texts
+    ≡ (each_behind (placed_behind owner.position (site_behind owner.sizes count segments networks)) ps
     (numbered_from (length ps + 1) texts) >>= λ all. Ok (state_of count segments networks all))
 unfolding with_pieces
-pieces_in_order sizes count segments networks = walk_behind
-    (placed_behind (length segments + 1) (length networks + 1) (before_in sizes count segments networks))
-    (λ read text. at_place (next_place read) (with_piece sizes read text)) (with_pieces sizes) (state_of count segments networks)
+pieces_in_order owner count segments networks =
+    let site = site_behind owner.sizes count segments networks in
+    walk_behind (placed_behind owner.position site)
+    (λ read text. at_place (place_of_next owner.position read) (with_piece owner.sizes read text)) (with_pieces owner) (state_of count segments networks)
     (λ read. refl) (λ read text texts. refl)
-    (λ ps text. placed-each count segments networks ps (next_place (state_of count segments networks ps))
-    (cell_place (length segments + 1) (length networks + 1) (length ps + 1)) (piece_behind (before_in sizes count segments networks) (network_of ps) text)
-    (ap (λ n. cell_place (length segments + 1) (length networks + 1) (n + 1)) (pieces_counted ps)))
+    (λ ps text. placed-each count segments networks ps (place_of_next owner.position (state_of count segments networks ps))
+    (place_of_piece owner.position site (length ps + 1)) (piece_behind site (network_from ps) text)
+    (ap (λ n. place_of_piece owner.position site (n + 1)) (pieces_counted ps)))
 
 -- two steps and two others that make the same
 two_steps : {A B C D E : Type 0} (r : Result A E) (f : A → B) (g : B → D) (h : A → C) (k : C → D) → ((a : A) → g (f a) ≡ k (h a))
@@ -107,27 +114,27 @@ two_steps (Ok a) f g h k same = ap Ok (same a)
 two_steps (Err e) f g h k same = refl
 
 -- one network more
-network_in_order : (sizes : Sizes) (count : ℕ) (segments : List Segment) (networks : List Network) (text : List ℕ)
-    → with_text sizes (state_of count segments networks []) text
-    ≡ (network_behind (length segments + 1) (before_in sizes count segments networks) (length networks + 1, text) >>= λ network. Ok
+network_in_order : (owner : Owner) (count : ℕ) (segments : List Segment) (networks : List Network) (text : List ℕ)
+    → with_text owner (state_of count segments networks []) text
+    ≡ (network_behind owner.position (site_behind owner.sizes count segments networks) text >>= λ network. Ok
     (state_of count segments (networks ++ network ∷ []) []))
 unfolding with_text network_behind
-network_in_order sizes count segments networks text =
-    ap (λ r. r >>= λ next. Ok (with_network next)) (pieces_in_order sizes count segments networks (pieces_of text) [])
-    ∙ two_steps (each_behind (placed_behind (length segments + 1) (length networks + 1) (before_in sizes count segments networks)) []
+network_in_order owner count segments networks text =
+    ap (λ r. r >>= λ next. Ok (with_network next)) (pieces_in_order owner count segments networks (pieces_of text) [])
+    ∙ two_steps (each_behind (placed_behind owner.position (site_behind owner.sizes count segments networks)) []
     (numbered_from 1 (pieces_of text)))
-    (state_of count segments networks) with_network network_of (λ network. state_of count segments (networks ++ network ∷ []) []) (λ ps. refl)
+    (state_of count segments networks) with_network network_from (λ network. state_of count segments (networks ++ network ∷ []) []) (λ ps. refl)
 
 -- networks one after another
-networks_in_order : (sizes : Sizes) (count : ℕ) (segments : List Segment) (texts : List (List ℕ)) (networks : List Network)
-    → with_texts sizes (state_of count segments networks []) texts
-    ≡ (each_behind (λ earlier. network_behind (length segments + 1) (before_in sizes count segments earlier)) networks
+networks_in_order : (owner : Owner) (count : ℕ) (segments : List Segment) (texts : List (List ℕ)) (networks : List Network)
+    → with_texts owner (state_of count segments networks []) texts
+    ≡ (each_behind (next_network owner count segments) networks
     (numbered_from (length networks + 1) texts) >>= λ all. Ok (state_of count segments all []))
 unfolding with_texts
-networks_in_order sizes count segments =
-    walk_behind (λ earlier. network_behind (length segments + 1) (before_in sizes count segments earlier)) (with_text sizes)
-    (with_texts sizes) (λ networks. state_of count segments networks []) (λ read. refl) (λ read text texts. refl)
-    (λ networks text. network_in_order sizes count segments networks text)
+networks_in_order owner count segments =
+    walk_behind (next_network owner count segments) (with_text owner)
+    (with_texts owner) (λ networks. state_of count segments networks []) (λ read. refl) (λ read text texts. refl)
+    (λ networks text. network_in_order owner count segments networks text)
 
 -- a step that only hands on its value
 ok_again : {A B E : Type 0} (r : Result A E) (make : A → B) → ((r >>= λ a. Ok a) >>= λ a. Ok (make a)) ≡ (r >>= λ a. Ok (make a))
@@ -148,37 +155,37 @@ table_behind (Ok t) walk networks make same = same t ∙ segment_again (networks
 table_behind (Err e) walk networks make same = refl
 
 -- one segment more, of these texts
-texts_in_order : (sizes : Sizes) (count : ℕ) (segments : List Segment) (texts : List (List ℕ))
-    → with_segment_texts sizes (state_of count segments [] []) texts
-    ≡ (each_behind (λ earlier. network_behind (length segments + 1) (before_in sizes count segments earlier)) []
+texts_in_order : (owner : Owner) (count : ℕ) (segments : List Segment) (texts : List (List ℕ))
+    → with_segment_texts owner (state_of count segments [] []) texts
+    ≡ (each_behind (next_network owner count segments) []
     (numbered_from 1 texts) >>= λ networks. Ok (state_of count (segments ++ record { networks = networks } ∷ []) [] []))
 unfolding with_segment_texts
-texts_in_order sizes count segments texts =
-    ap (λ r. r >>= λ next. Ok (with_segment next)) (networks_in_order sizes count segments texts [])
-    ∙ two_steps (each_behind (λ earlier. network_behind (length segments + 1) (before_in sizes count segments earlier)) [] (numbered_from 1 texts))
+texts_in_order owner count segments texts =
+    ap (λ r. r >>= λ next. Ok (with_segment next)) (networks_in_order owner count segments texts [])
+    ∙ two_steps (each_behind (next_network owner count segments) [] (numbered_from 1 texts))
     (λ networks. state_of count segments networks []) with_segment (λ networks. networks)
     (λ networks. state_of count (segments ++ record { networks = networks } ∷ []) [] []) (λ networks. refl)
-    ∙ ok_again (each_behind (λ earlier. network_behind (length segments + 1) (before_in sizes count segments earlier)) []
+    ∙ ok_again (each_behind (next_network owner count segments) []
     (numbered_from 1 texts)) (λ networks. state_of count (segments ++ record { networks = networks } ∷ []) [] [])
 
 -- one segment more, by its table
-segment_in_order : (sizes : Sizes) (count : ℕ) (segments : List Segment) (table : Members)
-    → with_table sizes (state_of count segments [] []) table
-    ≡ (segment_behind sizes count segments (length segments + 1, table) >>= λ segment. Ok (state_of count (segments ++ segment ∷ []) [] []))
+segment_in_order : (owner : Owner) (count : ℕ) (segments : List Segment) (table : Members)
+    → with_table owner (state_of count segments [] []) table
+    ≡ (segment_behind owner count segments (length segments + 1, table) >>= λ segment. Ok (state_of count (segments ++ segment ∷ []) [] []))
 unfolding with_table segment_behind
-segment_in_order sizes count segments table =
-    table_behind (network_texts (length segments + 1) table) (with_segment_texts sizes (state_of count segments [] []))
-    (λ texts. each_behind (next_network sizes count segments (length segments + 1)) [] (numbered texts))
-    (λ segment. state_of count (segments ++ segment ∷ []) [] []) (texts_in_order sizes count segments)
+segment_in_order owner count segments table =
+    table_behind (network_texts owner.position (length segments + 1) table) (with_segment_texts owner (state_of count segments [] []))
+    (λ texts. each_behind (next_network owner count segments) [] (with_positions texts))
+    (λ segment. state_of count (segments ++ segment ∷ []) [] []) (texts_in_order owner count segments)
 
 -- segments one after another
-segments_in_order : (sizes : Sizes) (count : ℕ) (tables : List Members) (segments : List Segment)
-    → with_tables sizes (state_of count segments [] []) tables ≡
-    (each_behind (segment_behind sizes count) segments (numbered_from (length segments + 1) tables) >>= λ all. Ok (state_of count all [] []))
+segments_in_order : (owner : Owner) (count : ℕ) (tables : List Members) (segments : List Segment)
+    → with_tables owner (state_of count segments [] []) tables ≡
+    (each_behind (segment_behind owner count) segments (numbered_from (length segments + 1) tables) >>= λ all. Ok (state_of count all [] []))
 unfolding with_tables
-segments_in_order sizes count = walk_behind (segment_behind sizes count) (with_table sizes) (with_tables sizes)
+segments_in_order owner count = walk_behind (segment_behind owner count) (with_table owner) (with_tables owner)
     (λ segments. state_of count segments [] []) (λ read. refl) (λ read table more. refl)
-    (λ segments table. segment_in_order sizes count segments table)
+    (λ segments table. segment_in_order owner count segments table)
 
 -- what is made of a value and taken out of it again
 taken_out : {A S E : Type 0} (r : Result A E) (make : A → S) (take : S → A) → ((a : A) → take (make a) ≡ a)
@@ -187,23 +194,23 @@ taken_out (Ok a) make take back = ap Ok (back a)
 taken_out (Err e) make take back = refl
 
 -- the segments that are read one after another are those of the tables
-pub segments_of-read : (sizes : Sizes) (tables : List Members) →
-    (with_tables sizes (nothing_read (length tables)) tables >>= λ read. Ok read.segments) ≡ segments_of sizes tables
-segments_of-read sizes tables =
-    ap (λ (r : Result ReadProgram Refusal). r >>= λ read. Ok read.segments) (segments_in_order sizes (length tables) tables [])
-    ∙ taken_out (segments_of sizes tables) (λ segments. state_of (length tables) segments [] []) (λ (read : ReadProgram). read.segments) (λ segments. refl)
+pub segments_of-read : (owner : Owner) (tables : List Members) →
+    (with_tables owner (nothing_read (length tables)) tables >>= λ read. Ok read.segments) ≡ segments_of owner tables
+segments_of-read owner tables =
+    ap (λ (r : Result ReadProgram Refusal). r >>= λ read. Ok read.segments) (segments_in_order owner (length tables) tables [])
+    ∙ taken_out (segments_of owner tables) (λ segments. state_of (length tables) segments [] []) (λ (read : ReadProgram). read.segments) (λ segments. refl)
 
 -- what was read from nothing gives the segments
-pub segments-given : (sizes : Sizes) (tables : List Members) (start next : ReadProgram) (segments : List Segment)
-    → start ≡ nothing_read (length tables) → with_tables sizes start tables ≡ Ok next → segments ≡ next.segments → segments_of sizes tables ≡ Ok segments
-segments-given sizes tables start next segments none read out =
-    sym (segments_of-read sizes tables) ∙ ap (λ (s : ReadProgram). with_tables sizes s tables >>= λ read. Ok read.segments) (sym none)
+pub segments-given : (owner : Owner) (tables : List Members) (start next : ReadProgram) (segments : List Segment)
+    → start ≡ nothing_read (length tables) → with_tables owner start tables ≡ Ok next → segments ≡ next.segments → segments_of owner tables ≡ Ok segments
+segments-given owner tables start next segments none read out =
+    sym (segments_of-read owner tables) ∙ ap (λ (s : ReadProgram). with_tables owner s tables >>= λ read. Ok read.segments) (sym none)
     ∙ ap (λ (r : Result ReadProgram Refusal). r >>= λ read. Ok read.segments) read ∙ ap Ok (sym out)
 
 -- what stops the reading from nothing stops the segments
-pub segments-stop : (sizes : Sizes) (tables : List Members) (start : ReadProgram) (end : LoadEnd) → start ≡ nothing_read (length tables)
-    → Stops end (with_tables sizes start tables) → Stops end (segments_of sizes tables)
-segments-stop sizes tables start ends.NoMemory none read = tt
-segments-stop sizes tables start (ends.Refused fault place) none read =
-    sym (segments_of-read sizes tables) ∙ ap (λ (s : ReadProgram). with_tables sizes s tables >>= λ read. Ok read.segments) (sym none)
+pub segments-stop : (owner : Owner) (tables : List Members) (start : ReadProgram) (end : LoadEnd) → start ≡ nothing_read (length tables)
+    → Stops end (with_tables owner start tables) → Stops end (segments_of owner tables)
+segments-stop owner tables start ends.NoMemory none read = tt
+segments-stop owner tables start (ends.Refused fault place) none read =
+    sym (segments_of-read owner tables) ∙ ap (λ (s : ReadProgram). with_tables owner s tables >>= λ read. Ok read.segments) (sym none)
     ∙ ap (λ (r : Result ReadProgram Refusal). r >>= λ read. Ok read.segments) read

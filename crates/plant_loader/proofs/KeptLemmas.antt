@@ -1,111 +1,141 @@
 -- Segments while they are read: one more cell, one more short, a network or a segment that is whole.
-use Rattle.std.proofs.Common.{◌≡◌, ℕ, ◌+◌, ◌≤◌, ◌<◌, true, false, not, ◌&&◌, ◌||◌, ◌==◌, List, [], ◌∷◌, ◌++◌, length, length-append, Option, refl, arith}
-use Rattle.std.specs.Prelude.{nat_le, nat_lt}
+use Rattle.std.proofs.Common.{◌≡◌, ℕ, ◌+◌, ◌≤◌, ◌<◌, Bool, true, false, not, ◌&&◌, List, [], ◌∷◌}
+use Rattle.std.proofs.Common.{◌++◌, length, length-append, Option, Ok, refl, sym, ap, ◌∙◌}
+use Rattle.std.proofs.Common.{append_assoc, arith}
+use Rattle.std.specs.Prelude.{nat_lt, if◌then◌else◌}
 use Rattle.std.specs.List.{list_any, cons_option, IsDistinct}
-use Rattle.std.proofs.lemmas.Bool.{and_parts, or_parts, not-true}
+use Rattle.std.proofs.lemmas.Bool.{and_parts, not-true}
 use Rattle.std.proofs.lemmas.Bool.Decides.{nat_tests}
-use Rattle.std.proofs.lemmas.List.{map-append, length-map}
+use Rattle.std.proofs.lemmas.List.{map-append, length-map, append-nil}
 use Rattle.plant_types.specs.declared.reference.Ref.{Ref}
-use Rattle.plant_types.specs.declared.element.Element.{Element}
-use Rattle.plant_types.specs.declared.element.Element.TheVariants.{Timer, Counter, Math, Move, Matrix, Call, Mstr}
 use Rattle.plant_types.specs.declared.network.Cell.{Cell}
 use Rattle.plant_types.specs.declared.network.Short.{Short}
-use Rattle.plant_types.specs.Network.{node_count, driven_by, has_cell_place, has_short_place, is_column, is_within, overlaps, is_right_of_coil, clashes, same_short}
+use Rattle.plant_types.specs.declared.network.Segment.{Segment}
+use Rattle.plant_types.specs.declared.fault.PlantFault.TheVariants.{BadCell, BadShape, CoilTwice}
+use Rattle.plant_types.specs.declared.fault.PlantFault.TheVariants.{TooLarge}
+use Rattle.plant_types.specs.Sizes.{Sizes}
+use Rattle.plant_types.specs.Grid.{cell_places, short_places, AreApart}
+use Rattle.plant_types.specs.Network.{driven_by, has_cell_place, has_short_place, is_within}
+use Rattle.plant_types.specs.Network.{clashes, same_short}
 use Rattle.plant_types.specs.Checks.{has_shape}
+use Rattle.plant_types.specs.FirstFault.{first_failed, cell_tests, short_tests}
+use Rattle.plant_types.specs.Standing.{cells_of_networks, cells_of_segments, cells_before}
+use Rattle.plant_types.specs.Standing.{is_message, message_count, message_limit, standing_of}
+use Rattle.plant_types.specs.Standing.{standing_tests}
+use Rattle.plant_types.specs.PlanTests.{site_cell_tests}
+use Rattle.plant_types.proofs.GridLemmas.{AreApart-push, AreApart-few, free_place, free_short}
+use Rattle.plant_types.proofs.GridLemmas.{short_is_place}
+use Rattle.plant_types.proofs.StandingLemmas.{cells_of_networks-push, cells_of_segments-push}
+use Rattle.plant_types.proofs.StandingLemmas.{message_count-push}
+use Rattle.plant_types.proofs.PlanLemmas.{parts-ok, two-ok, four-ok, cell_tests-ok}
 use Rattle.plant_loader.specs.Driven.{HoldsJust}
-use Rattle.plant_loader.specs.Grid.{cell_places, short_places, is_place, same_place}
 use Rattle.plant_loader.specs.Kept.{IsKept}
-use Rattle.plant_loader.proofs.Checked.{and_both}
 use Rattle.cell_text.specs.declared.piece.Piece.TheVariants as pieces
-use Rattle.plant_loader.specs.Program.{ReadProgram, nothing_read, open_network, added, with_network, with_segment}
-use Rattle.plant_loader.proofs.DrivenLemmas.{HoldsJust-cell, HoldsJust-network, HoldsJust-segment}
-use Rattle.plant_loader.proofs.GridLemmas.{AreApart-push, AreApart-few}
+use Rattle.plant_loader.specs.Program.{ReadProgram, nothing_read, open_network, cells_read, site_of}
+use Rattle.plant_loader.specs.Program.{added, with_network, with_segment}
+use Rattle.plant_loader.proofs.DrivenLemmas.{HoldsJust-cell, HoldsJust-same}
 
--- an element has a node
-node_count-some : (element : Element) → 1 ≤ node_count element
-node_count-some (Timer unit preset acc) = omega arith
-node_count-some (Counter up preset acc) = omega arith
-node_count-some (Math op top mid low) = omega arith
-node_count-some (Move op top mid length) = omega arith
-node_count-some (Matrix op top mid length) = omega arith
-node_count-some (Call number) = omega arith
-node_count-some (Mstr control area length) = omega arith
-node_count-some _ = omega arith
+-- all cells with one more
+cells_read-cell : (read : ReadProgram) (cell : Cell) → cells_read (added read (pieces.Cell cell)) ≡ cells_read read ++ cell ∷ []
+cells_read-cell read cell = sym (append_assoc (cells_before read.segments read.networks) read.cells (cell ∷ []))
 
--- cells whose nodes share no place stand at two places
-apart_places : (row column other_row other_column count other_count : ℕ) → 1 ≤ count → 1 ≤ other_count
-    → (column == other_column) && (nat_lt row (other_row + other_count) && nat_lt other_row (row + count)) ≡ false
-    → (row == other_row) && (column == other_column) ≡ false
-apart_places row column other_row other_column count other_count some more h = grind (arith, nat_tests)
+-- all cells with a network that is whole, and with a segment
+cells_read-network : (read : ReadProgram) → cells_read (with_network read) ≡ cells_read read
+cells_read-network read =
+    append-nil _ ∙ ap (λ more. cells_of_segments read.segments ++ more) (cells_of_networks-push read.networks (open_network read))
+    ∙ sym (append_assoc (cells_of_segments read.segments) (cells_of_networks read.networks) read.cells)
 
--- a cell that clashes with none stands at another place than each
-free_place : (cells : List Cell) (cell : Cell) → list_any (clashes cell) cells ≡ false
-    → list_any (same_place (cell.row, cell.column)) (cell_places cells) ≡ false
-free_place [] cell h = refl
-free_place (other ∷ cells) cell h =
-    let parts = or_parts (clashes cell other) (list_any (clashes cell) cells) h in
-    let apart = or_parts (overlaps cell other) (is_right_of_coil cell other || is_right_of_coil other cell) parts.0 in
-    let here = apart_places cell.row cell.column other.row other.column (node_count cell.element) (node_count other.element)
-    (node_count-some cell.element) (node_count-some other.element) apart.0 in
-    rw (here, free_place cells cell parts.1) refl
+cells_read-segment : (read : ReadProgram) → cells_read (with_segment read) ≡ cells_read read
+cells_read-segment read =
+    let whole : Segment = record { networks = read.networks } in
+    ap (λ before. before ++ read.cells) (append-nil (cells_of_segments (read.segments ++ whole ∷ [])) ∙ cells_of_segments-push read.segments whole)
 
--- a short that is none of these stands at another place than each
-free_short : (shorts : List Short) (short : Short) → list_any (same_short short) shorts ≡ false
-    → list_any (same_place (short.row, short.column)) (short_places shorts) ≡ false
-free_short [] short h = refl
-free_short (other ∷ shorts) short h =
-    let parts = or_parts (same_short short other) (list_any (same_short short) shorts) h in
-    rw (parts.0, free_short shorts short parts.1) refl
+-- a message more is not one too many
+few_more : (messages : ℕ) (is : Bool) → messages ≤ 64 → not (is && not (nat_lt messages 64)) ≡ true → messages + (if is then 1 else 0) ≤ 64
+few_more messages true few h = grind (arith, nat_tests)
+few_more messages false few h = grind (arith, nat_tests)
 
--- a short stands at a place of the grid
-short_is_place : (short : Short) → has_short_place short ≡ true → is_place (short.row, short.column) ≡ true
-short_is_place short h =
-    let parts = and_parts (nat_le 1 short.row && nat_le short.row 6) (is_column short.column) h in
-    let rows = and_parts (nat_le 1 short.row) (nat_le short.row 6) parts.0 in
-    let low : nat_le short.row 7 ≡ true = grind (arith, nat_tests, rows.1) in
-    and_both _ _ (and_both _ _ rows.0 low) parts.1
+-- what is known of a cell that passes
+record Fits (read : ReadProgram) (cell : Cell) : Type 0 where
+  place : has_cell_place cell ≡ true
+  shape : has_shape read.cells cell ≡ true
+  message : not (is_message cell.element && not (nat_lt (message_count (cells_read read)) message_limit)) ≡ true
 
--- one more cell that fits
-pub IsKept-cell : (old new : List Ref) (read : ReadProgram) (cell : Cell) (drives : Option Ref) → has_cell_place cell ≡ true
-    → has_shape read.cells cell ≡ true → drives ≡ driven_by cell.element
-    → IsKept old read → HoldsJust new (old ++ cons_option drives []) → IsKept new (added read (pieces.Cell cell))
-IsKept-cell old new read cell drives place shape d kept gained =
-    let clear = and_parts (is_within cell) (not (list_any (clashes cell) read.cells)) shape in
+passing-fits : (sizes : Sizes) (read : ReadProgram) (cell : Cell)
+    → first_failed (site_cell_tests (site_of sizes read) read.cells cell) ≡ Ok tt → Fits read cell
+passing-fits sizes read cell h =
+    let site = site_of sizes read in
+    let standing = standing_of site.is_last (cells_read read) cell.element in
+    let parts = parts-ok (cell_tests sizes read.cells cell) (standing_tests standing) h in
+    let holds = cell_tests-ok sizes read.cells cell parts.0 in
+    let stands = four-ok (not standing.is_stray_label) (not standing.repeats_label) (not standing.drives_again) (not standing.exceeds_messages)
+    BadShape BadShape CoilTwice TooLarge parts.1 in
+    record { place = holds.place; shape = holds.shape; message = stands.1.1 }
+
+-- one more cell that passes
+pub IsKept-cell : (old new : List Ref) (messages more : ℕ) (sizes : Sizes) (read : ReadProgram) (cell : Cell) (drives : Option Ref)
+    → first_failed (site_cell_tests (site_of sizes read) read.cells cell) ≡ Ok tt → drives ≡ driven_by cell.element
+    → more ≡ messages + (if is_message cell.element then 1 else 0)
+    → IsKept old messages read → HoldsJust new (old ++ cons_option drives []) → IsKept new more (added read (pieces.Cell cell))
+IsKept-cell old new messages more sizes read cell drives passes d m kept gained =
+    let fits = passing-fits sizes read cell passes in
+    let clear = and_parts (is_within cell) (not (list_any (clashes cell) read.cells)) fits.shape in
+    let cells = cells_read-cell read cell in
+    let room : not (is_message cell.element && not (nat_lt messages 64)) ≡ true =
+    ap (λ n. not (is_message cell.element && not (nat_lt n 64))) kept.count ∙ fits.message in
     record {
-      driven = HoldsJust-cell old new read cell drives d kept.driven gained;
-      cells = rw map-append (AreApart-push (cell_places read.cells) (cell.row, cell.column) kept.cells place (free_place read.cells cell (not-true _ clear.1)));
+      driven = HoldsJust-cell old new (cells_read read) (cells_read (added read (pieces.Cell cell))) cell drives d cells kept.driven gained;
+      count = m ∙ ap (λ n. n + (if is_message cell.element then 1 else 0)) kept.count
+          ∙ sym (ap message_count cells ∙ message_count-push (cells_read read) cell (is_message cell.element) refl);
+      few_messages = rw m (few_more messages (is_message cell.element) kept.few_messages room);
+      cells = rw map-append (AreApart-push (cell_places read.cells) (cell.row, cell.column) kept.cells fits.place (free_place
+          read.cells cell (not-true _ clear.1)));
       shorts = kept.shorts;
       segments = kept.segments;
       networks = kept.networks;
     }
 
 -- one more short at a free place
-pub IsKept-short : (keys : List Ref) (read : ReadProgram) (short : Short) → has_short_place short ≡ true → list_any (same_short short) read.shorts ≡ false
-    → IsKept keys read → IsKept keys (added read (pieces.Short short))
-IsKept-short keys read short place free kept = record {
-  driven = kept.driven;
-  cells = kept.cells;
-  shorts = rw map-append (AreApart-push (short_places read.shorts) (short.row, short.column) kept.shorts (short_is_place short place)
-      (free_short read.shorts short free));
-  segments = kept.segments;
-  networks = kept.networks;
-}
+pub IsKept-short : (keys : List Ref) (messages : ℕ) (read : ReadProgram) (short : Short) → first_failed (short_tests read.shorts short) ≡ Ok tt
+    → IsKept keys messages read → IsKept keys messages (added read (pieces.Short short))
+IsKept-short keys messages read short passes kept =
+    let holds = two-ok (has_short_place short) (not (list_any (same_short short) read.shorts)) BadCell BadShape passes in
+    record {
+      driven = kept.driven;
+      count = kept.count;
+      few_messages = kept.few_messages;
+      cells = kept.cells;
+      shorts = rw map-append (AreApart-push (short_places read.shorts) (short.row, short.column) kept.shorts (short_is_place short holds.0)
+          (free_short read.shorts short (not-true _ holds.1)));
+      segments = kept.segments;
+      networks = kept.networks;
+    }
+
+-- nothing stands in the way of nothing
+none_apart : AreApart []
+unfolding IsDistinct
+none_apart = record { within = refl; distinct = tt }
 
 -- a network that is whole, and none of the next one yet
-pub IsKept-network : (keys : List Ref) (read : ReadProgram) → length read.networks < 1000 → IsKept keys read → IsKept keys (with_network read)
-unfolding IsDistinct
-IsKept-network keys read few kept = record {
-  driven = HoldsJust-network keys read kept.driven;
-  cells = record { within = refl; distinct = tt };
-  shorts = record { within = refl; distinct = tt };
+pub IsKept-network : (keys : List Ref) (messages : ℕ) (read : ReadProgram) → length read.networks < 1000 → IsKept keys messages read
+    → IsKept keys messages (with_network read)
+IsKept-network keys messages read few kept = record {
+  driven = HoldsJust-same keys (cells_read read) (cells_read (with_network read)) (cells_read-network read) kept.driven;
+  count = kept.count ∙ ap message_count (sym (cells_read-network read));
+  few_messages = kept.few_messages;
+  cells = none_apart;
+  shorts = none_apart;
   segments = kept.segments;
   networks = omega (arith, length-append read.networks (open_network read ∷ []));
 }
 
 -- a segment that is whole, and none of the next one yet
-pub IsKept-segment : (keys : List Ref) (read : ReadProgram) → length read.segments < 32 → IsKept keys read → IsKept keys (with_segment read)
-IsKept-segment keys read few kept = record {
-  driven = HoldsJust-segment keys read kept.driven;
+pub IsKept-segment : (keys : List Ref) (messages : ℕ) (read : ReadProgram) → length read.segments < 32 → IsKept keys messages read
+    → IsKept keys messages (with_segment read)
+IsKept-segment keys messages read few kept = record {
+  driven = HoldsJust-same keys (cells_read read) (cells_read (with_segment read)) (cells_read-segment read) kept.driven;
+  count = kept.count ∙ ap message_count (sym (cells_read-segment read));
+  few_messages = kept.few_messages;
   cells = kept.cells;
   shorts = kept.shorts;
   segments = omega (arith, length-append read.segments (record { networks = read.networks } ∷ []));
@@ -113,19 +143,20 @@ IsKept-segment keys read few kept = record {
 }
 
 -- nothing yet
-pub IsKept-none : (count : ℕ) (keys : List Ref) → keys ≡ [] → IsKept keys (nothing_read count)
-unfolding IsDistinct
+pub IsKept-none : (count : ℕ) (keys : List Ref) → keys ≡ [] → IsKept keys 0 (nothing_read count)
 IsKept-none count keys e = record {
   driven = λ at. rw e refl;
-  cells = record { within = refl; distinct = tt };
-  shorts = record { within = refl; distinct = tt };
+  count = refl;
+  few_messages = omega arith;
+  cells = none_apart;
+  shorts = none_apart;
   segments = omega arith;
   networks = omega arith;
 }
 
 -- how many cells and shorts there are at most
-pub IsKept-few : (keys : List Ref) (read : ReadProgram) → IsKept keys read → (length read.cells ≤ 96) × (length read.shorts ≤ 96)
-IsKept-few keys read kept =
+pub IsKept-few : (keys : List Ref) (messages : ℕ) (read : ReadProgram) → IsKept keys messages read → (length read.cells ≤ 96) × (length read.shorts ≤ 96)
+IsKept-few keys messages read kept =
     let cell_count : length read.cells ≤ 96 = omega (
       arith,
       length-map {B = ℕ × ℕ} read.cells (λ (cell : Cell). (cell.row, cell.column)),

@@ -1,29 +1,21 @@
 -- Numbers that are read are within their limits.
-use Rattle.std.proofs.Common.{◌≡◌, ◌≤◌, ℕ, Bool, true, false, ◌&&◌, List, Option, Some, None, Result, Ok, Err, refl, arith, le-leb}
+use Rattle.std.proofs.Common.{◌≡◌, ◌≤◌, ℕ, Bool, true, false, ◌&&◌, List, [], length, Option, Some}
+use Rattle.std.proofs.Common.{None, Ok, Err, refl, arith, le-leb}
 use Rattle.std.specs.Prelude.{codes, ℤ, pos, negsuc, nat_le, ◌%◌, ◌==◌, if◌then◌else◌}
-use Rattle.std.proofs.lemmas.Bool.{and_parts, leb-true}
-use Rattle.toml.specs.Data.{Data, Members, as_integer, get_member}
-use Rattle.plant_types.specs.declared.fault.PlantFault.{PlantFault}
+use Rattle.std.proofs.lemmas.Bool.{and_parts, and_from, leb-true}
+use Rattle.toml.specs.Data.{Data, Members, as_integer, as_array, as_str, as_table, get_member}
 use Rattle.plant_types.specs.declared.fault.PlantFault.TheVariants.{BadKey, BadValue, BadNode}
+use Rattle.plant_types.specs.declared.fault.PlantFault.TheVariants.{TooLarge}
 use Rattle.plant_types.specs.declared.fault.Place.{Place}
 use Rattle.plant_types.specs.Reference.{most_references}
 use Rattle.plant_types.specs.Checks.{is_size, is_discrete_size}
-use Rattle.cell_text.specs.Steps.{◌>>=◌, or_fault}
+use Rattle.cell_text.specs.Steps.{or_fault}
 use Rattle.cell_text.proofs.StepLemmas.{step-ok, or_fault-some, some-guard}
 use Rattle.plant_loader.specs.Refusals.{Refusal}
-use Rattle.plant_loader.specs.Keys.{number_from, number_within, number_or, number_at_or, node_at, size_at, in_sixteens, discrete_size_at}
-
--- the value of a step that went well
-pub ok_value : {A E : Type 0} (x y : A) → ◌≡◌ {A = Result A E} (Ok x) (Ok y) → x ≡ y
-ok_value x y h = cc
-
--- the value that is there
-pub some_value : {A : Type 0} (x y : A) → Some x ≡ Some y → x ≡ y
-some_value x y h = cc
-
--- both of two tests pass
-pub and_both : (a b : Bool) → a ≡ true → b ≡ true → a && b ≡ true
-and_both a b x y = rw (x, y) refl
+use Rattle.plant_loader.proofs.Common.{ok_value, some_value}
+use Rattle.plant_loader.specs.Keys.{number_from, number_within, number_or, address_at}
+use Rattle.plant_loader.specs.Keys.{size_at, in_sixteens, discrete_size_at, up_to, items_as}
+use Rattle.plant_loader.specs.Keys.{list_in, list_or_none, texts_at, tables_at}
 
 -- a number that is taken is within its limits
 number_from-within : (low high : ℕ) (z : ℤ) (n : ℕ) → number_from low high z ≡ Some n → (low ≤ n) × (n ≤ high)
@@ -42,9 +34,9 @@ number_within-within place refusal low high d n h =
     number_from-within low high number.0 n (or_fault-some refusal (number_from low high number.0) n number.1.1)
 
 -- an address is within its limits
-pub node_at-within : (place : Place) (ms : Members) (n : ℕ) → node_at place ms ≡ Ok n → (1 ≤ n) × (n ≤ 64)
-unfolding node_at
-node_at-within place ms n h =
+pub address_at-within : (place : Place) (ms : Members) (n : ℕ) → address_at place ms ≡ Ok n → (1 ≤ n) × (n ≤ 64)
+unfolding address_at
+address_at-within place ms n h =
     let value = step-ok (or_fault (BadKey, place) (get_member (codes "node") ms)) (number_within place (BadNode, place) 1 64) n h in
     number_within-within place (BadNode, place) 1 64 value.0 n value.1.1
 
@@ -69,4 +61,30 @@ pub discrete_size_at-is_discrete_size : (place : Place) (key : List ℕ) (ms : M
 discrete_size_at-is_discrete_size place key ms n h =
     let size = step-ok (size_at place key ms) (in_sixteens place) n h in
     let whole = in_sixteens-ok (size.0 % 16 == 0) (BadValue, place) size.0 n size.1.1 in
-    rw (← whole.1) (and_both _ _ (size_at-is_size place key ms size.0 size.1.0) whole.0)
+    rw (← whole.1) (and_from _ _ (size_at-is_size place key ms size.0 size.1.0) whole.0)
+
+-- what a test lets through is few
+few_if : {A : Type 0} (b : Bool) (refused : Refusal) (most : ℕ) (xs ys : List A) → nat_le (length xs) most ≡ b
+    → (if b then Ok xs else Err refused) ≡ Ok ys → length ys ≤ most
+few_if true refused most xs ys e h = let same : xs ≡ ys = ok_value xs ys h in rw (← same) (leb-true (length xs) most e)
+few_if false refused most xs ys e h = cc
+
+-- what is taken of an array is no more than the most
+list_in-few : {A : Type 0} (typed : Data → Option A) (place : Place) (most : ℕ) (d : Data) (ys : List A) → list_in typed place most d ≡ Ok ys → length ys ≤ most
+list_in-few typed place most d ys h =
+    let ds = step-ok (or_fault (BadValue, place) (as_array d)) _ ys h in
+    let xs = step-ok (items_as typed place ds.0) (up_to place most) ys ds.1.1 in
+    few_if (nat_le (length xs.0) most) (TooLarge, place) most xs.0 ys refl xs.1.1
+
+list_or_none-few : {A : Type 0} (typed : Data → Option A) (place : Place) (most : ℕ) (d : Option Data) (ys : List A)
+    → list_or_none typed place most d ≡ Ok ys → length ys ≤ most
+list_or_none-few typed place most None ys h = let same : [] ≡ ys = ok_value [] ys h in rw (← same) (omega arith)
+list_or_none-few typed place most (Some d) ys h = list_in-few typed place most d ys h
+
+pub texts_at-few : (place : Place) (most : ℕ) (key : List ℕ) (ms : Members) (texts : List (List ℕ)) → texts_at place most key ms ≡
+    Ok texts → length texts ≤ most
+texts_at-few place most key ms texts h = list_or_none-few as_str place most (get_member key ms) texts h
+
+pub tables_at-few : (place : Place) (most : ℕ) (key : List ℕ) (ms : Members) (tables : List Members) → tables_at place most key ms ≡ Ok tables
+    → length tables ≤ most
+tables_at-few place most key ms tables h = list_or_none-few as_table place most (get_member key ms) tables h

@@ -1,10 +1,12 @@
 -- Words of four hexadecimal digits, and scripts with and without rows.
-use Rattle.std.proofs.Common.{◌≡◌, ◌≢◌, ℕ, ◌+◌, ◌*◌, ◌≤◌, ◌<◌, true, List, [], ◌∷◌, length, get_or, Ok, refl, arith}
+use Rattle.std.proofs.Common.{◌≡◌, ◌≢◌, ℕ, ◌+◌, ◌*◌, ◌≤◌, ◌<◌, true, List, [], ◌∷◌, length, get_or}
+use Rattle.std.proofs.Common.{Ok, refl, arith}
 use Rattle.std.specs.List.{list_all}
 use Rattle.plant_types.specs.declared.fault.Place.{Place}
 use Rattle.plant_types.specs.declared.drops.Module.{Module}
 use Rattle.plant_types.specs.declared.drops.ScriptRow.{ScriptRow}
-use Rattle.plant_loader.specs.Drops.{is_hex_digit, hex_digit, hex_word, or_zeros}
+use Rattle.plant_loader.specs.Hex.{is_hex_digit, hex_digit}
+use Rattle.plant_loader.specs.Drops.{hex_word, or_zeros}
 
 -- nothing more
 zero_more : (n : ℕ) → 0 + n ≡ n
@@ -33,11 +35,11 @@ hex_word-four place (a ∷ []) p q r s h few many digits = absurd (omega arith)
 hex_word-four place [] p q r s h few many digits = absurd (omega arith)
 
 -- a script that has rows is itself
-pub or_zeros_some : (modules : List Module) (rows : List ScriptRow) → length rows ≢ 0 → or_zeros modules rows ≡ rows
-or_zeros_some modules [] h = absurd (h refl)
-or_zeros_some modules (row ∷ rows) h = refl
+pub some_rows : (modules : List Module) (rows : List ScriptRow) → length rows ≢ 0 → or_zeros modules rows ≡ rows
+some_rows modules [] h = absurd (h refl)
+some_rows modules (row ∷ rows) h = refl
 
 -- a script of no rows is none
-pub or_zeros_none : (modules : List Module) (rows : List ScriptRow) → length rows ≡ 0 → or_zeros modules rows ≡ or_zeros modules []
-or_zeros_none modules [] h = refl
-or_zeros_none modules (row ∷ rows) h = absurd (omega arith)
+pub no_rows : (modules : List Module) (rows : List ScriptRow) → length rows ≡ 0 → or_zeros modules rows ≡ or_zeros modules []
+no_rows modules [] h = refl
+no_rows modules (row ∷ rows) h = absurd (omega arith)

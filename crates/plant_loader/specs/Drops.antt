@@ -1,6 +1,8 @@
 -- The drops of a controller: their tables, and the texts of modules and script rows. This
 -- project's own.
-use Rattle.std.specs.Prelude.{codes, ℕ, ◌+◌, ◌*◌, ◌-◌, Bool, not, ◌&&◌, ◌||◌, ◌==◌, nat_le, is_some, if◌then◌else◌, List, [], ◌∷◌, length, fold, replicate, Option, Some, None, option_and_then, Result, Ok, Err}
+use Rattle.std.specs.Prelude.{codes, ℕ, ◌+◌, ◌*◌, Bool, not, ◌&&◌, ◌==◌, is_some}
+use Rattle.std.specs.Prelude.{if◌then◌else◌, List, [], ◌∷◌, length, fold, replicate, Option, Some}
+use Rattle.std.specs.Prelude.{None, option_and_then, Result, Ok, Err}
 use Rattle.std.specs.List.{list_all}
 use Rattle.std.specs.Str.{bytes_eq}
 use Rattle.toml.specs.Data.{Members}
@@ -10,19 +12,27 @@ use Rattle.plant_types.specs.declared.drops.Module.{Module}
 use Rattle.plant_types.specs.declared.drops.ScriptRow.{ScriptRow}
 use Rattle.plant_types.specs.declared.drops.ScriptRow.TheVariants.{Silent, Row}
 use Rattle.plant_types.specs.declared.drops.IoDrop.{IoDrop}
-use Rattle.plant_types.specs.declared.fault.PlantFault.TheVariants.{BadRef, BadDrop, BadScript, TooLarge}
+use Rattle.plant_types.specs.declared.fault.PlantFault.TheVariants.{BadRef, BadDrop, BadScript}
+use Rattle.plant_types.specs.declared.fault.PlantFault.TheVariants.{TooLarge}
 use Rattle.plant_types.specs.declared.fault.Place.{Place}
 use Rattle.plant_types.specs.declared.sizes.Sizes.{Sizes}
 use Rattle.cell_text.specs.Steps.{◌>>=◌, or_fault, unless}
-use Rattle.cell_text.specs.Words.{words_of, only_word, are_words}
-use Rattle.cell_text.specs.Numbers.{is_digit, number_of, reference_number, reference_of}
+use Rattle.cell_text.specs.Words.{text_words, only_word, are_words}
+use Rattle.cell_text.specs.Numbers.{spelled_number, reference_number, reference_of}
 use Rattle.traffic_cop.specs.Exchange.{input_total}
 use Rattle.traffic_cop.specs.Drops.{drop_named}
-use Rattle.traffic_cop.specs.Tests.{is_regular, carries, module_fault, held_of, has_few_words, fits_row}
-use Rattle.plant_loader.specs.Refusals.{Refusal, drop_place, module_place, script_place, unless_fault}
-use Rattle.plant_loader.specs.Limits.{drop_limit, module_limit, script_limit}
-use Rattle.plant_loader.specs.Keys.{keys_pass, number_at, texts_at}
-use Rattle.plant_loader.specs.InOrder.{numbered, each_behind, each_of, each_from}
+use Rattle.plant_types.specs.Fault.{at_place}
+use Rattle.plant_types.specs.FirstFault.{first_failed}
+use Rattle.plant_types.specs.PlanTests.{drop_limit}
+use Rattle.traffic_cop.specs.Tests.{is_regular, carries, module_tests, held_of, has_few_words}
+use Rattle.traffic_cop.specs.Tests.{fits_row}
+use Rattle.traffic_cop.specs.DropTests.{module_limit, script_limit, drop_place, module_place}
+use Rattle.traffic_cop.specs.DropTests.{script_place}
+use Rattle.plant_loader.specs.declared.owner.Owner.{Owner}
+use Rattle.plant_loader.specs.Refusals.{Refusal}
+use Rattle.plant_loader.specs.Hex.{is_hex_digit, hex_digit}
+use Rattle.plant_loader.specs.Keys.{keys_pass, number_at_key, texts_at}
+use Rattle.plant_loader.specs.InOrder.{with_positions, each_behind, each_of, each_from}
 
 -- A module as its text has it: its kind, the word of its first reference, and how many words it
 -- carries.
@@ -49,13 +59,13 @@ registers_spelled name first count =
     else None
 
 -- The one number behind the first two words.
-abbrev pub count_of : List (List ℕ) → Option ℕ
-count_of words = option_and_then number_of (only_word words)
+abbrev pub length_in : List (List ℕ) → Option ℕ
+length_in words = option_and_then spelled_number (only_word words)
 
 abbrev pub module_spelled : List (List ℕ) → Option SpelledModule
 module_spelled (name ∷ first ∷ []) = discretes_spelled name first
 module_spelled (name ∷ first ∷ rest) = option_and_then (registers_spelled name first)
-    (count_of rest)
+    (length_in rest)
 module_spelled _ = None
 
 -- The module of a kind, with its first number and its words.
@@ -65,31 +75,24 @@ module_from kind first count = record { kind = kind; first = first; count = coun
 -- A module of a drop by its text: it reads and is regular, and its references are there.
 unfoldable pub module_of : Sizes → Place → List ℕ → Result Module Refusal
 module_of sizes place text = do
-  spelled ← or_fault (BadDrop, place) (module_spelled (words_of text))
+  spelled ← or_fault (BadDrop, place) (module_spelled (text_words text))
   number ← or_fault (BadDrop, place) (reference_number spelled.first)
   regular ← unless (is_regular spelled.kind number spelled.count) (BadDrop, place)
   at ← or_fault (BadRef, place) (reference_of spelled.first)
   kind ← unless (carries spelled.kind at.kind) (BadRef, place)
   whole ← Ok (module_from spelled.kind at.number spelled.count)
-  unless_fault place whole (module_fault (held_of sizes whole) whole)
+  tested ← at_place place (first_failed (module_tests (held_of sizes whole) whole))
+  Ok whole
 
-abbrev pub numbered_module : Sizes → ℕ → ℕ → List ℕ → Result Module Refusal
-numbered_module sizes drop number text = module_of sizes (module_place drop number) text
+abbrev pub numbered_module : Owner → ℕ → ℕ → List ℕ → Result Module Refusal
+numbered_module owner drop number text =
+    module_of owner.sizes (module_place owner.position drop number) text
 
 -- The modules of the drop at a position.
-abbrev pub modules_of : Sizes → ℕ → List (List ℕ) → Result (List Module) Refusal
-modules_of sizes drop texts = each_from (numbered_module sizes drop) 1 texts
+abbrev pub modules_of : Owner → ℕ → List (List ℕ) → Result (List Module) Refusal
+modules_of owner drop texts = each_from (numbered_module owner drop) 1 texts
 
--- A hexadecimal digit of either case, and its value.
-abbrev pub is_hex_digit : ℕ → Bool
-is_hex_digit byte =
-    is_digit byte || (nat_le 65 byte && nat_le byte 70 || nat_le 97 byte && nat_le byte 102)
-
-abbrev pub hex_digit : ℕ → ℕ
-hex_digit byte =
-    if nat_le byte 57 then byte - 48 else if nat_le byte 70 then byte - 55 else byte - 87
-
--- The word that four such digits stand for, the highest first.
+-- The word that four hexadecimal digits stand for, the highest first.
 abbrev pub is_hex_word : List ℕ → Bool
 is_hex_word word = list_all is_hex_digit word && (length word == 4)
 
@@ -100,8 +103,8 @@ abbrev pub hex_word : Place → List ℕ → Result ℕ Refusal
 hex_word place word = if is_hex_word word then Ok (hex_value word) else Err (BadScript, place)
 
 -- A script row: the word X, or hexadecimal words.
-unfoldable pub row_of : Place → List (List ℕ) → Result ScriptRow Refusal
-row_of place words =
+unfoldable pub row_spelled : Place → List (List ℕ) → Result ScriptRow Refusal
+row_spelled place words =
     if are_words words (codes "X" ∷ [])
     then Ok Silent
     else each_of (hex_word place) words >>= λ values. Ok (Row values)
@@ -109,16 +112,17 @@ row_of place words =
 -- A script row of a drop with these modules by its text: it reads, and fits them.
 unfoldable pub script_row : List Module → Place → List ℕ → Result ScriptRow Refusal
 script_row modules place text = do
-  row ← row_of place (words_of text)
+  row ← row_spelled place (text_words text)
   fits ← unless (fits_row modules row) (BadScript, place)
   Ok row
 
-abbrev pub numbered_row : List Module → ℕ → ℕ → List ℕ → Result ScriptRow Refusal
-numbered_row modules drop number text = script_row modules (script_place drop number) text
+abbrev pub numbered_row : ℕ → List Module → ℕ → ℕ → List ℕ → Result ScriptRow Refusal
+numbered_row controller modules drop number text =
+    script_row modules (script_place controller drop number) text
 
--- The script rows of the drop at a position, which has these modules.
-abbrev pub rows_of : List Module → ℕ → List (List ℕ) → Result (List ScriptRow) Refusal
-rows_of modules drop texts = each_from (numbered_row modules drop) 1 texts
+-- The script rows of the drop at a position of a controller, which has these modules.
+abbrev pub rows_of : ℕ → List Module → ℕ → List (List ℕ) → Result (List ScriptRow) Refusal
+rows_of controller modules drop texts = each_from (numbered_row controller modules drop) 1 texts
 
 -- A script without rows is one row of zeros.
 abbrev pub or_zeros : List Module → List ScriptRow → List ScriptRow
@@ -130,11 +134,11 @@ abbrev pub drop_from : ℕ → List Module → List ScriptRow → IoDrop
 drop_from number modules rows = record { number = number; modules = modules; script = rows }
 
 -- The drop of a number has these modules and these script rows.
-unfoldable pub drop_with : Sizes → ℕ → ℕ → List (List ℕ) → List (List ℕ) → Result IoDrop Refusal
-drop_with sizes drop number module_texts row_texts = do
-  modules ← modules_of sizes drop module_texts
-  few ← unless (has_few_words modules) (TooLarge, drop_place drop)
-  rows ← rows_of modules drop row_texts
+unfoldable pub drop_with : Owner → ℕ → ℕ → List (List ℕ) → List (List ℕ) → Result IoDrop Refusal
+drop_with owner drop number module_texts row_texts = do
+  modules ← modules_of owner drop module_texts
+  few ← unless (has_few_words modules) (TooLarge, drop_place owner.position drop)
+  rows ← rows_of owner.position modules drop row_texts
   Ok (drop_from number modules (or_zeros modules rows))
 
 -- The keys of a drop, and those that it must have.
@@ -145,15 +149,17 @@ abbrev pub drop_required : List (List ℕ)
 drop_required = codes "number" ∷ codes "modules" ∷ []
 
 -- A drop behind those before it, none of which has its number; a drop's place is its position.
-unfoldable pub drop_behind : Sizes → List IoDrop → ℕ × Members → Result IoDrop Refusal
-drop_behind sizes earlier table = do
-  keys ← keys_pass (drop_place table.0) drop_keys drop_required table.1
-  number ← number_at (drop_place table.0) (codes "number") 1 drop_limit table.1
-  module_texts ← texts_at (drop_place table.0) module_limit (codes "modules") table.1
-  row_texts ← texts_at (drop_place table.0) script_limit (codes "script") table.1
-  fresh ← unless (not (is_some (drop_named earlier number))) (BadDrop, drop_place table.0)
-  drop_with sizes table.0 number module_texts row_texts
+unfoldable pub drop_behind : Owner → List IoDrop → ℕ × Members → Result IoDrop Refusal
+drop_behind owner earlier table = do
+  keys ← keys_pass (drop_place owner.position table.0) drop_keys drop_required table.1
+  number ← number_at_key (drop_place owner.position table.0) (codes "number") 1 drop_limit table.1
+  module_texts ← texts_at (drop_place owner.position table.0) module_limit (codes "modules")
+      table.1
+  row_texts ← texts_at (drop_place owner.position table.0) script_limit (codes "script") table.1
+  fresh ← unless (not (is_some (drop_named earlier number)))
+      (BadDrop, drop_place owner.position table.0)
+  drop_with owner table.0 number module_texts row_texts
 
 -- The drops of a controller.
-abbrev pub drops_of : Sizes → List Members → Result (List IoDrop) Refusal
-drops_of sizes tables = each_behind (drop_behind sizes) [] (numbered tables)
+abbrev pub drops_of : Owner → List Members → Result (List IoDrop) Refusal
+drops_of owner tables = each_behind (drop_behind owner) [] (with_positions tables)

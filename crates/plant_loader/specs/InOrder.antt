@@ -8,8 +8,8 @@ numbered_from number [] = []
 numbered_from number (x ∷ xs) = (number, x) ∷ numbered_from (number + 1) xs
 
 -- The items of a list beside their positions in it, which count from 1.
-abbrev pub numbered : {A : Type 0} → List A → List (ℕ × A)
-numbered xs = numbered_from 1 xs
+abbrev pub with_positions : {A : Type 0} → List A → List (ℕ × A)
+with_positions xs = numbered_from 1 xs
 
 -- Items, each read with what those before it gave: what all of them give, or the first refusal.
 unfoldable pub each_behind : {A B E : Type 0}

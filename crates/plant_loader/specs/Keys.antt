@@ -1,9 +1,13 @@
 -- What the values at the keys of a table are read as, and their faults. This project's own.
-use Rattle.std.specs.Prelude.{codes, ℕ, ◌%◌, ℤ, pos, negsuc, Bool, true, ◌&&◌, ◌==◌, nat_le, is_some, if◌then◌else◌, List, [], ◌∷◌, length, Option, Some, None, Result, Ok, Err}
+use Rattle.std.specs.Prelude.{codes, ℕ, ◌%◌, ℤ, pos, negsuc, Bool, true, ◌&&◌, ◌==◌, nat_le}
+use Rattle.std.specs.Prelude.{is_some, if◌then◌else◌, List, [], ◌∷◌, length, Option, Some, None}
+use Rattle.std.specs.Prelude.{Result, Ok, Err}
 use Rattle.std.specs.List.{list_all, list_any}
 use Rattle.std.specs.Str.{bytes_eq}
-use Rattle.toml.specs.Data.{Data, Items, no_items, item, Members, no_members, member, get_member, as_array, as_integer, as_str, as_table}
-use Rattle.plant_types.specs.declared.fault.PlantFault.TheVariants.{BadKey, BadValue, BadNode, TooLarge}
+use Rattle.toml.specs.Data.{Data, Items, no_items, item, Members, no_members, member, get_member}
+use Rattle.toml.specs.Data.{as_array, as_integer, as_str, as_table}
+use Rattle.plant_types.specs.declared.fault.PlantFault.TheVariants.{BadKey, BadValue, BadNode}
+use Rattle.plant_types.specs.declared.fault.PlantFault.TheVariants.{TooLarge}
 use Rattle.plant_types.specs.declared.fault.Place.{Place}
 use Rattle.plant_types.specs.Reference.{most_references}
 use Rattle.cell_text.specs.Steps.{◌>>=◌, or_fault, unless}
@@ -36,14 +40,14 @@ number_within place refusal low high d = do
   or_fault refusal (number_from low high number)
 
 -- The number at a key that must be there.
-unfoldable pub number_at : Place → List ℕ → ℕ → ℕ → Members → Result ℕ Refusal
-number_at place key low high ms = do
+unfoldable pub number_at_key : Place → List ℕ → ℕ → ℕ → Members → Result ℕ Refusal
+number_at_key place key low high ms = do
   d ← or_fault (BadKey, place) (get_member key ms)
   number_within place (BadValue, place) low high d
 
 -- The address of a node, 1 to 64.
-unfoldable pub node_at : Place → Members → Result ℕ Refusal
-node_at place ms = do
+unfoldable pub address_at : Place → Members → Result ℕ Refusal
+address_at place ms = do
   d ← or_fault (BadKey, place) (get_member (codes "node") ms)
   number_within place (BadNode, place) 1 64 d
 
@@ -100,3 +104,11 @@ texts_at place most key ms = list_or_none as_str place most (get_member key ms)
 
 abbrev pub tables_at : Place → ℕ → List ℕ → Members → Result (List Members) Refusal
 tables_at place most key ms = list_or_none as_table place most (get_member key ms)
+
+-- The table at a key, where the key is there.
+abbrev pub table_or_none : Place → Option Data → Result (Option Members) Refusal
+table_or_none place None = Ok None
+table_or_none place (Some d) = or_fault (BadValue, place) (as_table d) >>= λ ms. Ok (Some ms)
+
+abbrev pub table_at : Place → List ℕ → Members → Result (Option Members) Refusal
+table_at place key ms = table_or_none place (get_member key ms)

@@ -2,20 +2,23 @@
 -- it.
 use Rattle.std.specs.Prelude.{◌≡◌, ℕ, ◌+◌, List, [], ◌∷◌, ◌++◌, length, Result, Ok}
 use Rattle.toml.specs.Data.{Members}
-use Rattle.plant_types.specs.declared.reference.Ref.{Ref}
 use Rattle.plant_types.specs.declared.network.Cell as plain_cells
 use Rattle.plant_types.specs.declared.network.Short as plain_shorts
 use Rattle.plant_types.specs.declared.network.Network.{Network}
 use Rattle.plant_types.specs.declared.network.Segment.{Segment}
 use Rattle.plant_types.specs.declared.fault.PlantFault.{PlantFault}
 use Rattle.plant_types.specs.declared.fault.Place.{Place}
-use Rattle.plant_types.specs.declared.sizes.Sizes.{Sizes}
+use Rattle.plant_types.specs.Sizes.{Sizes}
+use Rattle.plant_types.specs.Fault.{cell_place, at_place}
+use Rattle.plant_types.specs.PlanTests.{Site}
+use Rattle.plant_types.specs.Standing.{cells_before}
 use Rattle.cell_text.specs.declared.piece.Piece.{Piece}
 use Rattle.cell_text.specs.declared.piece.Piece.TheVariants.{Cell, Short}
 use Rattle.cell_text.specs.Steps.{◌>>=◌}
-use Rattle.plant_loader.specs.Refusals.{Refusal, cell_place, at_place}
+use Rattle.plant_loader.specs.declared.owner.Owner.{Owner}
+use Rattle.plant_loader.specs.Refusals.{Refusal}
 use Rattle.plant_loader.specs.Texts.{network_texts}
-use Rattle.plant_loader.specs.Pieces.{Before, before_in, networks_in, cells_behind, coils_before, piece_behind, pieces_of}
+use Rattle.plant_loader.specs.Pieces.{site_behind, piece_behind, pieces_of}
 
 -- How many segments there are in all, those that are whole, the networks that are whole of the next
 -- one, and the cells and shorts so far of the network that is being read. This project's own.
@@ -34,17 +37,13 @@ nothing_read count = record { count = count; segments = []; networks = []; cells
 abbrev pub open_network : ReadProgram → Network
 open_network read = record { cells = read.cells; shorts = read.shorts }
 
--- What stands before it. This project's own.
-abbrev pub before_open : Sizes → ReadProgram → Before
-before_open sizes read = before_in sizes read.count read.segments read.networks
+-- Where it stands. This project's own.
+abbrev pub site_of : Sizes → ReadProgram → Site
+site_of sizes read = site_behind sizes read.count read.segments read.networks
 
 -- All cells so far. This project's own.
 abbrev pub cells_read : ReadProgram → List plain_cells.Cell
-cells_read read = cells_behind (networks_in read.segments ++ read.networks) read.cells
-
--- The coils that all cells so far drive. Modicon Ladder Logic Block Library User Guide.
-abbrev pub driven_coils : ReadProgram → List Ref
-driven_coils read = coils_before (networks_in read.segments ++ read.networks) (open_network read)
+cells_read read = cells_before read.segments read.networks ++ read.cells
 
 -- One piece more of the network that is being read. This project's own.
 abbrev pub added : ReadProgram → Piece → ReadProgram
@@ -58,23 +57,24 @@ with_tested read tested = tested >>= λ piece. Ok (added read piece)
 -- One more piece. This project's own.
 abbrev pub with_piece : Sizes → ReadProgram → List ℕ → Result ReadProgram PlantFault
 with_piece sizes read piece =
-    with_tested read (piece_behind (before_open sizes read) (open_network read) piece)
+    with_tested read (piece_behind (site_of sizes read) (open_network read) piece)
 
 -- How many pieces of the network that is being read were read. This project's own.
 abbrev pub piece_count : ReadProgram → ℕ
 piece_count read = length read.cells + length read.shorts
 
 -- The place of the piece that comes next. This project's own.
-abbrev pub next_place : ReadProgram → Place
-next_place read =
-    cell_place (length read.segments + 1) (length read.networks + 1) (piece_count read + 1)
+abbrev pub place_of_next : ℕ → ReadProgram → Place
+place_of_next controller read =
+    cell_place controller (length read.segments + 1) (length read.networks + 1)
+    (piece_count read + 1)
 
 -- Pieces, each behind those before it. This project's own.
-unfoldable pub with_pieces : Sizes → ReadProgram → List (List ℕ) → Result ReadProgram Refusal
-with_pieces sizes read [] = Ok read
-with_pieces sizes read (piece ∷ pieces) = do
-  next ← at_place (next_place read) (with_piece sizes read piece)
-  with_pieces sizes next pieces
+unfoldable pub with_pieces : Owner → ReadProgram → List (List ℕ) → Result ReadProgram Refusal
+with_pieces owner read [] = Ok read
+with_pieces owner read (piece ∷ pieces) = do
+  next ← at_place (place_of_next owner.position read) (with_piece owner.sizes read piece)
+  with_pieces owner next pieces
 
 -- The network that was being read is whole. This project's own.
 abbrev pub with_network : ReadProgram → ReadProgram
@@ -91,36 +91,36 @@ with_segment read =
     }
 
 -- One more network. This project's own.
-unfoldable pub with_text : Sizes → ReadProgram → List ℕ → Result ReadProgram Refusal
-with_text sizes read text = do
-  next ← with_pieces sizes read (pieces_of text)
+unfoldable pub with_text : Owner → ReadProgram → List ℕ → Result ReadProgram Refusal
+with_text owner read text = do
+  next ← with_pieces owner read (pieces_of text)
   Ok (with_network next)
 
 -- Networks, each behind those before it. This project's own.
-unfoldable pub with_texts : Sizes → ReadProgram → List (List ℕ) → Result ReadProgram Refusal
-with_texts sizes read [] = Ok read
-with_texts sizes read (text ∷ texts) = do
-  next ← with_text sizes read text
-  with_texts sizes next texts
+unfoldable pub with_texts : Owner → ReadProgram → List (List ℕ) → Result ReadProgram Refusal
+with_texts owner read [] = Ok read
+with_texts owner read (text ∷ texts) = do
+  next ← with_text owner read text
+  with_texts owner next texts
 
 -- One more segment, which has these texts. This project's own.
-unfoldable pub with_segment_texts : Sizes → ReadProgram → List (List ℕ) → Result ReadProgram Refusal
-with_segment_texts sizes read texts = do
-  next ← with_texts sizes read texts
+unfoldable pub with_segment_texts : Owner → ReadProgram → List (List ℕ) → Result ReadProgram Refusal
+with_segment_texts owner read texts = do
+  next ← with_texts owner read texts
   Ok (with_segment next)
 
 -- One more segment by its table. This project's own.
-unfoldable pub with_table : Sizes → ReadProgram → Members → Result ReadProgram Refusal
-with_table sizes read table = do
-  texts ← network_texts (length read.segments + 1) table
-  with_segment_texts sizes read texts
+unfoldable pub with_table : Owner → ReadProgram → Members → Result ReadProgram Refusal
+with_table owner read table = do
+  texts ← network_texts owner.position (length read.segments + 1) table
+  with_segment_texts owner read texts
 
 -- Segments, each behind those before it. This project's own.
-unfoldable pub with_tables : Sizes → ReadProgram → List Members → Result ReadProgram Refusal
-with_tables sizes read [] = Ok read
-with_tables sizes read (table ∷ tables) = do
-  next ← with_table sizes read table
-  with_tables sizes next tables
+unfoldable pub with_tables : Owner → ReadProgram → List Members → Result ReadProgram Refusal
+with_tables owner read [] = Ok read
+with_tables owner read (table ∷ tables) = do
+  next ← with_table owner read table
+  with_tables owner next tables
 
 -- No network of the next segment was read yet. This project's own.
 pub record IsBetweenSegments (read : ReadProgram) : Type 0 where

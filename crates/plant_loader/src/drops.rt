@@ -2,16 +2,15 @@
 ghost use Rattle.std.specs.Prelude.{◌≡◌, ◌≤◌, length, map};
 ghost use Rattle.toml.specs.View.{table_view};
 ghost use Rattle.plant_loader.specs.Orders.{drop_number};
-ghost use Rattle.plant_loader.specs.Counts.{sizes_of};
 ghost use Rattle.plant_loader.specs.Refusals.{Gives};
 ghost use Rattle.plant_loader.specs.Drops.{modules_of, drop_with, drop_behind, drops_of};
 
-use crate::counts::Counts;
-use crate::keys::{keys_pass, number_at, texts_at};
+use crate::keys::{keys_pass, number_at_key, texts_at};
 use crate::modules::module_of;
-use crate::refusal::{LoadEnd, place_in};
+use crate::owner::Owner;
+use crate::refusal::{LoadEnd, drop_place, module_place};
 use crate::scripts::{SCRIPT_LIMIT, or_zeros, rows_of};
-use plant_types::{IoDrop, List, Module, Part, PlantFault};
+use plant_types::{IoDrop, List, Module, PlantFault};
 use std::alloc::Global;
 use toml::Table;
 use traffic_cop::has_few_words;
@@ -43,19 +42,20 @@ pub fn drop_number(drops: &[IoDrop], number: u16) -> Option<u8>
 
 fn modules_of(
     alloc: Global,
-    counts: Counts,
+    owner: Owner,
     drop: u32,
     texts: &[&str],
 ) -> Result<List<Module>, LoadEnd>
     requires { length texts.now ≤ MODULE_LIMIT }
     ensures { Gives (λ modules. modules) result
-        (modules_of (sizes_of counts) drop (map (λ t. t.now) texts.now)) }
+        (modules_of owner drop (map (λ t. t.now) texts.now)) }
 {
     let mut modules = List::new(alloc);
     let mut number = 0;
     for text in texts {
         number += 1;
-        let io_module = module_of(counts, place_in(Part::Module, drop, number, 0), text)?;
+        let place = module_place(owner.position, drop, number);
+        let io_module = module_of(owner.sizes, place, text)?;
         modules.push(io_module)?;
     }
     Ok(modules)
@@ -64,7 +64,7 @@ fn modules_of(
 #[tactic(auto, unfolding(crate::specs::Drops::drop_with))]
 fn drop_with(
     alloc: Global,
-    counts: Counts,
+    owner: Owner,
     place: u32,
     number: u8,
     module_texts: &[&str],
@@ -72,15 +72,15 @@ fn drop_with(
 ) -> Result<IoDrop, LoadEnd>
     requires modules { length module_texts.now ≤ MODULE_LIMIT }
     requires rows { length row_texts.now ≤ SCRIPT_LIMIT }
-    ensures { Gives (λ drop. drop) result (drop_with (sizes_of counts) place number
+    ensures { Gives (λ drop. drop) result (drop_with owner place number
         (map (λ t. t.now) module_texts.now) (map (λ t. t.now) row_texts.now)) }
 {
-    let modules = modules_of(alloc, counts, place, module_texts)?;
+    let modules = modules_of(alloc, owner, place, module_texts)?;
     if !has_few_words(modules.as_slice()) {
-        let place = place_in(Part::Drop, place, 0, 0);
+        let place = drop_place(owner.position, place);
         return Err(LoadEnd::Refused(PlantFault::TooLarge, place));
     }
-    let rows = rows_of(alloc, modules.as_slice(), place, row_texts)?;
+    let rows = rows_of(alloc, owner.position, modules.as_slice(), place, row_texts)?;
     let script = or_zeros(alloc, modules.as_slice(), rows)?;
     Ok(IoDrop {
         number,
@@ -92,25 +92,25 @@ fn drop_with(
 #[tactic(auto, unfolding(crate::specs::Drops::drop_behind))]
 fn drop_behind(
     alloc: Global,
-    counts: Counts,
+    owner: Owner,
     earlier: &[IoDrop],
     position: u32,
     table: &Table,
 ) -> Result<IoDrop, LoadEnd>
     ensures { Gives (λ drop. drop) result
-        (drop_behind (sizes_of counts) earlier.now (position, table_view table.now)) }
+        (drop_behind owner earlier.now (position, table_view table.now)) }
 {
-    let place = place_in(Part::Drop, position, 0, 0);
+    let place = drop_place(owner.position, position);
     keys_pass(place, &DROP_KEYS, &DROP_REQUIRED, table)?;
-    let number = number_at(place, "number", 1, DROP_LIMIT as u16, table)?;
+    let number = number_at_key(place, "number", 1, DROP_LIMIT as u32, table)?;
     let modules = texts_at(alloc, place, MODULE_LIMIT, "modules", table)?;
     let rows = texts_at(alloc, place, SCRIPT_LIMIT, "script", table)?;
-    if drop_number(earlier, number).is_some() {
+    if drop_number(earlier, number as u16).is_some() {
         return Err(LoadEnd::Refused(PlantFault::BadDrop, place));
     }
     drop_with(
         alloc,
-        counts,
+        owner,
         position,
         number as u8,
         modules.as_slice(),
@@ -120,16 +120,16 @@ fn drop_behind(
 
 /// The drops of a controller by their tables.
 #[tactic(auto, unfolding(crate::specs::InOrder::each_behind))]
-pub fn drops_of(alloc: Global, counts: Counts, tables: &[&Table]) -> Result<List<IoDrop>, LoadEnd>
+pub fn drops_of(alloc: Global, owner: Owner, tables: &[&Table]) -> Result<List<IoDrop>, LoadEnd>
     requires { length tables.now ≤ DROP_LIMIT }
     ensures { Gives (λ drops. drops) result
-        (drops_of (sizes_of counts) (map (λ t. table_view t.now) tables.now)) }
+        (drops_of owner (map (λ t. table_view t.now) tables.now)) }
 {
     let mut drops = List::new(alloc);
     let mut position = 0;
     for table in tables {
         position += 1;
-        let next = drop_behind(alloc, counts, drops.as_slice(), position, table)?;
+        let next = drop_behind(alloc, owner, drops.as_slice(), position, table)?;
         drops.push(next)?;
     }
     Ok(drops)

@@ -1,12 +1,17 @@
 //! The values at the keys of a table.
-ghost use Rattle.std.specs.Prelude.{◌≡◌, ◌≢◌, ◌≤◌, length, map, option_map, string_bytes, IfOk, Err};
+ghost use Rattle.std.specs.Prelude.{◌≡◌, ◌≢◌, ◌≤◌, length, map, option_map, string_bytes, IfOk};
+ghost use Rattle.std.specs.Prelude.{Err};
 ghost use Rattle.std.specs.BTreeMap as tree;
 ghost use Rattle.std.specs.Str.{bytes_eq};
 ghost use Rattle.std.specs.List.{list_any, list_all};
 ghost use Rattle.toml.specs.Data.{as_str, as_table, get_member};
 ghost use Rattle.toml.specs.View.{view, items_view, table_view};
 ghost use Rattle.plant_loader.specs.Refusals.{Gives};
-ghost use Rattle.plant_loader.specs.Keys.{has_only, has_each, keys_pass, number_within, number_at, node_at, number_at_or, size_at, in_sixteens, discrete_size_at, items_as, list_in, texts_at, tables_at};
+ghost use Rattle.plant_loader.specs.Keys.{has_only, has_each, keys_pass, number_within};
+ghost use Rattle.plant_loader.specs.Keys.{number_at_key};
+ghost use Rattle.plant_loader.specs.Keys.{address_at, number_at_or, size_at, in_sixteens};
+ghost use Rattle.plant_loader.specs.Keys.{discrete_size_at, items_as, list_in, texts_at, tables_at};
+ghost use Rattle.plant_loader.specs.Keys.{table_at};
 
 use crate::refusal::LoadEnd;
 use plant_types::{Place, PlantFault};
@@ -14,10 +19,10 @@ use std::alloc::Global;
 use toml::{Table, Value};
 
 /// The highest number of a reference.
-const REFERENCE_LIMIT: u16 = 9984;
+const REFERENCE_LIMIT: u32 = 9984;
 
 /// The highest address of a node.
-const NODE_LIMIT: u16 = 64;
+const NODE_LIMIT: u32 = 64;
 
 /// Discretes come in so many.
 const GROUP: u16 = 16;
@@ -82,10 +87,10 @@ pub fn keys_pass(
 fn number_within(
     place: Place,
     fault: PlantFault,
-    low: u16,
-    high: u16,
+    low: u32,
+    high: u32,
     value: &Value,
-) -> Result<u16, LoadEnd>
+) -> Result<u32, LoadEnd>
     ensures read { Gives (λ n. n) result
         (number_within place (fault, place) low high (view value.now)) }
     ensures within { IfOk result (λ n. (low ≤ n) × (n ≤ high)) }
@@ -94,7 +99,7 @@ fn number_within(
     let Some(number) = value.as_integer() else {
         return Err(LoadEnd::Refused(PlantFault::BadValue, place));
     };
-    let Ok(number) = u16::try_from(number) else {
+    let Ok(number) = u32::try_from(number) else {
         return Err(LoadEnd::Refused(fault, place));
     };
     if low <= number && number <= high {
@@ -105,16 +110,16 @@ fn number_within(
 }
 
 /// The number at a key that has to be there.
-#[tactic(auto, unfolding(crate::specs::Keys::number_at))]
-pub fn number_at(
+#[tactic(auto, unfolding(crate::specs::Keys::number_at_key))]
+pub fn number_at_key(
     place: Place,
     key: &str,
-    low: u16,
-    high: u16,
+    low: u32,
+    high: u32,
     table: &Table,
-) -> Result<u16, LoadEnd>
+) -> Result<u32, LoadEnd>
     ensures read { Gives (λ n. n) result
-        (number_at place key.now low high (table_view table.now)) }
+        (number_at_key place key.now low high (table_view table.now)) }
     ensures within { IfOk result (λ n. (low ≤ n) × (n ≤ high)) }
     ensures no_memory { result ≢ Err LoadEnd.NoMemory }
 {
@@ -125,29 +130,32 @@ pub fn number_at(
 }
 
 /// The address of a node.
-#[tactic(auto, unfolding(crate::specs::Keys::node_at))]
-pub fn node_at(place: Place, table: &Table) -> Result<u16, LoadEnd>
-    ensures read { Gives (λ n. n) result (node_at place (table_view table.now)) }
+#[tactic(auto, unfolding(crate::specs::Keys::address_at))]
+pub fn address_at(place: Place, table: &Table) -> Result<u8, LoadEnd>
+    ensures read { Gives (λ n. n) result (address_at place (table_view table.now)) }
     ensures within { IfOk result (λ n. (1 ≤ n) × (n ≤ 64)) }
     ensures no_memory { result ≢ Err LoadEnd.NoMemory }
 {
-    match value_at(table, "node") {
-        Some(value) => number_within(place, PlantFault::BadNode, 1, NODE_LIMIT, value),
-        None => Err(LoadEnd::Refused(PlantFault::BadKey, place)),
-    }
+    let Some(value) = value_at(table, "node") else {
+        return Err(LoadEnd::Refused(PlantFault::BadKey, place));
+    };
+    let node = number_within(place, PlantFault::BadNode, 1, NODE_LIMIT, value)?;
+    Ok(node as u8)
 }
 
 /// The number at a key, or a default where the key is not there.
 pub fn number_at_or(
     place: Place,
     key: &str,
-    default: u16,
-    low: u16,
-    high: u16,
+    default: u32,
+    low: u32,
+    high: u32,
     table: &Table,
-) -> Result<u16, LoadEnd>
+) -> Result<u32, LoadEnd>
+    requires default { (low ≤ default) × (default ≤ high) }
     ensures read { Gives (λ n. n) result
         (number_at_or place key.now default low high (table_view table.now)) }
+    ensures within { IfOk result (λ n. (low ≤ n) × (n ≤ high)) }
     ensures no_memory { result ≢ Err LoadEnd.NoMemory }
 {
     match value_at(table, key) {
@@ -161,7 +169,8 @@ pub fn size_at(place: Place, key: &str, table: &Table) -> Result<u16, LoadEnd>
     ensures read { Gives (λ n. n) result (size_at place key.now (table_view table.now)) }
     ensures no_memory { result ≢ Err LoadEnd.NoMemory }
 {
-    number_at_or(place, key, 0, 0, REFERENCE_LIMIT, table)
+    let size = number_at_or(place, key, 0, 0, REFERENCE_LIMIT, table)?;
+    Ok(size as u16)
 }
 
 /// A number of discretes, which come in sixteens.
@@ -286,5 +295,20 @@ pub fn tables_at<'a>(
     match value_at(table, key) {
         Some(value) => tables_in(alloc, place, most, value),
         None => Ok(Vec::new(alloc)),
+    }
+}
+
+/// The table at a key, where the key is there.
+pub fn table_at<'a>(place: Place, key: &str, table: &'a Table) -> Result<Option<&'a Table>, LoadEnd>
+    ensures read { Gives (option_map (λ t. table_view t.now)) result
+        (table_at place key.now (table_view table.now)) }
+    ensures no_memory { result ≢ Err LoadEnd.NoMemory }
+{
+    let Some(value) = value_at(table, key) else {
+        return Ok(None);
+    };
+    match value.as_table() {
+        Some(found) => Ok(Some(found)),
+        None => Err(LoadEnd::Refused(PlantFault::BadValue, place)),
     }
 }

@@ -1,18 +1,23 @@
 //! Reads the plan of a plant from the bytes of its file.
 #![tactic(auto)]
 
-mod cells;
 mod controller;
-mod counts;
 mod drops;
+mod hex;
+mod hosts;
 mod keys;
 mod modules;
+mod net;
+mod numerals;
 mod orders;
+mod owner;
 mod pieces;
 mod program;
 mod reading;
 mod refusal;
+mod requests;
 mod scripts;
+mod stations;
 #[cfg(test)]
 mod tests;
 mod texts;

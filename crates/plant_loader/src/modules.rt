@@ -1,14 +1,15 @@
 //! The modules of a drop by their texts.
 ghost use Rattle.std.specs.Prelude.{◌≡◌, ◌≢◌, option_map, Err};
-ghost use Rattle.cell_text.specs.Words.{words_of};
-ghost use Rattle.plant_loader.specs.Counts.{sizes_of};
+ghost use Rattle.plant_types.specs.FirstFault.{first_failed};
+ghost use Rattle.traffic_cop.specs.Tests.{module_tests, held_of};
+ghost use Rattle.cell_text.specs.Words.{text_words};
 ghost use Rattle.plant_loader.specs.Refusals.{Gives};
-ghost use Rattle.plant_loader.specs.Drops.{spelled, count_of, discretes_spelled, registers_spelled, module_spelled, module_of};
+ghost use Rattle.plant_loader.specs.Drops.{spelled, length_in, discretes_spelled};
+ghost use Rattle.plant_loader.specs.Drops.{registers_spelled, module_spelled, module_of};
 
-use crate::counts::Counts;
 use crate::refusal::LoadEnd;
-use cell_text::{is_text, next_word, number_of, only_word, reference_number, reference_of};
-use plant_types::{Module, ModuleKind, Place, PlantFault};
+use cell_text::{is_text, next_word, only_word, reference_number, reference_of, spelled_number};
+use plant_types::{Module, ModuleKind, Place, PlantFault, Sizes};
 use traffic_cop::{carries, is_regular, kind_of, module_fault};
 
 /// A module as its text has it: its kind, the word of its first reference, and how many words it
@@ -52,29 +53,39 @@ fn registers_spelled<'a>(name: &[u8], first: &'a [u8], count: u16) -> Option<Spe
     Some(SpelledModule { kind, first, count })
 }
 
-fn count_of(rest: &[u8]) -> Option<u16>
-    ensures { result ≡ count_of (words_of rest.now) }
+fn length_in(rest: &[u8]) -> Option<u16>
+    ensures { result ≡ length_in (text_words rest.now) }
 {
     let count = only_word(rest)?;
-    number_of(count)
+    spelled_number(count)
 }
 
 fn module_spelled(text: &[u8]) -> Option<SpelledModule<'_>>
     ensures { option_map (λ m. spelled m.kind m.first.now m.count) result
-        ≡ module_spelled (words_of text.now) }
+        ≡ module_spelled (text_words text.now) }
 {
     let (name, rest) = next_word(text)?;
     let (first, rest) = next_word(rest)?;
     match next_word(rest) {
         None => discretes_spelled(name, first),
-        Some(_) => registers_spelled(name, first, count_of(rest)?),
+        Some(_) => registers_spelled(name, first, length_in(rest)?),
+    }
+}
+
+#[tactic(auto, unfolding(traffic_cop::specs::Tests::module_fault))]
+fn test_module(sizes: Sizes, io_module: Module) -> Result<(), PlantFault>
+    ensures { result ≡ first_failed (module_tests (held_of sizes io_module) io_module) }
+{
+    match module_fault(sizes.count_of(kind_of(io_module.kind)), io_module) {
+        Some(fault) => Err(fault),
+        None => Ok(()),
     }
 }
 
 /// A module of a drop: it reads and is regular, and its references are there.
 #[tactic(auto, unfolding(crate::specs::Drops::module_of))]
-pub fn module_of(counts: Counts, place: Place, text: &str) -> Result<Module, LoadEnd>
-    ensures read { Gives (λ m. m) result (module_of (sizes_of counts) place text.now) }
+pub fn module_of(sizes: Sizes, place: Place, text: &str) -> Result<Module, LoadEnd>
+    ensures read { Gives (λ m. m) result (module_of sizes place text.now) }
     ensures no_memory { result ≢ Err LoadEnd.NoMemory }
 {
     let bad_drop = LoadEnd::Refused(PlantFault::BadDrop, place);
@@ -98,8 +109,8 @@ pub fn module_of(counts: Counts, place: Place, text: &str) -> Result<Module, Loa
         first: at.number,
         count: spelled.count,
     };
-    match module_fault(counts.count_of(kind_of(io_module.kind)), io_module) {
-        Some(fault) => Err(LoadEnd::Refused(fault, place)),
-        None => Ok(io_module),
+    match test_module(sizes, io_module) {
+        Ok(()) => Ok(io_module),
+        Err(fault) => Err(LoadEnd::Refused(fault, place)),
     }
 }

@@ -1,16 +1,19 @@
 //! The order rows of a controller.
-ghost use Rattle.std.specs.Prelude.{◌≡◌, ◌≢◌, ◌≤◌, length, map, option_map, Err};
-ghost use Rattle.cell_text.specs.Words.{words_of};
-ghost use Rattle.plant_loader.specs.Counts.{sizes_of};
+ghost use Rattle.std.specs.Prelude.{◌≡◌, ◌≢◌, ◌≤◌, length, map, option_map, Some, Err};
+ghost use Rattle.cell_text.specs.Words.{text_words};
 ghost use Rattle.plant_loader.specs.Refusals.{Gives};
-ghost use Rattle.plant_loader.specs.Orders.{words_from, order_words, named, segment_of, names_nothing, reads_as_control};
-ghost use Rattle.plant_loader.specs.Orders.{is_control, control_of, drop_of, order_row, orders_of};
+ghost use Rattle.plant_loader.specs.Orders.{order_words_from, order_words, nameable, is_solved};
+ghost use Rattle.plant_loader.specs.Orders.{segment_in, names_nothing, reads_as_control};
+ghost use Rattle.plant_loader.specs.Orders.{control_in, drop_of, order_row, orders_of};
 
-use crate::counts::Counts;
 use crate::drops::drop_number;
-use crate::refusal::{LoadEnd, place_in};
-use cell_text::{is_reference_word, is_text, next_word, number_of, reference_of};
-use plant_types::{IoDrop, List, OrderRow, Part, Place, PlantFault, Ref, RefKind};
+use crate::owner::Owner;
+use crate::refusal::LoadEnd;
+use cell_text::{is_reference_word, is_text, next_word, reference_of, spelled_number};
+use plant_types::{
+    IoDrop, List, OrderRow, Place, PlantFault, Ref, Segment, Sizes, has_control, is_segment,
+    is_subroutines,
+};
 use std::alloc::Global;
 
 /// The most order rows of a controller.
@@ -26,8 +29,9 @@ struct OrderWords<'a> {
 }
 
 fn order_words(text: &[u8]) -> Option<OrderWords<'_>>
-    ensures { option_map (λ w. words_from w.segment.now w.control.now w.input.now w.output.now) result
-        ≡ order_words (words_of text.now) }
+    ensures { option_map (λ w.
+        order_words_from w.segment.now w.control.now w.input.now w.output.now) result
+        ≡ order_words (text_words text.now) }
 {
     let (segment, rest) = next_word(text)?;
     let (control, rest) = next_word(rest)?;
@@ -44,11 +48,18 @@ fn order_words(text: &[u8]) -> Option<OrderWords<'_>>
     })
 }
 
-fn segment_of(count: u16, word: &[u8]) -> Option<u16>
-    ensures { result ≡ segment_of count word.now }
+/// Whether an order row can solve the segment of a number.
+fn is_solved(segments: &[Segment], number: u16) -> bool
+    ensures { result ≡ is_solved segments.now number }
 {
-    let segment = number_of(word)?;
-    if 1 <= segment && segment <= count {
+    is_segment(segments, number) && !is_subroutines(segments, number)
+}
+
+fn segment_in(segments: &[Segment], word: &[u8]) -> Option<u16>
+    ensures { result ≡ segment_in segments.now word.now }
+{
+    let segment = spelled_number(word)?;
+    if is_solved(segments, segment) {
         Some(segment)
     } else {
         None
@@ -67,15 +78,9 @@ fn reads_as_control(word: &[u8]) -> bool
     names_nothing(word) || is_reference_word(word)
 }
 
-fn is_control(counts: Counts, at: Ref) -> bool
-    ensures { result ≡ is_control (sizes_of counts) at }
-{
-    matches!(at.kind, RefKind::Coil | RefKind::Input) && counts.has_reference(at)
-}
-
-#[tactic(auto, unfolding(crate::specs::Orders::control_of))]
-fn control_of(counts: Counts, place: Place, word: &[u8]) -> Result<Option<Ref>, LoadEnd>
-    ensures read { Gives (λ control. control) result (control_of (sizes_of counts) place word.now) }
+#[tactic(auto, unfolding(crate::specs::Orders::control_in))]
+fn control_in(sizes: Sizes, place: Place, word: &[u8]) -> Result<Option<Ref>, LoadEnd>
+    ensures read { Gives (λ control. control) result (control_in sizes place word.now) }
     ensures no_memory { result ≢ Err LoadEnd.NoMemory }
 {
     if names_nothing(word) {
@@ -84,7 +89,7 @@ fn control_of(counts: Counts, place: Place, word: &[u8]) -> Result<Option<Ref>, 
     let Some(at) = reference_of(word) else {
         return Err(LoadEnd::Refused(PlantFault::BadRef, place));
     };
-    if is_control(counts, at) {
+    if has_control(sizes, Some(at)) {
         Ok(Some(at))
     } else {
         Err(LoadEnd::Refused(PlantFault::BadRef, place))
@@ -97,28 +102,28 @@ fn drop_of(drops: &[IoDrop], word: &[u8]) -> Option<Option<u8>>
     if names_nothing(word) {
         return Some(None);
     }
-    let number = drop_number(drops, number_of(word)?)?;
+    let number = drop_number(drops, spelled_number(word)?)?;
     Some(Some(number))
 }
 
 #[tactic(auto, unfolding(crate::specs::Orders::order_row))]
 fn order_row(
-    counts: Counts,
-    segments: u16,
+    owner: Owner,
+    segments: &[Segment],
     drops: &[IoDrop],
     number: u32,
     text: &str,
 ) -> Result<OrderRow, LoadEnd>
     ensures read { Gives (λ row. row) result
-        (order_row (named (sizes_of counts) segments drops.now) number text.now) }
+        (order_row (nameable owner segments.now drops.now) number text.now) }
     ensures no_memory { result ≢ Err LoadEnd.NoMemory }
 {
-    let place = place_in(Part::Order, number, 0, 0);
+    let place = Place::order(owner.position, number);
     let bad_order = LoadEnd::Refused(PlantFault::BadOrder, place);
     let Some(words) = order_words(text.as_bytes()) else {
         return Err(bad_order);
     };
-    let Some(segment) = segment_of(segments, words.segment) else {
+    let Some(segment) = segment_in(segments, words.segment) else {
         return Err(bad_order);
     };
     if !reads_as_control(words.control) {
@@ -130,7 +135,7 @@ fn order_row(
     let Some(output) = drop_of(drops, words.output) else {
         return Err(bad_order);
     };
-    let control = control_of(counts, place, words.control)?;
+    let control = control_in(owner.sizes, place, words.control)?;
     Ok(OrderRow {
         segment,
         control,
@@ -139,23 +144,23 @@ fn order_row(
     })
 }
 
-/// The order rows of a controller, which can name so many segments and these drops.
+/// The order rows of a controller, which can name these segments and drops.
 pub fn orders_of(
     alloc: Global,
-    counts: Counts,
-    segments: u16,
+    owner: Owner,
+    segments: &[Segment],
     drops: &[IoDrop],
     texts: &[&str],
 ) -> Result<List<OrderRow>, LoadEnd>
     requires { length texts.now ≤ ORDER_LIMIT }
     ensures { Gives (λ rows. rows) result
-        (orders_of (named (sizes_of counts) segments drops.now) (map (λ t. t.now) texts.now)) }
+        (orders_of (nameable owner segments.now drops.now) (map (λ t. t.now) texts.now)) }
 {
     let mut rows = List::new(alloc);
     let mut number = 0;
     for text in texts {
         number += 1;
-        let row = order_row(counts, segments, drops, number, text)?;
+        let row = order_row(owner, segments, drops, number, text)?;
         rows.push(row)?;
     }
     Ok(rows)

@@ -1,21 +1,21 @@
 //! The pieces of the texts of networks.
 ghost use Rattle.std.specs.Prelude.{◌≡◌, ◌+◌, ◌<◌, ◌≤◌, [], length, map, IfOk};
-ghost use Rattle.plant_loader.specs.Counts.{sizes_of};
-ghost use Rattle.plant_loader.specs.Refusals.{Gives, at_place};
-ghost use Rattle.std.specs.List.{list_any};
+ghost use Rattle.plant_loader.specs.Refusals.{Gives};
+ghost use Rattle.plant_types.specs.Fault.{at_place};
 ghost use Rattle.toml.specs.View.{table_view};
-ghost use Rattle.plant_loader.specs.Pieces.{is_later, has_later_name, plant_fault, has_word, pieces_of_line, pieces_of, segments_of};
-ghost use Rattle.plant_loader.specs.Pieces.{has_label, callers_in};
-ghost use Rattle.plant_types.specs.FirstFault.{is_label};
-ghost use Rattle.plant_loader.specs.Program.{next_place, with_piece, with_pieces, with_text, with_texts};
-ghost use Rattle.plant_loader.specs.Program.{with_segment_texts, with_table, with_tables, IsBetweenSegments};
+ghost use Rattle.plant_loader.specs.Pieces.{is_later, has_later_name, plant_fault, has_word};
+ghost use Rattle.plant_loader.specs.Pieces.{pieces_of_line, pieces_of, segments_of};
+ghost use Rattle.plant_loader.specs.Program.{place_of_next, with_piece, with_pieces, with_text};
+ghost use Rattle.plant_loader.specs.Program.{with_texts};
+ghost use Rattle.plant_loader.specs.Program.{with_segment_texts, with_table, with_tables};
+ghost use Rattle.plant_loader.specs.Program.{IsBetweenSegments};
 
-use crate::counts::Counts;
+use crate::owner::Owner;
 use crate::program::{NETWORK_LIMIT, Program, SEGMENT_LIMIT};
 use crate::refusal::LoadEnd;
 use crate::texts::network_texts;
-use cell_text::{CellFault, Piece, PieceName, named_by, next_word, read_cell};
-use plant_types::{ElementName, List, Network, Place, PlantFault, Segment, is_label};
+use cell_text::{CellFault, Piece, PieceName, name_in_piece, next_word, read_cell};
+use plant_types::{ElementName, List, Place, PlantFault, Segment, Sizes};
 use std::alloc::Global;
 use toml::Table;
 
@@ -52,65 +52,54 @@ fn has_later_name(name: Option<PieceName>) -> bool
 }
 
 #[tactic(auto, unfolding(crate::specs::Pieces::piece_behind))]
-fn with_piece(
-    program: Program,
-    counts: Counts,
-    place: Place,
-    piece: &str,
-) -> Result<Program, LoadEnd>
-    ensures { Gives (λ p. p) result (at_place place
-        (with_piece (sizes_of counts) program piece.now)) }
+fn with_piece(program: Program, sizes: Sizes, place: Place, piece: &str) -> Result<Program, LoadEnd>
+    ensures { Gives (λ p. p) result (at_place place (with_piece sizes program piece.now)) }
 {
-    if has_later_name(named_by(piece.as_bytes())) {
+    if has_later_name(name_in_piece(piece.as_bytes())) {
         return Err(LoadEnd::Refused(PlantFault::NotBuilt, place));
     }
     match read_cell(piece) {
-        Ok(Piece::Cell(cell)) => program.with_cell(counts, place, cell),
+        Ok(Piece::Cell(cell)) => program.with_cell(sizes, place, cell),
         Ok(Piece::Short(short)) => program.with_short(place, short),
         Err(fault) => Err(LoadEnd::Refused(plant_fault(fault), place)),
     }
 }
 
-fn with_next_piece(program: Program, counts: Counts, piece: &str) -> Result<Program, LoadEnd>
-    ensures { let read = with_piece (sizes_of counts) program piece.now in
-        Gives (λ p. p) result (at_place (next_place program) read) }
+fn with_next_piece(program: Program, owner: Owner, piece: &str) -> Result<Program, LoadEnd>
+    ensures { let read = with_piece owner.sizes program piece.now in
+        Gives (λ p. p) result (at_place (place_of_next owner.position program) read) }
 {
-    let place = program.next_place();
-    with_piece(program, counts, place, piece)
+    let place = program.place_of_next(owner.position);
+    with_piece(program, owner.sizes, place, piece)
 }
 
-fn with_line(mut program: Program, counts: Counts, line: &str) -> Result<Program, LoadEnd>
-    ensures { Gives (λ p. p) result (with_pieces (sizes_of counts) program
+fn with_line(mut program: Program, owner: Owner, line: &str) -> Result<Program, LoadEnd>
+    ensures { Gives (λ p. p) result (with_pieces owner program
         (pieces_of_line line.now)) }
 {
     for piece in line.split(';') {
         if has_word(piece) {
-            program = with_next_piece(program, counts, piece)?;
+            program = with_next_piece(program, owner, piece)?;
         }
     }
     Ok(program)
 }
 
-fn with_lines(mut program: Program, counts: Counts, text: &str) -> Result<Program, LoadEnd>
-    ensures { Gives (λ p. p) result (with_pieces (sizes_of counts) program (pieces_of text.now)) }
+fn with_lines(mut program: Program, owner: Owner, text: &str) -> Result<Program, LoadEnd>
+    ensures { Gives (λ p. p) result (with_pieces owner program (pieces_of text.now)) }
 {
     for line in text.lines() {
-        program = with_line(program, counts, line)?;
+        program = with_line(program, owner, line)?;
     }
     Ok(program)
 }
 
 #[tactic(auto, unfolding(crate::specs::Program::with_text))]
-fn with_text(
-    alloc: Global,
-    program: Program,
-    counts: Counts,
-    text: &str,
-) -> Result<Program, LoadEnd>
+fn with_text(alloc: Global, program: Program, owner: Owner, text: &str) -> Result<Program, LoadEnd>
     requires { length program.networks < NETWORK_LIMIT }
-    ensures { Gives (λ p. p) result (with_text (sizes_of counts) program text.now) }
+    ensures { Gives (λ p. p) result (with_text owner program text.now) }
 {
-    let program = with_lines(program, counts, text)?;
+    let program = with_lines(program, owner, text)?;
     program.with_network(alloc)
 }
 
@@ -118,15 +107,15 @@ fn with_text(
 fn with_texts(
     alloc: Global,
     mut program: Program,
-    counts: Counts,
+    owner: Owner,
     texts: &[&str],
 ) -> Result<Program, LoadEnd>
     requires { length program.networks + length texts.now ≤ NETWORK_LIMIT }
-    ensures { Gives (λ p. p) result (with_texts (sizes_of counts) program
+    ensures { Gives (λ p. p) result (with_texts owner program
         (map (λ t. t.now) texts.now)) }
 {
     for text in texts {
-        program = with_text(alloc, program, counts, text)?;
+        program = with_text(alloc, program, owner, text)?;
     }
     Ok(program)
 }
@@ -135,16 +124,16 @@ fn with_texts(
 fn with_segment_texts(
     alloc: Global,
     program: Program,
-    counts: Counts,
+    owner: Owner,
     texts: &[&str],
 ) -> Result<Program, LoadEnd>
     requires segments { length program.segments < SEGMENT_LIMIT }
     requires between { IsBetweenSegments program }
     requires networks { length texts.now ≤ NETWORK_LIMIT }
     ensures { Gives (λ p. p) result
-        (with_segment_texts (sizes_of counts) program (map (λ t. t.now) texts.now)) }
+        (with_segment_texts owner program (map (λ t. t.now) texts.now)) }
 {
-    let program = with_texts(alloc, program, counts, texts)?;
+    let program = with_texts(alloc, program, owner, texts)?;
     program.with_segment(alloc)
 }
 
@@ -152,81 +141,45 @@ fn with_segment_texts(
 fn with_table(
     alloc: Global,
     program: Program,
-    counts: Counts,
+    owner: Owner,
     table: &Table,
 ) -> Result<Program, LoadEnd>
     requires segments { length program.segments < SEGMENT_LIMIT }
     requires between { IsBetweenSegments program }
     ensures { Gives (λ p. p) result
-        (with_table (sizes_of counts) program (table_view table.now)) }
+        (with_table owner program (table_view table.now)) }
 {
-    let texts = network_texts(alloc, program.segment_number(), table)?;
-    with_segment_texts(alloc, program, counts, texts.as_slice())
+    let texts = network_texts(alloc, owner.position, program.segment_number(), table)?;
+    with_segment_texts(alloc, program, owner, texts.as_slice())
 }
 
 #[tactic(auto, unfolding(crate::specs::Program::with_tables))]
 fn with_tables(
     alloc: Global,
     mut program: Program,
-    counts: Counts,
+    owner: Owner,
     tables: &[&Table],
 ) -> Result<Program, LoadEnd>
     requires few { length program.segments + length tables.now ≤ SEGMENT_LIMIT }
     requires between { IsBetweenSegments program }
     ensures read { Gives (λ p. p) result
-        (with_tables (sizes_of counts) program (map (λ t. table_view t.now) tables.now)) }
+        (with_tables owner program (map (λ t. table_view t.now) tables.now)) }
     ensures count { IfOk result
         (λ p. length p.segments ≡ length program.segments + length tables.now) }
 {
     for table in tables {
-        program = with_table(alloc, program, counts, table)?;
+        program = with_table(alloc, program, owner, table)?;
     }
     Ok(program)
 }
 
 /// The segments of a controller by their tables, or their first fault.
-pub fn segments_of(
-    alloc: Global,
-    counts: Counts,
-    tables: &[&Table],
-) -> Result<List<Segment>, LoadEnd>
+pub fn segments_of(alloc: Global, owner: Owner, tables: &[&Table]) -> Result<List<Segment>, LoadEnd>
     requires { length tables.now ≤ SEGMENT_LIMIT }
     ensures read { Gives (λ segments. segments) result
-        (segments_of (sizes_of counts) (map (λ t. table_view t.now) tables.now)) }
+        (segments_of owner (map (λ t. table_view t.now) tables.now)) }
     ensures count { IfOk result (λ segments. length segments ≡ length tables.now) }
 {
-    let program = with_tables(alloc, Program::new(alloc, tables.len()), counts, tables)?;
+    let program = with_tables(alloc, Program::new(alloc, tables.len()), owner, tables)?;
     Ok(program.into_segments())
-}
-
-fn has_label_in(network: &Network) -> bool
-    ensures { result ≡ list_any (λ cell. is_label cell.element) network.now.cells }
-{
-    network
-        .cells
-        .as_slice()
-        .iter()
-        .any(|cell| is_label(cell.element))
-}
-
-fn has_label(segment: &Segment) -> bool
-    ensures { result ≡ has_label segment.now }
-{
-    segment
-        .networks
-        .as_slice()
-        .iter()
-        .any(|network| has_label_in(network))
-}
-
-/// How many of these segments orders can name.
-pub fn callers_in(segments: &[Segment]) -> u16
-    requires { length segments.now ≤ SEGMENT_LIMIT }
-    ensures { result ≡ callers_in segments.now }
-{
-    let count = segments.len();
-    match segments.get(count.saturating_sub(1)) {
-        Some(last) if has_label(last) => count as u16 - 1,
-        _ => count as u16,
-    }
 }

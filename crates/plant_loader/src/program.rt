@@ -1,19 +1,27 @@
 //! The segments of a controller while they are read.
-ghost use Rattle.std.specs.Prelude.{◌≡◌, ◌<◌, ◌+◌, ◌==◌, ◌||◌, ◌++◌, ◌∷◌, [], true, length};
+ghost use Rattle.std.specs.Prelude.{◌≡◌, ◌<◌, ◌≤◌, ◌+◌, ◌||◌, ◌&&◌, ◌==◌, not, nat_lt, ◌++◌, ◌∷◌};
+ghost use Rattle.std.specs.Prelude.{[], length, Ok, if◌then◌else◌};
 ghost use Rattle.std.specs.List.{cons_option, list_any};
-ghost use Rattle.plant_types.specs.Standing.{is_label_of};
-ghost use Rattle.plant_types.specs.Network.{driven_by, has_cell_place, has_short_place};
-ghost use Rattle.plant_types.specs.Checks.{has_shape};
-ghost use Rattle.plant_loader.specs.Counts.{sizes_of};
+ghost use Rattle.plant_types.specs.FirstFault.{first_failed};
+ghost use Rattle.plant_types.specs.Standing.{cells_before, is_label_of, is_message, repeats_label};
+ghost use Rattle.plant_types.specs.Standing.{standing_of};
+ghost use Rattle.plant_types.specs.Standing.{coils_in, is_driven, message_count, message_limit};
+ghost use Rattle.plant_types.specs.Network.{driven_by};
+ghost use Rattle.plant_types.specs.PlanTests.{site_cell_tests};
+ghost use Rattle.plant_types.specs.FirstFault.{short_tests};
+ghost use Rattle.plant_types.specs.Fault.{at_place};
 ghost use Rattle.plant_loader.specs.Driven.{HoldsJust};
-ghost use Rattle.plant_loader.specs.Refusals.{Gives, Makes, at_place};
-ghost use Rattle.plant_loader.specs.Pieces.{is_driven, networks_in, cells_behind, label_stands, cell_behind, short_behind};
-ghost use Rattle.plant_loader.specs.Program.{ReadProgram, cells_read, nothing_read, open_network, before_open, driven_coils, with_tested, piece_count, next_place, with_network, with_segment};
+ghost use Rattle.plant_loader.specs.Refusals.{Gives, Makes};
+ghost use Rattle.plant_loader.specs.Pieces.{cell_behind, short_behind};
+ghost use Rattle.plant_loader.specs.Program.{ReadProgram, cells_read, nothing_read, site_of};
+ghost use Rattle.plant_loader.specs.Program.{with_tested, piece_count, place_of_next, with_network};
+ghost use Rattle.plant_loader.specs.Program.{with_segment};
 
-use crate::cells::{driven_by, has_shape, has_short};
-use crate::counts::Counts;
-use crate::refusal::{LoadEnd, place_in};
-use plant_types::{Cell, Element, List, Network, Part, Place, PlantFault, Ref, Segment, Short};
+use crate::refusal::LoadEnd;
+use plant_types::{
+    Cell, Element, List, MESSAGE_LIMIT, Network, Place, PlantFault, Ref, Segment, Short, Sizes,
+    Standing, driven_by, is_label, is_message,
+};
 use std::alloc::Global;
 use std::collections::BTreeSet;
 use std::marker::Model;
@@ -25,8 +33,8 @@ pub const NETWORK_LIMIT: usize = 1000;
 pub const SEGMENT_LIMIT: usize = 32;
 
 /// How many segments there are in all, those that are whole, the networks of the next one that are
-/// whole, the cells and shorts
-/// of the network that is being read, and the coils that all of them drive.
+/// whole, the cells and shorts of the network that is being read, the coils that all cells drive,
+/// and how many messages they are.
 #[derive(Drop)]
 pub struct Program {
     count: usize,
@@ -35,6 +43,7 @@ pub struct Program {
     cells: List<Cell>,
     shorts: List<Short>,
     driven: BTreeSet<Ref>,
+    messages: usize,
 }
 
 impl Model for Program {
@@ -51,7 +60,7 @@ impl Model for Program {
       shorts = p.shorts;
     } };
 
-    ghost invariant = { λ p. IsKept p.driven.keys
+    ghost invariant = { λ p. IsKept p.driven.keys p.messages
         (record {
           count = p.count;
           segments = p.segments;
@@ -112,23 +121,35 @@ fn is_label_in_parts(
     cells: &[Cell],
     number: u16,
 ) -> bool
-    ensures { result ≡ (list_any (λ cell. is_label_of number cell.element) cells.now
+    ensures { result ≡ (list_any (λ segment. list_any (λ network.
+        list_any (λ cell. is_label_of number cell.element) network.cells) segment.networks)
+        segments.now
         || list_any (λ network. list_any (λ cell. is_label_of number cell.element) network.cells)
         networks.now)
-        || list_any (λ segment. list_any (λ network.
-        list_any (λ cell. is_label_of number cell.element) network.cells) segment.networks)
-        segments.now }
+        || list_any (λ cell. is_label_of number cell.element) cells.now }
 {
-    (has_label_in(cells, number) || is_label_of_any(networks, number))
-        || is_label_before(segments, number)
+    (is_label_before(segments, number) || is_label_of_any(networks, number))
+        || has_label_in(cells, number)
 }
 
 /// Whether one of the cells of segments, networks and a network is the LAB of this number.
 fn is_label_among(segments: &[Segment], networks: &[Network], cells: &[Cell], number: u16) -> bool
     ensures { result ≡ list_any (λ cell. is_label_of number cell.element)
-        (cells_behind (networks_in segments.now ++ networks.now) cells.now) }
+        (cells_before segments.now networks.now ++ cells.now) }
 {
     is_label_in_parts(segments, networks, cells, number)
+}
+
+/// How many messages there are with an element more.
+fn messages_with(messages: usize, element: Element) -> usize
+    requires { messages ≤ MESSAGE_LIMIT }
+    ensures { result ≡ messages + (if is_message element then 1 else 0) }
+{
+    if is_message(element) {
+        messages + 1
+    } else {
+        messages
+    }
 }
 
 impl Program {
@@ -143,11 +164,12 @@ impl Program {
             cells: List::new(alloc),
             shorts: List::new(alloc),
             driven: BTreeSet::new(alloc),
+            messages: 0,
         }
     }
 
     fn drives(&self, coil: Option<Ref>) -> bool
-        ensures { result ≡ is_driven (driven_coils self.now) coil }
+        ensures { result ≡ is_driven (coils_in (cells_read self.now)) coil }
     {
         match coil {
             Some(coil) => self.driven.contains(&coil),
@@ -155,36 +177,58 @@ impl Program {
         }
     }
 
-    /// Whether a LAB has this number.
-    fn has_label(&self, number: u16) -> bool
-        ensures { result ≡ list_any (λ cell. is_label_of number cell.element)
-            (cells_read self.now) }
+    /// Whether an element is a LAB whose number one before it has.
+    fn has_label(&self, element: Element) -> bool
+        ensures { result ≡ repeats_label (cells_read self.now) element }
     {
-        is_label_among(
-            self.segments.as_slice(),
-            self.networks.as_slice(),
-            self.cells.as_slice(),
-            number,
-        )
+        match element {
+            Element::Label(number) => is_label_among(
+                self.segments.as_slice(),
+                self.networks.as_slice(),
+                self.cells.as_slice(),
+                number,
+            ),
+            _ => false,
+        }
     }
 
-    /// Whether a cell is no LAB, or one that can stand where it is.
-    fn label_stands(&self, cell: Cell) -> bool
-        ensures { result ≡ label_stands (length self.now.segments + 1 == self.now.count)
-            (cells_read self.now) cell }
+    fn is_in_last(&self) -> bool
+        ensures { result ≡ (length self.now.segments + 1 == self.now.count) }
     {
-        let Element::Label(number) = cell.element else {
-            return true;
-        };
-        cell.row == 1
-            && cell.column == 1
-            && self.segments.as_slice().len() + 1 == self.count
-            && !self.has_label(number)
+        self.segments.as_slice().len() + 1 == self.count
     }
 
-    fn put_cell(self, cell: Cell) -> Result<Program, LoadEnd>
-        requires place { has_cell_place cell ≡ true }
-        requires shape { has_shape self.cells cell ≡ true }
+    /// Whether an element is a message behind as many as there can be.
+    fn exceeds_messages(&self, element: Element) -> bool
+        ensures { result ≡ (is_message element
+            && not (nat_lt (message_count (cells_read self.now)) message_limit)) }
+    {
+        is_message(element) && !(self.messages < MESSAGE_LIMIT)
+    }
+
+    /// How an element stands behind all cells so far.
+    fn standing(&self, element: Element) -> Standing
+        ensures { result ≡ standing_of (length self.now.segments + 1 == self.now.count)
+            (cells_read self.now) element }
+    {
+        Standing {
+            is_stray_label: is_label(element) && !self.is_in_last(),
+            repeats_label: self.has_label(element),
+            drives_again: self.drives(driven_by(element)),
+            exceeds_messages: self.exceeds_messages(element),
+        }
+    }
+
+    fn test_cell(&self, sizes: Sizes, cell: Cell) -> Result<(), PlantFault>
+        ensures { result ≡ first_failed
+            (site_cell_tests (site_of sizes self.now) self.now.cells cell) }
+    {
+        cell.check(sizes, self.cells.as_slice())?;
+        self.standing(cell.element).check()
+    }
+
+    fn put_cell(self, sizes: Sizes, cell: Cell) -> Result<Program, LoadEnd>
+        requires { first_failed (site_cell_tests (site_of sizes self) self.cells cell) ≡ Ok tt }
         ensures { Makes result (λ program. program
             ≡ record self { cells = self.cells ++ cell ∷ [] }) }
     {
@@ -195,8 +239,10 @@ impl Program {
             mut cells,
             shorts,
             driven,
+            messages,
         } = self;
         let driven = with_coil(driven, driven_by(cell.element))?;
+        let messages = messages_with(messages, cell.element);
         cells.push(cell)?;
         Ok(Program {
             count,
@@ -205,42 +251,27 @@ impl Program {
             cells,
             shorts,
             driven,
+            messages,
         })
     }
 
     /// One more cell of the network that is being read, or the first of its faults.
     #[tactic(auto, unfolding(crate::specs::Pieces::cell_behind))]
-    pub fn with_cell(self, counts: Counts, place: Place, cell: Cell) -> Result<Program, LoadEnd>
-        requires { has_cell_place cell ≡ true }
-        ensures { let tested = cell_behind (before_open (sizes_of counts) self)
-            (open_network self) cell in
+    pub fn with_cell(self, sizes: Sizes, place: Place, cell: Cell) -> Result<Program, LoadEnd>
+        ensures { let tested = cell_behind (site_of sizes self) self.cells cell in
             Gives (λ program. program) result (at_place place (with_tested self tested)) }
     {
-        if !counts.has_room(cell.element) {
-            return Err(LoadEnd::Refused(PlantFault::BadRef, place));
+        match self.test_cell(sizes, cell) {
+            Ok(()) => self.put_cell(sizes, cell),
+            Err(fault) => Err(LoadEnd::Refused(fault, place)),
         }
-        if !has_shape(self.cells.as_slice(), cell) {
-            return Err(LoadEnd::Refused(PlantFault::BadShape, place));
-        }
-        if !self.label_stands(cell) {
-            return Err(LoadEnd::Refused(PlantFault::BadShape, place));
-        }
-        if self.drives(driven_by(cell.element)) {
-            return Err(LoadEnd::Refused(PlantFault::CoilTwice, place));
-        }
-        self.put_cell(cell)
     }
 
-    /// One more short of the network that is being read.
-    #[tactic(auto, unfolding(crate::specs::Pieces::short_behind))]
-    pub fn with_short(self, place: Place, short: Short) -> Result<Program, LoadEnd>
-        requires { has_short_place short ≡ true }
-        ensures { let tested = short_behind (open_network self) short in
-            Gives (λ program. program) result (at_place place (with_tested self tested)) }
+    fn put_short(self, short: Short) -> Result<Program, LoadEnd>
+        requires { first_failed (short_tests self.shorts short) ≡ Ok tt }
+        ensures { Makes result (λ program. program
+            ≡ record self { shorts = self.shorts ++ short ∷ [] }) }
     {
-        if has_short(self.shorts.as_slice(), short) {
-            return Err(LoadEnd::Refused(PlantFault::BadShape, place));
-        }
         let Program {
             count,
             segments,
@@ -248,6 +279,7 @@ impl Program {
             cells,
             mut shorts,
             driven,
+            messages,
         } = self;
         shorts.push(short)?;
         Ok(Program {
@@ -257,7 +289,20 @@ impl Program {
             cells,
             shorts,
             driven,
+            messages,
         })
+    }
+
+    /// One more short of the network that is being read, or the first of its faults.
+    #[tactic(auto, unfolding(crate::specs::Pieces::short_behind))]
+    pub fn with_short(self, place: Place, short: Short) -> Result<Program, LoadEnd>
+        ensures { let tested = short_behind self.shorts short in
+            Gives (λ program. program) result (at_place place (with_tested self tested)) }
+    {
+        match short.check(self.shorts.as_slice()) {
+            Ok(()) => self.put_short(short),
+            Err(fault) => Err(LoadEnd::Refused(fault, place)),
+        }
     }
 
     /// The number of the segment that is being read, or comes next.
@@ -280,13 +325,13 @@ impl Program {
         count as u32 + 1
     }
 
-    /// The place of the piece that comes next.
-    pub fn next_place(&self) -> Place
-        ensures { result ≡ next_place self.now }
+    /// The place of the piece that comes next, in the controller at a position.
+    pub fn place_of_next(&self, controller: u32) -> Place
+        ensures { result ≡ place_of_next controller self.now }
     {
         let segment = self.segment_number();
         let network = self.network_number();
-        place_in(Part::Cell, segment, network, self.piece_number())
+        Place::cell(controller, segment, network, self.piece_number())
     }
 
     /// The network that was being read is whole.
@@ -301,6 +346,7 @@ impl Program {
             cells,
             shorts,
             driven,
+            messages,
         } = self;
         networks.push(Network { cells, shorts })?;
         Ok(Program {
@@ -310,6 +356,7 @@ impl Program {
             cells: List::new(alloc),
             shorts: List::new(alloc),
             driven,
+            messages,
         })
     }
 
@@ -325,6 +372,7 @@ impl Program {
             cells,
             shorts,
             driven,
+            messages,
         } = self;
         segments.push(Segment { networks })?;
         Ok(Program {
@@ -334,6 +382,7 @@ impl Program {
             cells,
             shorts,
             driven,
+            messages,
         })
     }
 

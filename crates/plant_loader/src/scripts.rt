@@ -1,15 +1,16 @@
 //! The scripts of drops: what the field gives them at each exchange.
 ghost use Rattle.std.specs.Prelude.{◌≡◌, ◌≤◌, ◌<◌, [], true, length, map};
 ghost use Rattle.std.specs.List.{list_all};
-ghost use Rattle.cell_text.specs.Words.{words_of};
+ghost use Rattle.cell_text.specs.Words.{text_words};
 ghost use Rattle.traffic_cop.specs.Exchange.{input_total};
 ghost use Rattle.plant_loader.specs.InOrder.{each_of};
 ghost use Rattle.plant_loader.specs.Refusals.{Gives, Makes};
-ghost use Rattle.plant_loader.specs.Drops.{is_hex_digit, hex_digit, hex_word, row_of, script_row, rows_of, or_zeros};
+ghost use Rattle.plant_loader.specs.Drops.{hex_word, row_spelled, script_row, rows_of, or_zeros};
 
-use crate::refusal::{LoadEnd, place_in};
+use crate::hex::{are_hex_digits, hex_digit};
+use crate::refusal::{LoadEnd, script_place};
 use cell_text::{has_words, next_word};
-use plant_types::{List, Module, Part, Place, PlantFault, ScriptRow, Words};
+use plant_types::{List, Module, Place, PlantFault, ScriptRow, Words};
 use std::alloc::Global;
 use traffic_cop::{fits_row, input_total};
 
@@ -18,32 +19,6 @@ const WORD_LIMIT: usize = 64;
 
 /// The most script rows of a drop.
 pub const SCRIPT_LIMIT: usize = 10_000;
-
-fn is_hex_digit(byte: u8) -> bool
-    ensures { result ≡ is_hex_digit byte }
-{
-    b'0' <= byte && byte <= b'9' || b'A' <= byte && byte <= b'F' || b'a' <= byte && byte <= b'f'
-}
-
-fn are_hex_digits(word: &[u8]) -> bool
-    ensures { result ≡ list_all is_hex_digit word.now }
-{
-    word.iter().all(|byte| is_hex_digit(*byte))
-}
-
-fn hex_digit(byte: u8) -> u16
-    requires { is_hex_digit byte ≡ true }
-    ensures value { result ≡ hex_digit byte }
-    ensures small { result < 16 }
-{
-    if byte <= b'9' {
-        u16::from(byte - b'0')
-    } else if byte <= b'F' {
-        u16::from(byte - b'A') + 10
-    } else {
-        u16::from(byte - b'a') + 10
-    }
-}
 
 fn hex_word(place: Place, word: &[u8]) -> Result<u16, LoadEnd>
     ensures { Gives (λ n. n) result (hex_word place word.now) }
@@ -59,7 +34,7 @@ fn hex_word(place: Place, word: &[u8]) -> Result<u16, LoadEnd>
 }
 
 fn hex_words(alloc: Global, place: Place, text: &[u8]) -> Result<Vec<u16>, LoadEnd>
-    ensures { Gives (λ words. words.items) result (each_of (hex_word place) (words_of text.now)) }
+    ensures { Gives (λ words. words.items) result (each_of (hex_word place) (text_words text.now)) }
 {
     let mut words = Vec::new(alloc);
     let mut rest = text;
@@ -73,9 +48,9 @@ fn hex_words(alloc: Global, place: Place, text: &[u8]) -> Result<Vec<u16>, LoadE
     Ok(words)
 }
 
-#[tactic(auto, unfolding(crate::specs::Drops::row_of))]
-fn row_of(alloc: Global, place: Place, text: &[u8]) -> Result<ScriptRow, LoadEnd>
-    ensures { Gives (λ row. row) result (row_of place (words_of text.now)) }
+#[tactic(auto, unfolding(crate::specs::Drops::row_spelled))]
+fn row_spelled(alloc: Global, place: Place, text: &[u8]) -> Result<ScriptRow, LoadEnd>
+    ensures { Gives (λ row. row) result (row_spelled place (text_words text.now)) }
 {
     if has_words(text, &["X"]) {
         return Ok(ScriptRow::Silent);
@@ -94,7 +69,7 @@ fn script_row(
     requires { input_total modules.now ≤ 64 }
     ensures { Gives (λ row. row) result (script_row modules.now place text.now) }
 {
-    let row = row_of(alloc, place, text.as_bytes())?;
+    let row = row_spelled(alloc, place, text.as_bytes())?;
     if fits_row(modules, &row) {
         Ok(row)
     } else {
@@ -105,24 +80,21 @@ fn script_row(
 /// The script rows of the drop at a position, which has these modules.
 pub fn rows_of(
     alloc: Global,
+    controller: u32,
     modules: &[Module],
     drop: u32,
     texts: &[&str],
 ) -> Result<List<ScriptRow>, LoadEnd>
     requires words { input_total modules.now ≤ 64 }
     requires few { length texts.now ≤ SCRIPT_LIMIT }
-    ensures { Gives (λ rows. rows) result (rows_of modules.now drop (map (λ t. t.now) texts.now)) }
+    ensures { Gives (λ rows. rows) result
+        (rows_of controller modules.now drop (map (λ t. t.now) texts.now)) }
 {
     let mut rows = List::new(alloc);
     let mut number = 0;
     for text in texts {
         number += 1;
-        let row = script_row(
-            alloc,
-            modules,
-            place_in(Part::Script, drop, number, 0),
-            text,
-        )?;
+        let row = script_row(alloc, modules, script_place(controller, drop, number), text)?;
         rows.push(row)?;
     }
     Ok(rows)
@@ -140,7 +112,7 @@ fn zeros(alloc: Global, modules: &[Module]) -> Result<List<ScriptRow>, LoadEnd>
 }
 
 /// A script without rows is one row of zeros.
-#[tactic(auto, using(crate::proofs::ScriptLemmas::or_zeros_some, crate::proofs::ScriptLemmas::or_zeros_none))]
+#[tactic(auto, using(crate::proofs::ScriptLemmas::some_rows, crate::proofs::ScriptLemmas::no_rows))]
 pub fn or_zeros(
     alloc: Global,
     modules: &[Module],

@@ -6,8 +6,8 @@ ghost use Rattle.plant_loader.specs.Texts.{network_texts};
 
 use crate::keys::{keys_pass, texts_at};
 use crate::program::NETWORK_LIMIT;
-use crate::refusal::{LoadEnd, place_in};
-use plant_types::Part;
+use crate::refusal::LoadEnd;
+use plant_types::Place;
 use std::alloc::Global;
 use toml::Table;
 
@@ -18,14 +18,15 @@ const SEGMENT_KEYS: [&str; 1] = ["networks"];
 #[tactic(auto, unfolding(crate::specs::Texts::network_texts))]
 pub fn network_texts<'a>(
     alloc: Global,
+    controller: u32,
     number: u32,
     table: &'a Table,
 ) -> Result<Vec<&'a str>, LoadEnd>
     ensures read { Gives (λ texts. map (λ t. t.now) texts.items) result
-        (network_texts number (table_view table.now)) }
+        (network_texts controller number (table_view table.now)) }
     ensures few { IfOk result (λ texts. length texts.items ≤ NETWORK_LIMIT) }
 {
-    let place = place_in(Part::Segment, number, 0, 0);
+    let place = Place::segment(controller, number);
     keys_pass(place, &SEGMENT_KEYS, &SEGMENT_KEYS, table)?;
     texts_at(alloc, place, NETWORK_LIMIT, "networks", table)
 }

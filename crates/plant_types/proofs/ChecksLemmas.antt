@@ -1,5 +1,6 @@
 -- A plan that passes its tests finds all that it asks in the store that its sizes make.
-use Rattle.std.proofs.Common.{◌≡◌, ℕ, ◌+◌, ◌<◌, ◌≤◌, ◌%◌, true, false, ◌&&◌, ◌==◌, List, [], ◌∷◌, ◌++◌, refl, sym, ap, ◌∙◌, arith}
+use Rattle.std.proofs.Common.{◌≡◌, ℕ, ◌+◌, ◌<◌, ◌≤◌, ◌%◌, true, false, ◌&&◌, ◌==◌, List, [], ◌∷◌}
+use Rattle.std.proofs.Common.{◌++◌, refl, sym, ap, ◌∙◌, arith}
 use Rattle.std.specs.Prelude.{nat_le}
 use Rattle.std.specs.List.{list_all, AllByRecursion}
 use Rattle.std.proofs.lemmas.Bool.{and_parts, and_from, leb-true, le-leb}
@@ -10,7 +11,8 @@ use Rattle.plant_types.specs.declared.element.Operand.{Operand}
 use Rattle.plant_types.specs.declared.element.Operand.TheVariants.{Const, At}
 use Rattle.plant_types.specs.declared.element.Element.{Element}
 use Rattle.plant_types.specs.declared.slot.Slot.{Slot}
-use Rattle.plant_types.specs.declared.slot.Slot.TheVariants.{Discrete, Driven, Number, Source, Target, Constant}
+use Rattle.plant_types.specs.declared.slot.Slot.TheVariants.{Discrete, Driven, Number, Source}
+use Rattle.plant_types.specs.declared.slot.Slot.TheVariants.{Target, Constant}
 use Rattle.plant_types.specs.Slots.{run_count, slots_of}
 use Rattle.plant_types.specs.Elements.{name_of, operands_of, length_of}
 use Rattle.plant_types.specs.declared.network.Cell.{Cell}
@@ -20,9 +22,17 @@ use Rattle.plant_types.specs.declared.plan.ControllerPlan.{ControllerPlan}
 use Rattle.plant_types.specs.Reference.{ref_from, is_coil, is_discrete, is_register, is_holding}
 use Rattle.plant_types.specs.Store.{HasDiscrete, HasRegisters}
 use Rattle.plant_types.specs.Sizes.{Sizes, count_of, has_reference, has_run, discretes_of, cleared}
-use Rattle.plant_types.specs.Operands.{Kind, OnlyCoil, AnyDiscrete, AnyRegister, OnlyHolding, takes, Named, coil, discrete, target, named_in, named_as, named_at, named_by, names_of, has_form, has_values, has_kinds, HasKind, HasNamed, HasOperands, HasDiscreteKind, HasPast}
+use Rattle.plant_types.specs.Operands.{Kind, OnlyCoil, AnyDiscrete, AnyRegister, OnlyHolding}
+use Rattle.plant_types.specs.Operands.{accepts, Named, coil, discrete, target, named_in, named_as}
+use Rattle.plant_types.specs.Operands.{named_at, named_by, names_of, has_form, has_values}
+use Rattle.plant_types.specs.Operands.{has_kinds, HasKind, HasNamed, HasOperands, HasDiscreteKind}
+use Rattle.plant_types.specs.Operands.{HasPast}
 use Rattle.plant_types.specs.Network.{has_cell_place, is_within}
-use Rattle.plant_types.specs.Checks.{has_room, element_passes, cell_passes, cells_pass, shorts_pass, network_passes, segment_passes, sizes_of, is_size, is_discrete_size, numbers_pass, EachOfCells, EachOfNetworks, EachOfSegments, HasPanel, are_driven_once, coils_of, CheckedPlansFindAll}
+use Rattle.plant_types.specs.Checks.{has_room, element_passes, cell_passes, cells_pass, shorts_pass}
+use Rattle.plant_types.specs.Checks.{network_passes, segment_passes, sizes_of, is_size}
+use Rattle.plant_types.specs.Checks.{is_discrete_size, numbers_pass, EachOfCells, EachOfNetworks}
+use Rattle.plant_types.specs.Checks.{EachOfSegments, HasPanel, are_driven_once, coils_of}
+use Rattle.plant_types.specs.Checks.{CheckedPlansFindAll}
 use Rattle.plant_types.proofs.SizesLemmas.{contains_key-cleared}
 
 -- no kind has more than 9984 references
@@ -147,7 +157,7 @@ discrete_alone : (sizes : Sizes) (at : Ref) (count : ℕ) → count ≡ 1 → is
 discrete_alone sizes at count alone kind room = discrete_found sizes at kind (ap (has_run sizes at) (sym alone) ∙ room)
 
 -- a named reference of the right kind, with room in the sizes, is found
-kind_found : (sizes : Sizes) (at : Ref) (count : ℕ) (kind : Kind) → FitsKinds sizes → IsAlone kind count → takes kind at.kind ≡ true
+kind_found : (sizes : Sizes) (at : Ref) (count : ℕ) (kind : Kind) → FitsKinds sizes → IsAlone kind count → accepts kind at.kind ≡ true
     → has_run sizes at count ≡ true → HasKind (cleared sizes) at count kind
 kind_found sizes at count OnlyCoil fits alone kind room = discrete_alone sizes at count alone (discrete_from_coil at.kind kind) room
 kind_found sizes at count AnyDiscrete fits alone kind room = discrete_alone sizes at count alone kind room
@@ -164,11 +174,12 @@ past_found sizes at count OnlyHolding found = tt
 
 -- the same of all that an element names
 names_found : (sizes : Sizes) (names : List Named) → FitsKinds sizes → AreAlone names
-    → list_all (λ (named : Named). takes named.kind named.at.kind) names ≡ true → list_all (λ (named : Named). has_run sizes named.at named.count) names ≡ true
+    → list_all (λ (named : Named). accepts named.kind named.at.kind) names ≡ true → list_all (λ (named : Named). has_run sizes
+    named.at named.count) names ≡ true
     → AllByRecursion (HasNamed (cleared sizes)) names
 names_found sizes [] fits alone kinds room = tt
 names_found sizes (named ∷ names) fits alone kinds room =
-    let kind = and_parts (takes named.kind named.at.kind) _ kinds in
+    let kind = and_parts (accepts named.kind named.at.kind) _ kinds in
     let run = and_parts (has_run sizes named.at named.count) _ room in
     (kind_found sizes named.at named.count named.kind fits alone.0 kind.0 run.0, names_found sizes names fits alone.1 kind.1 run.1)
 

@@ -1,17 +1,20 @@
 -- The map that the entries of a store make, reference by reference.
-use Rattle.std.proofs.Common.{◌≡◌, ℕ, ◌+◌, add-one, cond, List, [], ◌∷◌, ◌++◌, Option, Some, refl, sym, ap, ◌∙◌, nat_cmp}
+use Rattle.std.proofs.Common.{◌≡◌, ℕ, ◌+◌, add-one, cond, List, [], ◌∷◌, ◌++◌, Option, Some, refl}
+use Rattle.std.proofs.Common.{sym, ap, ◌∙◌, nat_cmp}
 use Rattle.std.specs.Cmp.{IsTotalOrder, nat_cmp_total, eq_by_cmp_equiv}
 use Rattle.std.specs.BTreeMap.{is_at}
 use Rattle.std.specs.Map.{lookup}
 use Rattle.std.specs.Ordering.{ordering_then, is_eq}
-use Rattle.std.specs.FinMap.{get, insert, from_entries, find, get-from_entries, get-insert, same_map}
+use Rattle.std.specs.FinMap.{get, insert, from_entries, find, get-from_entries, get-insert}
+use Rattle.std.specs.FinMap.{same_map}
 use Rattle.std.proofs.lemmas.Cmp.{on_total, then_total}
 use Rattle.std.proofs.lemmas.Map.Lookups.{CmpEqualImpliesEq, exact_pairs, exact_unsigned}
 use Rattle.plant_types.specs.declared.reference.Ref.{Ref}
 use Rattle.plant_types.specs.contracts.reference.RefOrd.TheImpl as derived
 use Rattle.plant_types.specs.contracts.reference.RefKindOrd.TheImpl as derived_kind
 use Rattle.plant_types.specs.declared.reference.RefKind.{RefKind}
-use Rattle.plant_types.specs.declared.reference.RefKind.TheVariants.{Coil, Input, InputRegister, Register}
+use Rattle.plant_types.specs.declared.reference.RefKind.TheVariants.{Coil, Input, InputRegister}
+use Rattle.plant_types.specs.declared.reference.RefKind.TheVariants.{Register}
 use Rattle.plant_types.specs.Reference.{ref_cmp, rank_of}
 use Rattle.plant_types.specs.MapRam.{kind_at, ref_again}
 use Rattle.plant_types.specs.Sizes.{zeros}

@@ -1,19 +1,23 @@
 -- Places of the grid, no two of them one, are few.
-use Rattle.std.proofs.Common.{◌≡◌, ℕ, ◌+◌, ◌*◌, ◌≤◌, ◌<◌, true, false, ◌&&◌, ◌==◌, List, [], ◌∷◌, ◌++◌, length, map, refl, sym, ◌∙◌, arith, true≢false, inl, inr}
+use Rattle.std.proofs.Common.{◌≡◌, ℕ, ◌+◌, ◌*◌, ◌≤◌, ◌<◌, true, false, ◌&&◌, ◌==◌, List, [], ◌∷◌}
+use Rattle.std.proofs.Common.{◌++◌, length, map, refl, sym, ◌∙◌, arith, true≢false, inl, inr}
 use Rattle.std.specs.Prelude.{nat_le, nat_lt, nat_eq, ◌||◌}
 use Rattle.std.specs.List.{list_any, list_all, IsDistinct, AllByRecursion}
 use Rattle.std.specs.Cmp.{IsEquivalence}
-use Rattle.std.proofs.lemmas.Bool.{and_parts, and_from, or_cases, or_parts, ne_eqb, eqb-true, leb-true}
+use Rattle.std.proofs.lemmas.Bool.{and_parts, and_from, or_cases, or_parts, ne_eqb, eqb-true}
+use Rattle.std.proofs.lemmas.Bool.{leb-true}
 use Rattle.std.proofs.lemmas.Bool.Decides.{nat_tests}
 use Rattle.std.proofs.lemmas.List.{length-map}
 use Rattle.std.proofs.lemmas.List.Folds.{list_all-append}
 use Rattle.std.proofs.lemmas.Map.Keys.{IsDistinct-push}
 use Rattle.std.proofs.lemmas.Map.Steps.{length-le_from_distinct_below}
 use Rattle.plant_types.specs.declared.element.Element.{Element}
-use Rattle.plant_types.specs.declared.element.Element.TheVariants.{Timer, Counter, Math, Move, Matrix, Call, Mstr}
+use Rattle.plant_types.specs.declared.element.Element.TheVariants.{Timer, Counter, Math, Move}
+use Rattle.plant_types.specs.declared.element.Element.TheVariants.{Matrix, Call, Mstr}
 use Rattle.plant_types.specs.declared.network.Cell.{Cell}
 use Rattle.plant_types.specs.declared.network.Short.{Short}
-use Rattle.plant_types.specs.Network.{node_count, has_short_place, is_row, is_column, overlaps, is_right_of_coil, clashes, same_short}
+use Rattle.plant_types.specs.Network.{node_count, has_short_place, is_row, is_column, overlaps}
+use Rattle.plant_types.specs.Network.{is_right_of_coil, clashes, same_short}
 use Rattle.plant_types.specs.Grid.{cell_places, short_places, is_place, same_place, AreApart}
 
 -- two pairs of numbers are one either way

@@ -8,8 +8,11 @@ use Rattle.plant_types.specs.declared.network.Cell.{Cell}
 use Rattle.plant_types.specs.declared.network.Network.{Network}
 use Rattle.plant_types.specs.declared.network.Segment.{Segment}
 use Rattle.plant_types.specs.Store.{Contents, HasDiscrete, Keeps}
-use Rattle.plant_types.specs.Operands.{Kind, OnlyCoil, AnyDiscrete, AnyRegister, OnlyHolding, Named, names_of, HasKind, HasNamed, HasOperands, HasDiscreteKind, HasPast}
-use Rattle.plant_types.specs.Checks.{EachOfCells, EachOfNetworks, EachOfSegments, HasPanel, KeptStoresFindAll}
+use Rattle.plant_types.specs.Operands.{Kind, OnlyCoil, AnyDiscrete, AnyRegister, OnlyHolding, Named}
+use Rattle.plant_types.specs.Operands.{names_of, HasKind, HasNamed, HasOperands, HasDiscreteKind}
+use Rattle.plant_types.specs.Operands.{HasPast}
+use Rattle.plant_types.specs.Checks.{EachOfCells, EachOfNetworks, EachOfSegments, HasPanel}
+use Rattle.plant_types.specs.Checks.{KeptStoresFindAll}
 use Rattle.plant_types.proofs.RunLemmas.{HasRegisters-kept}
 
 -- what follows for each element of a list follows for all

@@ -1,5 +1,6 @@
 pub mod Contents
 pub mod RunLemmas
+pub mod OnLemmas
 pub mod SizesLemmas
 pub mod ChecksLemmas
 pub mod PartLemmas

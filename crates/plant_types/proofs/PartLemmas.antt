@@ -1,5 +1,6 @@
 -- The part of a store at the references of another, and the entries that a copy leaves.
-use Rattle.std.proofs.Common.{◌≡◌, ℕ, Bool, true, false, cond, ◌&&◌, List, [], ◌∷◌, map, Option, Some, None, is_some, unwrap_or, refl, sym, ap, subst, ◌∙◌, arith}
+use Rattle.std.proofs.Common.{◌≡◌, ℕ, Bool, true, false, cond, ◌&&◌, List, [], ◌∷◌, map, Option}
+use Rattle.std.proofs.Common.{Some, None, is_some, unwrap_or, refl, sym, ap, subst, ◌∙◌, arith}
 use Rattle.std.specs.Prelude.{nat_le}
 use Rattle.std.proofs.lemmas.Bool.{false≢true, and_parts, leb-true}
 use Rattle.std.specs.Ordering.{is_eq}
@@ -10,9 +11,11 @@ use Rattle.std.specs.Map.Calls.{RetainsPairs}
 use Rattle.std.specs.FinMap.{get, contains_key, from_entries, get-retain_keys, same_map}
 use Rattle.plant_types.specs.declared.reference.Ref.{Ref}
 use Rattle.plant_types.specs.declared.reference.RefKind.{RefKind}
-use Rattle.plant_types.specs.declared.reference.RefKind.TheVariants.{Coil, Input, InputRegister, Register}
+use Rattle.plant_types.specs.declared.reference.RefKind.TheVariants.{Coil, Input, InputRegister}
+use Rattle.plant_types.specs.declared.reference.RefKind.TheVariants.{Register}
 use Rattle.plant_types.specs.Reference.{ref_cmp}
-use Rattle.plant_types.specs.Sizes.{Sizes, has_reference, discretes_of, cleared, discretes, DiscretesFollow}
+use Rattle.plant_types.specs.Sizes.{Sizes, has_reference, discretes_of, cleared, discretes}
+use Rattle.plant_types.specs.Sizes.{DiscretesFollow}
 use Rattle.plant_types.specs.Store.{Contents, Keeps, part_at}
 use Rattle.plant_types.proofs.Contents.{exact_refs, refs_total, found_at, get_ref}
 use Rattle.plant_types.proofs.SizesLemmas.{get-cleared, contains_key-cleared}

@@ -1,5 +1,7 @@
 -- What follows where all tests of a controller hold.
-use Rattle.std.proofs.Common.{◌≡◌, ℕ, ◌+◌, ◌≤◌, true, false, Bool, not, ◌&&◌, List, [], ◌∷◌, ◌++◌, length, Option, Some, None, Ok, refl, sym, ap, subst, ◌∙◌, append_assoc, arith}
+use Rattle.std.proofs.Common.{◌≡◌, ℕ, ◌+◌, ◌≤◌, true, false, Bool, not, ◌&&◌, List, [], ◌∷◌, ◌++◌}
+use Rattle.std.proofs.Common.{length, Option, Some, None, Ok, refl, sym, ap, subst, ◌∙◌}
+use Rattle.std.proofs.Common.{append_assoc, arith}
 use Rattle.std.specs.Prelude.{nat_le, nat_lt, if◌then◌else◌}
 use Rattle.std.specs.List.{list_any, list_all, flat_map, cons_option}
 use Rattle.std.proofs.lemmas.Bool.{and_parts, and_from}
@@ -15,20 +17,34 @@ use Rattle.plant_types.specs.declared.network.Short.{Short}
 use Rattle.plant_types.specs.declared.network.Network.{Network}
 use Rattle.plant_types.specs.declared.network.Segment.{Segment}
 use Rattle.plant_types.specs.declared.plan.ControllerPlan.{ControllerPlan}
-use Rattle.plant_types.specs.declared.fault.PlantFault.TheVariants.{BadValue, BadRef, BadShape, BadOrder, BadNode, CoilTwice, TooLarge}
+use Rattle.plant_types.specs.declared.fault.PlantFault.TheVariants.{BadValue, BadRef, BadShape}
+use Rattle.plant_types.specs.declared.fault.PlantFault.TheVariants.{BadOrder, BadNode, CoilTwice}
+use Rattle.plant_types.specs.declared.fault.PlantFault.TheVariants.{TooLarge}
 use Rattle.plant_types.specs.Fault.{controller_place, segment_place, order_place, panel_place}
 use Rattle.plant_types.specs.Sizes.{Sizes, has_reference}
 use Rattle.plant_types.specs.Pairs.{no_two}
 use Rattle.plant_types.specs.Operands.{has_form, has_values, has_kinds}
-use Rattle.plant_types.specs.Network.{driven_by, has_cell_place, has_short_place, is_within, clashes, same_short}
-use Rattle.plant_types.specs.Checks.{has_room, element_passes, cell_passes, cells_pass, shorts_pass, network_passes, segment_passes, coils_of_network, coils_of_segment, coils_of, is_same, are_driven_once, sizes_of, is_size, is_discrete_size, numbers_pass}
+use Rattle.plant_types.specs.Network.{driven_by, has_cell_place, has_short_place, is_within}
+use Rattle.plant_types.specs.Network.{clashes, same_short}
+use Rattle.plant_types.specs.Checks.{has_room, element_passes, cell_passes, cells_pass, shorts_pass}
+use Rattle.plant_types.specs.Checks.{network_passes, segment_passes, coils_of_network}
+use Rattle.plant_types.specs.Checks.{coils_of_segment, coils_of, is_same, are_driven_once, sizes_of}
+use Rattle.plant_types.specs.Checks.{is_size, is_discrete_size, numbers_pass}
 use Rattle.plant_types.specs.FirstFault.{Test, first_failed, tests_of_each}
-use Rattle.plant_types.specs.Standing.{cells_of_networks, cells_of_segments, cells_before, coils_in, is_driven, repeats_label, is_message, message_count, standing_of, standing_tests}
-use Rattle.plant_types.specs.PlanTests.{Site, placed, placed_cell_tests, placed_short_tests, site_in, site_tests_in, network_limit, segment_tests, is_order, has_control, order_tests, panel_tests, are_sizes, has_few, table_tests, controller_tests}
-use Rattle.plant_types.specs.Passing.{same_label, are_labelled_once, row_passes, IsChecked, ChecksAreExact}
+use Rattle.plant_types.specs.Standing.{cells_of_networks, cells_of_segments, cells_before, coils_in}
+use Rattle.plant_types.specs.Standing.{is_driven, repeats_label, is_message, message_count}
+use Rattle.plant_types.specs.Standing.{standing_of, standing_tests}
+use Rattle.plant_types.specs.PlanTests.{Site, placed, placed_cell_tests, placed_short_tests}
+use Rattle.plant_types.specs.PlanTests.{site_in, site_tests_in, network_limit, segment_tests}
+use Rattle.plant_types.specs.PlanTests.{is_order, has_control, order_tests, panel_tests, are_sizes}
+use Rattle.plant_types.specs.PlanTests.{has_few, table_tests, controller_tests}
+use Rattle.plant_types.specs.Passing.{same_label, are_labelled_once, row_passes, IsChecked}
+use Rattle.plant_types.specs.Passing.{ChecksAreExact}
 use Rattle.plant_types.proofs.PairsLemmas.{no_two-push}
-use Rattle.plant_types.proofs.StandingLemmas.{cells_of_networks-push, cells_of_segments-push, message_count-push}
-use Rattle.plant_types.proofs.PlanLemmas.{placed-ok, first-ok, parts-ok, behind-keeps, two-ok, four-ok, CellHolds, site_cell-ok, site_short-ok}
+use Rattle.plant_types.proofs.StandingLemmas.{cells_of_networks-push, cells_of_segments-push}
+use Rattle.plant_types.proofs.StandingLemmas.{message_count-push}
+use Rattle.plant_types.proofs.PlanLemmas.{placed-ok, first-ok, parts-ok, behind-keeps, two-ok}
+use Rattle.plant_types.proofs.PlanLemmas.{four-ok, CellHolds, site_cell-ok, site_short-ok}
 
 -- one more cell that passes, and clashes with none before it
 cells_pass-push : (sizes : Sizes) (cells : List Cell) (cell : Cell) → cells_pass sizes cells ≡ true → cell_passes sizes cell ≡ true

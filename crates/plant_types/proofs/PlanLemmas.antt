@@ -1,5 +1,6 @@
 -- The tests of a controller at their places.
-use Rattle.std.proofs.Common.{◌≡◌, ℕ, ◌+◌, ◌≤◌, true, false, Bool, not, ◌&&◌, List, [], ◌∷◌, ◌++◌, length, Result, Ok, Err, refl, ◌∙◌, append_assoc, arith}
+use Rattle.std.proofs.Common.{◌≡◌, ℕ, ◌+◌, ◌≤◌, true, false, Bool, not, ◌&&◌, List, [], ◌∷◌, ◌++◌}
+use Rattle.std.proofs.Common.{length, Result, Ok, Err, refl, ◌∙◌, append_assoc, arith}
 use Rattle.std.specs.List.{list_any, IsDistinct}
 use Rattle.std.proofs.lemmas.Bool.{and_parts, not-true}
 use Rattle.std.proofs.lemmas.List.{map-append, length-map, append-nil}
@@ -7,17 +8,22 @@ use Rattle.plant_types.specs.declared.network.Cell.{Cell}
 use Rattle.plant_types.specs.declared.network.Short.{Short}
 use Rattle.plant_types.specs.declared.fault.PlantFault.{PlantFault}
 use Rattle.plant_types.specs.declared.fault.Place.{Place}
-use Rattle.plant_types.specs.declared.fault.PlantFault.TheVariants.{BadCell, BadValue, BadRef, BadShape}
+use Rattle.plant_types.specs.declared.fault.PlantFault.TheVariants.{BadCell, BadValue, BadRef}
+use Rattle.plant_types.specs.declared.fault.PlantFault.TheVariants.{BadShape}
 use Rattle.plant_types.specs.Sizes.{Sizes}
 use Rattle.plant_types.specs.Fault.{at_place}
 use Rattle.plant_types.specs.Operands.{has_form, has_values, has_kinds}
-use Rattle.plant_types.specs.Network.{has_cell_place, has_short_place, is_within, clashes, same_short}
+use Rattle.plant_types.specs.Network.{has_cell_place, has_short_place, is_within, clashes}
+use Rattle.plant_types.specs.Network.{same_short}
 use Rattle.plant_types.specs.Checks.{has_room, has_shape}
 use Rattle.plant_types.specs.Grid.{cell_places, short_places, AreApart}
-use Rattle.plant_types.specs.FirstFault.{Test, first_failed, tests_behind, tests_of_each, has_label_place, cell_tests, short_tests}
+use Rattle.plant_types.specs.FirstFault.{Test, first_failed, tests_behind, tests_of_each}
+use Rattle.plant_types.specs.FirstFault.{has_label_place, cell_tests, short_tests}
 use Rattle.plant_types.specs.Standing.{cells_before, standing_of, standing_tests}
-use Rattle.plant_types.specs.PlanTests.{Site, placed, piece_place, site_cell_tests, placed_cell_tests, placed_short_tests}
-use Rattle.plant_types.proofs.GridLemmas.{AreApart-push, AreApart-few, free_place, free_short, short_is_place}
+use Rattle.plant_types.specs.PlanTests.{Site, placed, piece_place, site_cell_tests}
+use Rattle.plant_types.specs.PlanTests.{placed_cell_tests, placed_short_tests}
+use Rattle.plant_types.proofs.GridLemmas.{AreApart-push, AreApart-few, free_place, free_short}
+use Rattle.plant_types.proofs.GridLemmas.{short_is_place}
 
 -- the first that fails at a place
 pub placed-first : (place : Place) (tests : List (Test PlantFault)) → at_place place (first_failed tests) ≡ first_failed (placed place tests)

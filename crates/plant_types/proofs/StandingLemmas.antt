@@ -1,5 +1,6 @@
 -- The cells of a controller before a cell, list by list.
-use Rattle.std.proofs.Common.{◌≡◌, ℕ, ◌+◌, ◌-◌, Bool, true, false, ◌||◌, List, [], ◌∷◌, ◌++◌, length, length-append, Option, Some, None, refl, sym, ap, ◌∙◌, arith}
+use Rattle.std.proofs.Common.{◌≡◌, ℕ, ◌+◌, ◌-◌, Bool, true, false, ◌||◌, List, [], ◌∷◌, ◌++◌}
+use Rattle.std.proofs.Common.{length, length-append, Option, Some, None, refl, sym, ap, ◌∙◌, arith}
 use Rattle.std.specs.List.{list_any, cons_option}
 use Rattle.std.specs.Prelude.{filter, if◌then◌else◌}
 use Rattle.std.proofs.lemmas.List.{append-nil}
@@ -13,7 +14,8 @@ use Rattle.plant_types.specs.declared.network.Segment.{Segment}
 use Rattle.plant_types.specs.declared.standing.Claim.{Claim}
 use Rattle.plant_types.specs.Network.{driven_by}
 use Rattle.plant_types.specs.Checks.{is_same}
-use Rattle.plant_types.specs.Standing.{cells_of_networks, cells_of_segments, coils_in, drives, claims, is_claimed, is_message, message_count}
+use Rattle.plant_types.specs.Standing.{cells_of_networks, cells_of_segments, coils_in, drives}
+use Rattle.plant_types.specs.Standing.{claims, is_claimed, is_message, message_count}
 
 -- what one of the cells of networks has, one of the cells of some network has
 pub claimed_in_networks : (claim : Claim) (networks : List Network)

@@ -15,8 +15,10 @@ use Rattle.plant_types.specs.Store.{Contents, Keeps}
 use Rattle.plant_types.specs.Pairs.{no_two}
 use Rattle.plant_types.specs.declared.element.Operand.{Operand}
 use Rattle.plant_types.specs.declared.slot.Slot.{Slot}
-use Rattle.plant_types.specs.Operands.{Named, named_at, names_of, has_form, has_values, has_kinds, HasOperands, HasPast}
-use Rattle.plant_types.specs.Network.{driven_by, has_cell_place, has_short_place, is_within, clashes, same_short}
+use Rattle.plant_types.specs.Operands.{Named, named_at, names_of, has_form, has_values, has_kinds}
+use Rattle.plant_types.specs.Operands.{HasOperands, HasPast}
+use Rattle.plant_types.specs.Network.{driven_by, has_cell_place, has_short_place, is_within}
+use Rattle.plant_types.specs.Network.{clashes, same_short}
 
 -- An element's references stand in a map of these sizes, with all that it uses from them on.
 -- This project's own table of operands.

@@ -1,9 +1,29 @@
--- Discretes of a store one after another, and the bits of words.
-use Rattle.std.specs.Prelude.{ℕ, zero, suc, ◌+◌, ◌*◌, Bool, ◌==◌, nat_lt, if◌then◌else◌, List, [], ◌∷◌, map, fold}
+-- The discretes of a store that are on, discretes one after another, and the bits of words.
+use Rattle.std.specs.Prelude.{◌≡◌, ℕ, zero, suc, ◌+◌, ◌*◌, Bool, ◌&&◌, ◌==◌, nat_lt, if◌then◌else◌}
+use Rattle.std.specs.Prelude.{List, [], ◌∷◌, filter, map, fold}
 use Rattle.std.specs.Int.{bit_at}
+use Rattle.std.specs.FinMap.{keys}
+use Rattle.std.specs.FinSet.{FinSet, contains, empty, from_list}
 use Rattle.plant_types.specs.declared.reference.Ref.{Ref}
 use Rattle.plant_types.specs.Power.{bit_of}
-use Rattle.plant_types.specs.Store.{Contents, words_from, with_words}
+use Rattle.plant_types.specs.Reference.{ref_cmp, is_discrete}
+use Rattle.plant_types.specs.Sizes.{Sizes, cleared}
+use Rattle.plant_types.specs.Store.{Contents, is_on, words_from, with_words}
+
+-- A set of references. This project's own.
+abbrev pub Refs : Type 0
+Refs = FinSet ref_cmp
+
+-- The discretes of a store that are on. This project's own.
+unfoldable pub discretes_on : Contents → Refs
+discretes_on m = from_list (filter (λ at. is_discrete at.kind && is_on m at) (keys m))
+
+-- A discrete is in the set of those that are on exactly where it is on, a register never; in a
+-- store when it starts none is on. This project's own.
+pub record DiscretesAreOn : Type 0 where
+  pub each : (m : Contents) (at : Ref) → contains (discretes_on m) at
+      ≡ is_discrete at.kind && is_on m at
+  pub fresh : (sizes : Sizes) → discretes_on (cleared sizes) ≡ empty
 
 -- Whether so many discretes from one on are on. This project's own.
 abbrev pub bits_from : Contents → Ref → ℕ → List Bool

@@ -4,7 +4,10 @@ use Rattle.plant_types.specs.declared.reference.Ref.{Ref}
 use Rattle.plant_types.specs.declared.element.Operand.{Operand}
 use Rattle.plant_types.specs.declared.element.Operand.TheVariants.{Const, At}
 use Rattle.plant_types.specs.declared.element.Element.{Element}
-use Rattle.plant_types.specs.declared.element.Element.TheVariants.{Open, Closed, Rise, Fall, Coil, Latch, Wire, Timer, Counter, Math, Move, Matrix, Skip, Label, Call, Return, Mstr}
+use Rattle.plant_types.specs.declared.element.Element.TheVariants.{Open, Closed, Rise, Fall, Coil}
+use Rattle.plant_types.specs.declared.element.Element.TheVariants.{Latch, Wire, Timer, Counter}
+use Rattle.plant_types.specs.declared.element.Element.TheVariants.{Math, Move, Matrix, Skip, Label}
+use Rattle.plant_types.specs.declared.element.Element.TheVariants.{Call, Return, Mstr}
 use Rattle.plant_types.specs.declared.name.ElementName.{ElementName}
 use Rattle.plant_types.specs.declared.name.ElementName.TheVariants as names
 

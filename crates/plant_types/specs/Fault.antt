@@ -65,13 +65,13 @@ text_of parts.Host i j k m = codes "host " ++ decimal i
 text_of parts.HostRequest i j k m = codes "host " ++ decimal i ++ codes " request " ++ decimal j
 
 -- The number at an index of a place, 0 where there is none. This project's own.
-abbrev pub number_at : Place → ℕ → ℕ
-number_at place index = slice_index_or place.at index 0
+abbrev pub place_number : Place → ℕ → ℕ
+place_number place index = slice_index_or place.at index 0
 
 abbrev pub place_text : Place → List ℕ
 place_text place =
-    text_of place.part (number_at place 0) (number_at place 1) (number_at place 2)
-    (number_at place 3)
+    text_of place.part (place_number place 0) (place_number place 1) (place_number place 2)
+    (place_number place 3)
 
 -- The table of a controller, one of its segments, a piece of a network of a segment, an order row
 -- and a panel reference. This project's own.

@@ -1,5 +1,6 @@
 -- Tests in their order, the first that does not hold, and the tests of the pieces of a network.
-use Rattle.std.specs.Prelude.{Bool, true, false, not, ◌&&◌, ◌||◌, ◌==◌, List, [], ◌∷◌, ◌++◌, Result, Ok, Err, if◌then◌else◌}
+use Rattle.std.specs.Prelude.{Bool, true, false, not, ◌&&◌, ◌||◌, ◌==◌, List, [], ◌∷◌, ◌++◌, Result}
+use Rattle.std.specs.Prelude.{Ok, Err, if◌then◌else◌}
 use Rattle.std.specs.List.{list_any}
 use Rattle.plant_types.specs.declared.element.Element.{Element}
 use Rattle.plant_types.specs.declared.element.Element.TheVariants.{Label}
@@ -7,7 +8,8 @@ use Rattle.plant_types.specs.declared.network.Cell.{Cell}
 use Rattle.plant_types.specs.declared.network.Short.{Short}
 use Rattle.plant_types.specs.declared.network.Network.{Network}
 use Rattle.plant_types.specs.declared.fault.PlantFault.{PlantFault}
-use Rattle.plant_types.specs.declared.fault.PlantFault.TheVariants.{BadCell, BadValue, BadRef, BadShape}
+use Rattle.plant_types.specs.declared.fault.PlantFault.TheVariants.{BadCell, BadValue, BadRef}
+use Rattle.plant_types.specs.declared.fault.PlantFault.TheVariants.{BadShape}
 use Rattle.plant_types.specs.Sizes.{Sizes}
 use Rattle.plant_types.specs.Operands.{has_form, has_values, has_kinds}
 use Rattle.plant_types.specs.Network.{has_cell_place, has_short_place, same_short}

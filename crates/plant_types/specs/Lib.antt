@@ -20,3 +20,4 @@ pub mod Passing
 pub mod Effect
 pub mod Plain
 pub mod Discretes
+pub mod Plans

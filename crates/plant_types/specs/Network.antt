@@ -1,8 +1,12 @@
 -- The places that cells take in a network, and which cells can stand together.
-use Rattle.std.specs.Prelude.{ℕ, ◌+◌, Bool, ◌&&◌, ◌||◌, ◌==◌, nat_le, nat_lt, Option, Some, None, is_some}
+use Rattle.std.specs.Prelude.{ℕ, ◌+◌, Bool, ◌&&◌, ◌||◌, ◌==◌, nat_le, nat_lt, Option, Some, None}
+use Rattle.std.specs.Prelude.{is_some}
 use Rattle.plant_types.specs.declared.reference.Ref.{Ref}
 use Rattle.plant_types.specs.declared.element.Element.{Element}
-use Rattle.plant_types.specs.declared.element.Element.TheVariants.{Open, Closed, Rise, Fall, Coil, Latch, Wire, Timer, Counter, Math, Move, Matrix, Skip, Label, Call, Return, Mstr}
+use Rattle.plant_types.specs.declared.element.Element.TheVariants.{Open, Closed, Rise, Fall, Coil}
+use Rattle.plant_types.specs.declared.element.Element.TheVariants.{Latch, Wire, Timer, Counter}
+use Rattle.plant_types.specs.declared.element.Element.TheVariants.{Math, Move, Matrix, Skip, Label}
+use Rattle.plant_types.specs.declared.element.Element.TheVariants.{Call, Return, Mstr}
 use Rattle.plant_types.specs.declared.network.Cell.{Cell}
 use Rattle.plant_types.specs.declared.network.Short.{Short}
 

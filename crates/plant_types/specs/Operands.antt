@@ -8,16 +8,17 @@ use Rattle.plant_types.specs.declared.element.Operand.{Operand}
 use Rattle.plant_types.specs.declared.element.Operand.TheVariants.{Const, At}
 use Rattle.plant_types.specs.declared.element.Element.{Element}
 use Rattle.plant_types.specs.declared.slot.Slot.{Slot}
-use Rattle.plant_types.specs.declared.slot.Slot.TheVariants.{Discrete, Driven, Number, Source, Target, Constant}
+use Rattle.plant_types.specs.declared.slot.Slot.TheVariants.{Discrete, Driven, Number, Source}
+use Rattle.plant_types.specs.declared.slot.Slot.TheVariants.{Target, Constant}
 use Rattle.plant_types.specs.Slots.{run_count, slots_of}
 use Rattle.plant_types.specs.Elements.{name_of, operands_of, length_of}
 use Rattle.plant_types.specs.Reference.{is_coil, is_discrete, is_register, is_holding}
 use Rattle.plant_types.specs.Store.{Contents, word_at, HasDiscrete, HasRegisters}
 
 -- The number of an operand. Modicon Ladder Logic Block Library User Guide.
-abbrev pub number_of : Contents → Operand → ℕ
-number_of m (Const n) = n
-number_of m (At at) = word_at m at
+abbrev pub operand_number : Contents → Operand → ℕ
+operand_number m (Const n) = n
+operand_number m (At at) = word_at m at
 
 -- A constant, or a register that stands. This project's own.
 abbrev pub HasNumber : Contents → Operand → Type 0
@@ -32,11 +33,11 @@ pub data Kind : Type 0 where
   OnlyHolding : Kind
 
 -- The kinds of reference that are such. This project's own table of operands.
-abbrev pub takes : Kind → RefKind → Bool
-takes OnlyCoil kind = is_coil kind
-takes AnyDiscrete kind = is_discrete kind
-takes AnyRegister kind = is_register kind
-takes OnlyHolding kind = is_holding kind
+abbrev pub accepts : Kind → RefKind → Bool
+accepts OnlyCoil kind = is_coil kind
+accepts AnyDiscrete kind = is_discrete kind
+accepts AnyRegister kind = is_register kind
+accepts OnlyHolding kind = is_holding kind
 
 -- A reference that an element names: what it has to be, and how many references from it on the
 -- element uses. This project's own.
@@ -124,7 +125,7 @@ has_values element = pointwise fits_value (slots_of (name_of element)) (operands
 
 -- An element's references are of the kinds that it takes. This project's own table of operands.
 abbrev pub has_kinds : Element → Bool
-has_kinds element = list_all (λ named. takes named.kind named.at.kind) (names_of element)
+has_kinds element = list_all (λ named. accepts named.kind named.at.kind) (names_of element)
 
 -- A discrete stands, or as many registers as are used. This project's own.
 abbrev pub HasKind : Contents → Ref → ℕ → Kind → Type 0
@@ -160,7 +161,7 @@ HasPast m element =
 
 -- These references are of the kinds that they have to be. This project's own table of operands.
 abbrev pub have_kinds : List Named → Bool
-have_kinds names = list_all (λ named. takes named.kind named.at.kind) names
+have_kinds names = list_all (λ named. accepts named.kind named.at.kind) names
 
 -- So it is with what an operand names in its slot, where the length operand is this. This
 -- project's own table of operands.

@@ -1,5 +1,6 @@
 -- The tests of a controller in their order, each with its fault and its place: this project's own.
-use Rattle.std.specs.Prelude.{ℕ, ◌+◌, ◌-◌, ◌<◌, Bool, true, not, ◌&&◌, ◌==◌, nat_le, List, [], ◌∷◌, ◌++◌, map, drop, length, Option, Some, None}
+use Rattle.std.specs.Prelude.{ℕ, ◌+◌, ◌-◌, ◌<◌, Bool, true, not, ◌&&◌, ◌==◌, nat_le, List, [], ◌∷◌}
+use Rattle.std.specs.Prelude.{◌++◌, map, drop, length, Option, Some, None}
 use Rattle.std.specs.List.{list_any}
 use Rattle.plant_types.specs.declared.reference.Ref.{Ref}
 use Rattle.plant_types.specs.declared.drops.IoDrop.{IoDrop}
@@ -10,9 +11,11 @@ use Rattle.plant_types.specs.declared.network.Segment.{Segment}
 use Rattle.plant_types.specs.declared.plan.OrderRow.{OrderRow}
 use Rattle.plant_types.specs.declared.plan.ControllerPlan.{ControllerPlan}
 use Rattle.plant_types.specs.declared.fault.PlantFault.{PlantFault}
-use Rattle.plant_types.specs.declared.fault.PlantFault.TheVariants.{BadValue, BadRef, BadOrder, BadNode, TooLarge}
+use Rattle.plant_types.specs.declared.fault.PlantFault.TheVariants.{BadValue, BadRef, BadOrder}
+use Rattle.plant_types.specs.declared.fault.PlantFault.TheVariants.{BadNode, TooLarge}
 use Rattle.plant_types.specs.declared.fault.Place.{Place}
-use Rattle.plant_types.specs.Fault.{controller_place, segment_place, cell_place, order_place, panel_place}
+use Rattle.plant_types.specs.Fault.{controller_place, segment_place, cell_place, order_place}
+use Rattle.plant_types.specs.Fault.{panel_place}
 use Rattle.plant_types.specs.Reference.{is_discrete}
 use Rattle.plant_types.specs.Sizes.{Sizes, has_reference}
 use Rattle.plant_types.specs.Checks.{sizes_of, is_size, is_discrete_size}

@@ -5,13 +5,18 @@ use Rattle.plant_types.specs.declared.element.MathOp.TheVariants.{Add, Sub, Mul,
 use Rattle.plant_types.specs.declared.element.MoveOp.{MoveOp}
 use Rattle.plant_types.specs.declared.element.MoveOp.TheVariants as moves
 use Rattle.plant_types.specs.declared.element.MatrixOp.{MatrixOp}
-use Rattle.plant_types.specs.declared.element.MatrixOp.TheVariants.{And, Or, Xor, Comp, Cmpr, Mbit, Sens, Brot}
+use Rattle.plant_types.specs.declared.element.MatrixOp.TheVariants.{And, Or, Xor, Comp, Cmpr, Mbit}
+use Rattle.plant_types.specs.declared.element.MatrixOp.TheVariants.{Sens, Brot}
 use Rattle.plant_types.specs.declared.name.ElementName.{ElementName}
-use Rattle.plant_types.specs.declared.name.ElementName.TheVariants.{Open, Closed, Rise, Fall, Coil, Latch, Wire, Timer, Counter, Math, Move, Matrix, Skip, Label, Call, Return, Mstr}
+use Rattle.plant_types.specs.declared.name.ElementName.TheVariants.{Open, Closed, Rise, Fall, Coil}
+use Rattle.plant_types.specs.declared.name.ElementName.TheVariants.{Latch, Wire, Timer, Counter}
+use Rattle.plant_types.specs.declared.name.ElementName.TheVariants.{Math, Move, Matrix, Skip, Label}
+use Rattle.plant_types.specs.declared.name.ElementName.TheVariants.{Call, Return, Mstr}
 use Rattle.plant_types.specs.declared.slot.Run.{Run}
 use Rattle.plant_types.specs.declared.slot.Run.TheVariants.{Fixed, Table, PointerAndTable}
 use Rattle.plant_types.specs.declared.slot.Slot.{Slot}
-use Rattle.plant_types.specs.declared.slot.Slot.TheVariants.{Discrete, Driven, Number, Source, Target, Constant}
+use Rattle.plant_types.specs.declared.slot.Slot.TheVariants.{Discrete, Driven, Number, Source}
+use Rattle.plant_types.specs.declared.slot.Slot.TheVariants.{Target, Constant}
 
 -- How many registers a run is, where the length operand is this; a pointer stands before its
 -- table.

@@ -1,5 +1,6 @@
 -- What a store of references stands for: a finite map from reference to number.
-use Rattle.std.specs.Prelude.{◌≡◌, ℕ, zero, suc, ◌+◌, ◌≤◌, ◌<◌, Bool, true, false, nat_lt, unwrap_or, if◌then◌else◌, List, [], ◌∷◌}
+use Rattle.std.specs.Prelude.{◌≡◌, ℕ, zero, suc, ◌+◌, ◌≤◌, ◌<◌, Bool, true, false, nat_lt}
+use Rattle.std.specs.Prelude.{unwrap_or, if◌then◌else◌, List, [], ◌∷◌}
 use Rattle.std.specs.FinMap.{FinMap, get, insert, contains_key, retain_keys}
 use Rattle.plant_types.specs.declared.reference.Ref.{Ref}
 use Rattle.plant_types.specs.Reference.{ref_cmp, is_discrete, ref_from, most_references}

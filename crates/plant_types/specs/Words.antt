@@ -8,6 +8,10 @@ most_pdu_bytes = 253
 abbrev pub most_block_words : ℕ
 most_block_words = 100
 
+-- The words of the statistics of a station, of which some are read at a time. This project's own.
+abbrev pub statistics_words : ℕ
+statistics_words = 20
+
 -- A PDU has 1 to 253 bytes. This project's own bounds.
 abbrev pub IsPduLength : List ℕ → Type 0
 IsPduLength bytes = (1 ≤ length bytes) × (length bytes ≤ most_pdu_bytes)

@@ -1,6 +1,6 @@
 //! What stands in a cell.
 ghost use Rattle.std.specs.Prelude.{◌≡◌};
-ghost use Rattle.plant_types.specs.Operands.{number_of, HasNumber};
+ghost use Rattle.plant_types.specs.Operands.{operand_number, HasNumber};
 
 use crate::reference::Ref;
 use crate::store::RefStore;
@@ -17,7 +17,7 @@ impl Operand {
     /// The constant, or the number in the register.
     pub fn number<R: RefStore>(self, ram: &R) -> u16
         requires { HasNumber (R.contents ram.now) self }
-        ensures { result ≡ number_of (R.contents ram.now) self }
+        ensures { result ≡ operand_number (R.contents ram.now) self }
     {
         match self {
             Operand::Const(number) => number,

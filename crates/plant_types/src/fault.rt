@@ -1,6 +1,8 @@
 //! Why a plant file is refused, and where.
 ghost use Rattle.std.specs.Prelude.{◌≡◌, Some};
-ghost use Rattle.plant_types.specs.Fault.{fault_number, fault_name, fault_text, place_text, controller_place, segment_place, cell_place, order_place, panel_place, at_place};
+ghost use Rattle.plant_types.specs.Fault.{fault_number, fault_name, fault_text, place_text};
+ghost use Rattle.plant_types.specs.Fault.{controller_place, segment_place, cell_place, order_place};
+ghost use Rattle.plant_types.specs.Fault.{panel_place, at_place};
 
 use std::fmt;
 

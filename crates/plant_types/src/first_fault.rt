@@ -2,7 +2,8 @@
 ghost use Rattle.std.specs.Prelude.{◌≡◌};
 ghost use Rattle.plant_types.specs.Network.{is_row, is_column, has_cell_place, has_short_place};
 ghost use Rattle.plant_types.specs.Checks.{sizes_of};
-ghost use Rattle.plant_types.specs.FirstFault.{first_failed, tests_of_each, has_label_place, cell_tests, short_tests, network_tests};
+ghost use Rattle.plant_types.specs.FirstFault.{first_failed, tests_of_each, has_label_place};
+ghost use Rattle.plant_types.specs.FirstFault.{cell_tests, short_tests, network_tests};
 
 use crate::element::Element;
 use crate::fault::PlantFault;

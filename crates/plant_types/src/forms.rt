@@ -3,7 +3,8 @@ ghost use Rattle.std.specs.Prelude.{◌≡◌};
 ghost use Rattle.std.specs.List.{list_all, zip};
 ghost use lib.Pointwise.{pointwise};
 ghost use Rattle.plant_types.specs.Reference.{is_discrete, is_coil, is_register, is_holding};
-ghost use Rattle.plant_types.specs.Operands.{named_at, fits_form, fits_value, have_kinds, has_kinds_at, has_form, has_values, has_kinds};
+ghost use Rattle.plant_types.specs.Operands.{named_at, fits_form, fits_value, have_kinds};
+ghost use Rattle.plant_types.specs.Operands.{has_kinds_at, has_form, has_values, has_kinds};
 
 use crate::element::{Element, Operand};
 use crate::reference::RefKind;

@@ -1,7 +1,8 @@
 //! Which cells and shorts can stand together in a network.
 ghost use Rattle.std.specs.Prelude.{◌≡◌, ◌+◌};
 ghost use Rattle.std.specs.List.{list_any};
-ghost use Rattle.plant_types.specs.Network.{node_count, driven_by, ends_row, covers, is_within, overlaps, is_right_of_coil, clashes, same_short};
+ghost use Rattle.plant_types.specs.Network.{node_count, driven_by, ends_row, covers, is_within};
+ghost use Rattle.plant_types.specs.Network.{overlaps, is_right_of_coil, clashes, same_short};
 ghost use Rattle.plant_types.specs.Checks.{has_shape};
 
 use crate::element::Element;

@@ -2,6 +2,7 @@
 ghost use Rattle.std.specs.Prelude.{◌≡◌, true, Some, IfOk, OnOk};
 ghost use Rattle.std.specs.BTreeMap as tree;
 ghost use Rattle.std.specs.FinMap as map;
+ghost use Rattle.plant_types.specs.Discretes.{DiscretesAreOn};
 ghost use Rattle.plant_types.specs.MapRam.{AddsZeros};
 ghost use Rattle.plant_types.specs.Sizes.{cleared, StartsCleared, DiscretesFollow};
 ghost use Rattle.plant_types.specs.Store.{Keeps, part_at};
@@ -129,4 +130,9 @@ pub fn starts_cleared()
 /// The discretes of a store that keeps the references of its sizes, as `copy_from` takes them.
 pub fn discretes_follow()
     ensures { DiscretesFollow }
+{}
+
+/// A discrete is in the set of those that are on exactly where it is on.
+pub fn discretes_are_on()
+    ensures { DiscretesAreOn }
 {}

@@ -1,4 +1,8 @@
 //! The Modbus Plus network of a plant, and its hosts.
+ghost use Rattle.std.specs.Prelude.{◌≡◌, true, All};
+ghost use Rattle.std.specs.List.Sorted.{IsStrictlyIncreasing};
+ghost use Rattle.plant_types.specs.Plans.{IsNode, IsNetPlan, IsAskOf, IsHostPlan};
+
 use crate::list::List;
 use crate::words::Pdu;
 
@@ -47,4 +51,88 @@ pub struct HostPlan {
     pub node: u8,
     /// Up to 1000, asked in their order.
     pub requests: List<HostAsk>,
+}
+
+/// The highest address of a node.
+pub(crate) const NODE_LIMIT: u8 = 64;
+
+/// The most requests of a host.
+const REQUEST_LIMIT: usize = 1000;
+
+fn is_node(node: u8) -> bool
+    ensures only { result ≡ true → IsNode node }
+    ensures all { IsNode node → result ≡ true }
+{
+    1 <= node && node <= NODE_LIMIT
+}
+
+fn are_nodes(nodes: &[u8]) -> bool
+    ensures only { result ≡ true → All IsNode nodes.now }
+    ensures all { All IsNode nodes.now → result ≡ true }
+{
+    for at in 0..nodes.len() {
+        if !is_node(nodes[at]) {
+            return false;
+        }
+    }
+    true
+}
+
+fn rise(nodes: &[u8]) -> bool
+    ensures only { result ≡ true → IsStrictlyIncreasing nodes.now }
+    ensures all { IsStrictlyIncreasing nodes.now → result ≡ true }
+{
+    for at in 1..nodes.len() {
+        if nodes[at - 1] >= nodes[at] {
+            return false;
+        }
+    }
+    true
+}
+
+/// Whether a network can be run: its members are addresses and rise, and each of its numbers is in
+/// its range.
+pub fn is_net_plan(net: &NetPlan) -> bool
+    ensures only { result ≡ true → IsNetPlan net.now }
+    ensures all { IsNetPlan net.now → result ≡ true }
+{
+    let members = net.members.as_slice();
+    let fates = net.fates.as_slice().len();
+    !members.is_empty()
+        && are_nodes(members)
+        && rise(members)
+        && (1..=1000).contains(&fates)
+        && (2..=1000).contains(&net.answer)
+        && (1..=10).contains(&net.rotations)
+        && (1..=100).contains(&net.rounds)
+        && (1..=100_000).contains(&net.holds)
+}
+
+fn is_ask_of(node: u8, ask: &HostAsk) -> bool
+    ensures only { result ≡ true → IsAskOf node ask.now }
+    ensures all { IsAskOf node ask.now → result ≡ true }
+{
+    1 <= ask.hold && ask.hold <= 10_000 && is_node(ask.to) && ask.to != node
+}
+
+fn are_asks_of(node: u8, asks: &[HostAsk]) -> bool
+    ensures only { result ≡ true → All (IsAskOf node) asks.now }
+    ensures all { All (IsAskOf node) asks.now → result ≡ true }
+{
+    for at in 0..asks.len() {
+        if !is_ask_of(node, &asks[at]) {
+            return false;
+        }
+    }
+    true
+}
+
+/// Whether a host can be run: it has an address, at most a thousand requests, and each of them is
+/// due at a hold in its range and asks another node.
+pub fn is_host_plan(host: &HostPlan) -> bool
+    ensures only { result ≡ true → IsHostPlan host.now }
+    ensures all { IsHostPlan host.now → result ≡ true }
+{
+    let requests = host.requests.as_slice();
+    is_node(host.node) && requests.len() <= REQUEST_LIMIT && are_asks_of(host.node, requests)
 }

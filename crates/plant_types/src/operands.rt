@@ -1,6 +1,8 @@
 //! The operands of an element, in the order in which they are written.
 ghost use Rattle.std.specs.Prelude.{◌≡◌, ◌≤◌, ◌<◌, [], ◌∷◌, ◌++◌, length};
-ghost use Rattle.plant_types.specs.Elements.{operands_of, reference_in, constant_in, one_reference, one_operand, without_operands, preset_and_acc, numbers_and_low, table_operands, element_of};
+ghost use Rattle.plant_types.specs.Elements.{operands_of, reference_in, constant_in, one_reference};
+ghost use Rattle.plant_types.specs.Elements.{one_operand, without_operands, preset_and_acc};
+ghost use Rattle.plant_types.specs.Elements.{numbers_and_low, table_operands, element_of};
 
 use crate::element::{Element, Operand};
 use crate::name::ElementName;

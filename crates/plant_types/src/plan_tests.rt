@@ -3,10 +3,16 @@ ghost use Rattle.std.specs.Prelude.{◌≡◌, ◌≤◌, ◌<◌, ◌==◌, len
 ghost use Rattle.std.specs.List.{list_any};
 ghost use Rattle.plant_types.specs.Checks.{is_size, is_discrete_size};
 ghost use Rattle.plant_types.specs.FirstFault.{first_failed, tests_of_each, is_label};
-ghost use Rattle.plant_types.specs.PlanTests.{piece_place, site_cell_tests, placed_cell_tests, placed_short_tests, site_tests, site_tests_in, segment_tests, has_label, is_subroutines, is_segment, has_drop, has_control, is_order, order_tests, panel_tests, are_sizes, has_few, table_tests, controller_tests};
+ghost use Rattle.plant_types.specs.PlanTests.{piece_place, site_cell_tests, placed_cell_tests};
+ghost use Rattle.plant_types.specs.PlanTests.{placed_short_tests, site_tests, site_tests_in};
+ghost use Rattle.plant_types.specs.PlanTests.{segment_tests, has_label, is_subroutines, is_segment};
+ghost use Rattle.plant_types.specs.PlanTests.{has_drop, has_control, is_order, order_tests};
+ghost use Rattle.plant_types.specs.PlanTests.{panel_tests, are_sizes, has_few, table_tests};
+ghost use Rattle.plant_types.specs.PlanTests.{controller_tests};
 
 use crate::drops::IoDrop;
 use crate::fault::{Place, PlantFault};
+use crate::net::NODE_LIMIT;
 use crate::network::{Cell, Network, Segment, Short};
 use crate::plan::{ControllerPlan, OrderRow};
 use crate::reference::Ref;
@@ -16,9 +22,6 @@ use std::marker::Model;
 
 /// The most references of a kind.
 const REFERENCE_LIMIT: u16 = 9984;
-
-/// The highest address of a node.
-const NODE_LIMIT: u8 = 64;
 
 /// The most segments of a controller.
 pub const SEGMENT_LIMIT: usize = 32;
@@ -205,14 +208,16 @@ fn have_label(segments: &[Segment]) -> bool
     segments.iter().any(has_label)
 }
 
-fn is_subroutines(segments: &[Segment], number: u16) -> bool
+/// Whether the segment of a number is the one of the subroutines: the last, where it has a LAB.
+pub fn is_subroutines(segments: &[Segment], number: u16) -> bool
     ensures { result ≡ is_subroutines segments.now number }
 {
     let last = segments.len().saturating_sub(1);
     usize::from(number) == segments.len() && have_label(&segments[last..])
 }
 
-fn is_segment(segments: &[Segment], number: u16) -> bool
+/// Whether a number counts one of the segments, from 1.
+pub fn is_segment(segments: &[Segment], number: u16) -> bool
     ensures { result ≡ is_segment segments.now number }
 {
     1 <= number && usize::from(number) <= segments.len()
@@ -224,7 +229,8 @@ fn have_number(drops: &[IoDrop], number: u8) -> bool
     drops.iter().any(|one| one.number == number)
 }
 
-fn has_drop(drops: &[IoDrop], number: Option<u8>) -> bool
+/// Whether a row names no drop, or one of these.
+pub fn has_drop(drops: &[IoDrop], number: Option<u8>) -> bool
     ensures { result ≡ has_drop drops.now number }
 {
     match number {
@@ -233,7 +239,8 @@ fn has_drop(drops: &[IoDrop], number: Option<u8>) -> bool
     }
 }
 
-fn has_control(sizes: Sizes, control: Option<Ref>) -> bool
+/// Whether a row has no control, or a discrete of the map.
+pub fn has_control(sizes: Sizes, control: Option<Ref>) -> bool
     ensures { result ≡ has_control sizes control }
 {
     match control {

@@ -24,7 +24,8 @@ pub struct Sizes {
 }
 
 impl Sizes {
-    fn count_of(self, kind: RefKind) -> u16
+    /// How many of a kind there are.
+    pub fn count_of(self, kind: RefKind) -> u16
         ensures { result ≡ count_of self kind }
     {
         match kind {

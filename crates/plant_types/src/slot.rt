@@ -1,7 +1,8 @@
 //! The table of operands: what each element takes.
 ghost use Rattle.std.specs.Prelude.{◌≡◌, ◌≤◌, length};
 ghost use Rattle.plant_types.specs.Elements.{length_of};
-ghost use Rattle.plant_types.specs.Slots.{run_count, math_slots, move_slots, matrix_slots, slots_of};
+ghost use Rattle.plant_types.specs.Slots.{run_count, math_slots, move_slots, matrix_slots};
+ghost use Rattle.plant_types.specs.Slots.{slots_of};
 
 use crate::element::{Element, MathOp, MatrixOp, MoveOp};
 use crate::name::ElementName;

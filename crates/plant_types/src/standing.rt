@@ -5,7 +5,11 @@ ghost use Rattle.plant_types.specs.Network.{driven_by};
 ghost use Rattle.plant_types.specs.Checks.{is_same};
 ghost use Rattle.plant_types.specs.Reference.{rank_of};
 ghost use Rattle.plant_types.specs.FirstFault.{first_failed, is_label};
-ghost use Rattle.plant_types.specs.Standing.{cells_of_networks, cells_of_segments, cells_before, drives, coils_in, is_driven, is_label_of, repeats_label, is_message, message_count, message_limit, claims, is_claimed, standing_of, standing_tests};
+ghost use Rattle.plant_types.specs.Standing.{cells_of_networks, cells_of_segments, cells_before};
+ghost use Rattle.plant_types.specs.Standing.{drives, coils_in, is_driven, is_label_of};
+ghost use Rattle.plant_types.specs.Standing.{repeats_label, is_message, message_count};
+ghost use Rattle.plant_types.specs.Standing.{message_limit, claims, is_claimed, standing_of};
+ghost use Rattle.plant_types.specs.Standing.{standing_tests};
 
 use crate::element::Element;
 use crate::fault::PlantFault;

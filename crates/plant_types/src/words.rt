@@ -95,7 +95,7 @@ const BLOCK_LIMIT: usize = 100;
 #[derive(Drop)]
 pub struct Block {
     items: [u16; BLOCK_LIMIT],
-    count: usize,
+    count: u8,
 }
 
 impl Model for Block {
@@ -119,7 +119,7 @@ impl Block {
         items[..words.len()].copy_from_slice(words);
         Block {
             items,
-            count: words.len(),
+            count: words.len() as u8,
         }
     }
 
@@ -128,6 +128,6 @@ impl Block {
         ensures words { result.now ≡ self.now }
         ensures fits { FitsBlock self.now }
     {
-        &self.items[..self.count]
+        &self.items[..usize::from(self.count)]
     }
 }

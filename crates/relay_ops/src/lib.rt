@@ -3,10 +3,11 @@
 #![tactic(auto)]
 
 ghost use Rattle.std.specs.Prelude.{◌≡◌};
+ghost use Rattle.plant_types.specs.Discretes.{discretes_on};
 ghost use Rattle.plant_types.specs.Store.{HasDiscrete, Keeps, with_bit};
 ghost use Rattle.relay_ops.specs.Relay.{passes_power};
 
-use plant_types::{Ref, RefStore};
+use plant_types::{Ref, RefStore, discretes_are_on};
 
 #[cfg(test)]
 mod tests;
@@ -29,8 +30,10 @@ pub enum ContactKind {
 pub fn contact<R: RefStore, P: RefStore>(kind: ContactKind, at: Ref, ram: &R, past: &P) -> bool
     requires now { HasDiscrete (R.contents ram.now) at }
     requires before { HasDiscrete (P.contents past.now) at }
-    ensures { result ≡ passes_power kind at (R.contents ram.now) (P.contents past.now) }
+    ensures { result
+        ≡ passes_power kind at (R.contents ram.now) (discretes_on (P.contents past.now)) }
 {
+    discretes_are_on();
     let is_on = ram.bit(at);
     match kind {
         ContactKind::Open => is_on,

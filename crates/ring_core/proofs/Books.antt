@@ -1,10 +1,15 @@
 -- The book of global words after one more entry.
-use Rattle.std.proofs.Common.{◌≡◌, ◌≢◌, ℕ, zero, suc, ◌<◌, ◌==◌, Bool, cond, List, [], ◌∷◌, ◌++◌, length, set, replicate, Option, Some, None, Contains, refl, sym, ap, ◌∙◌, subst, inl, inr, ◌⊎◌, ⊎_elim, eq-eqb, arith, All}
+use Rattle.std.proofs.Common.{◌≡◌, ◌≢◌, ℕ, zero, suc, ◌<◌, ◌==◌, Bool, cond, List, [], ◌∷◌, ◌++◌}
+use Rattle.std.proofs.Common.{length, set, replicate, Option, Some, None, Contains, refl, sym, ap}
+use Rattle.std.proofs.Common.{◌∙◌, subst, inl, inr, ◌⊎◌, ⊎_elim, eq-eqb, arith, All}
 use Rattle.std.proofs.lemmas.Bool.{cases_eq, ne_eqb}
 use Rattle.std.proofs.lemmas.List.{length-set, length-replicate, get_or-set_same, get_or-set_other}
-use Rattle.global_data.specs.Book.{Book, GlobalIs, place_at, put_at, passed_at, with_put, with_passed, no_words, book_places, with_members, new_book}
-use Rattle.ring_core.specs.Words.{NetPlan, RingEntry, Post, Send, Take, Local, GiveUp, Pass, Leave, GetStats, ClearStats, PutGlobal, GetGlobal, RemoteGet, RemoteClear, CallId, MstrResult}
-use Rattle.ring_core.specs.Scratch.{put_words, heard_words, put_with, heard_in}
+use Rattle.global_data.specs.Book.{Book, GlobalIs, place_at, put_at, passed_at, with_put}
+use Rattle.global_data.specs.Book.{with_passed, no_words, book_places, with_members, new_book}
+use Rattle.ring_core.specs.Words.{NetPlan, RingEntry, Post, Send, Take, Local, GiveUp, Pass, Leave}
+use Rattle.ring_core.specs.Words.{GetStats, ClearStats, PutGlobal, GetGlobal, RemoteGet}
+use Rattle.ring_core.specs.Words.{RemoteClear, CallId, MstrResult}
+use Rattle.ring_core.specs.Scratch.{words_put, heard_words, put_with, heard_in}
 use Rattle.ring_core.specs.Legal.{IsMember}
 use Rattle.ring_core.specs.Machine.{addresses}
 use Rattle.ring_core.specs.Kept.{IsBook, Says, book_step}
@@ -20,9 +25,9 @@ place-set P b m o low others it n = ⊎_elim
 
 -- the same words as before
 says-more : (o : Option GlobalIs) (n : ℕ) (h : List RingEntry) (e : RingEntry)
-    → Says o (put_with n (put_words n h) e) (heard_in n (heard_words n h) e) → Says o (put_words n (h ++ e ∷ [])) (heard_words n (h ++ e ∷ []))
+    → Says o (put_with n (words_put n h) e) (heard_in n (heard_words n h) e) → Says o (words_put n (h ++ e ∷ [])) (heard_words n (h ++ e ∷ []))
 says-more o n h e s = subst (λ (put : List ℕ). Says o put (heard_words n (h ++ e ∷ []))) (sym (put_after-push n [] h e))
-    (subst (λ (heard : List ℕ). Says o (put_with n (put_words n h) e) heard) (sym (heard_after-push n [] h e)) s)
+    (subst (λ (heard : List ℕ). Says o (put_with n (words_put n h) e) heard) (sym (heard_after-push n [] h e)) s)
 
 put_same : (o : Option GlobalIs) (words put heard : List ℕ) → o ≢ None → Says o put heard → Says (put_at o words) words heard
 put_same None words put heard there s = absurd (there refl)
@@ -54,28 +59,28 @@ put-book net h b m id words result k low member =
     let there = k.members m member in
     record {
       size = length-set b m _ ∙ k.size;
-      says = place-set (λ n o. Says o (put_words n (h ++ e ∷ [])) (heard_words n (h ++ e ∷ []))) b m (put_at (place_at b m) words) low
+      says = place-set (λ n o. Says o (words_put n (h ++ e ∷ [])) (heard_words n (h ++ e ∷ []))) b m (put_at (place_at b m) words) low
           (λ n no'. says-more (place_at b n) n h e (subst (λ (put : List ℕ). Says (place_at b n) put (heard_words n h))
-          (sym (passed_by n m words (put_words n h) no')) (k.says n)))
+          (sym (passed_by n m words (words_put n h) no')) (k.says n)))
           (says-more (put_at (place_at b m) words) m h e (subst (λ (put : List ℕ). Says (put_at (place_at b m) words) put (heard_words m h))
-          (sym (chosen m m words (put_words m h) refl)) (put_same (place_at b m) words (put_words m h) (heard_words m h) there (k.says m))));
+          (sym (chosen m m words (words_put m h) refl)) (put_same (place_at b m) words (words_put m h) (heard_words m h) there (k.says m))));
       members = place-set (λ n o. IsMember net n → o ≢ None) b m (put_at (place_at b m) words) low (λ n no'. k.members n)
           (λ _. put_there (place_at b m) words there);
       others = place-set (λ n o. o ≢ None → IsMember net n) b m (put_at (place_at b m) words) low (λ n no'. k.others n) (λ _. member);
     }
 
 pass-book : (net : NetPlan) (h : List RingEntry) (b : Book) (m : ℕ) (done : Bool) (words : List ℕ) → IsBook net h b → m < length b
-    → IsMember net m → words ≡ put_words m h → IsBook net (h ++ Pass m done words ∷ []) (with_passed b m)
+    → IsMember net m → words ≡ words_put m h → IsBook net (h ++ Pass m done words ∷ []) (with_passed b m)
 pass-book net h b m done words k low member is =
     let e = Pass m done words in
     let there = k.members m member in
     record {
       size = length-set b m _ ∙ k.size;
-      says = place-set (λ n o. Says o (put_words n (h ++ e ∷ [])) (heard_words n (h ++ e ∷ []))) b m (passed_at (place_at b m)) low
-          (λ n no'. says-more (place_at b n) n h e (subst (λ (heard : List ℕ). Says (place_at b n) (put_words n h) heard)
+      says = place-set (λ n o. Says o (words_put n (h ++ e ∷ [])) (heard_words n (h ++ e ∷ []))) b m (passed_at (place_at b m)) low
+          (λ n no'. says-more (place_at b n) n h e (subst (λ (heard : List ℕ). Says (place_at b n) (words_put n h) heard)
           (sym (passed_by n m words (heard_words n h) no')) (k.says n)))
-          (says-more (passed_at (place_at b m)) m h e (subst (λ (heard : List ℕ). Says (passed_at (place_at b m)) (put_words m h) heard)
-          (sym (chosen m m words (heard_words m h) refl)) (passed_same (place_at b m) words (put_words m h) (heard_words m h) there is (k.says m))));
+          (says-more (passed_at (place_at b m)) m h e (subst (λ (heard : List ℕ). Says (passed_at (place_at b m)) (words_put m h) heard)
+          (sym (chosen m m words (heard_words m h) refl)) (passed_same (place_at b m) words (words_put m h) (heard_words m h) there is (k.says m))));
       members = place-set (λ n o. IsMember net n → o ≢ None) b m (passed_at (place_at b m)) low (λ n no'. k.members n) (λ _. passed_there (place_at b m) there);
       others = place-set (λ n o. o ≢ None → IsMember net n) b m (passed_at (place_at b m)) low (λ n no'. k.others n) (λ _. member);
     }
@@ -83,7 +88,7 @@ pass-book net h b m done words k low member is =
 -- what an entry owes to the book
 abbrev pub IsTold : NetPlan → List RingEntry → Book → RingEntry → Type 0
 IsTold net h b (Local n id op result) = (n < length b) × IsMember net n
-IsTold net h b (Pass n done words) = (n < length b) × IsMember net n × (words ≡ put_words n h)
+IsTold net h b (Pass n done words) = (n < length b) × IsMember net n × (words ≡ words_put n h)
 IsTold net h b _ = Unit {0}
 
 pub book-push : (net : NetPlan) (h : List RingEntry) (b : Book) (e : RingEntry) → IsBook net h b → IsTold net h b e → IsBook net (h ++ e ∷ []) (book_step b e)

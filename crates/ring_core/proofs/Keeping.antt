@@ -1,15 +1,19 @@
 -- The fields after one more entry.
-use Rattle.std.proofs.Common.{◌≡◌, ◌≢◌, ℕ, ◌<◌, List, [], ◌∷◌, ◌++◌, length, get_or, All, None, false, sym, ap, ◌∙◌, subst, arith}
+use Rattle.std.proofs.Common.{◌≡◌, ◌≢◌, ℕ, ◌<◌, List, [], ◌∷◌, ◌++◌, length, get_or, All, None}
+use Rattle.std.proofs.Common.{false, sym, ap, ◌∙◌, subst, arith}
 use Rattle.std.proofs.lemmas.List.{length_push, get_or_read}
 use Rattle.std.proofs.lemmas.List.Elements.{All-contains}
 use Rattle.global_data.specs.Book.{Book, place_at, new_book}
 use Rattle.station_stats.specs.Counts.{StatsIs, words_of}
 use Rattle.ring_core.proofs.Noting.{stats-scratch, length-stats}
 use Rattle.ring_core.specs.Words.{NetPlan, RingEntry, Post, Send, Take, Local, GiveUp, Pass, Leave}
-use Rattle.ring_core.specs.Machine.{NodeIs, RingIs, after, opening, addresses, least_from, node_at, fresh, opening_nodes}
-use Rattle.ring_core.specs.Scratch.{notes_of, heard_words, count_members, members_now, station_counts, statistics}
-use Rattle.ring_core.specs.Legal.{IsStep, IsMember}
-use Rattle.ring_core.specs.Kept.{IsKept, IsSoundRing, IsBook, RingLog, ring_of, grown, stats_at, noted_all, opening_stats, book_step}
+use Rattle.ring_core.specs.Machine.{NodeIs, RingIs, after, opening, addresses, least_from}
+use Rattle.ring_core.specs.Machine.{ring_node, fresh, opening_nodes}
+use Rattle.ring_core.specs.Scratch.{notes_of, heard_words, count_members, members_now}
+use Rattle.ring_core.specs.Scratch.{station_counts, statistics}
+use Rattle.ring_core.specs.Legal.{IsRingStep, IsMember}
+use Rattle.ring_core.specs.Kept.{IsKept, IsSoundRing, IsBook, RingLog, ring_of, with_entry}
+use Rattle.ring_core.specs.Kept.{stats_at, noted_all, opening_stats, book_step}
 use Rattle.ring_core.proofs.Runs.{IsLegal-push, after_all-push, stats_after-push}
 use Rattle.ring_core.proofs.Sound.{after-sound, opening-sound}
 use Rattle.ring_core.proofs.Books.{IsTold, book-push, opening-book}
@@ -22,7 +26,7 @@ book-low : (n size : ℕ) → size ≡ 256 → n < addresses → n < size
 book-low n size is low = omega (arith, is, low)
 
 told : (net : NetPlan) (h : List RingEntry) (b : Book) (e : RingEntry) → All (λ m. m < addresses) net.members → length b ≡ 256
-    → IsStep net h e → IsTold net h b e
+    → IsRingStep net h e → IsTold net h b e
 told net h b (Post n f) all size step = tt
 told net h b (Send n heard) all size step = tt
 told net h b (Take n f) all size step = tt
@@ -32,7 +36,7 @@ told net h b (Pass n done words) all size step = (book-low n (length b) size (me
 told net h b (Leave n cause) all size step = tt
 
 pub kept-push : (net : NetPlan) (h : List RingEntry) (r : RingIs) (s : List StatsIs) (b : Book) (e : RingEntry) → IsKept net h r s b
-    → IsStep net h e → IsKept net (h ++ e ∷ []) (after net r e) (noted_all s (notes_of net r e)) (book_step b e)
+    → IsRingStep net h e → IsKept net (h ++ e ∷ []) (after net r e) (noted_all s (notes_of net r e)) (book_step b e)
 kept-push net h r s b e k step = record {
   members = k.members;
   fates = k.fates;
@@ -45,14 +49,14 @@ kept-push net h r s b e k step = record {
 
 -- the same for a call, whose step is said of the value
 pub kept-call : (w v : RingLog) (g : List RingEntry) (r r' : RingIs) (s s' : List StatsIs) (b b' : Book) (e : RingEntry) → w ≡ v
-    → IsKept w.net w.history r s b → IsStep v.net v.history e → g ≡ w.history ++ e ∷ [] → r' ≡ after w.net r e
+    → IsKept w.net w.history r s b → IsRingStep v.net v.history e → g ≡ w.history ++ e ∷ [] → r' ≡ after w.net r e
     → s' ≡ noted_all s (notes_of w.net r e) → b' ≡ book_step b e → IsKept w.net g r' s' b'
-kept-call w v g r r' s s' b b' e is k step grown ring stats book =
-    let pushed = kept-push w.net w.history r s b e k (subst (λ (x : RingLog). IsStep x.net x.history e) (sym is) step) in
+kept-call w v g r r' s s' b b' e is k step grows ring stats book =
+    let pushed = kept-push w.net w.history r s b e k (subst (λ (x : RingLog). IsRingStep x.net x.history e) (sym is) step) in
     subst (λ (x : Book). IsKept w.net g r' s' x) (sym book)
     (subst (λ (x : List StatsIs). IsKept w.net g r' x (book_step b e)) (sym stats)
     (subst (λ (x : RingIs). IsKept w.net g x (noted_all s (notes_of w.net r e)) (book_step b e)) (sym ring)
-    (subst (λ (x : List RingEntry). IsKept w.net x (after w.net r e) (noted_all s (notes_of w.net r e)) (book_step b e)) (sym grown) pushed)))
+    (subst (λ (x : List RingEntry). IsKept w.net x (after w.net r e) (noted_all s (notes_of w.net r e)) (book_step b e)) (sym grows) pushed)))
 
 -- the ring of the value is that of the fields
 pub opened : (w v : RingLog) (r : RingIs) (s : List StatsIs) (b : Book) → w ≡ v → IsKept w.net w.history r s b → ring_of v ≡ r
@@ -65,7 +69,7 @@ within w v r s b n is k m = subst (λ (size : ℕ). n < size) (sym k.sound.size)
 
 -- what was read at a place of the nodes
 pub part : (w v : RingLog) (r : RingIs) (s : List StatsIs) (b : Book) (n : ℕ) (c : NodeIs) → w ≡ v → IsKept w.net w.history r s b
-    → IsMember v.net n → c ≡ get_or r.nodes n c → c ≡ node_at r n
+    → IsMember v.net n → c ≡ get_or r.nodes n c → c ≡ ring_node r n
 part w v r s b n c is k m read = get_or_read r.nodes n c (within w v r s b n is k m) read (fresh false)
 
 -- a member has its place in the book

@@ -1,5 +1,6 @@
 -- Counters that run along the history, against the statistics from scratch.
-use Rattle.std.proofs.Common.{◌≡◌, ℕ, zero, suc, ◌<◌, Bool, cond, List, [], ◌∷◌, length, set, replicate, Contains, refl, sym, ap, ◌∙◌, subst, ⊎_elim, eq-eqb, arith}
+use Rattle.std.proofs.Common.{◌≡◌, ℕ, zero, suc, ◌<◌, Bool, cond, List, [], ◌∷◌, length, set}
+use Rattle.std.proofs.Common.{replicate, Contains, refl, sym, ap, ◌∙◌, subst, ⊎_elim, eq-eqb, arith}
 use Rattle.std.proofs.lemmas.Bool.{cases_eq, ne_eqb}
 use Rattle.std.proofs.lemmas.List.{length-set, length-replicate, get_or-set_same, get_or-set_other}
 use Rattle.station_stats.specs.Counts.{StatsIs, cleared, noted, running}
@@ -8,7 +9,8 @@ use Rattle.ring_core.specs.Words.{NetPlan, RingEntry}
 use Rattle.ring_core.specs.Machine.{addresses, opening}
 use Rattle.ring_core.specs.Scratch.{Note, notes_at, all_notes, station_counts}
 use Rattle.ring_core.specs.Legal.{IsMember}
-use Rattle.ring_core.specs.Kept.{stats_at, noted_at, noted_all, joined_stats, opening_stats, stats_after}
+use Rattle.ring_core.specs.Kept.{stats_at, noted_at, noted_all, joined_stats, opening_stats}
+use Rattle.ring_core.specs.Kept.{stats_after}
 
 length-noted : (stats : List StatsIs) (notes : List Note) → length (noted_all stats notes) ≡ length stats
 length-noted stats [] = refl

@@ -1,9 +1,11 @@
 -- A history that goes on by one entry.
-use Rattle.std.proofs.Common.{◌≡◌, ℕ, List, [], ◌∷◌, ◌++◌, refl, sym, ap, ◌∙◌, subst, append_assoc, append-nil}
+use Rattle.std.proofs.Common.{◌≡◌, ℕ, List, [], ◌∷◌, ◌++◌, refl, sym, ap, ◌∙◌, subst, append_assoc}
+use Rattle.std.proofs.Common.{append-nil}
 use Rattle.ring_core.specs.Words.{NetPlan, RingEntry}
 use Rattle.ring_core.specs.Machine.{RingIs, after, after_all, opening, ring_after}
-use Rattle.ring_core.specs.Scratch.{Note, notes_of, all_notes, put_with, put_after, heard_in, heard_after}
-use Rattle.ring_core.specs.Legal.{IsStep, IsRun, IsLegal}
+use Rattle.ring_core.specs.Scratch.{Note, notes_of, all_notes, put_with, put_after, heard_in}
+use Rattle.ring_core.specs.Scratch.{heard_after}
+use Rattle.ring_core.specs.Legal.{IsRingStep, IsRun, IsLegal}
 use Rattle.ring_core.specs.Kept.{noted_at, noted_all, stats_after, opening_stats}
 use Rattle.station_stats.specs.Counts.{StatsIs}
 
@@ -11,12 +13,12 @@ pub after_all-push : (net : NetPlan) (r : RingIs) (es : List RingEntry) (e : Rin
 after_all-push net r [] e = refl
 after_all-push net r (f ∷ es) e = after_all-push net (after net r f) es e
 
-IsRun-push : (net : NetPlan) (past es : List RingEntry) (e : RingEntry) → IsRun net past es → IsStep net (past ++ es) e → IsRun net past (es ++ e ∷ [])
-IsRun-push net past [] e run step = (subst (λ (h : List RingEntry). IsStep net h e) (append-nil past) step, tt)
+IsRun-push : (net : NetPlan) (past es : List RingEntry) (e : RingEntry) → IsRun net past es → IsRingStep net (past ++ es) e → IsRun net past (es ++ e ∷ [])
+IsRun-push net past [] e run step = (subst (λ (h : List RingEntry). IsRingStep net h e) (append-nil past) step, tt)
 IsRun-push net past (f ∷ es) e run step =
-    (run.0, IsRun-push net (past ++ f ∷ []) es e run.1 (subst (λ (h : List RingEntry). IsStep net h e) (sym (append_assoc past (f ∷ []) es)) step))
+    (run.0, IsRun-push net (past ++ f ∷ []) es e run.1 (subst (λ (h : List RingEntry). IsRingStep net h e) (sym (append_assoc past (f ∷ []) es)) step))
 
-pub IsLegal-push : (net : NetPlan) (h : List RingEntry) (e : RingEntry) → IsLegal net h → IsStep net h e → IsLegal net (h ++ e ∷ [])
+pub IsLegal-push : (net : NetPlan) (h : List RingEntry) (e : RingEntry) → IsLegal net h → IsRingStep net h e → IsLegal net (h ++ e ∷ [])
 IsLegal-push net h e legal step = IsRun-push net [] h e legal step
 
 all_notes-push : (net : NetPlan) (r : RingIs) (es : List RingEntry) (e : RingEntry)

@@ -1,12 +1,15 @@
 -- The fields after a transmission.
-use Rattle.std.proofs.Common.{◌≡◌, ℕ, ◌+◌, ◌<◌, Bool, List, [], ◌∷◌, ◌++◌, length, get_or, set, Option, Some, None, false, refl, sym, ap, ◌∙◌, subst}
+use Rattle.std.proofs.Common.{◌≡◌, ℕ, ◌+◌, ◌<◌, Bool, List, [], ◌∷◌, ◌++◌, length, get_or, set}
+use Rattle.std.proofs.Common.{Option, Some, None, false, refl, sym, ap, ◌∙◌, subst}
 use Rattle.std.proofs.lemmas.List.{length-set, get_or_read}
 use Rattle.global_data.specs.Book.{Book}
 use Rattle.station_stats.specs.Counts.{StatsIs}
 use Rattle.ring_core.specs.Words.{NetPlan, RingEntry, Send, Frame, Fate, Heard, Fell}
-use Rattle.ring_core.specs.Machine.{NodeIs, RingIs, node_at, part_of, fresh, fate_at, heard_of, arrival, arrived, heard_by, sent_head, sent_one}
+use Rattle.ring_core.specs.Machine.{NodeIs, RingIs, ring_node, part_of, fresh, fate_at, heard_of}
+use Rattle.ring_core.specs.Machine.{arrival, arrived, heard_by, sent_head, sent_one}
 use Rattle.ring_core.specs.Refusals.{turn_no, empty_no, or_no}
-use Rattle.ring_core.specs.Scratch.{counts, heard_event, arrival_notes, sent_notes, send_notes, notes_of}
+use Rattle.ring_core.specs.Scratch.{counts, heard_event, arrival_notes, sent_notes, send_notes}
+use Rattle.ring_core.specs.Scratch.{notes_of}
 use Rattle.ring_core.specs.Legal.{IsMember, IsFirst, IsHeard}
 use Rattle.ring_core.specs.Kept.{IsKept, RingLog, ring_of, noted_at, noted_all}
 use Rattle.ring_core.proofs.Runs.{noted_two}
@@ -26,17 +29,17 @@ is-heard net r (g ∷ gs) f h first heard = heard
 
 -- the same for a call, whose first frame is said of the value
 told-send : (w v : RingLog) (r : RingIs) (s : List StatsIs) (b : Book) (n : ℕ) (f : Frame) (h : Heard) (fate : Fate) (fall : Option Fell)
-    → w ≡ v → IsKept w.net w.history r s b → IsFirst (node_at (ring_of v) n).outbox f
+    → w ≡ v → IsKept w.net w.history r s b → IsFirst (ring_node (ring_of v) n).outbox f
     → fate ≡ fate_at w.net.fates r.sent → fall ≡ arrival r.nodes fate f → h ≡ heard_of fate fall
-    → IsHeard v.net (ring_of v) (node_at (ring_of v) n).outbox h
+    → IsHeard v.net (ring_of v) (ring_node (ring_of v) n).outbox h
 told-send w v r s b n f h fate fall is k first fate_is fall_is h_is =
     let same = opened w v r s b is k in
     let fate' = fate_at w.net.fates r.sent in
     let heard : h ≡ heard_of fate' (arrival r.nodes fate' f) =
     h_is ∙ (ap (heard_of fate) fall_is ∙ (λ i. heard_of (fate_is i) (arrival r.nodes (fate_is i) f))) in
-    subst (λ (x : RingLog). IsHeard x.net (ring_of v) (node_at (ring_of v) n).outbox h) is
-    (subst (λ (x : RingIs). IsHeard w.net x (node_at x n).outbox h) (sym same)
-    (is-heard w.net r (node_at r n).outbox f h (subst (λ (x : RingIs). IsFirst (node_at x n).outbox f) same first) heard))
+    subst (λ (x : RingLog). IsHeard x.net (ring_of v) (ring_node (ring_of v) n).outbox h) is
+    (subst (λ (x : RingIs). IsHeard w.net x (ring_node x n).outbox h) (sym same)
+    (is-heard w.net r (ring_node r n).outbox f h (subst (λ (x : RingIs). IsFirst (ring_node x n).outbox f) same first) heard))
 
 sends : (net : NetPlan) (r : RingIs) (n : ℕ) (box : List Frame) (f : Frame) → turn_no r n ≡ None → IsFirst box f → Sends net r n box f
 sends net r n [] f turn first = absurd first
@@ -52,12 +55,12 @@ length-arrived nodes f (Some fall) = length-set nodes f.to _
 
 pub kept-send : (w v : RingLog) (g : List RingEntry) (r : RingIs) (s s1 s2 : List StatsIs) (b : Book) (n : ℕ) (f : Frame) (h : Heard)
     (there : Bool) (fate : Fate) (fall : Option Fell) (ns : List NodeIs) (p q : NodeIs)
-    → w ≡ v → IsKept w.net w.history r s b → IsMember v.net n → turn_no (ring_of v) n ≡ None → IsFirst (node_at (ring_of v) n).outbox f
-    → fate ≡ fate_at w.net.fates r.sent → there ≡ (node_at r f.to).here → fall ≡ arrival r.nodes fate f → h ≡ heard_of fate fall → ns ≡ arrived r.nodes f fall
+    → w ≡ v → IsKept w.net w.history r s b → IsMember v.net n → turn_no (ring_of v) n ≡ None → IsFirst (ring_node (ring_of v) n).outbox f
+    → fate ≡ fate_at w.net.fates r.sent → there ≡ (ring_node r f.to).here → fall ≡ arrival r.nodes fate f → h ≡ heard_of fate fall → ns ≡ arrived r.nodes f fall
     → p ≡ get_or ns n p → q ≡ heard_by p f.kind f.id there h
     → s1 ≡ noted_all s (arrival_notes f.to fall) → s2 ≡ noted_at s1 (counts n (heard_event h)) → g ≡ w.history ++ Send n h ∷ []
     → IsKept w.net g (record { holder = r.holder; sent = r.sent + 1; nodes = set ns n q }) s2 b
-kept-send w v g r s s1 s2 b n f h there fate fall ns p q is k member turn first fate_is there_is fall_is h_is ns_is p_is q_is s1_is s2_is grown =
+kept-send w v g r s s1 s2 b n f h there fate fall ns p q is k member turn first fate_is there_is fall_is h_is ns_is p_is q_is s1_is s2_is grows =
     let same = opened w v r s b is k in
     let fate' = fate_at w.net.fates r.sent in
     let low : n < length ns = subst (λ (l : ℕ). n < l) (sym (ap length ns_is ∙ length-arrived r.nodes f fall)) (within w v r s b n is k member) in
@@ -66,9 +69,9 @@ kept-send w v g r s s1 s2 b n f h there fate fall ns p q is k member turn first 
     let nodes : ns ≡ arrived r.nodes f (arrival r.nodes fate' f) = ns_is ∙ ap (arrived r.nodes f) fell in
     let part : p ≡ part_of (arrived r.nodes f (arrival r.nodes fate' f)) n = get_or_read ns n p low p_is (fresh false)
     ∙ ap (λ (l : List NodeIs). part_of l n) nodes in
-    let t = sends w.net r n (node_at r n).outbox f (subst (λ (x : RingIs). turn_no x n ≡ None) same turn)
-    (subst (λ (x : RingIs). IsFirst (node_at x n).outbox f) same first) in
-    let node : q ≡ heard_by (part_of (arrived r.nodes f (arrival r.nodes fate' f)) n) f.kind f.id (node_at r f.to).here
+    let t = sends w.net r n (ring_node r n).outbox f (subst (λ (x : RingIs). turn_no x n ≡ None) same turn)
+    (subst (λ (x : RingIs). IsFirst (ring_node x n).outbox f) same first) in
+    let node : q ≡ heard_by (part_of (arrived r.nodes f (arrival r.nodes fate' f)) n) f.kind f.id (ring_node r f.to).here
     (heard_of fate' (arrival r.nodes fate' f)) = q_is ∙ (λ i. heard_by (part i) f.kind f.id (there_is i) (heard i)) in
     let next : record { holder = r.holder; sent = r.sent + 1; nodes = set ns n q } ≡ sent_one w.net r n f =
     λ i. record { holder = r.holder; sent = r.sent + 1; nodes = set (nodes i) n (node i) } in
@@ -76,7 +79,7 @@ kept-send w v g r s s1 s2 b n f h there fate fall ns p q is k member turn first 
     ∙ (ap (λ (l : List StatsIs). noted_at l (counts n (heard_event h))) s1_is ∙ noted_two s (arrival_notes f.to fall) (counts n (heard_event h))) in
     let notes : s2 ≡ noted_all s (notes_of w.net r (Send n h)) = noted
     ∙ ((λ i. noted_all s (arrival_notes f.to (fell i) ++ counts n (heard_event (heard i)) ∷ [])) ∙ ap (noted_all s) (sym t.notes)) in
-    let lets : or_no (turn_no (ring_of v) n) (empty_no (node_at (ring_of v) n).outbox) ≡ None =
-    subst (λ (x : RingIs). or_no (turn_no x n) (empty_no (node_at x n).outbox) ≡ None) (sym same) t.lets in
+    let lets : or_no (turn_no (ring_of v) n) (empty_no (ring_node (ring_of v) n).outbox) ≡ None =
+    subst (λ (x : RingIs). or_no (turn_no x n) (empty_no (ring_node x n).outbox) ≡ None) (sym same) t.lets in
     let told = told-send w v r s b n f h fate fall is k first fate_is fall_is h_is in
-    kept-call w v g r _ s s2 b b (Send n h) is k (member, (lets, told)) grown (next ∙ sym t.next) notes refl
+    kept-call w v g r _ s s2 b b (Send n h) is k (member, (lets, told)) grows (next ∙ sym t.next) notes refl

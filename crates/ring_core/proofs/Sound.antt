@@ -1,9 +1,19 @@
 -- Sizes and bounds after one more entry.
-use Rattle.std.proofs.Common.{◌≡◌, ℕ, zero, suc, ◌+◌, ◌≤◌, Bool, true, false, cond, List, [], ◌∷◌, ◌++◌, length, get_or, set, map, drop, replicate, nat_le, not, filter, Option, Some, None, refl, ◌∙◌, arith, leb-false}
+use Rattle.std.proofs.Common.{◌≡◌, ℕ, zero, suc, ◌+◌, ◌≤◌, Bool, true, false, cond, List, [], ◌∷◌}
+use Rattle.std.proofs.Common.{◌++◌, length, get_or, set, map, drop, replicate, nat_le, not, filter}
+use Rattle.std.proofs.Common.{Option, Some, None, refl, ◌∙◌, arith, leb-false}
 use Rattle.std.proofs.lemmas.Bool.{cond_both}
 use Rattle.std.proofs.lemmas.List.{length-set, length-map, length-replicate}
-use Rattle.ring_core.specs.Words.{NetPlan, RingEntry, Post, Send, Take, Local, GiveUp, Pass, Leave, Frame, FrameKind, Request, Reply, CallId, Heard, Acked, Silent, Busy, Await, Nothing, Out, Arrived, Failed, Path, Fell, AcceptedRequest, RepeatedRequest, CrowdedOut, AcceptedReply, DroppedReply, asks_for}
-use Rattle.ring_core.specs.Machine.{NodeIs, RingIs, part_of, node_at, no_path, fresh, passes_of, asked, took, passed, aged, aged_await, gone, gave_up, is_head, with_frame, heard_by, sent_off, failed, arrived, arrival, sent_head, heard_of, fate_at, addresses, opening, joined, after, silence_word, busy_word}
+use Rattle.ring_core.specs.Words.{NetPlan, RingEntry, Post, Send, Take, Local, GiveUp, Pass, Leave}
+use Rattle.ring_core.specs.Words.{Frame, FrameKind, Request, Reply, CallId, Heard, Acked, Silent}
+use Rattle.ring_core.specs.Words.{Busy, Await, Nothing, Out, Arrived, Failed, Path, Fell}
+use Rattle.ring_core.specs.Words.{AcceptedRequest, RepeatedRequest, CrowdedOut, AcceptedReply}
+use Rattle.ring_core.specs.Words.{DroppedReply, asks_for}
+use Rattle.ring_core.specs.Machine.{NodeIs, RingIs, part_of, ring_node, no_path, fresh, passes_of}
+use Rattle.ring_core.specs.Machine.{asked, took, after_pass, aged, aged_await, gone, gave_up}
+use Rattle.ring_core.specs.Machine.{is_head, with_frame, heard_by, sent_off, failed, arrived}
+use Rattle.ring_core.specs.Machine.{arrival, sent_head, heard_of, fate_at, addresses, opening}
+use Rattle.ring_core.specs.Machine.{with_members, after, silence_word, busy_word}
 use Rattle.ring_core.specs.Kept.{IsSound, IsSoundRing}
 
 -- what holds at each place of a list, past its end too, after a write
@@ -82,7 +92,7 @@ run-low : (k run : ℕ) (done : Bool) → run ≤ k → cond done (run + 1) 0 �
 run-low k run true h = omega arith
 run-low k run false h = omega arith
 
-passed-sound : (k : ℕ) (c : NodeIs) (done : Bool) → IsSound k c → IsSound (k + 1) (passed c done)
+passed-sound : (k : ℕ) (c : NodeIs) (done : Bool) → IsSound k c → IsSound (k + 1) (after_pass c done)
 passed-sound k c done s = record {
   tries = s.tries;
   passes = omega (arith, s.passes);
@@ -151,7 +161,7 @@ sent-sound net k r n (f ∷ fs) s =
       size = length-set nodes n _
           ∙ a.size;
       each = all-later k _ (each-set (IsSound k) nodes (fresh false) n _ a.each
-          (heard-sound k (part_of nodes n) f.kind f.id (node_at r f.to).here (heard_of fate fall) (a.each n)));
+          (heard-sound k (part_of nodes n) f.kind f.id (ring_node r f.to).here (heard_of fate fall) (a.each n)));
     }
 
 -- one node's part is written
@@ -164,22 +174,22 @@ put-sound k r n c s it = record {
 }
 
 pub after-sound : (net : NetPlan) (k : ℕ) (r : RingIs) (e : RingEntry) → IsSoundRing k r → IsSoundRing (k + 1) (after net r e)
-after-sound net k r (Post n f) s = put-sound k r n _ s (posted-sound k (node_at r n) f f.kind (s.each n))
-after-sound net k r (Send n heard) s = sent-sound net k r n (node_at r n).outbox s
-after-sound net k r (Take n f) s = put-sound k r n _ s (took-sound k (node_at r n) f.kind f.id (s.each n))
+after-sound net k r (Post n f) s = put-sound k r n _ s (posted-sound k (ring_node r n) f f.kind (s.each n))
+after-sound net k r (Send n heard) s = sent-sound net k r n (ring_node r n).outbox s
+after-sound net k r (Take n f) s = put-sound k r n _ s (took-sound k (ring_node r n) f.kind f.id (s.each n))
 after-sound net k r (Local n id op result) s = record { sent = omega (arith, s.sent); size = s.size; each = all-later k r.nodes s.each }
-after-sound net k r (GiveUp id word) s = put-sound k r id.node _ s (gave_up-sound k (node_at r id.node) id (s.each id.node))
+after-sound net k r (GiveUp id word) s = put-sound k r id.node _ s (gave_up-sound k (ring_node r id.node) id (s.each id.node))
 after-sound net k r (Pass n done words) s = record {
   sent = omega (arith, s.sent);
   size = length-set r.nodes n _
       ∙ s.size;
-  each = each-set (IsSound (k + 1)) r.nodes (fresh false) n _ (all-later k r.nodes s.each) (passed-sound k (node_at r n) done (s.each n));
+  each = each-set (IsSound (k + 1)) r.nodes (fresh false) n _ (all-later k r.nodes s.each) (passed-sound k (ring_node r n) done (s.each n));
 }
 after-sound net k r (Leave n cause) s = record {
   sent = omega (arith, s.sent);
   size = length-set r.nodes n _
       ∙ s.size;
-  each = all-later k _ (each-set (IsSound k) r.nodes (fresh false) n _ s.each (gone-sound k (node_at r n) (s.each n)));
+  each = all-later k _ (each-set (IsSound k) r.nodes (fresh false) n _ s.each (gone-sound k (ring_node r n) (s.each n)));
 }
 
 each-replicate : {X : Type 0} (P : X → Type 0) (n : ℕ) (x : X) → P x → (m : ℕ) → P (get_or (replicate n x) m x)
@@ -198,7 +208,7 @@ fresh-sound here = record {
   waits = each-replicate (WaitsAtMost 0) 5 no_path (omega arith);
 }
 
-joined-sound : (nodes : List NodeIs) (ms : List ℕ) → AreSound 0 nodes → AreSound 0 (joined nodes ms)
+joined-sound : (nodes : List NodeIs) (ms : List ℕ) → AreSound 0 nodes → AreSound 0 (with_members nodes ms)
 joined-sound nodes [] s = s
 joined-sound nodes (m ∷ ms) s = joined-sound (set nodes m (fresh true)) ms
     (record { size = length-set nodes m _ ∙ s.size; each = each-set (IsSound 0) nodes (fresh false) m _ s.each (fresh-sound true) })

@@ -1,11 +1,19 @@
 -- What the entries of others leave as it was.
-use Rattle.std.proofs.Common.{◌≡◌, ◌≢◌, ℕ, zero, suc, ◌==◌, Bool, true, false, cond, nat_le, List, [], ◌∷◌, ◌++◌, set, Option, Some, None, refl, sym, ap, ◌∙◌, subst, ⊎_elim, append-nil, append_assoc}
+use Rattle.std.proofs.Common.{◌≡◌, ◌≢◌, ℕ, zero, suc, ◌==◌, Bool, true, false, cond, nat_le, List}
+use Rattle.std.proofs.Common.{[], ◌∷◌, ◌++◌, set, Option, Some, None, refl, sym, ap, ◌∙◌, subst}
+use Rattle.std.proofs.Common.{⊎_elim, append-nil, append_assoc}
 use Rattle.std.proofs.lemmas.Bool.{eqb-true, ne_eqb, cases_eq, cond_both}
 use Rattle.std.proofs.lemmas.List.{get_or-set_other}
-use Rattle.ring_core.specs.Words.{NetPlan, RingEntry, Post, Send, Take, Local, GiveUp, Pass, Leave, maker, Frame, FrameKind, CallId, Fate, Fell, AcceptedRequest, RepeatedRequest, CrowdedOut, AcceptedReply, DroppedReply, Heard, Acked, Silent, Busy, RingNo, NotMember, NotHolder}
-use Rattle.ring_core.specs.Machine.{NodeIs, RingIs, part_of, node_at, fresh, after, opening, ring_after, posted, gave_up, reaches, arrival, arrived, fell, with_frame, heard_by, heard_of, fate_at, sent_head, sent_off, failed, silence_word}
+use Rattle.ring_core.specs.Words.{NetPlan, RingEntry, Post, Send, Take, Local, GiveUp, Pass, Leave}
+use Rattle.ring_core.specs.Words.{maker, Frame, FrameKind, CallId, Fate, Fell, AcceptedRequest}
+use Rattle.ring_core.specs.Words.{RepeatedRequest, CrowdedOut, AcceptedReply, DroppedReply, Heard}
+use Rattle.ring_core.specs.Words.{Acked, Silent, Busy, RingNo, NotMember, NotHolder}
+use Rattle.ring_core.specs.Machine.{NodeIs, RingIs, part_of, ring_node, fresh, after, opening}
+use Rattle.ring_core.specs.Machine.{ring_after, posted, gave_up, fate_reaches, arrival, arrived}
+use Rattle.ring_core.specs.Machine.{fell, with_frame, heard_by, heard_of, fate_at, sent_head}
+use Rattle.ring_core.specs.Machine.{sent_off, failed, silence_word}
 use Rattle.ring_core.specs.Refusals.{turn_no, free_no, or_no, least_done, least_of, or_zero}
-use Rattle.ring_core.specs.Legal.{IsTimely}
+use Rattle.ring_core.specs.Legal.{IsTimelyEntry}
 use Rattle.ring_core.specs.Stability.{Stays, HolderStays, LeftStays, IsLeave, MemberStays}
 use Rattle.ring_core.proofs.Runs.{after_all-push}
 
@@ -20,7 +28,7 @@ turned false holds why e = absurd (cc)
 
 -- whose turn is not refused holds the token
 turn-holds : (r : RingIs) (m : ℕ) → turn_no r m ≡ None → r.holder ≡ m
-turn-holds r m e = eqb-true r.holder m (turned (node_at r m).here (r.holder == m) (NotHolder r.holder) e)
+turn-holds r m e = eqb-true r.holder m (turned (ring_node r m).here (r.holder == m) (NotHolder r.holder) e)
 
 -- who is let through and does not hold the token has left
 let_out : (here holds : Bool) (why : RingNo) → cond here (cond holds None (Some why)) None ≡ None → holds ≡ false → here ≡ false
@@ -28,8 +36,8 @@ let_out true true why e h = absurd (cc)
 let_out true false why e h = absurd (cc)
 let_out false holds why e h = refl
 
-free-left : (r : RingIs) (n m : ℕ) → free_no r m ≡ None → r.holder ≡ n → (m ≡ n → ⊥) → (node_at r m).here ≡ false
-free-left r n m e h other = let_out (node_at r m).here (r.holder == m) (NotHolder r.holder) e (ne_eqb r.holder m (λ q. other (sym q ∙ h)))
+free-left : (r : RingIs) (n m : ℕ) → free_no r m ≡ None → r.holder ≡ n → (m ≡ n → ⊥) → (ring_node r m).here ≡ false
+free-left r n m e h other = let_out (ring_node r m).here (r.holder == m) (NotHolder r.holder) e (ne_eqb r.holder m (λ q. other (sym q ∙ h)))
 
 -- the part of who has left is not asked how long it has been done
 least-out : (nodes : List NodeIs) (m : ℕ) (c : NodeIs) → c.here ≡ false → (part_of nodes m).here ≡ false → least_done (set nodes m c) ≡ least_done nodes
@@ -41,7 +49,7 @@ least-out (d ∷ ds) (suc m) c gone_now left =
     ap (λ (l : Option ℕ). cond d.here (Some (least_of d.done_run l)) l) (least-out ds m c gone_now left)
 
 -- another that has left writes its own part
-put-stays : (r : RingIs) (n m : ℕ) (c : NodeIs) → c.here ≡ (node_at r m).here → (node_at r m).here ≡ false → (m ≡ n → ⊥)
+put-stays : (r : RingIs) (n m : ℕ) (c : NodeIs) → c.here ≡ (ring_node r m).here → (ring_node r m).here ≡ false → (m ≡ n → ⊥)
     → Stays r (record r { nodes = set r.nodes m c }) n
 put-stays r n m c same left other =
     let part : part_of (set r.nodes m c) n ≡ part_of r.nodes n = get_or-set_other r.nodes m n c (fresh false) (λ q. other (sym q)) in
@@ -51,13 +59,13 @@ put-stays r n m c same left other =
       quiet = λ i. cond (part i).here (or_zero (least-out r.nodes m c (same ∙ left) left i)) 0;
     }
 
-step-stays : (net : NetPlan) (past : List RingEntry) (r : RingIs) (n : ℕ) (e : RingEntry) → IsTimely net past r e → r.holder ≡ n
+step-stays : (net : NetPlan) (past : List RingEntry) (r : RingIs) (n : ℕ) (e : RingEntry) → IsTimelyEntry net past r e → r.holder ≡ n
     → maker e ≢ n → Stays r (after net r e) n
-step-stays net past r n (Post m f) t h other = put-stays r n m (posted (node_at r m) f) refl (free-left r n m (first_none _ _ t.1) h other) other
+step-stays net past r n (Post m f) t h other = put-stays r n m (posted (ring_node r m) f) refl (free-left r n m (first_none _ _ t.1) h other) other
 step-stays net past r n (Send m heard) t h other = absurd (other (sym (turn-holds r m (first_none _ _ t.0)) ∙ h))
 step-stays net past r n (Take m f) t h other = absurd (other (sym (turn-holds r m t.0) ∙ h))
 step-stays net past r n (Local m id op result) t h other = record { holder = refl; part = refl; quiet = refl }
-step-stays net past r n (GiveUp id word) t h other = put-stays r n id.node (gave_up (node_at r id.node) id) refl
+step-stays net past r n (GiveUp id word) t h other = put-stays r n id.node (gave_up (ring_node r id.node) id) refl
     (free-left r n id.node (first_none _ _ t.0) h other) other
 step-stays net past r n (Pass m done words) t h other = absurd (other (sym (turn-holds r m (first_none _ _ t.0)) ∙ h))
 step-stays net past r n (Leave m cause) t h other = absurd (other (sym (turn-holds r m (first_none _ _ (first_none _ _ t))) ∙ h))
@@ -82,7 +90,7 @@ out : (nodes : List NodeIs) (n m : ℕ) (c : NodeIs) → (m ≡ n → ⊥) → p
 out nodes n m c other = get_or-set_other nodes m n c (fresh false) (λ q. other (sym q))
 
 left-arrives : (nodes : List NodeIs) (fate : Fate) (f : Frame) → (part_of nodes f.to).here ≡ false → arrival nodes fate f ≡ None
-left-arrives nodes fate f left = ap (λ (b : Bool). cond (cond b (reaches fate) false) (Some (fell (part_of nodes f.to) f.kind f.id)) None) left
+left-arrives nodes fate f left = ap (λ (b : Bool). cond (cond b (fate_reaches fate) false) (Some (fell (part_of nodes f.to) f.kind f.id)) None) left
 
 settled-out : (nodes : List NodeIs) (n : ℕ) (f : Frame) (fall : Option Fell) → (f.to ≡ n → ⊥) → part_of (arrived nodes f fall) n ≡ part_of nodes n
 settled-out nodes n f None other = refl
@@ -96,16 +104,16 @@ arrived-out nodes n fate f left = ⊎_elim
     (λ (no' : f.to ≡ n → ⊥). settled-out nodes n f (arrival nodes fate f) no')
     (cases_eq f.to n)
 
-sent-out : (net : NetPlan) (r : RingIs) (n m : ℕ) (box : List Frame) → (node_at r n).here ≡ false → (m ≡ n → ⊥)
-    → node_at (sent_head net r m box) n ≡ node_at r n
+sent-out : (net : NetPlan) (r : RingIs) (n m : ℕ) (box : List Frame) → (ring_node r n).here ≡ false → (m ≡ n → ⊥)
+    → ring_node (sent_head net r m box) n ≡ ring_node r n
 sent-out net r n m [] left other = refl
 sent-out net r n m (f ∷ fs) left other =
     let fate = fate_at net.fates r.sent in
     out (arrived r.nodes f (arrival r.nodes fate f)) n m _ other ∙ arrived-out r.nodes n fate f left
 
-step-left : (net : NetPlan) (r : RingIs) (n : ℕ) (e : RingEntry) → (node_at r n).here ≡ false → maker e ≢ n → node_at (after net r e) n ≡ node_at r n
+step-left : (net : NetPlan) (r : RingIs) (n : ℕ) (e : RingEntry) → (ring_node r n).here ≡ false → maker e ≢ n → ring_node (after net r e) n ≡ ring_node r n
 step-left net r n (Post m f) left other = out r.nodes n m _ other
-step-left net r n (Send m heard) left other = sent-out net r n m (node_at r m).outbox left other
+step-left net r n (Send m heard) left other = sent-out net r n m (ring_node r m).outbox left other
 step-left net r n (Take m f) left other = out r.nodes n m _ other
 step-left net r n (Local m id op result) left other = refl
 step-left net r n (GiveUp id word) left other = out r.nodes n id.node _ other
@@ -113,12 +121,12 @@ step-left net r n (Pass m done words) left other = out r.nodes n m _ other
 step-left net r n (Leave m cause) left other = out r.nodes n m _ other
 
 pub left-stays : LeftStays
-left-stays net past [] n left none = ap (λ (l : List RingEntry). node_at (ring_after net l) n) (append-nil past)
+left-stays net past [] n left none = ap (λ (l : List RingEntry). ring_node (ring_after net l) n) (append-nil past)
 left-stays net past (e ∷ es) n left none =
-    let one : node_at (ring_after net (past ++ e ∷ [])) n ≡ node_at (ring_after net past) n =
-    ap (λ (x : RingIs). node_at x n) (next_ring net past e) ∙ step-left net (ring_after net past) n e left none.0 in
+    let one : ring_node (ring_after net (past ++ e ∷ [])) n ≡ ring_node (ring_after net past) n =
+    ap (λ (x : RingIs). ring_node x n) (next_ring net past e) ∙ step-left net (ring_after net past) n e left none.0 in
     let more = left-stays net (past ++ e ∷ []) es n (ap (λ (c : NodeIs). c.here) one ∙ left) none.1 in
-    ap (λ (l : List RingEntry). node_at (ring_after net l) n) (sym (append_assoc past (e ∷ []) es)) ∙ (more ∙ one)
+    ap (λ (l : List RingEntry). ring_node (ring_after net l) n) (sym (append_assoc past (e ∷ []) es)) ∙ (more ∙ one)
 
 -- a write that keeps whether a node is there
 here-set : (nodes : List NodeIs) (m k : ℕ) (c : NodeIs) → c.here ≡ (part_of nodes m).here → (part_of (set nodes m c) k).here ≡ (part_of nodes k).here
@@ -145,17 +153,17 @@ here-heard c kind id there Busy = refl
 here-heard c kind id there Silent = cond_both (nat_le 2 c.tries) (sent_off c (failed c kind id (silence_word there))) _
     (λ (x : NodeIs). x.here ≡ c.here) (λ _. refl) (λ _. refl)
 
-here-sent : (net : NetPlan) (r : RingIs) (m : ℕ) (box : List Frame) (k : ℕ) → (node_at (sent_head net r m box) k).here ≡ (node_at r k).here
+here-sent : (net : NetPlan) (r : RingIs) (m : ℕ) (box : List Frame) (k : ℕ) → (ring_node (sent_head net r m box) k).here ≡ (ring_node r k).here
 here-sent net r m [] k = refl
 here-sent net r m (f ∷ fs) k =
     let fall = arrival r.nodes (fate_at net.fates r.sent) f in
     let nodes = arrived r.nodes f fall in
-    here-set nodes m k _ (here-heard (part_of nodes m) f.kind f.id (node_at r f.to).here (heard_of (fate_at net.fates r.sent) fall))
+    here-set nodes m k _ (here-heard (part_of nodes m) f.kind f.id (ring_node r f.to).here (heard_of (fate_at net.fates r.sent) fall))
     ∙ here-arrived r.nodes f fall k
 
-step-member : (net : NetPlan) (r : RingIs) (n : ℕ) (e : RingEntry) → (node_at r n).here ≡ true → (IsLeave n e → ⊥) → (node_at (after net r e) n).here ≡ true
+step-member : (net : NetPlan) (r : RingIs) (n : ℕ) (e : RingEntry) → (ring_node r n).here ≡ true → (IsLeave n e → ⊥) → (ring_node (after net r e) n).here ≡ true
 step-member net r n (Post m f) there no' = here-set r.nodes m n _ refl ∙ there
-step-member net r n (Send m heard) there no' = here-sent net r m (node_at r m).outbox n ∙ there
+step-member net r n (Send m heard) there no' = here-sent net r m (ring_node r m).outbox n ∙ there
 step-member net r n (Take m f) there no' = here-set r.nodes m n _ refl ∙ there
 step-member net r n (Local m id op result) there no' = there
 step-member net r n (GiveUp id word) there no' = here-set r.nodes id.node n _ refl ∙ there
@@ -163,9 +171,9 @@ step-member net r n (Pass m done words) there no' = here-set r.nodes m n _ refl 
 step-member net r n (Leave m cause) there no' = ap (λ (c : NodeIs). c.here) (out r.nodes n m _ no') ∙ there
 
 pub member-stays : MemberStays
-member-stays net past [] n there none = ap (λ (l : List RingEntry). (node_at (ring_after net l) n).here) (append-nil past) ∙ there
+member-stays net past [] n there none = ap (λ (l : List RingEntry). (ring_node (ring_after net l) n).here) (append-nil past) ∙ there
 member-stays net past (e ∷ es) n there none =
-    let one : (node_at (ring_after net (past ++ e ∷ [])) n).here ≡ true = ap (λ (x : RingIs). (node_at x n).here) (next_ring net past e)
+    let one : (ring_node (ring_after net (past ++ e ∷ [])) n).here ≡ true = ap (λ (x : RingIs). (ring_node x n).here) (next_ring net past e)
     ∙ step-member net (ring_after net past) n e there none.0 in
     let more = member-stays net (past ++ e ∷ []) es n one none.1 in
-    ap (λ (l : List RingEntry). (node_at (ring_after net l) n).here) (sym (append_assoc past (e ∷ []) es)) ∙ more
+    ap (λ (l : List RingEntry). (ring_node (ring_after net l) n).here) (sym (append_assoc past (e ∷ []) es)) ∙ more

@@ -1,9 +1,12 @@
 -- What a contract sees of a ring, and what its fields keep. This project's own.
-use Rattle.std.specs.Prelude.{◌+◌, ◌-◌, ◌≡◌, ◌≢◌, ℕ, ◌<◌, ◌≤◌, List, [], ◌∷◌, ◌++◌, length, get_or, set, replicate, All, Option, Some, None, Result, MatchResult, ◌⊎◌}
-use Rattle.ring_core.specs.Words.{NetPlan, RingEntry, Local, Pass, RingNo, NoMemory, LocalOp, PutGlobal}
-use Rattle.ring_core.specs.Machine.{NodeIs, RingIs, ring_after, opening, addresses, path_places, sources, node_at, path_of, passes_of}
+use Rattle.std.specs.Prelude.{◌+◌, ◌-◌, ◌≡◌, ◌≢◌, ℕ, ◌<◌, ◌≤◌, List, [], ◌∷◌, ◌++◌, length, get_or}
+use Rattle.std.specs.Prelude.{set, replicate, All, Option, Some, None, Result, MatchResult, ◌⊎◌}
+use Rattle.ring_core.specs.Words.{NetPlan, RingEntry, Local, Pass, RingNo, NoMemory, LocalOp}
+use Rattle.ring_core.specs.Words.{PutGlobal}
+use Rattle.ring_core.specs.Machine.{NodeIs, RingIs, ring_after, opening, addresses, path_places}
+use Rattle.ring_core.specs.Machine.{sources, ring_node, path_of, passes_of}
 use Rattle.ring_core.specs.Legal.{IsLegal, IsMember}
-use Rattle.ring_core.specs.Scratch.{Note, all_notes, put_words, heard_words}
+use Rattle.ring_core.specs.Scratch.{Note, all_notes, words_put, heard_words}
 use Rattle.station_stats.specs.Counts.{StatsIs, cleared, noted}
 use Rattle.global_data.specs.Book.{Book, GlobalIs, place_at, with_put, with_passed}
 
@@ -17,17 +20,17 @@ abbrev pub ring_of : RingLog → RingIs
 ring_of v = ring_after v.net v.history
 
 -- One more entry.
-abbrev pub grown : RingLog → RingEntry → RingLog
-grown v e = record { net = v.net; history = v.history ++ e ∷ []; spare = v.spare }
+abbrev pub with_entry : RingLog → RingEntry → RingLog
+with_entry v e = record { net = v.net; history = v.history ++ e ∷ []; spare = v.spare }
 
 -- The same, where the entry takes one of the spare.
-abbrev pub closed : RingLog → RingEntry → RingLog
-closed v e = record { net = v.net; history = v.history ++ e ∷ []; spare = v.spare - 1 }
+abbrev pub with_spare_entry : RingLog → RingEntry → RingLog
+with_spare_entry v e = record { net = v.net; history = v.history ++ e ∷ []; spare = v.spare - 1 }
 
 -- A call is refused exactly where this says, and for want of memory only where nothing else
 -- refuses it.
-abbrev pub Answers : {T : Type 0} → Result T RingNo → Option RingNo → Type 0
-Answers r why = MatchResult r (λ _. why ≡ None)
+abbrev pub RefusedAs : {T : Type 0} → Result T RingNo → Option RingNo → Type 0
+RefusedAs r why = MatchResult r (λ _. why ≡ None)
     (λ refused. (why ≡ Some refused) ⊎ ((refused ≡ NoMemory) × (why ≡ None)))
 
 -- Counters of all stations that run along.
@@ -59,7 +62,7 @@ Says (Some words) put heard = (words.put ≡ put) × (words.heard ≡ heard)
 
 pub record IsBook (net : NetPlan) (history : List RingEntry) (book : Book) : Type 0 where
   pub size : length book ≡ 256
-  pub says : (n : ℕ) → Says (place_at book n) (put_words n history) (heard_words n history)
+  pub says : (n : ℕ) → Says (place_at book n) (words_put n history) (heard_words n history)
   pub members : (n : ℕ) → IsMember net n → place_at book n ≢ None
   pub others : (n : ℕ) → place_at book n ≢ None → IsMember net n
 
@@ -85,7 +88,7 @@ pub record IsSound (k : ℕ) (c : NodeIs) : Type 0 where
 pub record IsSoundRing (k : ℕ) (r : RingIs) : Type 0 where
   pub sent : r.sent ≤ k
   pub size : length r.nodes ≡ addresses
-  pub each : (n : ℕ) → IsSound k (node_at r n)
+  pub each : (n : ℕ) → IsSound k (ring_node r n)
 
 -- The fields are the ring, the counters and the book that a legal history leads to.
 pub record IsKept (net : NetPlan) (history : List RingEntry) (ring : RingIs)

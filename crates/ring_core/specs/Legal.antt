@@ -1,9 +1,13 @@
 -- Legal histories of the ring. This project's own.
 use Rattle.std.specs.Prelude.{◌≡◌, ◌≢◌, ℕ, ◌<◌, ◌≤◌, List, [], ◌∷◌, ◌++◌, length, None, Contains}
-use Rattle.ring_core.specs.Words.{CallId, FrameKind, Request, Reply, Frame, LocalOp, PutGlobal, Heard, NetPlan, RingEntry, Post, Send, Take, Local, GiveUp, Pass, Leave}
-use Rattle.ring_core.specs.Machine.{NodeIs, RingIs, node_at, path_of, fate_at, arrival, heard_of, ring_after}
-use Rattle.ring_core.specs.Refusals.{turn_no, free_no, post_no, send_no, pass_no, leave_no, give_up_no, word_of}
-use Rattle.ring_core.specs.Scratch.{put_words, local_result}
+use Rattle.ring_core.specs.Words.{CallId, FrameKind, Request, Reply, Frame, LocalOp, PutGlobal}
+use Rattle.ring_core.specs.Words.{Heard, NetPlan, RingEntry, Post, Send, Take, Local, GiveUp, Pass}
+use Rattle.ring_core.specs.Words.{Leave}
+use Rattle.ring_core.specs.Machine.{NodeIs, RingIs, ring_node, path_of, fate_at, arrival, heard_of}
+use Rattle.ring_core.specs.Machine.{ring_after}
+use Rattle.ring_core.specs.Refusals.{turn_no, free_no, post_no, send_no, pass_no, leave_no}
+use Rattle.ring_core.specs.Refusals.{give_up_no, word_of}
+use Rattle.ring_core.specs.Scratch.{words_put, local_result}
 
 -- A node of the plan, whether or not it has left.
 abbrev pub IsMember : NetPlan → ℕ → Type 0
@@ -19,9 +23,9 @@ IsFrom n Request f = (f.id.node ≡ n) × (f.to ≢ n) × IsPath f.id.path
 IsFrom n Reply f = (f.to ≡ f.id.node) × (f.to ≢ n)
 
 -- A Request's number is above all that were posted on its path.
-abbrev pub IsNext : NodeIs → FrameKind → CallId → Type 0
-IsNext c Request id = (path_of c id.path).posted < id.seq
-IsNext c Reply id = Unit {0}
+abbrev pub IsNextNumber : NodeIs → FrameKind → CallId → Type 0
+IsNextNumber c Request id = (path_of c id.path).posted < id.seq
+IsNextNumber c Reply id = Unit {0}
 
 -- Condition of a Local: at most 32 words are put.
 abbrev pub HasRoom : LocalOp → Type 0
@@ -51,25 +55,26 @@ IsLawful net (Pass n done words) = IsMember net n
 IsLawful net (Leave n cause) = IsMember net n
 
 -- After a history its call is not refused, and its values are those of its effect.
-abbrev pub IsTimely : NetPlan → List RingEntry → RingIs → RingEntry → Type 0
-IsTimely net past r (Post n f) = IsNext (node_at r n) f.kind f.id × (post_no r n f ≡ None)
-IsTimely net past r (Send n heard) =
-    (send_no r n ≡ None) × IsHeard net r (node_at r n).outbox heard
-IsTimely net past r (Take n f) = (turn_no r n ≡ None) × IsFirst (node_at r n).inbox f
-IsTimely net past r (Local n id op result) =
+abbrev pub IsTimelyEntry : NetPlan → List RingEntry → RingIs → RingEntry → Type 0
+IsTimelyEntry net past r (Post n f) = IsNextNumber (ring_node r n) f.kind f.id × (post_no r n f ≡
+    None)
+IsTimelyEntry net past r (Send n heard) =
+    (send_no r n ≡ None) × IsHeard net r (ring_node r n).outbox heard
+IsTimelyEntry net past r (Take n f) = (turn_no r n ≡ None) × IsFirst (ring_node r n).inbox f
+IsTimelyEntry net past r (Local n id op result) =
     (free_no r n ≡ None) × (result ≡ local_result net past n op)
-IsTimely net past r (GiveUp id word) = (give_up_no net r id ≡ None) × (word ≡ word_of r id)
-IsTimely net past r (Pass n done words) = (pass_no r n ≡ None) × (words ≡ put_words n past)
-IsTimely net past r (Leave n cause) = leave_no net r n cause ≡ None
+IsTimelyEntry net past r (GiveUp id word) = (give_up_no net r id ≡ None) × (word ≡ word_of r id)
+IsTimelyEntry net past r (Pass n done words) = (pass_no r n ≡ None) × (words ≡ words_put n past)
+IsTimelyEntry net past r (Leave n cause) = leave_no net r n cause ≡ None
 
 -- An entry is a step after a history.
-abbrev pub IsStep : NetPlan → List RingEntry → RingEntry → Type 0
-IsStep net past e = IsLawful net e × IsTimely net past (ring_after net past) e
+abbrev pub IsRingStep : NetPlan → List RingEntry → RingEntry → Type 0
+IsRingStep net past e = IsLawful net e × IsTimelyEntry net past (ring_after net past) e
 
 -- Entries are steps one after another.
 abbrev pub IsRun : NetPlan → List RingEntry → List RingEntry → Type 0
 IsRun net past [] = Unit {0}
-IsRun net past (e ∷ es) = IsStep net past e × IsRun net (past ++ e ∷ []) es
+IsRun net past (e ∷ es) = IsRingStep net past e × IsRun net (past ++ e ∷ []) es
 
 abbrev pub IsLegal : NetPlan → List RingEntry → Type 0
 IsLegal net history = IsRun net [] history

@@ -2,8 +2,14 @@
 -- The token, the paths and the boxes are those of the Modbus Plus Network Planning and Installation
 -- Guide;
 -- fates, tries, give-ups and leaving are this project's own.
-use Rattle.std.specs.Prelude.{ℕ, zero, suc, ◌+◌, ◌*◌, ◌<◌, ◌%◌, ◌^◌, Bool, true, false, nat_le, ◌==◌, not, if◌then◌else◌, List, [], ◌∷◌, ◌++◌, length, get_or, set, map, drop, filter, replicate, count_by, Option, Some, None}
-use Rattle.ring_core.specs.Words.{CallId, FrameKind, Request, Reply, Frame, Heard, Acked, Silent, Busy, Fate, D, L, A, NetPlan, RingEntry, Post, Send, Take, Local, GiveUp, Pass, Leave, Await, Nothing, Out, Arrived, Failed, Path, Fell, AcceptedRequest, RepeatedRequest, CrowdedOut, AcceptedReply, DroppedReply, is_request, asks_for}
+use Rattle.std.specs.Prelude.{ℕ, zero, suc, ◌+◌, ◌*◌, ◌<◌, ◌%◌, ◌^◌, Bool, true, false, nat_le}
+use Rattle.std.specs.Prelude.{◌==◌, not, if◌then◌else◌, List, [], ◌∷◌, ◌++◌, length, get_or, set}
+use Rattle.std.specs.Prelude.{map, drop, filter, replicate, count_by, Option, Some, None}
+use Rattle.ring_core.specs.Words.{CallId, FrameKind, Request, Reply, Frame, Heard, Acked, Silent}
+use Rattle.ring_core.specs.Words.{Busy, Fate, D, L, A, NetPlan, RingEntry, Post, Send, Take, Local}
+use Rattle.ring_core.specs.Words.{GiveUp, Pass, Leave, Await, Nothing, Out, Arrived, Failed, Path}
+use Rattle.ring_core.specs.Words.{Fell, AcceptedRequest, RepeatedRequest, CrowdedOut, AcceptedReply}
+use Rattle.ring_core.specs.Words.{DroppedReply, is_request, asks_for}
 
 -- A node's part. A path is found by its number, and the greatest accepted number by its source.
 pub record NodeIs : Type 0 where
@@ -57,8 +63,8 @@ abbrev pub part_of : List NodeIs → ℕ → NodeIs
 part_of nodes n = get_or nodes n (fresh false)
 
 -- A node's part.
-abbrev pub node_at : RingIs → ℕ → NodeIs
-node_at r n = part_of r.nodes n
+abbrev pub ring_node : RingIs → ℕ → NodeIs
+ring_node r n = part_of r.nodes n
 
 -- A path of a node.
 abbrev pub path_of : NodeIs → ℕ → Path
@@ -68,11 +74,11 @@ abbrev pub with_node : RingIs → ℕ → NodeIs → RingIs
 with_node r n c = record r { nodes = set r.nodes n c }
 
 -- The number that a path awaits; 0 for none.
-abbrev pub number_of : Await → ℕ
-number_of Nothing = 0
-number_of (Out seq to passes) = seq
-number_of (Arrived seq) = seq
-number_of (Failed seq word) = seq
+abbrev pub awaited_number : Await → ℕ
+awaited_number Nothing = 0
+awaited_number (Out seq to passes) = seq
+awaited_number (Arrived seq) = seq
+awaited_number (Failed seq word) = seq
 
 -- A path awaits something else.
 abbrev pub awaiting : NodeIs → ℕ → Await → List Path
@@ -92,14 +98,14 @@ posted c f = record c {
 }
 
 -- Take: the first frame leaves the inbox, and a Reply's path awaits nothing.
-abbrev pub answered : NodeIs → FrameKind → ℕ → List Path
-answered c Request path = c.paths
-answered c Reply path = awaiting c path Nothing
+abbrev pub paths_after_take : NodeIs → FrameKind → ℕ → List Path
+paths_after_take c Request path = c.paths
+paths_after_take c Reply path = awaiting c path Nothing
 
 abbrev pub took : NodeIs → FrameKind → CallId → NodeIs
 took c kind id = record c {
   inbox = drop 1 c.inbox;
-  paths = answered c kind id.path;
+  paths = paths_after_take c kind id.path;
 }
 
 -- GiveUp: the path awaits nothing, and its frame leaves the outbox.
@@ -124,8 +130,8 @@ aged_await (Failed seq word) = Failed seq word
 abbrev pub aged : Path → Path
 aged path = record { awaits = aged_await path.awaits; posted = path.posted }
 
-abbrev pub passed : NodeIs → Bool → NodeIs
-passed c done = record c {
+abbrev pub after_pass : NodeIs → Bool → NodeIs
+after_pass c done = record c {
   passes = c.passes + 1;
   done_run = if done then c.done_run + 1 else 0;
   paths = map aged c.paths;
@@ -161,10 +167,10 @@ successor nodes n = or_else (least_from (drop (n + 1) nodes) (n + 1)) (least_fro
 abbrev pub fate_at : List Fate → ℕ → Fate
 fate_at fates sent = get_or fates (sent % length fates) D
 
-abbrev pub reaches : Fate → Bool
-reaches D = true
-reaches L = false
-reaches A = true
+abbrev pub fate_reaches : Fate → Bool
+fate_reaches D = true
+fate_reaches L = false
+fate_reaches A = true
 
 abbrev pub told : Fate → Heard → Heard
 told D heard = heard
@@ -173,7 +179,7 @@ told A heard = Silent
 
 -- A frame arrives where its target is a member and the letter lets it through.
 abbrev pub arrives : List NodeIs → Fate → ℕ → Bool
-arrives nodes fate to = if (part_of nodes to).here then reaches fate else false
+arrives nodes fate to = if (part_of nodes to).here then fate_reaches fate else false
 
 -- A number that was accepted of its source already, or a lower one.
 abbrev pub is_repeat : NodeIs → CallId → Bool
@@ -212,12 +218,12 @@ with_frame c AcceptedReply f = record c {
 with_frame c DroppedReply f = c
 
 -- What the sender is told of it with the letter D.
-abbrev pub told_of : Fell → Heard
-told_of AcceptedRequest = Acked
-told_of RepeatedRequest = Acked
-told_of CrowdedOut = Busy
-told_of AcceptedReply = Acked
-told_of DroppedReply = Acked
+abbrev pub told_by_target : Fell → Heard
+told_by_target AcceptedRequest = Acked
+told_by_target RepeatedRequest = Acked
+told_by_target CrowdedOut = Busy
+told_by_target AcceptedReply = Acked
+told_by_target DroppedReply = Acked
 
 -- What becomes of a frame; None where it does not arrive.
 abbrev pub arrival : List NodeIs → Fate → Frame → Option Fell
@@ -226,7 +232,7 @@ arrival nodes fate f =
 
 abbrev pub heard_of : Fate → Option Fell → Heard
 heard_of fate None = Silent
-heard_of fate (Some fall) = told fate (told_of fall)
+heard_of fate (Some fall) = told fate (told_by_target fall)
 
 abbrev pub arrived : List NodeIs → Frame → Option Fell → List NodeIs
 arrived nodes f None = nodes
@@ -259,7 +265,7 @@ heard_by c kind id there Silent =
 abbrev pub sent_with : RingIs → ℕ → Frame → Fate → Option Fell → RingIs
 sent_with r n f fate fall =
     let nodes = arrived r.nodes f fall in
-    let there = (node_at r f.to).here in
+    let there = (ring_node r f.to).here in
     record {
       holder = r.holder;
       sent = r.sent + 1;
@@ -281,17 +287,17 @@ left_by r nodes n = record { holder = successor nodes n; sent = r.sent; nodes = 
 
 -- The ring after an entry.
 abbrev pub after : NetPlan → RingIs → RingEntry → RingIs
-after net r (Post n f) = with_node r n (posted (node_at r n) f)
-after net r (Send n heard) = sent_head net r n (node_at r n).outbox
-after net r (Take n f) = with_node r n (took (node_at r n) f.kind f.id)
+after net r (Post n f) = with_node r n (posted (ring_node r n) f)
+after net r (Send n heard) = sent_head net r n (ring_node r n).outbox
+after net r (Take n f) = with_node r n (took (ring_node r n) f.kind f.id)
 after net r (Local n id op result) = r
-after net r (GiveUp id word) = with_node r id.node (gave_up (node_at r id.node) id)
+after net r (GiveUp id word) = with_node r id.node (gave_up (ring_node r id.node) id)
 after net r (Pass n done words) = record {
   holder = successor r.nodes n;
   sent = r.sent;
-  nodes = set r.nodes n (passed (node_at r n) done);
+  nodes = set r.nodes n (after_pass (ring_node r n) done);
 }
-after net r (Leave n cause) = left_by r (set r.nodes n (gone (node_at r n))) n
+after net r (Leave n cause) = left_by r (set r.nodes n (gone (ring_node r n))) n
 
 -- The ring after a list of entries.
 abbrev pub after_all : NetPlan → RingIs → List RingEntry → RingIs
@@ -299,12 +305,12 @@ after_all net r [] = r
 after_all net r (e ∷ es) = after_all net (after net r e) es
 
 -- The ring at first: all members are there, and the least holds the token.
-abbrev pub joined : List NodeIs → List ℕ → List NodeIs
-joined nodes [] = nodes
-joined nodes (m ∷ ms) = joined (set nodes m (fresh true)) ms
+abbrev pub with_members : List NodeIs → List ℕ → List NodeIs
+with_members nodes [] = nodes
+with_members nodes (m ∷ ms) = with_members (set nodes m (fresh true)) ms
 
 abbrev pub opening_nodes : List ℕ → List NodeIs
-opening_nodes members = joined (replicate addresses (fresh false)) members
+opening_nodes members = with_members (replicate addresses (fresh false)) members
 
 abbrev pub opening : NetPlan → RingIs
 opening net =

@@ -1,7 +1,11 @@
 -- Why a call is refused: the first reason that fits. This project's own.
-use Rattle.std.specs.Prelude.{ℕ, ◌==◌, ◌&&◌, Bool, false, nat_lt, min, if◌then◌else◌, List, [], ◌∷◌, length, Option, Some, None}
-use Rattle.ring_core.specs.Words.{CallId, FrameKind, Request, Reply, Frame, LeaveCause, Ended, Spent, NetPlan, RingNo, NotMember, NotHolder, Unsent, Untaken, NotDue, NothingToSend, PathTaken, NotAwaited, Await, Nothing, Out, Arrived, Failed}
-use Rattle.ring_core.specs.Machine.{NodeIs, RingIs, node_at, path_of, silence_word}
+use Rattle.std.specs.Prelude.{ℕ, ◌==◌, ◌&&◌, Bool, false, nat_lt, min, if◌then◌else◌, List, [], ◌∷◌}
+use Rattle.std.specs.Prelude.{length, Option, Some, None}
+use Rattle.ring_core.specs.Words.{CallId, FrameKind, Request, Reply, Frame, LeaveCause, Ended}
+use Rattle.ring_core.specs.Words.{Spent, NetPlan, RingNo, NotMember, NotHolder, Unsent, Untaken}
+use Rattle.ring_core.specs.Words.{NotDue, NothingToSend, PathTaken, NotAwaited, Await, Nothing, Out}
+use Rattle.ring_core.specs.Words.{Arrived, Failed}
+use Rattle.ring_core.specs.Machine.{NodeIs, RingIs, ring_node, path_of, silence_word}
 
 -- The first of two reasons.
 abbrev pub or_no : Option RingNo → Option RingNo → Option RingNo
@@ -14,11 +18,11 @@ not_holder r n = if r.holder == n then None else Some (NotHolder r.holder)
 
 -- A member holds the token.
 abbrev pub turn_no : RingIs → ℕ → Option RingNo
-turn_no r n = if (node_at r n).here then not_holder r n else Some NotMember
+turn_no r n = if (ring_node r n).here then not_holder r n else Some NotMember
 
 -- The same, where a node that has left is let through.
 abbrev pub free_no : RingIs → ℕ → Option RingNo
-free_no r n = if (node_at r n).here then not_holder r n else None
+free_no r n = if (ring_node r n).here then not_holder r n else None
 
 -- A path that awaits a number.
 abbrev pub taken_no : Await → Option RingNo
@@ -34,7 +38,7 @@ path_no c Reply path = None
 
 -- Post.
 abbrev pub post_no : RingIs → ℕ → Frame → Option RingNo
-post_no r n f = or_no (free_no r n) (path_no (node_at r n) f.kind f.id.path)
+post_no r n f = or_no (free_no r n) (path_no (ring_node r n) f.kind f.id.path)
 
 -- Nothing is to be sent.
 abbrev pub empty_no : List Frame → Option RingNo
@@ -43,7 +47,7 @@ empty_no (f ∷ fs) = None
 
 -- Send.
 abbrev pub send_no : RingIs → ℕ → Option RingNo
-send_no r n = or_no (turn_no r n) (empty_no (node_at r n).outbox)
+send_no r n = or_no (turn_no r n) (empty_no (ring_node r n).outbox)
 
 -- Frames that were not sent.
 abbrev pub unsent_no : List Frame → Option RingNo
@@ -61,7 +65,7 @@ boxes_no c = or_no (unsent_no c.outbox) (untaken_no c.inbox)
 
 -- Pass.
 abbrev pub pass_no : RingIs → ℕ → Option RingNo
-pass_no r n = or_no (turn_no r n) (boxes_no (node_at r n))
+pass_no r n = or_no (turn_no r n) (boxes_no (ring_node r n))
 
 -- Too early.
 abbrev pub due_no : ℕ → ℕ → Option RingNo
@@ -82,12 +86,12 @@ or_zero (Some a) = a
 
 -- For how many Passes in a row every member has been done; 0 for a node that has left.
 abbrev pub quiet_for : RingIs → ℕ → ℕ
-quiet_for r n = if (node_at r n).here then or_zero (least_done r.nodes) else 0
+quiet_for r n = if (ring_node r n).here then or_zero (least_done r.nodes) else 0
 
 -- For how long a node has had its cause to leave, and for how long it needs it.
-abbrev pub held_of : RingIs → ℕ → LeaveCause → ℕ
-held_of r n Ended = quiet_for r n
-held_of r n Spent = (node_at r n).passes
+abbrev pub cause_held : RingIs → ℕ → LeaveCause → ℕ
+cause_held r n Ended = quiet_for r n
+cause_held r n Spent = (ring_node r n).passes
 
 abbrev pub needed_of : NetPlan → LeaveCause → ℕ
 needed_of net Ended = net.rounds
@@ -95,7 +99,7 @@ needed_of net Spent = net.holds
 
 -- Leave.
 abbrev pub leave_no : NetPlan → RingIs → ℕ → LeaveCause → Option RingNo
-leave_no net r n cause = or_no (pass_no r n) (due_no (held_of r n cause) (needed_of net cause))
+leave_no net r n cause = or_no (pass_no r n) (due_no (cause_held r n cause) (needed_of net cause))
 
 -- A path that does not await this number.
 abbrev pub other_no : ℕ → ℕ → Option RingNo
@@ -117,7 +121,7 @@ answer_after answer (Failed seq word) = None
 -- GiveUp.
 abbrev pub give_up_no : NetPlan → RingIs → CallId → Option RingNo
 give_up_no net r id =
-    let c = node_at r id.node in
+    let c = ring_node r id.node in
     let awaits = (path_of c id.path).awaits in
     let due = if c.here then answer_after net.answer awaits else None in
     or_no (free_no r id.node) (or_no (awaited_no awaits id.seq) due)
@@ -128,9 +132,9 @@ abbrev pub end_word : RingIs → Bool → Await → ℕ
 end_word r here (Failed seq word) = word
 end_word r here Nothing = silence_word false
 end_word r here (Arrived seq) = silence_word false
-end_word r here (Out seq to passes) = silence_word (here && (node_at r to).here)
+end_word r here (Out seq to passes) = silence_word (here && (ring_node r to).here)
 
 abbrev pub word_of : RingIs → CallId → ℕ
 word_of r id =
-    let c = node_at r id.node in
+    let c = ring_node r id.node in
     end_word r c.here (path_of c id.path).awaits

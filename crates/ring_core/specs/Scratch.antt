@@ -1,27 +1,34 @@
 -- Global words and statistics, from the whole history. This project's own.
-use Rattle.std.specs.Prelude.{ℕ, ◌==◌, Bool, true, false, nat_lt, if◌then◌else◌, List, [], ◌∷◌, ◌++◌, length, take, count_by, Option, Some, None}
-use Rattle.ring_core.specs.Words.{CallId, FrameKind, Request, Reply, Frame, MstrResult, Good, Bad, LocalOp, GetStats, ClearStats, PutGlobal, GetGlobal, RemoteGet, RemoteClear, Heard, Acked, Silent, Busy, Fate, NetPlan, RingEntry, Post, Send, Take, Local, GiveUp, Pass, Leave, Fell, AcceptedRequest, RepeatedRequest, CrowdedOut, AcceptedReply, DroppedReply}
-use Rattle.ring_core.specs.Machine.{NodeIs, RingIs, node_at, fate_at, arrival, heard_of, after, opening, ring_after}
+use Rattle.std.specs.Prelude.{ℕ, ◌==◌, Bool, true, false, nat_lt, if◌then◌else◌, List, [], ◌∷◌}
+use Rattle.std.specs.Prelude.{◌++◌, length, take, count_by, Option, Some, None}
+use Rattle.ring_core.specs.Words.{CallId, FrameKind, Request, Reply, Frame, MstrResult, Good, Bad}
+use Rattle.ring_core.specs.Words.{LocalOp, GetStats, ClearStats, PutGlobal, GetGlobal, RemoteGet}
+use Rattle.ring_core.specs.Words.{RemoteClear, Heard, Acked, Silent, Busy, Fate, NetPlan, RingEntry}
+use Rattle.ring_core.specs.Words.{Post, Send, Take, Local, GiveUp, Pass, Leave, Fell}
+use Rattle.ring_core.specs.Words.{AcceptedRequest, RepeatedRequest, CrowdedOut, AcceptedReply}
+use Rattle.ring_core.specs.Words.{DroppedReply}
+use Rattle.ring_core.specs.Machine.{NodeIs, RingIs, ring_node, fate_at, arrival, heard_of, after}
+use Rattle.ring_core.specs.Machine.{opening, ring_after}
 use Rattle.station_stats.specs.declared.event.StatEvent.{StatEvent}
 use Rattle.station_stats.specs.declared.event.StatEvent.TheVariants as stat
 use Rattle.station_stats.specs.Counts.{StatNote, since_clear, counts_of, words_of}
 use Rattle.station_stats.specs.Counts.StatNote.{Counted, Cleared}
 
 -- The words that a node put last.
-abbrev pub put_by : ℕ → ℕ → LocalOp → List ℕ → List ℕ
-put_by n node (PutGlobal words) put = if node == n then words else put
-put_by n node _ put = put
+abbrev pub put_by_local : ℕ → ℕ → LocalOp → List ℕ → List ℕ
+put_by_local n node (PutGlobal words) put = if node == n then words else put
+put_by_local n node _ put = put
 
 abbrev pub put_with : ℕ → List ℕ → RingEntry → List ℕ
-put_with n put (Local node id op result) = put_by n node op put
+put_with n put (Local node id op result) = put_by_local n node op put
 put_with n put _ = put
 
 abbrev pub put_after : ℕ → List ℕ → List RingEntry → List ℕ
 put_after n put [] = put
 put_after n put (e ∷ es) = put_after n (put_with n put e) es
 
-abbrev pub put_words : ℕ → List RingEntry → List ℕ
-put_words n history = put_after n [] history
+abbrev pub words_put : ℕ → List RingEntry → List ℕ
+words_put n history = put_after n [] history
 
 -- The heard words of a node: those that its last Pass carried, or none.
 abbrev pub heard_in : ℕ → List ℕ → RingEntry → List ℕ
@@ -95,7 +102,7 @@ local_note n id _ = Counted (owner_event (id.node == n))
 
 abbrev pub notes_of : NetPlan → RingIs → RingEntry → List Note
 notes_of net r (Post n f) = counts n (post_event f.kind) ∷ []
-notes_of net r (Send n heard) = send_notes net r n (node_at r n).outbox
+notes_of net r (Send n heard) = send_notes net r n (ring_node r n).outbox
 notes_of net r (Take n f) = counts n (take_event f.kind) ∷ []
 notes_of net r (Local n id op result) = record { node = n; what = local_note n id op } ∷ []
 notes_of net r (GiveUp id word) = counts id.node stat.GiveUp ∷ []

@@ -1,7 +1,7 @@
 -- What the entries of others leave as it was. This project's own.
 use Rattle.std.specs.Prelude.{◌≡◌, ◌≢◌, ℕ, true, false, List, [], ◌∷◌, ◌++◌}
 use Rattle.ring_core.specs.Words.{NetPlan, RingEntry, Leave, maker}
-use Rattle.ring_core.specs.Machine.{RingIs, node_at, ring_after}
+use Rattle.ring_core.specs.Machine.{RingIs, ring_node, ring_after}
 use Rattle.ring_core.specs.Refusals.{quiet_for}
 use Rattle.ring_core.specs.Legal.{IsRun}
 
@@ -13,7 +13,7 @@ NoneBy n (e ∷ es) = (maker e ≢ n) × NoneBy n es
 -- Who holds the token, a node's boxes and paths, and for how long all have been done.
 pub record Stays (r s : RingIs) (n : ℕ) : Type 0 where
   pub holder : s.holder ≡ r.holder
-  pub part : node_at s n ≡ node_at r n
+  pub part : ring_node s n ≡ ring_node r n
   pub quiet : quiet_for s n ≡ quiet_for r n
 
 -- While a node holds the token, the entries of others leave all of this.
@@ -25,8 +25,8 @@ HolderStays = (net : NetPlan) (past more : List RingEntry) (n : ℕ) → IsRun n
 -- While a node has left, the entries of others leave its boxes and paths.
 abbrev pub LeftStays : Type 0
 LeftStays = (net : NetPlan) (past more : List RingEntry) (n : ℕ) →
-    (node_at (ring_after net past) n).here ≡ false → NoneBy n more →
-    node_at (ring_after net (past ++ more)) n ≡ node_at (ring_after net past) n
+    (ring_node (ring_after net past) n).here ≡ false → NoneBy n more →
+    ring_node (ring_after net (past ++ more)) n ≡ ring_node (ring_after net past) n
 
 abbrev pub IsLeave : ℕ → RingEntry → Type 0
 IsLeave n (Leave m cause) = m ≡ n
@@ -39,5 +39,5 @@ NoLeave n (e ∷ es) = (IsLeave n e → ⊥) × NoLeave n es
 -- Only its own Leave makes a node leave.
 abbrev pub MemberStays : Type 0
 MemberStays = (net : NetPlan) (past more : List RingEntry) (n : ℕ) →
-    (node_at (ring_after net past) n).here ≡ true → NoLeave n more →
-    (node_at (ring_after net (past ++ more)) n).here ≡ true
+    (ring_node (ring_after net past) n).here ≡ true → NoLeave n more →
+    (ring_node (ring_after net (past ++ more)) n).here ≡ true

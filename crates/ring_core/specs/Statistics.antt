@@ -3,9 +3,11 @@
 use Rattle.std.specs.Prelude.{ℕ, ◌||◌, Bool, List, [], ◌∷◌}
 use Rattle.std.specs.Str.{bytes_eq}
 
+-- The request for the twenty words: function 8, sub-function 21, operation 3.
 abbrev pub get_statistics : List ℕ
 get_statistics = 8 ∷ 0 ∷ 0x15 ∷ 0 ∷ 3 ∷ []
 
+-- The request that clears them: operation 4.
 abbrev pub clear_statistics : List ℕ
 clear_statistics = 8 ∷ 0 ∷ 0x15 ∷ 0 ∷ 4 ∷ []
 

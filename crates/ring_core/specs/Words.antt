@@ -1,6 +1,7 @@
 -- The words of the ring: frames, entries, refusals and paths.
-use Rattle.std.specs.Prelude.{ℕ, ◌==◌, ◌&&◌, Bool, true, false}
+use Rattle.std.specs.Prelude.{ℕ, ◌&&◌, Bool, true, false}
 pub use Rattle.mstr_block.specs.declared.call.CallId.{CallId}
+pub use Rattle.mstr_block.specs.Call.{is_same_call}
 pub use Rattle.mstr_block.specs.declared.call.MstrResult.{MstrResult}
 pub use Rattle.mstr_block.specs.declared.call.MstrResult.TheVariants.{Good, Bad}
 pub use Rattle.plant_types.specs.declared.net.Fate.{Fate}
@@ -10,20 +11,27 @@ pub use Rattle.ring_core.specs.declared.frame.FrameKind.{FrameKind}
 pub use Rattle.ring_core.specs.declared.frame.FrameKind.TheVariants.{Request, Reply}
 pub use Rattle.ring_core.specs.declared.frame.Frame.{Frame}
 pub use Rattle.ring_core.specs.declared.entry.LocalOp.{LocalOp}
-pub use Rattle.ring_core.specs.declared.entry.LocalOp.TheVariants.{GetStats, ClearStats, PutGlobal, GetGlobal, RemoteGet, RemoteClear}
+pub use Rattle.ring_core.specs.declared.entry.LocalOp.TheVariants.{GetStats, ClearStats, PutGlobal}
+pub use Rattle.ring_core.specs.declared.entry.LocalOp.TheVariants.{GetGlobal, RemoteGet}
+pub use Rattle.ring_core.specs.declared.entry.LocalOp.TheVariants.{RemoteClear}
 pub use Rattle.ring_core.specs.declared.entry.Heard.{Heard}
 pub use Rattle.ring_core.specs.declared.entry.Heard.TheVariants.{Acked, Silent, Busy}
 pub use Rattle.ring_core.specs.declared.entry.LeaveCause.{LeaveCause}
 pub use Rattle.ring_core.specs.declared.entry.LeaveCause.TheVariants.{Ended, Spent}
 pub use Rattle.ring_core.specs.declared.entry.RingEntry.{RingEntry}
-pub use Rattle.ring_core.specs.declared.entry.RingEntry.TheVariants.{Post, Send, Take, Local, GiveUp, Pass, Leave}
+pub use Rattle.ring_core.specs.declared.entry.RingEntry.TheVariants.{Post, Send, Take, Local}
+pub use Rattle.ring_core.specs.declared.entry.RingEntry.TheVariants.{GiveUp, Pass, Leave}
 pub use Rattle.ring_core.specs.declared.refusal.RingNo.{RingNo}
-pub use Rattle.ring_core.specs.declared.refusal.RingNo.TheVariants.{NotMember, NotHolder, Unsent, Untaken, NotDue, NothingToSend, PathTaken, NotAwaited, NoMemory}
+pub use Rattle.ring_core.specs.declared.refusal.RingNo.TheVariants.{NotMember, NotHolder, Unsent}
+pub use Rattle.ring_core.specs.declared.refusal.RingNo.TheVariants.{Untaken, NotDue, NothingToSend}
+pub use Rattle.ring_core.specs.declared.refusal.RingNo.TheVariants.{PathTaken, NotAwaited, NoMemory}
 pub use Rattle.ring_core.specs.declared.path.Await.{Await}
 pub use Rattle.ring_core.specs.declared.path.Await.TheVariants.{Nothing, Out, Arrived, Failed}
 pub use Rattle.ring_core.specs.declared.path.Path.{Path}
 pub use Rattle.ring_core.specs.declared.arrival.Fell.{Fell}
-pub use Rattle.ring_core.specs.declared.arrival.Fell.TheVariants.{AcceptedRequest, RepeatedRequest, CrowdedOut, AcceptedReply, DroppedReply}
+pub use Rattle.ring_core.specs.declared.arrival.Fell.TheVariants.{AcceptedRequest, RepeatedRequest}
+pub use Rattle.ring_core.specs.declared.arrival.Fell.TheVariants.{CrowdedOut, AcceptedReply}
+pub use Rattle.ring_core.specs.declared.arrival.Fell.TheVariants.{DroppedReply}
 
 -- The node that an entry names.
 abbrev pub maker : RingEntry → ℕ
@@ -35,10 +43,6 @@ maker (GiveUp id word) = id.node
 maker (Pass node done words) = node
 maker (Leave node cause) = node
 
--- Two names name one call.
-abbrev pub is_same : CallId → CallId → Bool
-is_same one other = (one.node == other.node) && ((one.path == other.path) && (one.seq == other.seq))
-
 abbrev pub asks : FrameKind → Bool
 asks Request = true
 asks Reply = false
@@ -48,4 +52,4 @@ is_request frame = asks frame.kind
 
 -- A frame is the Request of this call.
 abbrev pub asks_for : CallId → Frame → Bool
-asks_for id frame = is_request frame && is_same frame.id id
+asks_for id frame = is_request frame && is_same_call frame.id id

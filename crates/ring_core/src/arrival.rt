@@ -1,6 +1,6 @@
 //! What becomes of a frame on its way.
 ghost use Rattle.std.specs.Prelude.{◌≡◌, ◌<◌, length};
-ghost use Rattle.ring_core.specs.Machine.{fate_at, reaches, told, told_of, heard_of};
+ghost use Rattle.ring_core.specs.Machine.{fate_at, fate_reaches, told, told_by_target, heard_of};
 ghost use Rattle.ring_core.specs.Scratch.{arrival_event, heard_event, post_event, take_event};
 
 use crate::entry::Heard;
@@ -27,8 +27,8 @@ pub(crate) fn fate_at(fates: &[Fate], sent: u64) -> Fate
     fates[(sent % (fates.len() as u64)) as usize]
 }
 
-pub(crate) fn reaches(fate: Fate) -> bool
-    ensures { result ≡ reaches fate }
+pub(crate) fn fate_reaches(fate: Fate) -> bool
+    ensures { result ≡ fate_reaches fate }
 {
     match fate {
         Fate::D => true,
@@ -47,8 +47,8 @@ fn told(fate: Fate, heard: Heard) -> Heard
     }
 }
 
-fn told_of(fell: Fell) -> Heard
-    ensures { result ≡ told_of fell }
+fn told_by_target(fell: Fell) -> Heard
+    ensures { result ≡ told_by_target fell }
 {
     match fell {
         Fell::AcceptedRequest => Heard::Acked,
@@ -65,7 +65,7 @@ pub(crate) fn heard_of(fate: Fate, fell: Option<Fell>) -> Heard
 {
     match fell {
         None => Heard::Silent,
-        Some(fell) => told(fate, told_of(fell)),
+        Some(fell) => told(fate, told_by_target(fell)),
     }
 }
 

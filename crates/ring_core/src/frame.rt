@@ -1,6 +1,6 @@
 //! Frames.
 ghost use Rattle.std.specs.Prelude.{◌≡◌};
-ghost use Rattle.ring_core.specs.Words.{is_request, asks_for, is_same};
+ghost use Rattle.ring_core.specs.Words.{is_request, asks_for};
 
 use mstr_block::CallId;
 use plant_types::Pdu;
@@ -23,12 +23,6 @@ pub struct Frame {
     pub pdu: Pdu,
 }
 
-fn is_same(one: CallId, other: CallId) -> bool
-    ensures { result ≡ is_same one other }
-{
-    one.node == other.node && (one.path == other.path && one.seq == other.seq)
-}
-
 impl Frame {
     pub(crate) fn is_request(&self) -> bool
         ensures { result ≡ is_request self.now }
@@ -43,6 +37,6 @@ impl Frame {
     pub(crate) fn asks_for(&self, id: CallId) -> bool
         ensures { result ≡ asks_for id self.now }
     {
-        self.is_request() && is_same(self.id, id)
+        self.is_request() && self.id.is_same(id)
     }
 }

@@ -1,5 +1,6 @@
 //! The history of a ring, with room that is kept for it.
-ghost use Rattle.std.specs.Prelude.{◌≡◌, ◌+◌, ◌<◌, ◌≤◌, ◌++◌, ◌∷◌, [], OnOk, IfErr, vec_len, vec_capacity};
+ghost use Rattle.std.specs.Prelude.{◌≡◌, ◌+◌, ◌<◌, ◌≤◌, ◌++◌, ◌∷◌, [], OnOk, IfErr, vec_len};
+ghost use Rattle.std.specs.Prelude.{vec_capacity};
 
 use crate::entry::RingEntry;
 use crate::refusal::RingNo;

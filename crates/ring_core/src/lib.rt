@@ -24,7 +24,7 @@ pub use frame::{Frame, FrameKind};
 pub use laws::{holder_stays, left_stays, member_stays};
 pub use refusal::RingNo;
 pub use ring::Ring;
-pub use stats_request::is_stats;
+pub use stats_request::{CLEAR_STATISTICS, GET_STATISTICS, is_stats};
 
 #[cfg(test)]
 mod tests;

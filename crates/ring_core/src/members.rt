@@ -1,10 +1,11 @@
 //! What is read of all nodes: who is a member, and who comes next.
-ghost use Rattle.std.specs.Prelude.{◌≡◌, ◌≤◌, ◌+◌, length, drop, get_or, IfSome, IfErr, OnOk, None, Some};
+ghost use Rattle.std.specs.Prelude.{◌≡◌, ◌≤◌, ◌+◌, length, drop, get_or, IfSome, IfErr, OnOk, None};
+ghost use Rattle.std.specs.Prelude.{Some};
 ghost use Rattle.ring_core.specs.Machine.{least_from, successor, part_of, arrival, arrived, fresh};
 ghost use Rattle.ring_core.specs.Refusals.{least_done, least_of};
 ghost use Rattle.ring_core.specs.Scratch.{is_here, count_members};
 
-use crate::arrival::{Fell, reaches};
+use crate::arrival::{Fell, fate_reaches};
 use crate::frame::Frame;
 use crate::node::Node;
 use crate::refusal::RingNo;
@@ -81,7 +82,7 @@ pub(crate) fn arrival(nodes: &[Node], fate: Fate, frame: &Frame) -> Option<Fell>
     ensures { result ≡ arrival nodes.now fate frame.now }
 {
     let at = frame.to as usize;
-    if at >= nodes.len() || !nodes[at].is_here() || !reaches(fate) {
+    if at >= nodes.len() || !nodes[at].is_here() || !fate_reaches(fate) {
         return None;
     }
     Some(nodes[at].fell(frame.kind, frame.id))

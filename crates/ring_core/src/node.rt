@@ -1,8 +1,13 @@
 //! A node's part of the ring.
-ghost use Rattle.std.specs.Prelude.{◌≡◌, ◌<◌, ◌+◌, ◌^◌, ℕ, List, [], ◌∷◌, ◌++◌, length, get_or, set, drop, filter, not, true, false, OnOk, OnErr, IfOk, IfSome, IfErr, None, MatchOption, All};
-ghost use Rattle.ring_core.specs.Machine.{NodeIs, posted, took, passed, gone, fresh, path_of, no_path, number_of, CanAge, is_repeat, is_full, waits_for, fell, with_frame, heard_by, sent_off, failed, gave_up, is_head, silence_word, source_of};
+ghost use Rattle.std.specs.Prelude.{◌≡◌, ◌<◌, ◌+◌, ◌^◌, ℕ, List, [], ◌∷◌, ◌++◌, length, get_or};
+ghost use Rattle.std.specs.Prelude.{set, drop, filter, not, true, false, OnOk, OnErr, IfOk, IfSome};
+ghost use Rattle.std.specs.Prelude.{IfErr, None, MatchOption, All};
+ghost use Rattle.ring_core.specs.Machine.{NodeIs, posted, took, after_pass, gone, fresh, path_of};
+ghost use Rattle.ring_core.specs.Machine.{no_path, awaited_number, CanAge, is_repeat, is_full};
+ghost use Rattle.ring_core.specs.Machine.{waits_for, fell, with_frame, heard_by, sent_off, failed};
+ghost use Rattle.ring_core.specs.Machine.{gave_up, is_head, silence_word, source_of};
 ghost use Rattle.ring_core.specs.Refusals.{path_no, boxes_no, empty_no};
-ghost use Rattle.ring_core.specs.Legal.{IsFirst, IsNext};
+ghost use Rattle.ring_core.specs.Legal.{IsFirst, IsNextNumber};
 ghost use Rattle.ring_core.specs.Words.{asks_for};
 
 use crate::arrival::Fell;
@@ -101,6 +106,7 @@ fn drop_request(outbox: &mut VecDeque<Frame>, id: CallId)
 }
 
 impl Node {
+    /// A node with empty boxes, which is a member or not.
     pub fn new(alloc: Global, here: bool) -> Result<Node, AllocError>
         ensures { IfOk result (λ node. node ≡ fresh here) }
     {
@@ -116,25 +122,28 @@ impl Node {
         })
     }
 
+    /// Whether it is a member now.
     pub fn is_here(&self) -> bool
         ensures { result ≡ self.now.here }
     {
         self.here
     }
 
+    /// How often it passed the token on.
     pub fn passes(&self) -> u64
         ensures { result ≡ self.now.passes }
     {
         self.passes
     }
 
+    /// How many of its latest Passes in a row said that it is done.
     pub fn done_run(&self) -> u64
         ensures { result ≡ self.now.done_run }
     {
         self.done_run
     }
 
-    // What a path awaits; nothing where there is no such path.
+    /// What a path awaits; nothing where there is no such path.
     pub fn awaits(&self, path: u8) -> Await
         ensures { result ≡ (path_of self.now path).awaits }
     {
@@ -158,10 +167,10 @@ impl Node {
         }
     }
 
-    // Whether a frame's number is above all that were posted on its path.
+    /// Whether a frame's number is above all that were posted on its path.
     pub fn is_next(&self, kind: FrameKind, id: CallId) -> bool
-        ensures only { result ≡ true → IsNext self.now kind id }
-        ensures all { IsNext self.now kind id → result ≡ true }
+        ensures only { result ≡ true → IsNextNumber self.now kind id }
+        ensures all { IsNextNumber self.now kind id → result ≡ true }
     {
         match kind {
             FrameKind::Request => self.posted(id.path) < id.seq,
@@ -169,6 +178,7 @@ impl Node {
         }
     }
 
+    /// Why a frame's path refuses it, if so.
     pub fn path_no(&self, kind: FrameKind, path: u8) -> Option<RingNo>
         ensures { result ≡ path_no self.now kind path }
     {
@@ -178,6 +188,7 @@ impl Node {
         }
     }
 
+    /// Why the token cannot be passed on, if so.
     pub fn boxes_no(&self) -> Option<RingNo>
         ensures { result ≡ boxes_no self.now }
     {
@@ -192,6 +203,7 @@ impl Node {
         None
     }
 
+    /// Puts a frame last in the outbox.
     pub fn post(&mut self, frame: Frame) -> Result<(), RingNo>
         requires path { frame.kind ≡ FrameKind.Request → frame.id.path < length self.old.paths }
         ensures ok { OnOk result (self.new ≡ posted self.old frame) }
@@ -209,7 +221,7 @@ impl Node {
         Ok(())
     }
 
-    // A copy of the first frame in the inbox.
+    /// A copy of the first frame in the inbox.
     pub fn first(&self, alloc: Global) -> Result<Option<Frame>, AllocError>
         ensures { IfOk result
             (λ first. MatchOption first (self.now.inbox ≡ []) (IsFirst self.now.inbox)) }
@@ -220,7 +232,7 @@ impl Node {
         }
     }
 
-    // The first frame leaves the inbox.
+    /// The first frame leaves the inbox.
     pub fn take(&mut self) -> Option<Frame>
         ensures none { result ≡ None → (self.old.inbox ≡ []) × (self.new ≡ self.old) }
         ensures some { IfSome result (λ frame. IsFirst self.old.inbox frame ×
@@ -233,7 +245,7 @@ impl Node {
         Some(frame)
     }
 
-    // A copy of the frame that is sent next.
+    /// A copy of the frame that is sent next.
     pub fn head(&self, alloc: Global) -> Result<Option<Frame>, AllocError>
         ensures head { IfOk result
             (λ head. MatchOption head (self.now.outbox ≡ []) (IsFirst self.now.outbox)) }
@@ -270,7 +282,7 @@ impl Node {
         }
     }
 
-    // What it makes of a frame that arrives.
+    /// What it makes of a frame that arrives.
     pub fn fell(&self, kind: FrameKind, id: CallId) -> Fell
         ensures { result ≡ fell self.now kind id }
     {
@@ -322,7 +334,7 @@ impl Node {
         Ok(())
     }
 
-    // A frame arrives.
+    /// A frame arrives.
     pub fn receive(&mut self, fell: Fell, frame: Frame) -> Result<(), RingNo>
         ensures ok { OnOk result (self.new ≡ with_frame self.old fell frame) }
         ensures err { IfErr result (λ why. (why ≡ RingNo.NoMemory) × (self.new ≡ self.old)) }
@@ -349,7 +361,7 @@ impl Node {
         }
     }
 
-    // What was told of the head frame.
+    /// What was told of the head frame.
     pub fn hear(&mut self, kind: FrameKind, id: CallId, there: bool, heard: Heard)
         ensures { self.new ≡ heard_by self.old kind id there heard }
     {
@@ -379,7 +391,7 @@ impl Node {
         }
     }
 
-    // A call is given up.
+    /// A call is given up.
     pub fn give_up(&mut self, id: CallId)
         ensures { self.new ≡ gave_up self.old id }
     {
@@ -390,11 +402,12 @@ impl Node {
         set_await(&mut self.paths, id.path, Await::Nothing);
     }
 
+    /// The node passes the token on.
     pub fn pass(&mut self, done: bool)
         requires passes { self.old.passes + 1 < 2 ^ 64 }
         requires done_run { self.old.done_run + 1 < 2 ^ 64 }
         requires waits { All CanAge self.old.paths }
-        ensures { self.new ≡ passed self.old done }
+        ensures { self.new ≡ after_pass self.old done }
     {
         self.passes += 1;
         self.done_run = if done { self.done_run + 1 } else { 0 };
@@ -403,6 +416,7 @@ impl Node {
         }
     }
 
+    /// The node leaves.
     pub fn leave(&mut self)
         ensures { self.new ≡ gone self.old }
     {

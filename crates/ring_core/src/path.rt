@@ -1,6 +1,6 @@
 //! The paths of a node.
 ghost use Rattle.std.specs.Prelude.{◌≡◌};
-ghost use Rattle.ring_core.specs.Machine.{no_path, aged, CanAge, number_of};
+ghost use Rattle.ring_core.specs.Machine.{no_path, aged, CanAge, awaited_number};
 ghost use Rattle.ring_core.specs.Refusals.{taken_no, awaited_no, other_no, answer_after, due_no};
 
 use crate::refusal::RingNo;
@@ -35,9 +35,9 @@ pub(crate) fn no_path() -> Path
 }
 
 impl Await {
-    // The number that is awaited, or 0.
+    /// The number that is awaited, or 0.
     pub fn seq(self) -> u32
-        ensures { result ≡ number_of self }
+        ensures { result ≡ awaited_number self }
     {
         match self {
             Await::Nothing => 0,
@@ -47,6 +47,7 @@ impl Await {
         }
     }
 
+    /// Why a Request cannot be posted on the path, if so.
     pub fn taken_no(self) -> Option<RingNo>
         ensures { result ≡ taken_no self }
     {
@@ -83,7 +84,7 @@ pub(crate) fn due_no(held: u64, needed: u32) -> Option<RingNo>
 }
 
 impl Await {
-    // Why it is not this number that is awaited.
+    /// Why it is not this number that is awaited.
     pub fn awaited_no(self, seq: u32) -> Option<RingNo>
         ensures { result ≡ awaited_no self seq }
     {
@@ -95,7 +96,7 @@ impl Await {
         }
     }
 
-    // Why a member's call is not given up yet.
+    /// Why a member's call is not given up yet.
     pub fn answer_no(self, answer: u32) -> Option<RingNo>
         ensures { result ≡ answer_after answer self }
     {
@@ -108,7 +109,7 @@ impl Await {
 }
 
 impl Path {
-    // The path after one more own Pass.
+    /// The path after one more own Pass.
     pub fn aged(self) -> Path
         requires { CanAge self }
         ensures { result ≡ aged self }

@@ -1,11 +1,17 @@
 //! The token ring.
-ghost use Rattle.std.specs.Prelude.{◌≡◌, ◌≢◌, ◌≤◌, ◌<◌, ◌+◌, ◌++◌, ◌∷◌, [], ℕ, List, All, length, max, true, Option, Some, None, OnOk, OnErr, IfOk, IfErr, IfSome, MatchOption, vec_len, vec_capacity};
+ghost use Rattle.std.specs.Prelude.{◌≡◌, ◌≢◌, ◌≤◌, ◌<◌, ◌+◌, ◌++◌, ◌∷◌, [], ℕ, List, All, length};
+ghost use Rattle.std.specs.Prelude.{max, true, Option, Some, None, OnOk, OnErr, IfOk, IfErr};
+ghost use Rattle.std.specs.Prelude.{IfSome, MatchOption, vec_len, vec_capacity};
 ghost use Rattle.ring_core.specs.Words.{NetPlan};
-ghost use Rattle.ring_core.specs.Machine.{RingIs, addresses, node_at, path_of, number_of, successor};
-ghost use Rattle.ring_core.specs.Refusals.{turn_no, free_no, post_no, send_no, pass_no, leave_no, give_up_no, word_of, quiet_for, held_of, needed_of};
-ghost use Rattle.ring_core.specs.Scratch.{put_words, local_result, statistics, global_answer, heard_words};
-ghost use Rattle.ring_core.specs.Legal.{IsMember, IsPath, IsFrom, IsNext, HasRoom, IsFirst, IsHeard, IsLegal};
-ghost use Rattle.ring_core.specs.Kept.{RingLog, ring_of, grown, closed, Answers};
+ghost use Rattle.ring_core.specs.Machine.{RingIs, addresses, ring_node, path_of, awaited_number};
+ghost use Rattle.ring_core.specs.Machine.{successor};
+ghost use Rattle.ring_core.specs.Refusals.{turn_no, free_no, post_no, send_no, pass_no, leave_no};
+ghost use Rattle.ring_core.specs.Refusals.{give_up_no, word_of, quiet_for, cause_held, needed_of};
+ghost use Rattle.ring_core.specs.Scratch.{words_put, local_result, statistics, global_answer};
+ghost use Rattle.ring_core.specs.Scratch.{heard_words};
+ghost use Rattle.ring_core.specs.Legal.{IsMember, IsPath, IsFrom, IsNextNumber, HasRoom, IsFirst};
+ghost use Rattle.ring_core.specs.Legal.{IsHeard, IsLegal};
+ghost use Rattle.ring_core.specs.Kept.{RingLog, ring_of, with_entry, with_spare_entry, RefusedAs};
 
 use crate::arrival::{fate_at, heard_event, heard_of, post_event, take_event};
 use crate::counting::{count, count_arrival, count_local, put_global, station_words};
@@ -89,7 +95,7 @@ impl Ring {
     pub fn awaits(&self, node: u8, path: u8) -> u32
         requires member { IsMember self.now.net node }
         requires path { IsPath path }
-        ensures { result ≡ number_of (path_of (node_at (ring_of self.now) node) path).awaits }
+        ensures { result ≡ awaited_number (path_of (ring_node (ring_of self.now) node) path).awaits }
     {
         self.nodes[node as usize].awaits(path).seq()
     }
@@ -123,8 +129,8 @@ impl Ring {
     /// Whether a frame's number is above all that were posted on its path.
     pub fn is_next(&self, node: u8, kind: FrameKind, id: CallId) -> bool
         requires { IsMember self.now.net node }
-        ensures only { result ≡ true → IsNext (node_at (ring_of self.now) node) kind id }
-        ensures all { IsNext (node_at (ring_of self.now) node) kind id → result ≡ true }
+        ensures only { result ≡ true → IsNextNumber (ring_node (ring_of self.now) node) kind id }
+        ensures all { IsNextNumber (ring_node (ring_of self.now) node) kind id → result ≡ true }
     {
         self.nodes[node as usize].is_next(kind, id)
     }
@@ -180,10 +186,10 @@ impl Ring {
     pub fn post(&mut self, node: u8, frame: Frame) -> Result<(), RingNo>
         requires member { IsMember self.old.net node }
         requires from { IsFrom node frame.kind frame }
-        requires next { IsNext (node_at (ring_of self.old) node) frame.kind frame.id }
-        ensures ok { OnOk result (self.new ≡ grown self.old (RingEntry.Post node frame)) }
+        requires next { IsNextNumber (ring_node (ring_of self.old) node) frame.kind frame.id }
+        ensures ok { OnOk result (self.new ≡ with_entry self.old (RingEntry.Post node frame)) }
         ensures err { OnErr result (self.new ≡ self.old) }
-        ensures answer { Answers result (post_no (ring_of self.old) node frame) }
+        ensures answer { RefusedAs result (post_no (ring_of self.old) node frame) }
     {
         if let Some(why) = self.post_no(node, &frame) {
             return Err(why);
@@ -203,11 +209,11 @@ impl Ring {
     pub fn take(&mut self, node: u8) -> Result<Option<Frame>, RingNo>
         requires { IsMember self.old.net node }
         ensures ok { IfOk result (λ took. MatchOption took
-            (((node_at (ring_of self.old) node).inbox ≡ []) × (self.new ≡ self.old))
-            (λ frame. IsFirst (node_at (ring_of self.old) node).inbox frame ×
-            (self.new ≡ grown self.old (RingEntry.Take node frame)))) }
+            (((ring_node (ring_of self.old) node).inbox ≡ []) × (self.new ≡ self.old))
+            (λ frame. IsFirst (ring_node (ring_of self.old) node).inbox frame ×
+            (self.new ≡ with_entry self.old (RingEntry.Take node frame)))) }
         ensures err { OnErr result (self.new ≡ self.old) }
-        ensures answer { Answers result (turn_no (ring_of self.old) node) }
+        ensures answer { RefusedAs result (turn_no (ring_of self.old) node) }
     {
         if let Some(why) = self.turn_no(node) {
             return Err(why);
@@ -231,11 +237,11 @@ impl Ring {
     pub fn send(&mut self, node: u8) -> Result<Heard, RingNo>
         requires { IsMember self.old.net node }
         ensures heard { IfOk result (IsHeard self.old.net (ring_of self.old)
-            (node_at (ring_of self.old) node).outbox) }
+            (ring_node (ring_of self.old) node).outbox) }
         ensures ok { IfOk result
-            (λ heard. self.new ≡ grown self.old (RingEntry.Send node heard)) }
+            (λ heard. self.new ≡ with_entry self.old (RingEntry.Send node heard)) }
         ensures err { OnErr result (self.new ≡ self.old) }
-        ensures answer { Answers result (send_no (ring_of self.old) node) }
+        ensures answer { RefusedAs result (send_no (ring_of self.old) node) }
     {
         if let Some(why) = self.turn_no(node) {
             return Err(why);
@@ -249,11 +255,11 @@ impl Ring {
     fn send_frame(&mut self, node: u8, frame: Frame) -> Result<Heard, RingNo>
         requires member { IsMember self.old.net node }
         requires turn { turn_no (ring_of self.old) node ≡ None }
-        requires head { IsFirst (node_at (ring_of self.old) node).outbox frame }
+        requires head { IsFirst (ring_node (ring_of self.old) node).outbox frame }
         ensures heard { IfOk result (IsHeard self.old.net (ring_of self.old)
-            (node_at (ring_of self.old) node).outbox) }
+            (ring_node (ring_of self.old) node).outbox) }
         ensures ok { IfOk result
-            (λ heard. self.new ≡ grown self.old (RingEntry.Send node heard)) }
+            (λ heard. self.new ≡ with_entry self.old (RingEntry.Send node heard)) }
         ensures err { IfErr result (λ why. (why ≡ RingNo.NoMemory) × (self.new ≡ self.old)) }
     {
         make_room(&mut self.history, self.spare)?;
@@ -324,9 +330,9 @@ impl Ring {
         ensures result { IfOk result
             (λ given. given ≡ local_result self.old.net self.old.history node op) }
         ensures ok { IfOk result
-            (λ given. self.new ≡ grown self.old (RingEntry.Local node id op given)) }
+            (λ given. self.new ≡ with_entry self.old (RingEntry.Local node id op given)) }
         ensures err { OnErr result (self.new ≡ self.old) }
-        ensures answer { Answers result (free_no (ring_of self.old) node) }
+        ensures answer { RefusedAs result (free_no (ring_of self.old) node) }
     {
         if let Some(why) = self.free_no(node) {
             return Err(why);
@@ -385,9 +391,9 @@ impl Ring {
         requires member { IsMember self.old.net id.node }
         requires path { IsPath id.path }
         ensures word { IfOk result (λ word. word ≡ word_of (ring_of self.old) id) }
-        ensures ok { IfOk result (λ word. self.new ≡ grown self.old (RingEntry.GiveUp id word)) }
+        ensures ok { IfOk result (λ word. self.new ≡ with_entry self.old (RingEntry.GiveUp id word)) }
         ensures err { OnErr result (self.new ≡ self.old) }
-        ensures answer { Answers result (give_up_no self.old.net (ring_of self.old) id) }
+        ensures answer { RefusedAs result (give_up_no self.old.net (ring_of self.old) id) }
     {
         if let Some(why) = self.give_up_no(id) {
             return Err(why);
@@ -414,7 +420,7 @@ impl Ring {
     // A copy of the words that go with a node's token.
     fn waiting(&self, node: u8) -> Result<Words, AllocError>
         requires { IsMember self.now.net node }
-        ensures { IfOk result (λ words. words ≡ put_words node self.now.history) }
+        ensures { IfOk result (λ words. words ≡ words_put node self.now.history) }
     {
         match self.book.waiting(node) {
             None => Words::of(self.alloc, &[]),
@@ -426,9 +432,9 @@ impl Ring {
     pub fn pass(&mut self, node: u8, done: bool) -> Result<(), RingNo>
         requires { IsMember self.old.net node }
         ensures ok { OnOk result (self.new ≡
-            grown self.old (RingEntry.Pass node done (put_words node self.old.history))) }
+            with_entry self.old (RingEntry.Pass node done (words_put node self.old.history))) }
         ensures err { OnErr result (self.new ≡ self.old) }
-        ensures answer { Answers result (pass_no (ring_of self.old) node) }
+        ensures answer { RefusedAs result (pass_no (ring_of self.old) node) }
     {
         if let Some(why) = self.pass_no(node) {
             return Err(why);
@@ -448,7 +454,7 @@ impl Ring {
     // For how long a node has had its cause to leave.
     fn held(&self, node: u8, cause: LeaveCause) -> u64
         requires { IsMember self.now.net node }
-        ensures { result ≡ held_of (ring_of self.now) node cause }
+        ensures { result ≡ cause_held (ring_of self.now) node cause }
     {
         match cause {
             LeaveCause::Ended => self.quiet(node),
@@ -475,7 +481,7 @@ impl Ring {
     pub fn leave(&mut self, node: u8, cause: LeaveCause) -> Result<(), RingNo>
         requires member { IsMember self.old.net node }
         requires spare { 1 ≤ self.old.spare }
-        ensures ok { OnOk result (self.new ≡ closed self.old (RingEntry.Leave node cause)) }
+        ensures ok { OnOk result (self.new ≡ with_spare_entry self.old (RingEntry.Leave node cause)) }
         ensures err { IfErr result (λ why.
             (leave_no self.old.net (ring_of self.old) node cause ≡ Some why)
             × (self.new ≡ self.old)) }

@@ -4,9 +4,11 @@ ghost use Rattle.ring_core.specs.Statistics.{is_stats};
 
 use plant_types::Pdu;
 
-const GET_STATISTICS: [u8; 5] = [8, 0, 0x15, 0, 3];
+/// The request for the twenty statistics words (*Modicon Modbus Protocol Reference Guide*).
+pub const GET_STATISTICS: [u8; 5] = [8, 0, 0x15, 0, 3];
 
-const CLEAR_STATISTICS: [u8; 5] = [8, 0, 0x15, 0, 4];
+/// The request that clears them.
+pub const CLEAR_STATISTICS: [u8; 5] = [8, 0, 0x15, 0, 4];
 
 /// Whether a PDU asks for the statistics, or clears them
 /// (*Modicon Modbus Protocol Reference Guide*, function 8).

@@ -1,5 +1,6 @@
 -- What was known stays known after one more entry.
-use Rattle.std.proofs.Common.{◌≡◌, ℕ, zero, suc, ◌+◌, ◌<◌, ◌≤◌, Bool, false, List, [], ◌∷◌, ◌++◌, get_or, set, length, count_by, refl, sym, ◌∙◌, subst, arith}
+use Rattle.std.proofs.Common.{◌≡◌, ℕ, zero, suc, ◌+◌, ◌<◌, ◌≤◌, Bool, false, List, [], ◌∷◌, ◌++◌}
+use Rattle.std.proofs.Common.{get_or, set, length, count_by, refl, sym, ◌∙◌, subst, arith}
 use Rattle.std.proofs.lemmas.List.{length-set}
 use Rattle.std.proofs.lemmas.List.Elements.{Contains-append_left}
 use Rattle.mstr_block.specs.declared.call.CallId.{CallId}
@@ -8,13 +9,15 @@ use Rattle.ring_core.specs.declared.frame.FrameKind.TheVariants.{Request, Reply}
 use Rattle.ring_core.specs.declared.frame.Frame.{Frame}
 use Rattle.plant_types.specs.declared.net.NetPlan.{NetPlan}
 use Rattle.ring_core.specs.declared.entry.RingEntry.{RingEntry}
-use Rattle.ring_core.specs.declared.entry.RingEntry.TheVariants.{Post, Send, Take, Local, GiveUp, Pass, Leave}
+use Rattle.ring_core.specs.declared.entry.RingEntry.TheVariants.{Post, Send, Take, Local, GiveUp}
+use Rattle.ring_core.specs.declared.entry.RingEntry.TheVariants.{Pass, Leave}
 use Rattle.ring_core.specs.declared.path.Await.{Await}
 use Rattle.ring_core.specs.declared.path.Await.TheVariants.{Nothing, Out, Arrived, Failed}
 use Rattle.ring_core.specs.declared.path.Path.{Path}
-use Rattle.ring_core.specs.Machine.{NodeIs, RingIs, no_path, node_at, awaiting}
+use Rattle.ring_core.specs.Machine.{NodeIs, RingIs, no_path, ring_node, awaiting}
 use Rattle.ring_laws.specs.Once.{posts, HasAsked}
-use Rattle.ring_laws.proofs.Rests.{Each, takes_at, Sending, AskedIfReply, CameTo, IsAskedFor, Below, PartsRest, NodeRests, EntryRests, RingRests}
+use Rattle.ring_laws.proofs.Rests.{Each, takes_at, Sending, AskedIfReply, CameTo, IsAskedFor, Below}
+use Rattle.ring_laws.proofs.Rests.{PartsRest, NodeRests, EntryRests, RingRests}
 use Rattle.ring_laws.proofs.Lists.{each-push, each-map, count-push, none-if, each-put}
 
 pub asked-more : (h : List RingEntry) (e : RingEntry) (n : ℕ) (id : CallId) → HasAsked h n id → HasAsked (h ++ e ∷ []) n id
@@ -121,11 +124,11 @@ empty-rests net h n ps as' out box i = record {
 
 -- an entry that posts and takes nothing
 pub quiet-all : (net : NetPlan) (h : List RingEntry) (r : RingIs) (e : RingEntry) → ((id : CallId) → posts id e ≡ false) →
-    ((k : ℕ) (id : CallId) → takes_at k id e ≡ false) → RingRests net h r → (k : ℕ) → NodeRests net (h ++ e ∷ []) k (node_at r k)
+    ((k : ℕ) (id : CallId) → takes_at k id e ≡ false) → RingRests net h r → (k : ℕ) → NodeRests net (h ++ e ∷ []) k (ring_node r k)
 quiet-all net h r e np nt i k = quiet net h e k _ _ _ _ (λ id own. np id) (λ id. nt k id) (i.nodes k)
 
 pub quiet-step : (net : NetPlan) (h : List RingEntry) (r s : RingIs) (e : RingEntry) → length s.nodes ≡ length r.nodes →
-    ((k : ℕ) → NodeRests net (h ++ e ∷ []) k (node_at s k)) → EntryRests net (h ++ e ∷ []) e → RingRests net h r → RingRests net (h ++ e ∷ []) s
+    ((k : ℕ) → NodeRests net (h ++ e ∷ []) k (ring_node s k)) → EntryRests net (h ++ e ∷ []) e → RingRests net h r → RingRests net (h ++ e ∷ []) s
 quiet-step net h r s e size nodes founded i = record {
   size = size ∙ i.size;
   nodes = nodes;

@@ -1,5 +1,6 @@
 -- The laws, from what boxes, paths and numbers rest on.
-use Rattle.std.proofs.Common.{◌≡◌, ◌≢◌, ℕ, ◌<◌, ◌≤◌, true, false, List, count_by, Contains, refl, sym, ap, ◌∙◌, subst, inr, ⊎_elim, arith}
+use Rattle.std.proofs.Common.{◌≡◌, ◌≢◌, ℕ, ◌<◌, ◌≤◌, true, false, List, count_by, Contains, refl}
+use Rattle.std.proofs.Common.{sym, ap, ◌∙◌, subst, inr, ⊎_elim, arith}
 use Rattle.std.proofs.lemmas.Bool.{eq-eqb, and_parts, and_from, cases_lt}
 use Rattle.mstr_block.specs.declared.call.CallId.{CallId}
 use Rattle.plant_types.specs.declared.net.NetPlan.{NetPlan}
@@ -7,13 +8,17 @@ use Rattle.ring_core.specs.declared.frame.FrameKind.{FrameKind}
 use Rattle.ring_core.specs.declared.frame.FrameKind.TheVariants.{Request, Reply}
 use Rattle.ring_core.specs.declared.frame.Frame.{Frame}
 use Rattle.ring_core.specs.declared.entry.RingEntry.{RingEntry}
-use Rattle.ring_core.specs.declared.entry.RingEntry.TheVariants.{Post, Send, Take, Local, GiveUp, Pass, Leave}
-use Rattle.ring_core.specs.Words.{is_same, asks}
+use Rattle.ring_core.specs.declared.entry.RingEntry.TheVariants.{Post, Send, Take, Local, GiveUp}
+use Rattle.ring_core.specs.declared.entry.RingEntry.TheVariants.{Pass, Leave}
+use Rattle.ring_core.specs.Words.{is_same_call, asks}
 use Rattle.ring_core.specs.Machine.{ring_after}
 use Rattle.ring_core.specs.Legal.{IsFrom}
-use Rattle.ring_laws.specs.Once.{posts, takes, IsRingHistory, PostedOnce, TakenOnce, Accepted, OnlyItsTarget, ReplyByTaker, HasAsked, ReplyToItsCaller, GivenUpWord}
+use Rattle.ring_laws.specs.Once.{posts, takes, IsRingHistory, PostedOnce, TakenOnce, Accepted}
+use Rattle.ring_laws.specs.Once.{OnlyItsTarget, ReplyByTaker, HasAsked, ReplyToItsCaller}
+use Rattle.ring_laws.specs.Once.{GivenUpWord}
 use Rattle.ring_laws.proofs.Rests.{takes_at, AskedIfReply, CameTo, EntryRests, RingRests}
-use Rattle.ring_laws.proofs.Lists.{each-map, each-contains, count-contains, only-one, count-weaker, same-eq, same-refl}
+use Rattle.ring_laws.proofs.Lists.{each-map, each-contains, count-contains, only-one, count-weaker}
+use Rattle.ring_laws.proofs.Lists.{same-eq, same-refl}
 use Rattle.ring_laws.proofs.Steps.{legal-rests}
 
 rests : (net : NetPlan) (h : List RingEntry) → IsRingHistory net h → RingRests net h (ring_after net h)
@@ -24,7 +29,7 @@ kind-request Request e = refl
 kind-request Reply e = absurd (cc)
 
 post-asks : (id : CallId) (n : ℕ) (f : Frame) → f.kind ≡ Request → f.id ≡ id → posts id (Post n f) ≡ true
-post-asks id n f is same = and_from _ _ (ap asks is) (ap (λ (x : CallId). is_same x id) same ∙ same-refl id)
+post-asks id n f is same = and_from _ _ (ap asks is) (ap (λ (x : CallId). is_same_call x id) same ∙ same-refl id)
 
 -- one call, one Request
 one-frame : (h : List RingEntry) (id : CallId) (n m : ℕ) (f g : Frame) → count_by (posts id) h ≤ 1 → f.kind ≡ Request → g.kind ≡ Request → f.id ≡ id
@@ -51,7 +56,7 @@ record Takes (net : NetPlan) (h : List RingEntry) (id : CallId) (e : RingEntry) 
 takes-view : (net : NetPlan) (h : List RingEntry) (id : CallId) (e : RingEntry) → EntryRests net h e → takes id e ≡ true → Takes net h id e
 takes-view net h id (Post n f) k t = absurd (let no' : false ≡ true = t in cc)
 takes-view net h id (Send n heard) k t = absurd (let no' : false ≡ true = t in cc)
-takes-view net h id (Take n f) k t = let two = and_parts (asks f.kind) (is_same f.id id) t in
+takes-view net h id (Take n f) k t = let two = and_parts (asks f.kind) (is_same_call f.id id) t in
     record { node = n; frame = f; is = refl; came = k; request = kind-request f.kind two.0; same = same-eq f.id id two.1 }
 takes-view net h id (Local n own op result) k t = absurd (let no' : false ≡ true = t in cc)
 takes-view net h id (GiveUp own word) k t = absurd (let no' : false ≡ true = t in cc)
@@ -64,7 +69,7 @@ takes-there net h id v w le (Post n f) k t = t
 takes-there net h id v w le (Send n heard) k t = t
 takes-there net h id v w le (Take n f) k t =
     let u = takes-view net h id (Take n f) k t in
-    let two = and_parts (asks f.kind) (is_same f.id id) t in
+    let two = and_parts (asks f.kind) (is_same_call f.id id) t in
     let fu : f ≡ w.frame = one-frame h id k.by w.came.by f w.frame le (kind-request f.kind two.0) w.request
     (same-eq f.id id two.1) w.same k.sent.0 w.came.sent.0 in
     and_from _ _ (eq-eqb n w.node (sym k.to ∙ (ap (λ (x : Frame). x.to) fu ∙ w.came.to))) t

@@ -1,9 +1,13 @@
 -- Lists: all of them, counts, and what is known of a place after a write.
-use Rattle.std.proofs.Common.{◌≡◌, ℕ, zero, suc, ◌+◌, ◌<◌, ◌≤◌, ◌==◌, Bool, true, false, cond, List, [], ◌∷◌, ◌++◌, get_or, set, drop, length, filter, count_by, Contains, refl, sym, ap, ◌∙◌, subst, ⊎_elim, arith, get_or-set_same, get_or-set_other}
-use Rattle.std.proofs.lemmas.Bool.{eqb-true, eq-eqb, cases_eq, cases_Bool, and_parts, and_from, cond_both}
+use Rattle.std.proofs.Common.{◌≡◌, ℕ, zero, suc, ◌+◌, ◌<◌, ◌≤◌, ◌==◌, Bool, true, false, cond, List}
+use Rattle.std.proofs.Common.{[], ◌∷◌, ◌++◌, get_or, set, drop, length, filter, count_by, Contains}
+use Rattle.std.proofs.Common.{refl, sym, ap, ◌∙◌, subst, ⊎_elim, arith, get_or-set_same}
+use Rattle.std.proofs.Common.{get_or-set_other}
+use Rattle.std.proofs.lemmas.Bool.{eqb-true, eq-eqb, cases_eq, cases_Bool, and_parts, and_from}
+use Rattle.std.proofs.lemmas.Bool.{cond_both}
 use Rattle.std.proofs.lemmas.List.Sums.{sum_by-cons, sum_by_push}
 use Rattle.mstr_block.specs.declared.call.CallId.{CallId}
-use Rattle.ring_core.specs.Words.{is_same}
+use Rattle.ring_core.specs.Words.{is_same_call}
 use Rattle.ring_laws.proofs.Rests.{Each}
 
 pub each-push : {X : Type 0} (P : X → Type 0) (xs : List X) (x : X) → Each P xs → P x → Each P (xs ++ x ∷ [])
@@ -101,12 +105,12 @@ each-put P (y ∷ ys) d (suc m) x all it zero = all zero
 each-put P (y ∷ ys) d (suc m) x all it (suc n) = each-put (λ k. P (suc k)) ys d m x (λ k. all (suc k)) it n
 
 -- names of calls
-pub same-eq : (a b : CallId) → is_same a b ≡ true → a ≡ b
+pub same-eq : (a b : CallId) → is_same_call a b ≡ true → a ≡ b
 same-eq a b e =
     let first = and_parts (a.node == b.node) _ e in
     let two = and_parts (a.path == b.path) (a.seq == b.seq) first.1 in
     let n = eqb-true a.node b.node first.0 in let p = eqb-true a.path b.path two.0 in let k = eqb-true a.seq b.seq two.1 in
     (λ i. record { node = n i; path = p i; seq = k i })
 
-pub same-refl : (a : CallId) → is_same a a ≡ true
+pub same-refl : (a : CallId) → is_same_call a a ≡ true
 same-refl a = and_from _ _ (eq-eqb a.node a.node refl) (and_from _ _ (eq-eqb a.path a.path refl) (eq-eqb a.seq a.seq refl))

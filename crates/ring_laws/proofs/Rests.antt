@@ -1,6 +1,7 @@
 -- What a legal history carries: how the ring's boxes, paths and numbers rest on the entries so far.
 -- This project's own.
-use Rattle.std.proofs.Common.{◌≡◌, ℕ, ◌+◌, ◌<◌, ◌≤◌, ◌==◌, ◌&&◌, Bool, false, List, [], ◌∷◌, length, get_or, count_by, Contains}
+use Rattle.std.proofs.Common.{◌≡◌, ℕ, ◌+◌, ◌<◌, ◌≤◌, ◌==◌, ◌&&◌, Bool, false, List, [], ◌∷◌, length}
+use Rattle.std.proofs.Common.{get_or, count_by, Contains}
 use Rattle.mstr_block.specs.declared.call.CallId.{CallId}
 use Rattle.ring_core.specs.declared.frame.FrameKind.{FrameKind}
 use Rattle.ring_core.specs.declared.frame.FrameKind.TheVariants.{Request, Reply}
@@ -12,7 +13,8 @@ use Rattle.ring_core.specs.Words.{asks_for}
 use Rattle.ring_core.specs.declared.path.Await.{Await}
 use Rattle.ring_core.specs.declared.path.Await.TheVariants.{Nothing, Out, Arrived, Failed}
 use Rattle.ring_core.specs.declared.path.Path.{Path}
-use Rattle.ring_core.specs.Machine.{NodeIs, RingIs, addresses, path_places, sources, no_path, node_at, source_of}
+use Rattle.ring_core.specs.Machine.{NodeIs, RingIs, addresses, path_places, sources, no_path}
+use Rattle.ring_core.specs.Machine.{ring_node, source_of}
 use Rattle.ring_core.specs.Legal.{IsLawful}
 use Rattle.ring_laws.specs.Once.{posts, HasAsked, IsFailWord}
 
@@ -78,5 +80,5 @@ EntryRests net h _ = Unit {0}
 
 pub record RingRests (net : NetPlan) (h : List RingEntry) (r : RingIs) : Type 0 where
   pub size : length r.nodes ≡ addresses
-  pub nodes : (n : ℕ) → NodeRests net h n (node_at r n)
+  pub nodes : (n : ℕ) → NodeRests net h n (ring_node r n)
   pub entries : Each (EntryRests net h) h

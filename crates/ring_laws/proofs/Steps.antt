@@ -1,8 +1,13 @@
 -- Each of the seven entries keeps what boxes, paths and numbers rest on.
-use Rattle.std.proofs.Common.{◌≡◌, ℕ, zero, suc, ◌+◌, ◌*◌, ◌<◌, ◌≤◌, ◌==◌, ◌&&◌, nat_le, Bool, true, false, cond, not, List, [], ◌∷◌, ◌++◌, get_or, set, map, drop, length, replicate, count_by, All, Contains, Some, None, refl, sym, ap, ◌∙◌, subst, inl, inr, ⊎_elim, arith, get_or-set_same, append-nil, append_assoc}
+use Rattle.std.proofs.Common.{◌≡◌, ℕ, zero, suc, ◌+◌, ◌*◌, ◌<◌, ◌≤◌, ◌==◌, ◌&&◌, nat_le, Bool, true}
+use Rattle.std.proofs.Common.{false, cond, not, List, [], ◌∷◌, ◌++◌, get_or, set, map, drop, length}
+use Rattle.std.proofs.Common.{replicate, count_by, All, Contains, Some, None, refl, sym, ap, ◌∙◌}
+use Rattle.std.proofs.Common.{subst, inl, inr, ⊎_elim, arith, get_or-set_same, append-nil}
+use Rattle.std.proofs.Common.{append_assoc}
 use Rattle.std.proofs.lemmas.List.{length-set, length-replicate}
 use Rattle.std.proofs.lemmas.List.Elements.{Contains-push, All-contains}
-use Rattle.std.proofs.lemmas.Bool.{eqb-true, eq-eqb, ne_eqb, cases_Bool, and_left, and_right, cond_both, leb-false}
+use Rattle.std.proofs.lemmas.Bool.{eqb-true, eq-eqb, ne_eqb, cases_Bool, and_left, and_right}
+use Rattle.std.proofs.lemmas.Bool.{cond_both, leb-false}
 use Rattle.mstr_block.specs.declared.call.CallId.{CallId}
 use Rattle.ring_core.specs.declared.frame.FrameKind.{FrameKind}
 use Rattle.ring_core.specs.declared.frame.FrameKind.TheVariants.{Request, Reply}
@@ -15,19 +20,30 @@ use Rattle.ring_core.specs.declared.entry.LeaveCause.{LeaveCause}
 use Rattle.plant_types.specs.declared.net.Fate.{Fate}
 use Rattle.plant_types.specs.declared.net.NetPlan.{NetPlan}
 use Rattle.ring_core.specs.declared.entry.RingEntry.{RingEntry}
-use Rattle.ring_core.specs.declared.entry.RingEntry.TheVariants.{Post, Send, Take, Local, GiveUp, Pass, Leave}
-use Rattle.ring_core.specs.Words.{is_same, asks, asks_for}
+use Rattle.ring_core.specs.declared.entry.RingEntry.TheVariants.{Post, Send, Take, Local, GiveUp}
+use Rattle.ring_core.specs.declared.entry.RingEntry.TheVariants.{Pass, Leave}
+use Rattle.ring_core.specs.Words.{is_same_call, asks, asks_for}
 use Rattle.ring_core.specs.declared.path.Await.{Await}
 use Rattle.ring_core.specs.declared.path.Await.TheVariants.{Nothing, Out, Arrived, Failed}
 use Rattle.ring_core.specs.declared.path.Path.{Path}
-use Rattle.ring_core.specs.Machine.{NodeIs, RingIs, addresses, no_path, fresh, part_of, node_at, path_of, asked, awaiting, posted, answered, took, aged, aged_await, is_repeat, is_full, waits_for, fell, with_frame, source_of, arrives, arrival, arrived, heard_of, fate_at, heard_by, failed, silence_word, sent_head, after, opening, joined, ring_after}
+use Rattle.ring_core.specs.Machine.{NodeIs, RingIs, addresses, no_path, fresh, part_of, ring_node}
+use Rattle.ring_core.specs.Machine.{path_of, asked, awaiting, posted, paths_after_take, took, aged}
+use Rattle.ring_core.specs.Machine.{aged_await, is_repeat, is_full, waits_for, fell, with_frame}
+use Rattle.ring_core.specs.Machine.{source_of, arrives, arrival, arrived, heard_of, fate_at}
+use Rattle.ring_core.specs.Machine.{heard_by, failed, silence_word, sent_head, after, opening}
+use Rattle.ring_core.specs.Machine.{with_members, ring_after}
 use Rattle.ring_core.specs.Refusals.{end_word}
-use Rattle.ring_core.specs.Legal.{IsMember, IsFrom, IsNext, IsFirst, IsLawful, IsStep, IsRun, IsLegal}
+use Rattle.ring_core.specs.Legal.{IsMember, IsFrom, IsNextNumber, IsFirst, IsLawful, IsRingStep}
+use Rattle.ring_core.specs.Legal.{IsRun, IsLegal}
 use Rattle.ring_core.proofs.Runs.{after_all-push}
 use Rattle.ring_laws.specs.Once.{posts, HasAsked, IsFailWord}
-use Rattle.ring_laws.proofs.Rests.{Each, takes_at, Sending, AskedIfReply, CameTo, IsAskedFor, Below, PartsRest, NodeRests, RingRests}
-use Rattle.ring_laws.proofs.Lists.{each-push, each-drop, each-map, each-filter, count-push, count-cons, one-if, put-at, each-put, same-eq}
-use Rattle.ring_laws.proofs.Keep.{sending-more, came-more, awaits-more, entry-more, below-less, below-up, below-one, count-same, quiet, awaiting-rests, out-rests, empty-rests, quiet-all, quiet-step}
+use Rattle.ring_laws.proofs.Rests.{Each, takes_at, Sending, AskedIfReply, CameTo, IsAskedFor, Below}
+use Rattle.ring_laws.proofs.Rests.{PartsRest, NodeRests, RingRests}
+use Rattle.ring_laws.proofs.Lists.{each-push, each-drop, each-map, each-filter, count-push}
+use Rattle.ring_laws.proofs.Lists.{count-cons, one-if, put-at, each-put, same-eq}
+use Rattle.ring_laws.proofs.Keep.{sending-more, came-more, awaits-more, entry-more, below-less}
+use Rattle.ring_laws.proofs.Keep.{below-up, below-one, count-same, quiet, awaiting-rests, out-rests}
+use Rattle.ring_laws.proofs.Keep.{empty-rests, quiet-all, quiet-step}
 
 abbrev pub AreLow : NetPlan → Type 0
 AreLow net = All (λ m. m < addresses) net.members
@@ -41,10 +57,10 @@ next-marks : (ps : List Path) (q : ℕ) (v : Path) → (get_or ps q no_path).pos
 next-marks ps q v lt = each-put (λ p x. (get_or ps p no_path).posted ≤ x.posted) ps no_path q v (λ p. omega arith) (omega (arith, lt))
 
 post-paths : (net : NetPlan) (h : List RingEntry) (n : ℕ) (c : NodeIs) (f : Frame) (kind : FrameKind) → f.kind ≡ kind → IsLawful net (Post n f)
-    → IsFrom n kind f → IsNext c kind f.id
+    → IsFrom n kind f → IsNextNumber c kind f.id
     → NodeRests net h n c → PartsRest net (h ++ Post n f ∷ []) n (asked c kind f.id f.to) c.accepted (c.outbox ++ f ∷ []) c.inbox
 post-paths net h n c f Reply is law from next i =
-    let j = quiet net h (Post n f) n c.paths c.accepted c.outbox c.inbox (λ id own. ap (λ (k : FrameKind). asks k && is_same f.id id) is) (λ id. refl) i in
+    let j = quiet net h (Post n f) n c.paths c.accepted c.outbox c.inbox (λ id own. ap (λ (k : FrameKind). asks k && is_same_call f.id id) is) (λ id. refl) i in
     out-rests net _ n c.paths c.accepted c.outbox _ c.inbox (each-push _ c.outbox f j.sending (Contains-push h (Post n f), law)) j
 post-paths net h n c f Request is law from next i =
     let e = Post n f in
@@ -59,42 +75,42 @@ post-paths net h n c f Request is law from next i =
       awaits = each-put (λ p x. IsAskedFor (h ++ e ∷ []) n p x.awaits) c.paths no_path f.id.path v (λ p. awaits-more h e n p _ (i.awaits p))
           (record { request = f; posted = here; kind = is; same = λ j. record { node = from.0 j; path = f.id.path; seq = f.id.seq } });
       asked = λ id own. ⊎_elim
-          (λ (y : is_same f.id id ≡ true).
+          (λ (y : is_same_call f.id id ≡ true).
           let same = same-eq f.id id y in
           let mark : (get_or (set c.paths f.id.path v) id.path no_path).posted ≡ id.seq = subst
           (λ (x : CallId). (get_or (set c.paths f.id.path v) x.path no_path).posted ≡ x.seq) same
           (ap (λ (x : Path). x.posted) (get_or-set_same c.paths f.id.path v no_path range)) in
           let below : (get_or c.paths id.path no_path).posted < id.seq = subst (λ (x : CallId). (get_or c.paths x.path no_path).posted < x.seq) same next in
-          let o : posts id e ≡ true = ap (λ (k : FrameKind). asks k && is_same f.id id) is ∙ y in
+          let o : posts id e ≡ true = ap (λ (k : FrameKind). asks k && is_same_call f.id id) is ∙ y in
           let cp = count-push (posts id) h e in let k = one-if (posts id e) o in
           below-one _ _ _ _ _ below mark (cp ∙ ap (λ (z : ℕ). count_by (posts id) h + z) k) (i.asked id own))
-          (λ (no' : is_same f.id id ≡ false).
-          let o : posts id e ≡ false = ap (λ (k : FrameKind). asks k && is_same f.id id) is ∙ no' in
+          (λ (no' : is_same_call f.id id ≡ false).
+          let o : posts id e ≡ false = ap (λ (k : FrameKind). asks k && is_same_call f.id id) is ∙ no' in
           let s = count-same (posts id) h e o in
           below-less _ _ _ _ (omega (arith, s)) (below-up _ _ _ _ (next-marks c.paths f.id.path v next id.path) (i.asked id own)))
-          (cases_Bool (is_same f.id id));
+          (cases_Bool (is_same_call f.id id));
       seen = λ id. below-less _ _ _ _ (let s = count-same (takes_at n id) h e refl in omega (arith, s)) (i.seen id);
     }
 
 -- no Request of another node
 not-own : (n k : ℕ) (f : Frame) (kind : FrameKind) (id : CallId) → f.kind ≡ kind → IsFrom n kind f → (k ≡ n → ⊥) → id.node ≡ k →
-    (asks f.kind && is_same f.id id) ≡ false
-not-own n k f Reply id is from other own = ap (λ (x : FrameKind). asks x && is_same f.id id) is
+    (asks f.kind && is_same_call f.id id) ≡ false
+not-own n k f Reply id is from other own = ap (λ (x : FrameKind). asks x && is_same_call f.id id) is
 not-own n k f Request id is from other own = ⊎_elim
-    (λ (y : is_same f.id id ≡ true). absurd (other (sym own ∙ (sym (ap (λ (x : CallId). x.node) (same-eq f.id id y)) ∙ from.0))))
-    (λ (no' : is_same f.id id ≡ false). and_right (asks f.kind) (is_same f.id id) no')
-    (cases_Bool (is_same f.id id))
+    (λ (y : is_same_call f.id id ≡ true). absurd (other (sym own ∙ (sym (ap (λ (x : CallId). x.node) (same-eq f.id id y)) ∙ from.0))))
+    (λ (no' : is_same_call f.id id ≡ false). and_right (asks f.kind) (is_same_call f.id id) no')
+    (cases_Bool (is_same_call f.id id))
 
-post-step : (net : NetPlan) (h : List RingEntry) (n : ℕ) (f : Frame) → AreLow net → IsStep net h (Post n f) → (r : RingIs) → r ≡ ring_after net h
+post-step : (net : NetPlan) (h : List RingEntry) (n : ℕ) (f : Frame) → AreLow net → IsRingStep net h (Post n f) → (r : RingIs) → r ≡ ring_after net h
     → RingRests net h r → RingRests net (h ++ Post n f ∷ []) (after net r (Post n f))
 post-step net h n f all s r is i =
     let range : n < length r.nodes = let a = low net n all s.0.0 in let l = i.size in omega (arith, a, l) in
-    let next : IsNext (node_at r n) f.kind f.id = subst (λ (x : RingIs). IsNext (node_at x n) f.kind f.id) (sym is) s.1.0 in
+    let next : IsNextNumber (ring_node r n) f.kind f.id = subst (λ (x : RingIs). IsNextNumber (ring_node x n) f.kind f.id) (sym is) s.1.0 in
     record {
       size = length-set _ _ _ ∙ i.size;
-      nodes = put-at (NodeRests net (h ++ Post n f ∷ [])) r.nodes (fresh false) n (posted (node_at r n) f) range
+      nodes = put-at (NodeRests net (h ++ Post n f ∷ [])) r.nodes (fresh false) n (posted (ring_node r n) f) range
           (λ k other. quiet net h (Post n f) k _ _ _ _ (λ id own. not-own n k f f.kind id refl s.0.1 other own) (λ id. refl) (i.nodes k))
-          (post-paths net h n (node_at r n) f f.kind refl s.0 s.0.1 next (i.nodes n));
+          (post-paths net h n (ring_node r n) f f.kind refl s.0 s.0.1 next (i.nodes n));
       entries = each-push _ h (Post n f) (each-map _ _ h (λ x k. entry-more net h (Post n f) x k) i.entries) tt;
     }
 
@@ -117,7 +133,7 @@ first-came net h n [] f first all = absurd first
 first-came net h n (g ∷ gs) f first all = subst (CameTo net h n) first all.0
 
 answered-rests : (net : NetPlan) (h : List RingEntry) (n : ℕ) (c : NodeIs) (as' : List ℕ) (out box : List Frame) (kind : FrameKind) (q : ℕ)
-    → PartsRest net h n c.paths as' out box → PartsRest net h n (answered c kind q) as' out box
+    → PartsRest net h n c.paths as' out box → PartsRest net h n (paths_after_take c kind q) as' out box
 answered-rests net h n c as' out box Request q i = i
 answered-rests net h n c as' out box Reply q i = awaiting-rests net h n c as' out box q Nothing tt i
 
@@ -136,19 +152,19 @@ box-rests net h n f c first i = record {
 take-other : (n k : ℕ) (f : Frame) (id : CallId) → (k ≡ n → ⊥) → takes_at k id (Take n f) ≡ false
 take-other n k f id other = and_left (n == k) (asks_for id f) (ne_eqb n k (λ e. other (sym e)))
 
-take-step : (net : NetPlan) (h : List RingEntry) (n : ℕ) (f : Frame) → AreLow net → IsStep net h (Take n f) → (r : RingIs) → r ≡ ring_after net h
+take-step : (net : NetPlan) (h : List RingEntry) (n : ℕ) (f : Frame) → AreLow net → IsRingStep net h (Take n f) → (r : RingIs) → r ≡ ring_after net h
     → RingRests net h r → RingRests net (h ++ Take n f ∷ []) (after net r (Take n f))
 take-step net h n f all s r is i =
     let range : n < length r.nodes = let a = low net n all s.0 in let l = i.size in omega (arith, a, l) in
     let e : RingEntry = Take n f in
-    let first : IsFirst (node_at r n).inbox f = subst (λ (x : RingIs). IsFirst (node_at x n).inbox f) (sym is) s.1.1 in
+    let first : IsFirst (ring_node r n).inbox f = subst (λ (x : RingIs). IsFirst (ring_node x n).inbox f) (sym is) s.1.1 in
     record {
       size = length-set _ _ _ ∙ i.size;
-      nodes = put-at (NodeRests net (h ++ e ∷ [])) r.nodes (fresh false) n (took (node_at r n) f.kind f.id) range
+      nodes = put-at (NodeRests net (h ++ e ∷ [])) r.nodes (fresh false) n (took (ring_node r n) f.kind f.id) range
           (λ k other. quiet net h e k _ _ _ _ (λ id own. refl) (λ id. take-other n k f id other) (i.nodes k))
-          (answered-rests net (h ++ e ∷ []) n (node_at r n) _ _ _ f.kind f.id.path (box-rests net h n f (node_at r n) first (i.nodes n)));
+          (answered-rests net (h ++ e ∷ []) n (ring_node r n) _ _ _ f.kind f.id.path (box-rests net h n f (ring_node r n) first (i.nodes n)));
       entries = each-push _ h e (each-map _ _ h (λ x k. entry-more net h e x k) i.entries)
-          (came-more net h e n f (first-came net h n (node_at r n).inbox f first (i.nodes n).coming));
+          (came-more net h e n f (first-came net h n (ring_node r n).inbox f first (i.nodes n).coming));
     }
 
 -- GiveUp
@@ -158,20 +174,20 @@ fail-word false = inr (inl refl)
 
 word-is : (h : List RingEntry) (n p : ℕ) (r : RingIs) (here : Bool) (a : Await) → IsAskedFor h n p a → IsFailWord (end_word r here a)
 word-is h n p r here Nothing k = fail-word false
-word-is h n p r here (Out seq to passes) k = fail-word (here && (node_at r to).here)
+word-is h n p r here (Out seq to passes) k = fail-word (here && (ring_node r to).here)
 word-is h n p r here (Arrived seq) k = fail-word false
 word-is h n p r here (Failed seq word) k = k
 
-give_up-step : (net : NetPlan) (h : List RingEntry) (id : CallId) (word : ℕ) → IsStep net h (GiveUp id word) → (r : RingIs) → r ≡ ring_after net h
+give_up-step : (net : NetPlan) (h : List RingEntry) (id : CallId) (word : ℕ) → IsRingStep net h (GiveUp id word) → (r : RingIs) → r ≡ ring_after net h
     → RingRests net h r → RingRests net (h ++ GiveUp id word ∷ []) (after net r (GiveUp id word))
 give_up-step net h id word s r is i =
     let e : RingEntry = GiveUp id word in
     let n = id.node in
-    let c = node_at r n in
+    let c = ring_node r n in
     let all = quiet-all net h r e (λ x. refl) (λ k x. refl) i in
     let k = awaiting-rests net (h ++ e ∷ []) n c _ _ _ id.path Nothing tt (all n) in
     let told : word ≡ end_word r c.here (path_of c id.path).awaits = subst
-    (λ (x : RingIs). word ≡ end_word x (node_at x n).here (path_of (node_at x n) id.path).awaits) (sym is) s.1.1 in
+    (λ (x : RingIs). word ≡ end_word x (ring_node x n).here (path_of (ring_node x n) id.path).awaits) (sym is) s.1.1 in
     quiet-step net h r (after net r e) e (length-set _ _ _)
     (each-put (NodeRests net (h ++ e ∷ [])) r.nodes (fresh false) n _ all
     (out-rests net _ n _ _ c.outbox _ c.inbox (each-filter _ (λ f. not (asks_for id f)) c.outbox (all n).sending) k))
@@ -249,20 +265,20 @@ accepted-rests net h m c f is node path came new i =
       awaits = i.awaits;
       asked = i.asked;
       seen = λ id. ⊎_elim
-          (λ (y : is_same f.id id ≡ true).
+          (λ (y : is_same_call f.id id ≡ true).
           let same = same-eq f.id id y in
           let mark : get_or (set c.accepted (source_of f.id) f.id.seq) (source_of id) 0 ≡ id.seq = subst
           (λ (x : CallId). get_or (set c.accepted (source_of f.id) f.id.seq) (source_of x) 0 ≡ x.seq) same
           (get_or-set_same c.accepted (source_of f.id) f.id.seq 0 range) in
           let below : get_or c.accepted (source_of id) 0 < id.seq = subst (λ (x : CallId). get_or c.accepted (source_of x) 0 < x.seq) same above in
-          let o : asks_for id f ≡ true = ap (λ (k : FrameKind). asks k && is_same f.id id) is ∙ y in
+          let o : asks_for id f ≡ true = ap (λ (k : FrameKind). asks k && is_same_call f.id id) is ∙ y in
           let cp = count-push (asks_for id) c.inbox f in let k = one-if (asks_for id f) o in
           below-one _ _ _ _ _ below mark (omega (arith, cp, k)) (i.seen id))
-          (λ (no' : is_same f.id id ≡ false).
-          let o : asks_for id f ≡ false = ap (λ (k : FrameKind). asks k && is_same f.id id) is ∙ no' in
+          (λ (no' : is_same_call f.id id ≡ false).
+          let o : asks_for id f ≡ false = ap (λ (k : FrameKind). asks k && is_same_call f.id id) is ∙ no' in
           let s = count-same (asks_for id) c.inbox f o in
           below-less _ _ _ _ (omega (arith, s)) (below-up _ _ _ _ (mark-set c.accepted (source_of f.id) (source_of id) f.id.seq above) (i.seen id)))
-          (cases_Bool (is_same f.id id));
+          (cases_Bool (is_same_call f.id id));
     }
 
 awaited : (h : List RingEntry) (m p seq : ℕ) (a : Await) → waits_for a seq ≡ true → IsAskedFor h m p a → HasAsked h m
@@ -288,7 +304,7 @@ reply-rests net h m n c f is to node sent w i =
       awaits = j.awaits;
       asked = j.asked;
       seen = λ id. below-less _ _ _ _
-          (let o : asks_for id f ≡ false = ap (λ (k : FrameKind). asks k && is_same f.id id) is in let s = count-same (asks_for id) c.inbox f o in omega
+          (let o : asks_for id f ≡ false = ap (λ (k : FrameKind). asks k && is_same_call f.id id) is in let s = count-same (asks_for id) c.inbox f o in omega
           (arith, s)) (i.seen id);
     }
 
@@ -332,7 +348,7 @@ heard-rests net h n c kind id there Silent i =
     (λ _. i)
 
 sent-rests : (net : NetPlan) (h : List RingEntry) (r : RingIs) (n : ℕ) (box : List Frame) → AreLow net → Each (Sending net h n) box →
-    ((k : ℕ) → NodeRests net h k (node_at r k)) → (k : ℕ) → NodeRests net h k (node_at (sent_head net r n box) k)
+    ((k : ℕ) → NodeRests net h k (ring_node r k)) → (k : ℕ) → NodeRests net h k (ring_node (sent_head net r n box) k)
 sent-rests net h r n [] low' box all = all
 sent-rests net h r n (f ∷ fs) low' box all =
     let fate = fate_at net.fates r.sent in
@@ -350,11 +366,11 @@ send-step : (net : NetPlan) (h : List RingEntry) (n : ℕ) (heard : Heard) → A
 send-step net h n heard low' r i =
     let e : RingEntry = Send n heard in
     let all = quiet-all net h r e (λ x. refl) (λ k x. refl) i in
-    quiet-step net h r (after net r e) e (length-sent net r n (node_at r n).outbox)
-    (sent-rests net (h ++ e ∷ []) r n (node_at r n).outbox low' (all n).sending all) tt i
+    quiet-step net h r (after net r e) e (length-sent net r n (ring_node r n).outbox)
+    (sent-rests net (h ++ e ∷ []) r n (ring_node r n).outbox low' (all n).sending all) tt i
 
 -- all seven, and lists of them
-step-rests : (net : NetPlan) (h : List RingEntry) (e : RingEntry) → AreLow net → IsStep net h e → (r : RingIs) → r ≡ ring_after net h → RingRests net h r
+step-rests : (net : NetPlan) (h : List RingEntry) (e : RingEntry) → AreLow net → IsRingStep net h e → (r : RingIs) → r ≡ ring_after net h → RingRests net h r
     → RingRests net (h ++ e ∷ []) (after net r e)
 step-rests net h (Post n f) all s r is i = post-step net h n f all s r is i
 step-rests net h (Send n heard) all s r is i = send-step net h n heard all r i
@@ -390,12 +406,12 @@ fresh-rests net n here = record {
 }
 
 joined-rests : (net : NetPlan) (nodes : List NodeIs) (ms : List ℕ) → ((k : ℕ) → NodeRests net [] k (part_of nodes k)) → (k : ℕ) → NodeRests net [] k
-    (part_of (joined nodes ms) k)
+    (part_of (with_members nodes ms) k)
 joined-rests net nodes [] all = all
 joined-rests net nodes (m ∷ ms) all = joined-rests net (set nodes m (fresh true)) ms
     (each-put (NodeRests net []) nodes (fresh false) m (fresh true) all (fresh-rests net m true))
 
-length-joined : (nodes : List NodeIs) (ms : List ℕ) → length (joined nodes ms) ≡ length nodes
+length-joined : (nodes : List NodeIs) (ms : List ℕ) → length (with_members nodes ms) ≡ length nodes
 length-joined nodes [] = refl
 length-joined nodes (m ∷ ms) = length-joined (set nodes m (fresh true)) ms ∙ length-set _ _ _
 

@@ -1,5 +1,6 @@
 -- What every legal history of a ring says of its Requests and Replies. This project's own.
-use Rattle.std.specs.Prelude.{◌≡◌, ◌≢◌, ℕ, ◌<◌, ◌≤◌, ◌⊎◌, Bool, false, List, count_by, All, Contains}
+use Rattle.std.specs.Prelude.{◌≡◌, ◌≢◌, ℕ, ◌<◌, ◌≤◌, ◌⊎◌, Bool, false, List, count_by, All}
+use Rattle.std.specs.Prelude.{Contains}
 use Rattle.mstr_block.specs.declared.call.CallId.{CallId}
 use Rattle.ring_core.specs.declared.frame.FrameKind.TheVariants.{Request, Reply}
 use Rattle.ring_core.specs.declared.frame.Frame.{Frame}
@@ -7,7 +8,7 @@ use Rattle.plant_types.specs.declared.net.NetPlan.{NetPlan}
 use Rattle.ring_core.specs.declared.entry.RingEntry.{RingEntry}
 use Rattle.ring_core.specs.declared.entry.RingEntry.TheVariants.{Post, Take, GiveUp}
 use Rattle.ring_core.specs.Words.{asks_for}
-use Rattle.ring_core.specs.Machine.{addresses, node_at, ring_after}
+use Rattle.ring_core.specs.Machine.{addresses, ring_node, ring_after}
 use Rattle.ring_core.specs.Legal.{IsLegal}
 
 -- An entry posts a Request of this call.
@@ -38,7 +39,7 @@ TakenOnce = (net : NetPlan) (history : List RingEntry) (id : CallId) →
 -- A frame was accepted by a node: it is in the inbox, or the node took it.
 abbrev pub Accepted : NetPlan → List RingEntry → ℕ → Frame → Type 0
 Accepted net history n f =
-    Contains (node_at (ring_after net history) n).inbox f ⊎ Contains history (Take n f)
+    Contains (ring_node (ring_after net history) n).inbox f ⊎ Contains history (Take n f)
 
 -- A Request that a node accepted was posted to it by the caller, another node.
 abbrev pub OnlyItsTarget : Type 0

@@ -1,7 +1,7 @@
 //! What a target makes of what arrives: full inboxes, repeats, late Replies.
 use crate::script::Call::{Ask, GiveUp, Pass, Reply, Send, Take};
 use crate::script::Told::{Done, No, Nothing, Request, Word};
-use crate::script::{ACKED, BUSY, SILENT, Told, agrees, answers, id, ring_of};
+use crate::script::{ACKED, BUSY, SILENT, Told, agrees, answers, asks, id, ring_of};
 use plant_types::Fate;
 use ring_core::RingNo;
 use std::alloc::AllocError;
@@ -11,34 +11,10 @@ use std::alloc::AllocError;
 fn a_fifth_request(rt: HostRuntime) -> Result<(), AllocError> {
     let fifth = id(3, 1, 1);
     let rows = [
-        (
-            Ask {
-                to: 5,
-                id: id(2, 1, 1),
-            },
-            Done,
-        ),
-        (
-            Ask {
-                to: 5,
-                id: id(2, 2, 1),
-            },
-            Done,
-        ),
-        (
-            Ask {
-                to: 5,
-                id: id(2, 3, 1),
-            },
-            Done,
-        ),
-        (
-            Ask {
-                to: 5,
-                id: id(2, 4, 1),
-            },
-            Done,
-        ),
+        asks(2, 1, 5),
+        asks(2, 2, 5),
+        asks(2, 3, 5),
+        asks(2, 4, 5),
         (Send(2), ACKED),
         (Send(2), ACKED),
         (Send(2), ACKED),
@@ -64,34 +40,10 @@ fn a_fifth_request(rt: HostRuntime) -> Result<(), AllocError> {
 fn a_repeat_of_the_fourth(rt: HostRuntime) -> Result<(), AllocError> {
     let fates = [Fate::D, Fate::D, Fate::D, Fate::A, Fate::D];
     let rows = [
-        (
-            Ask {
-                to: 5,
-                id: id(2, 1, 1),
-            },
-            Done,
-        ),
-        (
-            Ask {
-                to: 5,
-                id: id(2, 2, 1),
-            },
-            Done,
-        ),
-        (
-            Ask {
-                to: 5,
-                id: id(2, 3, 1),
-            },
-            Done,
-        ),
-        (
-            Ask {
-                to: 5,
-                id: id(2, 4, 1),
-            },
-            Done,
-        ),
+        asks(2, 1, 5),
+        asks(2, 2, 5),
+        asks(2, 3, 5),
+        asks(2, 4, 5),
         (Send(2), ACKED),
         (Send(2), ACKED),
         (Send(2), ACKED),
@@ -110,16 +62,7 @@ fn replies_do_not_crowd(rt: HostRuntime) -> Result<(), AllocError> {
     let alloc = rt.alloc();
     let mut ring = ring_of(&rt, alloc, &[2, 5], &[Fate::D])?;
     for path in 1..5 {
-        let rows = [
-            (
-                Ask {
-                    to: 5,
-                    id: id(2, path, 1),
-                },
-                Done,
-            ),
-            (Send(2), ACKED),
-        ];
+        let rows = [asks(2, path, 5), (Send(2), ACKED)];
         assert!(rt; agrees(&rt, alloc, &mut ring, &rows)? == rows.len());
     }
     assert!(rt; agrees(&rt, alloc, &mut ring, &[(Pass(2, false), Done)])? == 1);
@@ -133,13 +76,7 @@ fn replies_do_not_crowd(rt: HostRuntime) -> Result<(), AllocError> {
         assert!(rt; agrees(&rt, alloc, &mut ring, &rows)? == rows.len());
     }
     let rows = [
-        (
-            Ask {
-                to: 2,
-                id: id(5, 1, 1),
-            },
-            Done,
-        ),
+        asks(5, 1, 2),
         (Send(5), ACKED),
         (Pass(5, false), Done),
         (Pass(2, false), No(RingNo::Untaken(5))),

@@ -1,7 +1,7 @@
 //! Each refusal of each call, and which comes first where several fit.
 use crate::script::Call::{Ask, Clear, GiveUp, Leave, Pass, Reply, Send, Take};
 use crate::script::Told::{Done, No, Request};
-use crate::script::{ACKED, answers, early, holder, id};
+use crate::script::{ACKED, answers, asks, early, holder, id};
 use plant_types::Fate;
 use ring_core::{LeaveCause, RingNo};
 use std::alloc::AllocError;
@@ -51,31 +51,13 @@ fn another_holds_the_token(rt: HostRuntime) -> Result<(), AllocError> {
 #[test]
 fn boxes_before_time(rt: HostRuntime) -> Result<(), AllocError> {
     let rows = [
-        (
-            Ask {
-                to: 5,
-                id: id(2, 1, 1),
-            },
-            Done,
-        ),
-        (
-            Ask {
-                to: 5,
-                id: id(2, 2, 1),
-            },
-            Done,
-        ),
+        asks(2, 1, 5),
+        asks(2, 2, 5),
         (Pass(2, false), No(RingNo::Unsent(2))),
         (Send(2), ACKED),
         (Send(2), ACKED),
         (Pass(2, false), Done),
-        (
-            Ask {
-                to: 2,
-                id: id(5, 1, 1),
-            },
-            Done,
-        ),
+        asks(5, 1, 2),
         (Pass(5, false), No(RingNo::Unsent(1))),
         (Leave(5, LeaveCause::Spent), No(RingNo::Unsent(1))),
         (Send(5), ACKED),

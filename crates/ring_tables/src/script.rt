@@ -52,6 +52,12 @@ pub(crate) fn id(node: u8, path: u8, seq: u32) -> CallId {
     CallId { node, path, seq }
 }
 
+// A node posts its first Request on a path.
+pub(crate) fn asks(node: u8, path: u8, to: u8) -> (Call, Told) {
+    let id = id(node, path, 1);
+    (Call::Ask { to, id }, Told::Done)
+}
+
 pub(crate) fn holder(node: u8) -> Told {
     Told::No(RingNo::NotHolder(node))
 }

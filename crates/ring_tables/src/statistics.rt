@@ -1,7 +1,7 @@
 //! Statistics and global words.
 use crate::script::Call::{Ask, Clear, GiveUp, Leave, Pass, Put, Reply, Send, Take};
 use crate::script::Told::{Done, Nothing, Request, Word};
-use crate::script::{ACKED, SILENT, Told, agrees, gives, id, local, ring_of};
+use crate::script::{ACKED, Call, SILENT, Told, agrees, gives, id, local, ring_of};
 use plant_types::Fate;
 use ring_core::{LeaveCause, LocalOp, Ring};
 use std::alloc::AllocError;
@@ -122,36 +122,23 @@ fn heard(rt: &impl Abort, ring: &mut Ring, length: u16, words: &[u16]) -> bool {
     gives(&local(rt, ring, 5, id(5, 0, 1), op), words)
 }
 
+// Node 2 puts global words.
+fn puts(words: [u16; 2]) -> (Call, Told) {
+    (Put { node: 2, words }, Done)
+}
+
 // The words of a node that has left are those of its last Pass, and no later ones.
 #[test]
 fn words_of_a_node_that_has_left(rt: HostRuntime) -> Result<(), AllocError> {
     let alloc = rt.alloc();
     let mut ring = ring_of(&rt, alloc, &[2, 5], &[Fate::D])?;
     let rows = [
-        (
-            Put {
-                node: 2,
-                words: [7, 8],
-            },
-            Done,
-        ),
+        puts([7, 8]),
         (Pass(2, true), Done),
         (Pass(5, true), Done),
-        (
-            Put {
-                node: 2,
-                words: [9, 9],
-            },
-            Done,
-        ),
+        puts([9, 9]),
         (Leave(2, LeaveCause::Ended), Done),
-        (
-            Put {
-                node: 2,
-                words: [1, 1],
-            },
-            Done,
-        ),
+        puts([1, 1]),
     ];
     assert!(rt; agrees(&rt, alloc, &mut ring, &rows)? == rows.len());
     assert!(rt; heard(&rt, &mut ring, 2, &[2, 7, 8]) && heard(&rt, &mut ring, 0, &[2]));

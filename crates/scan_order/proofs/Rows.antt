@@ -1,11 +1,13 @@
 -- What stands first in the steps from a row on.
-use Rattle.std.proofs.Common.{◌≡◌, ◌≤◌, ◌<◌, ℕ, suc, ◌+◌, ◌-◌, [], ◌∷◌, ◌++◌, length, Some, None, sym, ap, ◌∙◌, arith, append_assoc, inl, inr}
+use Rattle.std.proofs.Common.{◌≡◌, ◌≤◌, ◌<◌, ℕ, suc, ◌+◌, ◌-◌, [], ◌∷◌, ◌++◌, length, Some, None}
+use Rattle.std.proofs.Common.{sym, ap, ◌∙◌, arith, append_assoc, inl, inr}
 use Rattle.std.specs.List.{flat_map, range_with_len}
 use Rattle.std.proofs.lemmas.Option.{slice_get_cases}
 use Rattle.plant_types.specs.declared.plan.ControllerPlan.{ControllerPlan}
 use Rattle.scan_order.specs.declared.due.ScanPlace.TheVariants as places
 use Rattle.scan_order.specs.declared.due.ScanStep.TheVariants as steps
-use Rattle.scan_order.specs.Due.{row_of, input_of, output_of, step_with, row_steps, output_steps, rows_from, due_after}
+use Rattle.scan_order.specs.Due.{row_of, input_of, output_of, step_with, row_steps, output_steps}
+use Rattle.scan_order.specs.Due.{rows_from, due_after}
 
 -- the steps from a row of the plan on are those of the row, and those from the next row on
 pub rows_from-row : (plan : ControllerPlan) (row : ℕ) → row ≤ length plan.orders

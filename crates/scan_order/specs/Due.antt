@@ -1,5 +1,6 @@
 -- The due list of a scan, and what of it is left behind a place.
-use Rattle.std.specs.Prelude.{◌≤◌, ℕ, suc, ◌+◌, ◌-◌, List, [], ◌∷◌, ◌++◌, length, Option, Some, None, slice_get}
+use Rattle.std.specs.Prelude.{◌≤◌, ℕ, suc, ◌+◌, ◌-◌, List, [], ◌∷◌, ◌++◌, length, Option, Some}
+use Rattle.std.specs.Prelude.{None, slice_get}
 use Rattle.std.specs.List.{flat_map, range_with_len}
 use Rattle.plant_types.specs.declared.plan.OrderRow.{OrderRow}
 use Rattle.plant_types.specs.declared.plan.ControllerPlan.{ControllerPlan}

@@ -1,8 +1,10 @@
 -- The map that packed words stand for.
-use Rattle.std.specs.Prelude.{◌≡◌, ◌≤◌, ℕ, ◌-◌, ◌*◌, ◌/◌, ◌%◌, List, ◌++◌, length, take, replicate, map, slice_index_or, slice_set, if◌then◌else◌}
+use Rattle.std.specs.Prelude.{◌≡◌, ◌≤◌, ℕ, ◌-◌, ◌*◌, ◌/◌, ◌%◌, List, ◌++◌, length, take, replicate}
+use Rattle.std.specs.Prelude.{map, slice_index_or, slice_set, if◌then◌else◌}
 use Rattle.std.specs.FinMap.{from_entries}
 use Rattle.plant_types.specs.declared.reference.RefKind.{RefKind}
-use Rattle.plant_types.specs.declared.reference.RefKind.TheVariants.{Coil, Input, InputRegister, Register}
+use Rattle.plant_types.specs.declared.reference.RefKind.TheVariants.{Coil, Input, InputRegister}
+use Rattle.plant_types.specs.declared.reference.RefKind.TheVariants.{Register}
 use Rattle.plant_types.specs.declared.reference.Ref.{Ref}
 use Rattle.plant_types.specs.declared.sizes.Sizes.{Sizes}
 use Rattle.plant_types.specs.Sizes.{count_of, zeros}
@@ -28,18 +30,18 @@ pub record Words : Type 0 where
   pub registers : List ℕ
 
 -- The words of a kind. This project's own.
-abbrev pub words_at : Words → RefKind → List ℕ
-words_at words Coil = words.coils
-words_at words Input = words.inputs
-words_at words InputRegister = words.input_registers
-words_at words Register = words.registers
+abbrev pub words_of_kind : Words → RefKind → List ℕ
+words_of_kind words Coil = words.coils
+words_of_kind words Input = words.inputs
+words_of_kind words InputRegister = words.input_registers
+words_of_kind words Register = words.registers
 
 -- The same with other words of a kind. This project's own.
-abbrev pub with_words_at : Words → RefKind → List ℕ → Words
-with_words_at words Coil other = record words { coils = other }
-with_words_at words Input other = record words { inputs = other }
-with_words_at words InputRegister other = record words { input_registers = other }
-with_words_at words Register other = record words { registers = other }
+abbrev pub with_words_of_kind : Words → RefKind → List ℕ → Words
+with_words_of_kind words Coil other = record words { coils = other }
+with_words_of_kind words Input other = record words { inputs = other }
+with_words_of_kind words InputRegister other = record words { input_registers = other }
+with_words_of_kind words Register other = record words { registers = other }
 
 -- Sixteen discretes to a word, and one register. This project's own.
 abbrev pub packed_sizes : Words → Sizes
@@ -72,23 +74,24 @@ number_in Register words place = slice_index_or words place 0
 
 -- The number at a reference. This project's own.
 abbrev pub packed_number : Words → Ref → ℕ
-packed_number words at = number_in at.kind (words_at words at.kind) (at.number - 1)
+packed_number words at = number_in at.kind (words_of_kind words at.kind) (at.number - 1)
 
 -- The word of sixteen discretes that holds one of them. This project's own.
 abbrev pub group_of : Words → Ref → ℕ
-group_of words at = slice_index_or (words_at words at.kind) ((at.number - 1) / 16) 0
+group_of words at = slice_index_or (words_of_kind words at.kind) ((at.number - 1) / 16) 0
 
 -- The same words with that one changed. This project's own.
 abbrev pub with_group : Words → Ref → ℕ → Words
 with_group words at word =
-    with_words_at words at.kind (slice_set (words_at words at.kind) ((at.number - 1) / 16) word)
+    with_words_of_kind words at.kind (slice_set (words_of_kind words at.kind) ((at.number - 1) /
+    16) word)
 
 -- The contents that words stand for. This project's own.
-unfoldable pub packed : Words → Contents
-packed words = filled (packed_sizes words) (packed_number words)
+unfoldable pub packed_contents : Words → Contents
+packed_contents words = filled (packed_sizes words) (packed_number words)
 
 -- A reference that words have a place for. This project's own.
-pub record HasPlace (words : Words) (at : Ref) : Type 0 where
+pub record HasPlaceFor (words : Words) (at : Ref) : Type 0 where
   pub from_one : 1 ≤ at.number
   pub within : at.number ≤ count_of (packed_sizes words) at.kind
 
@@ -99,15 +102,15 @@ pub record Sets (old new : Words) (at : Ref) (value : ℕ) : Type 0 where
   pub others : (q : Ref) → 1 ≤ q.number → (q ≡ at → ⊥) → packed_number new q ≡ packed_number old q
 
 -- Words of no more places than others. This project's own.
-pub record IsWithin (words other : Words) : Type 0 where
+pub record AreNoMore (words other : Words) : Type 0 where
   pub coils : length words.coils ≤ length other.coils
   pub inputs : length words.inputs ≤ length other.inputs
   pub input_registers : length words.input_registers ≤ length other.input_registers
   pub registers : length words.registers ≤ length other.registers
 
 -- As many words of each kind as there were, taken from others. This project's own.
-abbrev pub taken : Words → Words → Words
-taken words other = record {
+abbrev pub words_taken : Words → Words → Words
+words_taken words other = record {
   coils = take (length words.coils) other.coils;
   inputs = take (length words.inputs) other.inputs;
   input_registers = take (length words.input_registers) other.input_registers;

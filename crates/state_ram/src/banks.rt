@@ -2,8 +2,8 @@
 ghost use Rattle.std.specs.Prelude.{◌≡◌, ◌≤◌, true, false, length, take, IfOk, if◌then◌else◌};
 ghost use Rattle.plant_types.specs.Reference.{is_discrete};
 ghost use Rattle.plant_types.specs.Sizes.{has_reference};
-ghost use Rattle.state_ram.specs.Packed.{HasPlace, IsWithin, Sets, packed_number, packed_sizes};
-ghost use Rattle.state_ram.specs.Packed.{group_of, with_group, taken, zero_words};
+ghost use Rattle.state_ram.specs.Packed.{HasPlaceFor, AreNoMore, Sets, packed_number, packed_sizes};
+ghost use Rattle.state_ram.specs.Packed.{group_of, with_group, words_taken, zero_words};
 
 use crate::bits::{bit_of, with_bit};
 use plant_types::{Ref, RefKind};
@@ -67,7 +67,7 @@ impl Banks {
 
     /// The word of sixteen discretes that holds one of them.
     pub(crate) fn group(&self, at: Ref) -> u16
-        requires place { HasPlace (bank_words self.now) at }
+        requires place { HasPlaceFor (bank_words self.now) at }
         requires kind { is_discrete at.kind ≡ true }
         ensures { result ≡ group_of (bank_words self.now) at }
     {
@@ -81,7 +81,7 @@ impl Banks {
 
     /// Stores the word of sixteen discretes that holds one of them.
     pub(crate) fn set_group(&mut self, at: Ref, word: u16)
-        requires place { HasPlace (bank_words self.old) at }
+        requires place { HasPlaceFor (bank_words self.old) at }
         requires kind { is_discrete at.kind ≡ true }
         ensures { bank_words self.new ≡ with_group (bank_words self.old) at word }
     {
@@ -94,7 +94,7 @@ impl Banks {
     }
 
     pub(crate) fn bit(&self, at: Ref) -> bool
-        requires place { HasPlace (bank_words self.now) at }
+        requires place { HasPlaceFor (bank_words self.now) at }
         requires kind { is_discrete at.kind ≡ true }
         ensures { (if result then 1 else 0) ≡ packed_number (bank_words self.now) at }
     {
@@ -102,7 +102,7 @@ impl Banks {
     }
 
     pub(crate) fn set_bit(&mut self, at: Ref, on: bool)
-        requires place { HasPlace (bank_words self.old) at }
+        requires place { HasPlaceFor (bank_words self.old) at }
         requires kind { is_discrete at.kind ≡ true }
         ensures { Sets (bank_words self.old) (bank_words self.new) at (if on then 1 else 0) }
     {
@@ -111,7 +111,7 @@ impl Banks {
     }
 
     pub(crate) fn word(&self, at: Ref) -> u16
-        requires place { HasPlace (bank_words self.now) at }
+        requires place { HasPlaceFor (bank_words self.now) at }
         requires kind { is_discrete at.kind ≡ false }
         ensures { result ≡ packed_number (bank_words self.now) at }
     {
@@ -124,7 +124,7 @@ impl Banks {
     }
 
     pub(crate) fn set_word(&mut self, at: Ref, value: u16)
-        requires place { HasPlace (bank_words self.old) at }
+        requires place { HasPlaceFor (bank_words self.old) at }
         requires kind { is_discrete at.kind ≡ false }
         ensures { Sets (bank_words self.old) (bank_words self.new) at value }
     {
@@ -137,8 +137,8 @@ impl Banks {
     }
 
     pub(crate) fn copy_from(&mut self, other: &Banks)
-        requires { IsWithin (bank_words self.old) (bank_words other.now) }
-        ensures { bank_words self.new ≡ taken (bank_words self.old) (bank_words other.now) }
+        requires { AreNoMore (bank_words self.old) (bank_words other.now) }
+        ensures { bank_words self.new ≡ words_taken (bank_words self.old) (bank_words other.now) }
     {
         copy_words(&mut self.coils, &other.coils);
         copy_words(&mut self.inputs, &other.inputs);

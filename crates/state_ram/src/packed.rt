@@ -22,14 +22,14 @@ pub struct PackedRam {
 impl Model for PackedRam {
     ghost use Rattle.plant_types.specs.Store.{Contents};
     ghost use Rattle.plant_types.specs.MapRam.{coded_contents};
-    ghost use Rattle.state_ram.specs.Packed.{packed};
+    ghost use Rattle.state_ram.specs.Packed.{packed_contents};
     ghost use Rattle.state_ram.specs.Banks.{bank_words};
 
     ghost Value = { Contents };
 
     ghost coded = { coded_contents };
 
-    ghost view = { λ a. packed (bank_words a.banks) };
+    ghost view = { λ a. packed_contents (bank_words a.banks) };
 }
 
 impl PackedRam {

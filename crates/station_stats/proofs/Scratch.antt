@@ -1,10 +1,19 @@
 -- Counters that run along, against counts from scratch.
-use Rattle.std.proofs.Common.{◌≡◌, ℕ, ◌+◌, ◌%◌, ◌==◌, Bool, true, false, cond, List, [], ◌∷◌, ◌++◌, get_or, set, map, replicate, count_by, refl, sym, ap, ◌∙◌, add-zero}
+use Rattle.std.proofs.Common.{◌≡◌, ℕ, ◌+◌, ◌%◌, ◌==◌, Bool, true, false, cond, List, [], ◌∷◌, ◌++◌}
+use Rattle.std.proofs.Common.{get_or, set, map, replicate, count_by, refl, sym, ap, ◌∙◌, add-zero}
 use Rattle.std.proofs.lemmas.List.Sums.{sum_by_push}
 use Rattle.std.proofs.Math.Nat.{mod-add-mod}
 use Rattle.station_stats.specs.declared.event.StatEvent.{StatEvent}
-use Rattle.station_stats.specs.declared.event.StatEvent.TheVariants.{Pass, RequestPosted, ReplyPosted, Acked, Silent, Busy, RequestAccepted, RequestRepeated, ReplyAccepted, ReplyDropped, RequestTaken, ReplyTaken, GiveUp, OwnLocal, OtherLocal}
-use Rattle.station_stats.specs.Counts.{place_of, modulus, StatNote, since_clear, is_at, how_often, places, counts_of, StatsIs, cleared, counted, noted, running, CountsAreFromScratch}
+use Rattle.station_stats.specs.declared.event.StatEvent.TheVariants.{Pass, RequestPosted}
+use Rattle.station_stats.specs.declared.event.StatEvent.TheVariants.{ReplyPosted, Acked, Silent}
+use Rattle.station_stats.specs.declared.event.StatEvent.TheVariants.{Busy, RequestAccepted}
+use Rattle.station_stats.specs.declared.event.StatEvent.TheVariants.{RequestRepeated, ReplyAccepted}
+use Rattle.station_stats.specs.declared.event.StatEvent.TheVariants.{ReplyDropped, RequestTaken}
+use Rattle.station_stats.specs.declared.event.StatEvent.TheVariants.{ReplyTaken, GiveUp, OwnLocal}
+use Rattle.station_stats.specs.declared.event.StatEvent.TheVariants.{OtherLocal}
+use Rattle.station_stats.specs.Counts.{place_of, modulus, StatNote, since_clear, is_at, how_often}
+use Rattle.station_stats.specs.Counts.{places, counts_of, StatsIs, cleared, counted, noted, running}
+use Rattle.station_stats.specs.Counts.{CountsAreFromScratch}
 use Rattle.station_stats.specs.Counts.StatNote.{Counted, Cleared}
 
 -- One more event raises its own count alone.

@@ -1,7 +1,14 @@
 -- The counters of a station, and the same counted from scratch. This project's own.
-use Rattle.std.specs.Prelude.{◌≡◌, ℕ, ◌+◌, ◌%◌, ◌==◌, Bool, List, [], ◌∷◌, ◌++◌, get_or, set, map, replicate, count_by}
+use Rattle.std.specs.Prelude.{◌≡◌, ℕ, ◌+◌, ◌%◌, ◌==◌, Bool, List, [], ◌∷◌, ◌++◌, get_or, set, map}
+use Rattle.std.specs.Prelude.{replicate, count_by}
 use Rattle.station_stats.specs.declared.event.StatEvent.{StatEvent}
-use Rattle.station_stats.specs.declared.event.StatEvent.TheVariants.{Pass, RequestPosted, ReplyPosted, Acked, Silent, Busy, RequestAccepted, RequestRepeated, ReplyAccepted, ReplyDropped, RequestTaken, ReplyTaken, GiveUp, OwnLocal, OtherLocal}
+use Rattle.station_stats.specs.declared.event.StatEvent.TheVariants.{Pass, RequestPosted}
+use Rattle.station_stats.specs.declared.event.StatEvent.TheVariants.{ReplyPosted, Acked, Silent}
+use Rattle.station_stats.specs.declared.event.StatEvent.TheVariants.{Busy, RequestAccepted}
+use Rattle.station_stats.specs.declared.event.StatEvent.TheVariants.{RequestRepeated, ReplyAccepted}
+use Rattle.station_stats.specs.declared.event.StatEvent.TheVariants.{ReplyDropped, RequestTaken}
+use Rattle.station_stats.specs.declared.event.StatEvent.TheVariants.{ReplyTaken, GiveUp, OwnLocal}
+use Rattle.station_stats.specs.declared.event.StatEvent.TheVariants.{OtherLocal}
 
 -- The place of an event among the counters.
 abbrev pub place_of : StatEvent → ℕ

@@ -2,7 +2,10 @@
 ghost use Rattle.std.specs.Prelude.{◌≡◌, ◌≤◌, ◌<◌, ◌+◌, ◌^◌, false, ◌||◌, nat_le, if◌then◌else◌};
 ghost use Rattle.std.specs.FinMap.{insert};
 ghost use Rattle.plant_types.specs.Reference.{ref_from};
+ghost use Rattle.plant_types.specs.declared.element.Element.{Element};
+ghost use Rattle.plant_types.specs.declared.element.MoveOp.{MoveOp};
 ghost use Rattle.plant_types.specs.Effect.{Does};
+ghost use Rattle.plant_types.specs.Operands.{HasOperands};
 ghost use Rattle.plant_types.specs.Power.{nodes_of, bits_of};
 ghost use Rattle.plant_types.specs.Slots.{table_limit};
 ghost use Rattle.plant_types.specs.Store.{HasRegisters, Keeps, word_at};
@@ -92,8 +95,7 @@ fn end_move<R: RefStore>(nodes: NodePower, pointer: Ref, length: u16, place: u16
 /// Outputs: the top node passes power on, the middle one says that the pointer is at the table's
 /// end.
 pub fn reg_to_table<R: RefStore>(top: Ref, mid: Ref, length: u16, inputs: u8, ram: &mut R) -> u8
-    requires source { HasRegisters (R.contents ram.old) top 1 }
-    requires table { HasRegisters (R.contents ram.old) mid (length + 1) }
+    requires { HasOperands (R.contents ram.old) (Element.Move MoveOp.RegToTable top mid length) }
     ensures { Does (reg_to_table_effect top mid length (nodes_of inputs)) result
         (R.contents ram.old) (R.contents ram.new) }
 {
@@ -109,8 +111,7 @@ pub fn reg_to_table<R: RefStore>(top: Ref, mid: Ref, length: u16, inputs: u8, ra
 ///
 /// Inputs and outputs are those of `reg_to_table`.
 pub fn table_to_reg<R: RefStore>(top: Ref, mid: Ref, length: u16, inputs: u8, ram: &mut R) -> u8
-    requires source { HasRegisters (R.contents ram.old) top length }
-    requires pointer { HasRegisters (R.contents ram.old) mid 2 }
+    requires { HasOperands (R.contents ram.old) (Element.Move MoveOp.TableToReg top mid length) }
     ensures { Does (table_to_reg_effect top mid length (nodes_of inputs)) result
         (R.contents ram.old) (R.contents ram.new) }
 {
@@ -126,8 +127,7 @@ pub fn table_to_reg<R: RefStore>(top: Ref, mid: Ref, length: u16, inputs: u8, ra
 ///
 /// Inputs and outputs are those of `reg_to_table`.
 pub fn table_to_table<R: RefStore>(top: Ref, mid: Ref, length: u16, inputs: u8, ram: &mut R) -> u8
-    requires source { HasRegisters (R.contents ram.old) top length }
-    requires table { HasRegisters (R.contents ram.old) mid (length + 1) }
+    requires { HasOperands (R.contents ram.old) (Element.Move MoveOp.TableToTable top mid length) }
     ensures { Does (table_to_table_effect top mid length (nodes_of inputs)) result
         (R.contents ram.old) (R.contents ram.new) }
 {
@@ -143,9 +143,7 @@ pub fn table_to_table<R: RefStore>(top: Ref, mid: Ref, length: u16, inputs: u8, 
 ///
 /// Input: the top node moves. Output: the top node passes power on.
 pub fn block_move<R: RefStore>(top: Ref, mid: Ref, length: u16, inputs: u8, ram: &mut R) -> u8
-    requires length { length ≤ table_limit }
-    requires source { HasRegisters (R.contents ram.old) top length }
-    requires target { HasRegisters (R.contents ram.old) mid length }
+    requires { HasOperands (R.contents ram.old) (Element.Move MoveOp.Copy top mid length) }
     ensures { Does (block_move_effect top mid length (nodes_of inputs)) result
         (R.contents ram.old) (R.contents ram.new) }
 {

@@ -1,10 +1,11 @@
 //! FIN and FOUT: a queue is a table whose pointer counts the words in it, the newest in the first
 //! place.
-ghost use Rattle.std.specs.Prelude.{◌≡◌, ◌≤◌, ◌+◌};
+ghost use Rattle.std.specs.Prelude.{◌≡◌};
+ghost use Rattle.plant_types.specs.declared.element.Element.{Element};
+ghost use Rattle.plant_types.specs.declared.element.MoveOp.{MoveOp};
 ghost use Rattle.plant_types.specs.Effect.{Does};
+ghost use Rattle.plant_types.specs.Operands.{HasOperands};
 ghost use Rattle.plant_types.specs.Power.{nodes_of, bits_of};
-ghost use Rattle.plant_types.specs.Slots.{table_limit};
-ghost use Rattle.plant_types.specs.Store.{HasRegisters};
 ghost use Rattle.table_ops.specs.Tables.{queue_outputs, first_in_effect, first_out_effect};
 
 use crate::moves::{move_word, move_words};
@@ -29,9 +30,7 @@ fn queue_bits(nodes: NodePower, length: u16, count: u16) -> u8
 /// Outputs: the top node passes power on, the middle one says that the queue is full, the bottom
 /// one that it is empty.
 pub fn first_in<R: RefStore>(top: Ref, mid: Ref, length: u16, inputs: u8, ram: &mut R) -> u8
-    requires length { length ≤ table_limit }
-    requires source { HasRegisters (R.contents ram.old) top 1 }
-    requires queue { HasRegisters (R.contents ram.old) mid (length + 1) }
+    requires { HasOperands (R.contents ram.old) (Element.Move MoveOp.FirstIn top mid length) }
     ensures { Does (first_in_effect top mid length (nodes_of inputs)) result
         (R.contents ram.old) (R.contents ram.new) }
 {
@@ -54,8 +53,7 @@ pub fn first_in<R: RefStore>(top: Ref, mid: Ref, length: u16, inputs: u8, ram: &
 /// Input: the top node takes it, where the pointer is 1 to `length`. Outputs are those of
 /// `first_in`.
 pub fn first_out<R: RefStore>(top: Ref, mid: Ref, length: u16, inputs: u8, ram: &mut R) -> u8
-    requires queue { HasRegisters (R.contents ram.old) top (length + 1) }
-    requires target { HasRegisters (R.contents ram.old) mid 1 }
+    requires { HasOperands (R.contents ram.old) (Element.Move MoveOp.FirstOut top mid length) }
     ensures { Does (first_out_effect top mid length (nodes_of inputs)) result
         (R.contents ram.old) (R.contents ram.new) }
 {

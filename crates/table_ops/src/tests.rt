@@ -75,7 +75,7 @@ fn solve(
     inputs: u8,
     ram: &mut MapRam,
 ) -> u8 {
-    assert!(rt; length <= 255);
+    assert!(rt; length >= 1 && length <= 255);
     match name {
         Name::RegToTable => {
             assert!(rt; has_run(ram, top, 1) && has_run(ram, mid, length + 1));

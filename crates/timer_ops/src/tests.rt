@@ -52,12 +52,27 @@ fn two_seconds(rt: HostRuntime) -> Result<(), Fail> {
     Ok(())
 }
 
+/// A timer's unit, preset, accumulator, inputs, clock before and now; then its accumulator and its
+/// outputs.
+type TimerRow = (Unit, u16, u16, u8, u64, u64, u16, u8);
+
+fn times(alloc: Global, rt: &impl Abort, row: TimerRow) -> Result<(), Fail> {
+    let (unit, preset, was, inputs, before, now, time, outputs) = row;
+    let mut ram = store(alloc, rt, was)?;
+    let clock = Clock { before, now };
+    let got = timer(unit, preset, ACC, inputs, clock, &mut ram);
+    assert!(rt; ram.has(ACC));
+    assert_eq!(rt;
+        (got, ram.word(ACC)),
+        (outputs, time),
+        "{unit:?} {preset} {was} {inputs}"
+    );
+    Ok(())
+}
+
 #[test]
 fn timers(rt: HostRuntime) -> Result<(), Fail> {
-    let last = u64::MAX;
-    // Unit, preset, accumulator, inputs, clock before and now; then the accumulator and the
-    // outputs.
-    let cases = [
+    for row in [
         // Every combination of the inputs; the third second ends.
         (Unit::Second, 5, 3, 0, 299, 300, 0, 2),
         (Unit::Second, 5, 3, 1, 299, 300, 0, 2),
@@ -76,6 +91,16 @@ fn timers(rt: HostRuntime) -> Result<(), Fail> {
         (Unit::Second, 90, 10, 3, 95, 130, 11, 2),
         (Unit::Tenth, 90, 10, 3, 95, 130, 14, 2),
         (Unit::Hundredth, 90, 10, 3, 95, 130, 45, 2),
+    ] {
+        times(rt.alloc(), &rt, row)?;
+    }
+    Ok(())
+}
+
+#[test]
+fn timers_at_their_limits(rt: HostRuntime) -> Result<(), Fail> {
+    let last = u64::MAX;
+    for row in [
         // An accumulator above the preset.
         (Unit::Second, 5, 9, 0, 299, 300, 0, 2),
         (Unit::Second, 5, 9, 2, 299, 300, 5, 1),
@@ -92,26 +117,34 @@ fn timers(rt: HostRuntime) -> Result<(), Fail> {
         (Unit::Hundredth, 65535, 65535, 3, 0, last, 65535, 1),
         (Unit::Hundredth, 65535, 1, 3, 0, last, 65535, 1),
         (Unit::Hundredth, 65535, 1, 3, last - 1, last, 2, 2),
-    ];
-    for (unit, preset, was, inputs, before, now, time, outputs) in cases {
-        let mut ram = store(rt.alloc(), &rt, was)?;
-        let clock = Clock { before, now };
-        let got = timer(unit, preset, ACC, inputs, clock, &mut ram);
-        assert_eq!(rt; got, outputs, "{unit:?} {preset} {was} {inputs} {clock:?}");
-        assert!(rt; ram.has(ACC));
-        assert_eq!(rt;
-            ram.word(ACC),
-            time,
-            "{unit:?} {preset} {was} {inputs} {clock:?}"
-        );
+    ] {
+        times(rt.alloc(), &rt, row)?;
     }
+    Ok(())
+}
+
+/// A counter's preset, accumulator, inputs, edge bit; then its accumulator, its outputs and its
+/// edge bit.
+type CounterRow = (u16, u16, u8, bool, u16, u8, bool);
+
+fn counts_up(alloc: Global, rt: &impl Abort, row: CounterRow) -> Result<(), Fail> {
+    let (preset, was, inputs, was_on, count, outputs, is_on) = row;
+    let mut ram = store(alloc, rt, was)?;
+    let mut edge = was_on;
+    let got = up_count(preset, ACC, inputs, &mut edge, &mut ram);
+    assert!(rt; ram.has(ACC));
+    let all = (got, edge, ram.word(ACC));
+    assert_eq!(rt;
+        all,
+        (outputs, is_on, count),
+        "{preset} {was} {inputs} {was_on}"
+    );
     Ok(())
 }
 
 #[test]
 fn up_counters(rt: HostRuntime) -> Result<(), Fail> {
-    // Preset, accumulator, inputs, edge bit; then the accumulator, the outputs and the edge bit.
-    let cases = [
+    for row in [
         (3, 1, 0, false, 0, 2, false),
         (3, 1, 1, false, 0, 2, true),
         (3, 1, 2, false, 1, 2, false),
@@ -141,15 +174,8 @@ fn up_counters(rt: HostRuntime) -> Result<(), Fail> {
         (1, 0, 3, false, 1, 1, true),
         (1, 1, 2, true, 1, 1, false),
         (1, 1, 3, false, 1, 1, true),
-    ];
-    for (preset, was, inputs, was_on, count, outputs, is_on) in cases {
-        let mut ram = store(rt.alloc(), &rt, was)?;
-        let mut edge = was_on;
-        let got = up_count(preset, ACC, inputs, &mut edge, &mut ram);
-        assert_eq!(rt; got, outputs, "{preset} {was} {inputs} {was_on}");
-        assert_eq!(rt; edge, is_on, "{preset} {was} {inputs} {was_on}");
-        assert!(rt; ram.has(ACC));
-        assert_eq!(rt; ram.word(ACC), count, "{preset} {was} {inputs} {was_on}");
+    ] {
+        counts_up(rt.alloc(), &rt, row)?;
     }
     Ok(())
 }

@@ -1,5 +1,6 @@
 -- Drops that pass their tests are few, and ready for their exchanges.
-use Rattle.std.proofs.Common.{◌≡◌, ℕ, ◌+◌, ◌≤◌, ◌<◌, Bool, true, false, not, ◌&&◌, ◌==◌, List, [], ◌∷◌, ◌++◌, length, map, Some, None, Ok, refl, ap, arith, inl, inr}
+use Rattle.std.proofs.Common.{◌≡◌, ℕ, ◌+◌, ◌≤◌, ◌<◌, Bool, true, false, not, ◌&&◌, ◌==◌, List, []}
+use Rattle.std.proofs.Common.{◌∷◌, ◌++◌, length, map, Some, None, Ok, refl, ap, arith, inl, inr}
 use Rattle.std.specs.Prelude.{◌||◌, nat_le, nat_eq, is_some, if◌then◌else◌}
 use Rattle.std.specs.List.{list_any, IsDistinct, AllByRecursion}
 use Rattle.std.specs.Cmp.{nat_eq_equiv}
@@ -12,16 +13,22 @@ use Rattle.plant_types.specs.declared.drops.Module.{Module}
 use Rattle.plant_types.specs.declared.drops.ScriptRow.{ScriptRow}
 use Rattle.plant_types.specs.declared.drops.IoDrop.{IoDrop}
 use Rattle.plant_types.specs.declared.plan.ControllerPlan.{ControllerPlan}
-use Rattle.plant_types.specs.declared.fault.PlantFault.TheVariants.{BadDrop, BadScript, BadValue, TooLarge}
+use Rattle.plant_types.specs.declared.fault.PlantFault.TheVariants.{BadDrop, BadScript, BadValue}
+use Rattle.plant_types.specs.declared.fault.PlantFault.TheVariants.{TooLarge}
 use Rattle.plant_types.specs.declared.sizes.Sizes.{Sizes}
 use Rattle.plant_types.specs.FirstFault.{first_failed, tests_of_each}
 use Rattle.plant_types.specs.PlanTests.{drop_limit, placed}
 use Rattle.plant_types.proofs.PlanLemmas.{placed-ok, first-ok, parts-ok, behind-keeps, four-ok}
 use Rattle.traffic_cop.specs.Drops.{drop_named}
 use Rattle.plant_types.specs.Reference.{most_references}
-use Rattle.plant_types.specs.Checks.{sizes_of, is_size, is_discrete_size, numbers_pass, passes_check}
-use Rattle.traffic_cop.specs.Tests.{module_tests, fault_in, module_fault, held_of, has_few_words, fits_row, IsTested}
-use Rattle.traffic_cop.specs.DropTests.{module_limit, script_limit, drop_place, module_place, script_place, number_tests, placed_module_tests, placed_row_tests, word_tests, part_tests, drop_tests, CheckedDropsAreReady}
+use Rattle.plant_types.specs.Checks.{sizes_of, is_size, is_discrete_size, numbers_pass}
+use Rattle.plant_types.specs.Checks.{passes_check}
+use Rattle.traffic_cop.specs.Tests.{module_tests, fault_in, module_fault, held_of, has_few_words}
+use Rattle.traffic_cop.specs.Tests.{fits_row, IsTested}
+use Rattle.traffic_cop.specs.DropTests.{module_limit, script_limit, drop_place, module_place}
+use Rattle.traffic_cop.specs.DropTests.{script_place, number_tests, placed_module_tests}
+use Rattle.traffic_cop.specs.DropTests.{placed_row_tests, word_tests, part_tests, drop_tests}
+use Rattle.traffic_cop.specs.DropTests.{CheckedDropsAreReady}
 use Rattle.traffic_cop.proofs.TestLemmas.{AreSizes, tested-ready}
 
 -- the numbers of drops

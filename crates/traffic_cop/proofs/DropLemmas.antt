@@ -1,5 +1,6 @@
 -- The first drop of a number, found step by step.
-use Rattle.std.proofs.Common.{◌≡◌, ◌≢◌, ◌≤◌, ◌<◌, ◌+◌, ◌==◌, ℕ, cond, List, length, drop, get_or, Option, Some, None, sym, ap, ◌∙◌, eq-eqb}
+use Rattle.std.proofs.Common.{◌≡◌, ◌≢◌, ◌≤◌, ◌<◌, ◌+◌, ◌==◌, ℕ, cond, List, length, drop, get_or}
+use Rattle.std.proofs.Common.{Option, Some, None, sym, ap, ◌∙◌, eq-eqb}
 use Rattle.std.proofs.lemmas.Bool.{ne_eqb}
 use Rattle.std.proofs.lemmas.List.{drop_more, drop_all}
 use Rattle.plant_types.specs.declared.drops.IoDrop.{IoDrop}
@@ -7,7 +8,8 @@ use Rattle.plant_types.specs.declared.drops.Module.{Module}
 use Rattle.plant_types.specs.declared.drops.ScriptRow.{ScriptRow}
 use Rattle.plant_types.specs.Store.{Contents}
 use Rattle.traffic_cop.specs.Exchange.{exchanged_by, row_at}
-use Rattle.traffic_cop.specs.Drops.{drop_named, exchanged_in, health_at, health_by, health_in, input_after}
+use Rattle.traffic_cop.specs.Drops.{drop_named, exchanged_in, health_at, health_by, health_in}
+use Rattle.traffic_cop.specs.Drops.{input_after}
 
 named_at : (drops : List IoDrop) (i : ℕ) (d : IoDrop) (number : ℕ) → i < length drops → d ≡ get_or drops i d
     → drop_named (drop i drops) number ≡ cond (d.number == number) (Some d) (drop_named (drop (i + 1) drops) number)

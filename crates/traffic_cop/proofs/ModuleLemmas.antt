@@ -1,5 +1,7 @@
 -- What a store keeps has each module that it had; a word by its bits.
-use Rattle.std.proofs.Common.{◌≡◌, ◌≤◌, ◌<◌, ℕ, suc, ◌+◌, ◌*◌, ◌-◌, ◌^◌, Bool, true, false, cond, ◌==◌, List, [], ◌∷◌, ◌++◌, length, get_or, take, drop, sym, ap, subst, ◌∙◌, arith, append_assoc}
+use Rattle.std.proofs.Common.{◌≡◌, ◌≤◌, ◌<◌, ℕ, suc, ◌+◌, ◌*◌, ◌-◌, ◌^◌, Bool, true, false, cond}
+use Rattle.std.proofs.Common.{◌==◌, List, [], ◌∷◌, ◌++◌, length, get_or, take, drop, sym, ap, subst}
+use Rattle.std.proofs.Common.{◌∙◌, arith, append_assoc}
 use Rattle.std.specs.Int.{bit_at}
 use Rattle.std.specs.FinMap.{insert}
 use Rattle.std.proofs.lemmas.List.{get_or-map, length-take-le, take_more, drop_more, length-drop}
@@ -15,9 +17,12 @@ use Rattle.plant_types.specs.Reference.{ref_from}
 use Rattle.plant_types.specs.Power.{bit_of}
 use Rattle.plant_types.specs.Store.{Contents, Keeps, with_words}
 use Rattle.plant_types.specs.Discretes.{bit_words, word_bits}
-use Rattle.plant_types.proofs.DiscretesLemmas.{length-bits_high_first, length-bit_words, get_or-bits_high_first}
+use Rattle.plant_types.proofs.DiscretesLemmas.{length-bits_high_first, length-bit_words}
+use Rattle.plant_types.proofs.DiscretesLemmas.{get_or-bits_high_first}
 use Rattle.plant_types.proofs.RunLemmas.{HasRegisters-kept, with_words-push}
-use Rattle.traffic_cop.specs.Exchange.{HasGroup, HasModuleBy, HasModules, module_at, number_of_bits, input_count, output_count, input_total, output_total, put_words, put_all, given, output_words}
+use Rattle.traffic_cop.specs.Exchange.{HasGroup, HasModuleBy, HasModules, module_at, number_of_bits}
+use Rattle.traffic_cop.specs.Exchange.{input_count, output_count, input_total, output_total}
+use Rattle.traffic_cop.specs.Exchange.{put_words, put_all, given, output_words}
 
 pub HasGroup-kept : (m n : Contents) (at : Ref) → Keeps m n → HasGroup m at → HasGroup n at
 HasGroup-kept m n at keeps has =

@@ -1,11 +1,13 @@
 -- Drops that pass their tests are ready for their exchanges.
-use Rattle.std.proofs.Common.{◌≡◌, ◌≤◌, ◌<◌, ℕ, ◌+◌, ◌==◌, Bool, true, false, List, [], ◌∷◌, length, Some, None, refl, ◌∙◌, arith, le-leb}
+use Rattle.std.proofs.Common.{◌≡◌, ◌≤◌, ◌<◌, ℕ, ◌+◌, ◌==◌, Bool, true, false, List, [], ◌∷◌, length}
+use Rattle.std.proofs.Common.{Some, None, refl, ◌∙◌, arith, le-leb}
 use Rattle.std.specs.Prelude.{nat_le, is_some, if◌then◌else◌}
 use Rattle.std.specs.FinMap.{contains_key}
 use Rattle.std.specs.List.{AllByRecursion}
 use Rattle.std.proofs.lemmas.Bool.{and_parts, leb-true, eqb-true}
 use Rattle.plant_types.specs.declared.reference.RefKind.{RefKind}
-use Rattle.plant_types.specs.declared.reference.RefKind.TheVariants.{Coil, Input, InputRegister, Register}
+use Rattle.plant_types.specs.declared.reference.RefKind.TheVariants.{Coil, Input, InputRegister}
+use Rattle.plant_types.specs.declared.reference.RefKind.TheVariants.{Register}
 use Rattle.plant_types.specs.declared.drops.ModuleKind.{ModuleKind}
 use Rattle.plant_types.specs.declared.drops.ModuleKind.TheVariants.{In, Out, InWords, OutWords}
 use Rattle.plant_types.specs.declared.drops.Module.{Module}
@@ -17,9 +19,11 @@ use Rattle.plant_types.specs.declared.sizes.Sizes.{Sizes}
 use Rattle.plant_types.specs.Sizes.{count_of, has_reference, cleared}
 use Rattle.plant_types.proofs.SizesLemmas.{contains_key-cleared}
 use Rattle.plant_types.specs.FirstFault.{first_failed}
-use Rattle.traffic_cop.specs.Exchange.{kind_of, input_total, output_total, HasModule, HasModules, FitsRow, IsDrop}
+use Rattle.traffic_cop.specs.Exchange.{kind_of, input_total, output_total, HasModule, HasModules}
+use Rattle.traffic_cop.specs.Exchange.{FitsRow, IsDrop}
 use Rattle.traffic_cop.specs.Drops.{drop_named, IsReady}
-use Rattle.traffic_cop.specs.Tests.{fault_in, references_by, is_regular, has_references, module_fault, held_of, fits_row, IsTested}
+use Rattle.traffic_cop.specs.Tests.{fault_in, references_by, is_regular, has_references}
+use Rattle.traffic_cop.specs.Tests.{module_fault, held_of, fits_row, IsTested}
 
 -- what has no fault passed both tests
 passed : {E : Type 0} (a b : Bool) (e f : E) → fault_in (first_failed ((a, e) ∷ (b, f) ∷ [])) ≡ None → b ≡ true

@@ -1,12 +1,14 @@
 -- The tests of the drops of a controller in their order, each with its fault and its place. This
 -- project's own.
-use Rattle.std.specs.Prelude.{◌≡◌, ℕ, ◌+◌, not, ◌&&◌, nat_le, is_some, true, List, [], ◌∷◌, ◌++◌, length, Ok}
+use Rattle.std.specs.Prelude.{◌≡◌, ℕ, ◌+◌, not, ◌&&◌, nat_le, is_some, true, List, [], ◌∷◌, ◌++◌}
+use Rattle.std.specs.Prelude.{length, Ok}
 use Rattle.plant_types.specs.declared.drops.Module.{Module}
 use Rattle.plant_types.specs.declared.drops.ScriptRow.{ScriptRow}
 use Rattle.plant_types.specs.declared.drops.IoDrop.{IoDrop}
 use Rattle.plant_types.specs.declared.plan.ControllerPlan.{ControllerPlan}
 use Rattle.plant_types.specs.declared.fault.PlantFault.{PlantFault}
-use Rattle.plant_types.specs.declared.fault.PlantFault.TheVariants.{BadDrop, BadScript, BadValue, TooLarge}
+use Rattle.plant_types.specs.declared.fault.PlantFault.TheVariants.{BadDrop, BadScript, BadValue}
+use Rattle.plant_types.specs.declared.fault.PlantFault.TheVariants.{TooLarge}
 use Rattle.plant_types.specs.declared.fault.Part.TheVariants as parts
 use Rattle.plant_types.specs.declared.fault.Place.{Place}
 use Rattle.plant_types.specs.declared.sizes.Sizes.{Sizes}

@@ -7,7 +7,8 @@ ghost use Rattle.traffic_cop.specs.Tests.{module_tests, held_of};
 ghost use Rattle.plant_types.specs.PlanTests.{placed};
 ghost use Rattle.traffic_cop.specs.DropTests.{drop_place, module_place, script_place, number_tests};
 ghost use Rattle.traffic_cop.specs.DropTests.{placed_module_tests, placed_row_tests, word_tests};
-ghost use Rattle.traffic_cop.specs.DropTests.{part_tests, drop_tests, cop_tests, CheckedDropsAreReady};
+ghost use Rattle.traffic_cop.specs.DropTests.{part_tests, drop_tests, cop_tests};
+ghost use Rattle.traffic_cop.specs.DropTests.{CheckedDropsAreReady};
 
 use crate::cop::Cop;
 use crate::testing::{fits_row, has_few_words, module_fault};

@@ -1,5 +1,6 @@
 -- A new table keeps the rule of its gate.
-use Rattle.std.proofs.Common.{◌≡◌, ℕ, zero, suc, List, [], ◌∷◌, map, Some, Option, refl, sym, ap, ◌∙◌, subst, inl, arith, true, false}
+use Rattle.std.proofs.Common.{◌≡◌, ℕ, zero, suc, List, [], ◌∷◌, map, Some, Option, refl, sym, ap}
+use Rattle.std.proofs.Common.{◌∙◌, subst, inl, arith, true, false}
 use Rattle.std.proofs.lemmas.List.{append-nil}
 use mathlib.Core.Option.{some, some-injective, some-ne-none}
 use lib.ListN.{get_elem?}

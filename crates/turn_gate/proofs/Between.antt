@@ -1,5 +1,6 @@
 -- A pass between two calls: what contracts say of it, and what the table knows of its seat.
-use Rattle.std.proofs.Common.{◌≡◌, ◌≢◌, ℕ, suc, List, [], ◌∷◌, ◌++◌, ◌||◌, All, Some, None, Option, true, false, refl, sym, ap, ◌∙◌, subst, ne_eqb}
+use Rattle.std.proofs.Common.{◌≡◌, ◌≢◌, ℕ, suc, List, [], ◌∷◌, ◌++◌, ◌||◌, All, Some, None, Option}
+use Rattle.std.proofs.Common.{true, false, refl, sym, ap, ◌∙◌, subst, ne_eqb}
 use mathlib.Core.Option.{some, some-injective}
 use lib.ListN.{get_elem?}
 use Rattle.atomic_table.specs.Table.{Me, Final, Seen}
@@ -7,10 +8,12 @@ use Rattle.atomic_table.specs.Seated.{TableId}
 use Rattle.turn_gate.specs.declared.views.Phase.{Phase}
 use Rattle.turn_gate.specs.declared.views.Phase.TheVariants.{Idle, Waiting, Inside}
 use Rattle.turn_gate.specs.declared.views.View.{View}
-use Rattle.turn_gate.specs.Known.{GateName, PassFacts, own, is_among, numbers, StartsWith, IsReady, HasAllBack, Finds, Owns, NamesKept, Adds}
+use Rattle.turn_gate.specs.Known.{GateName, PassFacts, own, is_among, numbers, StartsWith, IsReady}
+use Rattle.turn_gate.specs.Known.{HasAllBack, Finds, Owns, NamesKept, Adds}
 use Rattle.turn_gate.specs.Rule.{HasKept, KeepsNumber, numbers_of, Rule}
 use Rattle.turn_gate.specs.Moves.{Handed, Exact, MayLeave, first_grown}
-use Rattle.turn_gate.specs.Seats.{first_kept, later_kept, stay_of, pass_facts, CarriesBetween, IsSound}
+use Rattle.turn_gate.specs.Seats.{first_kept, later_kept, stay_of, pass_facts, CarriesBetween}
+use Rattle.turn_gate.specs.Seats.{IsSound}
 use Rattle.turn_gate.proofs.Lists.{all_at, all_from_places}
 use Rattle.turn_gate.proofs.Owning.{among_kept, kept_among}
 use Rattle.turn_gate.proofs.Closing.{Closes, closes}

@@ -1,5 +1,7 @@
 -- A draw keeps the rule: the pass holds the ticket that it found, and waits.
-use Rattle.std.proofs.Common.{◌≡◌, ℕ, ◌+◌, ◌%◌, ◌^◌, ◌<◌, eqb, cond, List, [], ◌∷◌, ◌++◌, length, set, false, Some, None, Option, refl, sym, ap, ◌∙◌, subst, arith, length-set, eq-eqb, ne_eqb, slice_index}
+use Rattle.std.proofs.Common.{◌≡◌, ℕ, ◌+◌, ◌%◌, ◌^◌, ◌<◌, eqb, cond, List, [], ◌∷◌, ◌++◌, length}
+use Rattle.std.proofs.Common.{set, false, Some, None, Option, refl, sym, ap, ◌∙◌, subst, arith}
+use Rattle.std.proofs.Common.{length-set, eq-eqb, ne_eqb, slice_index}
 use Rattle.std.proofs.Math.Nat.{mod-add-mod}
 use mathlib.Core.Logic.{dite}
 use mathlib.Core.Option.{some, none}
@@ -10,7 +12,8 @@ use Rattle.atomic_table.proofs.Lists.{set_here}
 use Rattle.turn_gate.specs.declared.views.Phase.{Phase}
 use Rattle.turn_gate.specs.declared.views.Phase.TheVariants.{Idle, Waiting, Inside}
 use Rattle.turn_gate.specs.declared.views.View.{View}
-use Rattle.turn_gate.specs.Rule.{KeepsNumber, tickets_of, Account, InPhase, HasTicket, Fits, AtHome, Rule}
+use Rattle.turn_gate.specs.Rule.{KeepsNumber, tickets_of, Account, InPhase, HasTicket, Fits, AtHome}
+use Rattle.turn_gate.specs.Rule.{Rule}
 use Rattle.turn_gate.specs.Moves.{in_phase, Drawn}
 use Rattle.turn_gate.proofs.Lists.{inside_of, each_set, witness}
 use Rattle.turn_gate.proofs.Tickets.{tickets_held-set}

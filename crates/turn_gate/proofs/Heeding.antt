@@ -1,5 +1,6 @@
 -- Reading a word keeps the rule, and tells a pass that its own lists are exact.
-use Rattle.std.proofs.Common.{◌≡◌, ℕ, List, ◌++◌, set, slice_index, Option, refl, sym, ap, ◌∙◌, subst}
+use Rattle.std.proofs.Common.{◌≡◌, ℕ, List, ◌++◌, set, slice_index, Option, refl, sym, ap, ◌∙◌}
+use Rattle.std.proofs.Common.{subst}
 use Rattle.std.proofs.lemmas.List.{append-nil}
 use mathlib.Core.Option.{some, none}
 use lib.ListN.{get_elem?}

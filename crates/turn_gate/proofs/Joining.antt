@@ -1,5 +1,8 @@
 -- A join keeps the rule: one seat keeps the numbers of both, and the other keeps nothing.
-use Rattle.std.proofs.Common.{◌≡◌, ◌≢◌, ℕ, zero, suc, ◌∷◌, ◌+◌, ◌<◌, ◌≤◌, eqb, cond, List, [], ◌++◌, length, set, Bool, true, false, Some, None, Option, refl, sym, ap, ◌∙◌, subst, ⊎_elim, arith, length-set, length-append, eq-eqb, ne_eqb, nat_eq, ltb, ltb-true, ltb-false}
+use Rattle.std.proofs.Common.{◌≡◌, ◌≢◌, ℕ, zero, suc, ◌∷◌, ◌+◌, ◌<◌, ◌≤◌, eqb, cond, List, [], ◌++◌}
+use Rattle.std.proofs.Common.{length, set, Bool, true, false, Some, None, Option, refl, sym, ap}
+use Rattle.std.proofs.Common.{◌∙◌, subst, ⊎_elim, arith, length-set, length-append, eq-eqb, ne_eqb}
+use Rattle.std.proofs.Common.{nat_eq, ltb, ltb-true, ltb-false}
 use Rattle.std.proofs.lemmas.List.{append-nil}
 use Rattle.std.specs.List.{IsDistinct}
 use mathlib.Core.Logic.{dite}
@@ -12,10 +15,13 @@ use Rattle.turn_gate.specs.declared.views.Phase.{Phase}
 use Rattle.turn_gate.specs.declared.views.Phase.TheVariants.{Idle, Waiting, Inside}
 use Rattle.turn_gate.specs.declared.views.View.{View}
 use Rattle.turn_gate.specs.Known.{own, longer, is_among, StartsWith}
-use Rattle.turn_gate.specs.Rule.{numbers_of, KeepsNumber, tickets_of, Account, InPhase, HasTicket, Fits, AtHome, Rule}
+use Rattle.turn_gate.specs.Rule.{numbers_of, KeepsNumber, tickets_of, Account, InPhase, HasTicket}
+use Rattle.turn_gate.specs.Rule.{Fits, AtHome, Rule}
 use Rattle.turn_gate.specs.Moves.{joined, spent}
-use Rattle.turn_gate.proofs.Lists.{inside_of, each_set, witness, at_append, at_right, longer-right, longer-left, longer-starts, rest_within}
-use Rattle.turn_gate.proofs.Owning.{none_within, kept_among, numbers_of-append, distinct-append, distinct-nil, apart_from_absurd}
+use Rattle.turn_gate.proofs.Lists.{inside_of, each_set, witness, at_append, at_right, longer-right}
+use Rattle.turn_gate.proofs.Lists.{longer-left, longer-starts, rest_within}
+use Rattle.turn_gate.proofs.Owning.{none_within, kept_among, numbers_of-append, distinct-append}
+use Rattle.turn_gate.proofs.Owning.{distinct-nil, apart_from_absurd}
 use Rattle.turn_gate.proofs.Tickets.{tickets_held-set}
 
 -- what two passes have seen, put together: it ends where the one that has seen more does

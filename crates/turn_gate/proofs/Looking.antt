@@ -1,5 +1,7 @@
 -- A look keeps the rule: the pass whose ticket is served takes the value, and any other stays as it is.
-use Rattle.std.proofs.Common.{◌≡◌, ℕ, ◌+◌, ◌%◌, ◌^◌, ◌<◌, ◌≤◌, List, [], ◌∷◌, ◌++◌, length, set, Some, None, Option, refl, sym, ap, ◌∙◌, subst, arith, length-set, slice_index}
+use Rattle.std.proofs.Common.{◌≡◌, ℕ, ◌+◌, ◌%◌, ◌^◌, ◌<◌, ◌≤◌, List, [], ◌∷◌, ◌++◌, length, set}
+use Rattle.std.proofs.Common.{Some, None, Option, refl, sym, ap, ◌∙◌, subst, arith, length-set}
+use Rattle.std.proofs.Common.{slice_index}
 use Rattle.std.proofs.lemmas.List.{append_assoc, append-nil}
 use mathlib.Core.Logic.{dite}
 use mathlib.Core.Option.{some, none, some-injective}
@@ -10,7 +12,8 @@ use Rattle.atomic_table.proofs.Lists.{set_here, one_turn}
 use Rattle.turn_gate.specs.declared.views.Phase.{Phase}
 use Rattle.turn_gate.specs.declared.views.Phase.TheVariants.{Idle, Waiting, Inside}
 use Rattle.turn_gate.specs.declared.views.View.{View}
-use Rattle.turn_gate.specs.Rule.{KeepsNumber, tickets_of, tickets_held, Account, InPhase, HasTicket, Fits, AtHome, home_of, Rule}
+use Rattle.turn_gate.specs.Rule.{KeepsNumber, tickets_of, tickets_held, Account, InPhase, HasTicket}
+use Rattle.turn_gate.specs.Rule.{Fits, AtHome, home_of, Rule}
 use Rattle.turn_gate.specs.Moves.{in_phase, inside, Looked, Handed}
 use Rattle.turn_gate.proofs.Heeding.{reads_only, exact_in_all}
 use Rattle.turn_gate.proofs.Lists.{inside_of, each_set, witness}

@@ -1,5 +1,7 @@
 -- A release keeps the rule: the value is at home with the added entries, and the next ticket is served.
-use Rattle.std.proofs.Common.{◌≡◌, ◌≢◌, ℕ, zero, suc, ◌+◌, ◌%◌, ◌^◌, ◌<◌, List, [], ◌∷◌, ◌++◌, length, drop, set, Some, None, Option, true, false, refl, sym, ap, ◌∙◌, subst, ⊎_elim, arith, length-set, slice_index, nat_eq}
+use Rattle.std.proofs.Common.{◌≡◌, ◌≢◌, ℕ, zero, suc, ◌+◌, ◌%◌, ◌^◌, ◌<◌, List, [], ◌∷◌, ◌++◌}
+use Rattle.std.proofs.Common.{length, drop, set, Some, None, Option, true, false, refl, sym, ap}
+use Rattle.std.proofs.Common.{◌∙◌, subst, ⊎_elim, arith, length-set, slice_index, nat_eq}
 use Rattle.std.proofs.Math.Nat.{mod-add-mod}
 use Rattle.std.proofs.lemmas.List.{append_assoc, append-nil}
 use Rattle.std.proofs.Math.Seq.{drop-append_seam}
@@ -14,7 +16,8 @@ use Rattle.turn_gate.specs.declared.views.Phase.{Phase}
 use Rattle.turn_gate.specs.declared.views.Phase.TheVariants.{Idle, Waiting, Inside}
 use Rattle.turn_gate.specs.declared.views.View.{View}
 use Rattle.turn_gate.specs.Known.{own, is_among}
-use Rattle.turn_gate.specs.Rule.{numbers_of, HasKept, KeepsNumber, OwnsNumber, tickets_of, Account, InPhase, HasTicket, Fits, Rule}
+use Rattle.turn_gate.specs.Rule.{numbers_of, HasKept, KeepsNumber, OwnsNumber, tickets_of, Account}
+use Rattle.turn_gate.specs.Rule.{InPhase, HasTicket, Fits, Rule}
 use Rattle.turn_gate.specs.Moves.{first_grown, left_with, Released, MayLeave}
 use Rattle.turn_gate.proofs.Lists.{inside_of, each_set, witness, at_append}
 use Rattle.turn_gate.proofs.Owning.{own-mine, own-others, own-append, among_kept, distinct-first}

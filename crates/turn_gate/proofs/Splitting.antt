@@ -1,5 +1,8 @@
 -- A split keeps the rule: pass 0 has given a new number, and a new seat keeps it.
-use Rattle.std.proofs.Common.{◌≡◌, ◌≢◌, ◌⊎◌, ℕ, ◌+◌, ◌^◌, ◌<◌, ◌||◌, eqb, cond, List, [], ◌∷◌, ◌++◌, length, set, true, false, Some, None, Option, refl, sym, ap, ◌∙◌, subst, inl, inr, ⊎_elim, arith, length-set, length-append, eq-eqb, ne_eqb}
+use Rattle.std.proofs.Common.{◌≡◌, ◌≢◌, ◌⊎◌, ℕ, ◌+◌, ◌^◌, ◌<◌, ◌||◌, eqb, cond, List, [], ◌∷◌, ◌++◌}
+use Rattle.std.proofs.Common.{length, set, true, false, Some, None, Option, refl, sym, ap, ◌∙◌}
+use Rattle.std.proofs.Common.{subst, inl, inr, ⊎_elim, arith, length-set, length-append, eq-eqb}
+use Rattle.std.proofs.Common.{ne_eqb}
 use mathlib.Core.Logic.{dite}
 use mathlib.Core.Option.{some, some-injective, some-ne-none}
 use native.Mathlib.Decide.{ℕ_discrete}
@@ -10,7 +13,8 @@ use Rattle.turn_gate.specs.declared.views.Phase.{Phase}
 use Rattle.turn_gate.specs.declared.views.Phase.TheVariants.{Idle, Waiting, Inside}
 use Rattle.turn_gate.specs.declared.views.View.{View}
 use Rattle.turn_gate.specs.Known.{own, is_among}
-use Rattle.turn_gate.specs.Rule.{KeepsNumber, tickets_of, Account, InPhase, HasTicket, Fits, AtHome, Rule}
+use Rattle.turn_gate.specs.Rule.{KeepsNumber, tickets_of, Account, InPhase, HasTicket, Fits, AtHome}
+use Rattle.turn_gate.specs.Rule.{Rule}
 use Rattle.turn_gate.specs.Moves.{giver, newcomer}
 use Rattle.turn_gate.proofs.Lists.{inside_of, each_set, witness, at_last_or, at_only, at_right}
 use Rattle.turn_gate.proofs.Owning.{own-none, distinct-nil, distinct-cons}

@@ -1,6 +1,7 @@
 -- What contracts see of a gate, of its passes and of the value that it hands out. All of it is
 -- this project's own.
-use Rattle.std.specs.Prelude.{◌≡◌, ℕ, ◌==◌, nat_eq, nat_lt, List, [], ◌∷◌, ◌++◌, All, length, drop, filter, map, Option, Some, None, Bool, true, if◌then◌else◌}
+use Rattle.std.specs.Prelude.{◌≡◌, ℕ, ◌==◌, nat_eq, nat_lt, List, [], ◌∷◌, ◌++◌, All, length, drop}
+use Rattle.std.specs.Prelude.{filter, map, Option, Some, None, Bool, true, if◌then◌else◌}
 use Rattle.std.specs.List.{list_any}
 use Rattle.atomic_table.specs.Seated.{TableId}
 

@@ -1,7 +1,8 @@
 -- The rule of a gate's table. Word 0 is the next ticket, word 1 the ticket that is served, and
 -- the one
 -- slot has the value. All of it is this project's own.
-use Rattle.std.specs.Prelude.{◌≡◌, ℕ, ◌+◌, ◌%◌, ◌^◌, ◌<◌, ◌≤◌, ◌⊎◌, nat_eq, List, [], ◌∷◌, ◌++◌, length, map, Option, Some, None, true}
+use Rattle.std.specs.Prelude.{◌≡◌, ℕ, ◌+◌, ◌%◌, ◌^◌, ◌<◌, ◌≤◌, ◌⊎◌, nat_eq, List, [], ◌∷◌, ◌++◌}
+use Rattle.std.specs.Prelude.{length, map, Option, Some, None, true}
 use Rattle.std.specs.List.{IsDistinct}
 use mathlib.Core.Option.{some, none}
 use lib.ListN.{get_elem?}

@@ -1,6 +1,7 @@
 //! The gate.
 ghost use Rattle.std.specs.Prelude.{◌≡◌, ◌≢◌, ℕ, false, [], ◌∷◌, All, IfOk, Some, None};
-ghost use Rattle.turn_gate.specs.Known.{first_pass, entered, left_after, split_off, taken_in, is_among};
+ghost use Rattle.turn_gate.specs.Known.{first_pass, entered, left_after, split_off, taken_in};
+ghost use Rattle.turn_gate.specs.Known.{is_among};
 ghost use Rattle.turn_gate.specs.Known.{StartsWith, IsOutside, IsReady, HandedTo, HasAllBack};
 ghost use Rattle.turn_gate.specs.Known.{Finds, Owns, NamesKept, Adds};
 ghost use Rattle.turn_gate.specs.Rule.{KeepsNumber};

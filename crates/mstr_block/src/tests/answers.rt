@@ -56,7 +56,8 @@ fn reads(rt: HostRuntime) -> Result<(), Fail> {
 
 #[test]
 fn statistics(rt: HostRuntime) -> Result<(), Fail> {
-    let rows: [Row<'_>; 5] = [
+    let rows: [Row<'_>; 6] = [
+        (3, 2, 0, &[], [0, 77, 77, 77, 77, 77]),
         (3, 2, 0, &[1, 2, 3], [0, 1, 2, 77, 77, 77]),
         (3, 2, 1, &[1, 2, 3, 4], [1, 2, 3, 77, 77, 77]),
         (7, 3, 1, &[1, 2, 3], [1, 2, 3, 77, 77, 77]),

@@ -41,10 +41,22 @@ fn operations(rt: HostRuntime) -> Result<(), Fail> {
     show(&rt, &rows)
 }
 
+/// A read of two registers of node 5, as a ladder may have it, and with one register changed.
+#[test]
+fn one_register_changed(rt: HostRuntime) -> Result<(), Fail> {
+    let rows = [
+        ([2, 0, 2, 1, 5, 0, 0, 0, 0], 10, 0),
+        ([2, 0, 2, 1, 2, 0, 0, 0, 0], 10, 8201),
+        ([2, 0, 101, 1, 5, 0, 0, 0, 0], 10, 8195),
+        ([10, 0, 2, 1, 5, 0, 0, 0, 0], 10, 8193),
+    ];
+    show(&rt, &rows)
+}
+
 #[test]
 fn lengths(rt: HostRuntime) -> Result<(), Fail> {
     let rows = [
-        ([1, 7, 0, 1, 5, 0, 0, 0, 0], 10, 0x2003),
+        ([1, 7, 0, 0, 5, 0, 0, 0, 0], 10, 0x2003),
         ([2, 7, 101, 0, 5, 0, 0, 0, 0], 10, 0x2003),
         ([2, 7, 100, 1, 5, 0, 0, 0, 0], 10, 0x2006),
         ([3, 7, 21, 20, 0, 0, 0, 0, 0], 40, 0x2003),
@@ -105,6 +117,7 @@ fn routes(rt: HostRuntime) -> Result<(), Fail> {
 #[test]
 fn own_address(rt: HostRuntime) -> Result<(), Fail> {
     let rows = [
+        ([1, 7, 1, 1, 2, 1, 0, 0, 0], 10, 0x2008),
         ([1, 7, 1, 1, 2, 0, 0, 0, 0], 10, 0x2009),
         ([2, 7, 2, 1, 2, 0, 0, 0, 0], 10, 0x2009),
         ([7, 7, 1, 0, 2, 0, 0, 0, 0], 10, 0x2009),

@@ -85,6 +85,15 @@ impl Rig {
         })
     }
 
+    /// Three blocks; the own path has had its last number, and path 1 all but the last.
+    pub fn late(alloc: Global) -> Result<Rig, AllocError> {
+        let numbers = [u32::MAX, u32::MAX - 1, 0, 0, 0];
+        Ok(Rig {
+            bank: MstrBank::with_numbers(alloc, OWN, 3, numbers)?,
+            ram: MapRam::new(alloc, 0, 0, 0, 60)?,
+        })
+    }
+
     pub fn set(&mut self, rt: &impl Abort, number: u16, value: u16) {
         let at = register(number);
         assert!(rt; self.ram.has(at));

@@ -152,8 +152,7 @@ fn local_calls(rt: HostRuntime) -> Result<(), Fail> {
 /// A path that has given its last number is free no more.
 #[test]
 fn last_numbers(rt: HostRuntime) -> Result<(), Fail> {
-    let mut rig = Rig::new(rt.alloc(), 3)?;
-    rig.bank.set_number(1, u32::MAX - 1);
+    let mut rig = Rig::late(rt.alloc())?;
     rig.fill(&rt, 1, &READ);
     rig.solve(&rt, 1, FIRST, ENABLE);
     let id = rig.take();
@@ -161,7 +160,6 @@ fn last_numbers(rt: HostRuntime) -> Result<(), Fail> {
     rig.succeed(&rt, id, &[]);
     rig.solve(&rt, 2, FIRST, ENABLE);
     assert!(rt; rig.take() == call_id(2, 1));
-    rig.bank.set_number(0, u32::MAX);
     rig.fill(&rt, 21, &OWN_STATISTICS);
     assert_eq!(rt; rig.solve(&rt, 3, SECOND, ENABLE), ACTIVE);
     assert!(rt; rig.bank.started(1).is_none());

@@ -2,7 +2,8 @@
 use crate::{
     Block, ControllerPlan, Copied, Element, Fate, HostAsk, HostPlan, IoDrop, List, MathOp,
     MatrixOp, Module, ModuleKind, MoveOp, NetPlan, Network, NodePower, Operand, OrderRow, Part,
-    Pdu, Place, Plant, PlantFault, Ref, RefKind, ScriptRow, Segment, Unit, Words,
+    Pdu, Place, Plant, PlantFault, Ref, RefKind, ScriptRow, Segment, Unit, Words, is_host_plan,
+    is_net_plan,
 };
 use std::alloc::{AllocError, Global};
 
@@ -104,46 +105,55 @@ fn plant(alloc: Global) -> Result<Plant, AllocError> {
     })
 }
 
+/// A value equals its copy.
+fn is_copied<T: Copied + PartialEq + Drop>(alloc: Global, value: T) -> Result<bool, AllocError> {
+    let copy = value.copied(alloc)?;
+    Ok(copy == value)
+}
+
 #[test]
 fn copies_of_numbers_and_references(rt: HostRuntime) -> Result<(), AllocError> {
     let alloc = rt.alloc();
-    assert!(rt; true.copied(alloc)?);
-    assert_eq!(rt; 255u8.copied(alloc)?, 255);
-    assert_eq!(rt; 65_535u16.copied(alloc)?, 65_535);
-    assert_eq!(rt; RefKind::Register.copied(alloc)?, RefKind::Register);
-    assert_eq!(rt; COIL_1.copied(alloc)?, COIL_1);
+    let same = [
+        is_copied(alloc, true)?,
+        is_copied(alloc, 255u8)?,
+        is_copied(alloc, 65_535u16)?,
+        is_copied(alloc, RefKind::Register)?,
+        is_copied(alloc, COIL_1)?,
+    ];
+    assert_eq!(rt; same, [true; 5]);
     Ok(())
 }
 
 #[test]
 fn copies_of_elements(rt: HostRuntime) -> Result<(), AllocError> {
     let alloc = rt.alloc();
-    assert_eq!(rt; Operand::At(COIL_1).copied(alloc)?, Operand::At(COIL_1));
-    assert_eq!(rt; Unit::Tenth.copied(alloc)?, Unit::Tenth);
-    assert_eq!(rt; MathOp::Div.copied(alloc)?, MathOp::Div);
-    assert_eq!(rt; MoveOp::Search.copied(alloc)?, MoveOp::Search);
-    assert_eq!(rt; MatrixOp::Brot.copied(alloc)?, MatrixOp::Brot);
-    assert_eq!(rt; Element::Label(7).copied(alloc)?, Element::Label(7));
+    let same = [
+        is_copied(alloc, Operand::At(COIL_1))?,
+        is_copied(alloc, Unit::Tenth)?,
+        is_copied(alloc, MathOp::Div)?,
+        is_copied(alloc, MoveOp::Search)?,
+        is_copied(alloc, MatrixOp::Brot)?,
+        is_copied(alloc, Element::Label(7))?,
+    ];
+    assert_eq!(rt; same, [true; 6]);
     Ok(())
 }
 
 #[test]
-fn copies_of_parts_of_a_plan(rt: HostRuntime) -> Result<(), AllocError> {
+fn copies_of_parts_and_faults(rt: HostRuntime) -> Result<(), AllocError> {
     let alloc = rt.alloc();
-    assert_eq!(rt; ROW.copied(alloc)?, ROW);
-    assert_eq!(rt; ModuleKind::Out.copied(alloc)?, ModuleKind::Out);
-    assert_eq!(rt; MODULE.copied(alloc)?, MODULE);
-    assert_eq!(rt; Fate::L.copied(alloc)?, Fate::L);
-    assert_eq!(rt; NodePower::OFF.copied(alloc)?, NodePower::OFF);
-    Ok(())
-}
-
-#[test]
-fn copies_of_faults_and_places(rt: HostRuntime) -> Result<(), AllocError> {
-    let alloc = rt.alloc();
-    assert_eq!(rt; PlantFault::BadDrop.copied(alloc)?, PlantFault::BadDrop);
-    assert_eq!(rt; Part::HostRequest.copied(alloc)?, Part::HostRequest);
-    assert_eq!(rt; Place::PLANT.copied(alloc)?, Place::PLANT);
+    let same = [
+        is_copied(alloc, ROW)?,
+        is_copied(alloc, ModuleKind::Out)?,
+        is_copied(alloc, MODULE)?,
+        is_copied(alloc, Fate::L)?,
+        is_copied(alloc, NodePower::OFF)?,
+        is_copied(alloc, PlantFault::BadDrop)?,
+        is_copied(alloc, Part::HostRequest)?,
+        is_copied(alloc, Place::PLANT)?,
+    ];
+    assert_eq!(rt; same, [true; 8]);
     Ok(())
 }
 
@@ -159,65 +169,100 @@ fn copies_of_words_and_blocks(rt: HostRuntime) -> Result<(), AllocError> {
     Ok(())
 }
 
-#[test]
-fn a_drop_and_its_copy(rt: HostRuntime) -> Result<(), AllocError> {
-    let copy = drop_of(rt.alloc())?.copied(rt.alloc())?;
-    assert_eq!(rt; copy.number, 32);
-    assert_eq!(rt; copy.modules.as_slice(), [MODULE].as_slice());
-    assert_eq!(rt; copy.script.as_slice().len(), 2);
-    Ok(())
+fn has_row(row: &ScriptRow, held: &[u16]) -> bool {
+    match row {
+        ScriptRow::Row(words) => words.words() == held,
+        ScriptRow::Silent => held.is_empty(),
+    }
 }
 
 #[test]
 fn a_script_row_and_its_copy(rt: HostRuntime) -> Result<(), AllocError> {
     let alloc = rt.alloc();
     let row = ScriptRow::Row(Words::of(alloc, &[7, 65_535])?).copied(alloc)?;
-    assert!(rt; matches!(&row, ScriptRow::Row(words) if words.words() == [7, 65_535].as_slice()));
-    assert!(rt; matches!(&ScriptRow::Silent.copied(alloc)?, ScriptRow::Silent));
+    assert!(rt; has_row(&row, &[7, 65_535]));
+    let silent = ScriptRow::Silent.copied(alloc)?;
+    assert!(rt; has_row(&silent, &[]));
     Ok(())
+}
+
+#[test]
+fn a_drop_and_its_copy(rt: HostRuntime) -> Result<(), AllocError> {
+    let copy = drop_of(rt.alloc())?.copied(rt.alloc())?;
+    assert!(rt;
+        copy.number == 32
+            && copy.modules.as_slice() == [MODULE].as_slice()
+            && copy.script.as_slice().len() == 2
+    );
+    Ok(())
+}
+
+fn is_the_controller(plan: &ControllerPlan) -> bool {
+    plan.node == 64
+        && [
+            plan.coils,
+            plan.inputs,
+            plan.input_registers,
+            plan.registers,
+        ] == [16, 32, 3, 4]
+        && plan.panel.as_slice() == [COIL_1].as_slice()
+        && plan.orders.as_slice() == [ROW].as_slice()
+        && plan.segments.as_slice().len() == 1
+        && plan.drops.as_slice().len() == 1
 }
 
 #[test]
 fn a_controller_and_its_copy(rt: HostRuntime) -> Result<(), AllocError> {
     let copy = controller(rt.alloc())?.copied(rt.alloc())?;
-    assert_eq!(rt; copy.node, 64);
-    assert_eq!(rt; [copy.coils, copy.inputs], [16, 32]);
-    assert_eq!(rt; [copy.input_registers, copy.registers], [3, 4]);
-    assert_eq!(rt; copy.panel.as_slice(), [COIL_1].as_slice());
-    assert_eq!(rt; copy.orders.as_slice(), [ROW].as_slice());
-    assert_eq!(rt; copy.segments.as_slice().len(), 1);
-    assert_eq!(rt; copy.drops.as_slice().len(), 1);
+    assert!(rt; is_the_controller(&copy));
     Ok(())
+}
+
+fn is_the_net(net: &NetPlan) -> bool {
+    net.members.as_slice() == [64].as_slice()
+        && net.fates.as_slice() == [Fate::A].as_slice()
+        && [net.answer, net.rotations, net.rounds, net.holds] == [20, 4, 2, 100_000]
 }
 
 #[test]
 fn a_net_and_its_copy(rt: HostRuntime) -> Result<(), AllocError> {
     let copy = net(rt.alloc())?.copied(rt.alloc())?;
-    assert_eq!(rt; copy.members.as_slice(), [64].as_slice());
-    assert_eq!(rt; copy.fates.as_slice(), [Fate::A].as_slice());
-    assert_eq!(rt; [copy.answer, copy.rotations], [20, 4]);
-    assert_eq!(rt; [copy.rounds, copy.holds], [2, 100_000]);
+    assert!(rt; is_the_net(&copy));
     Ok(())
+}
+
+fn is_the_ask(ask: &HostAsk) -> bool {
+    ask.hold == 10_000 && ask.to == 5 && ask.pdu.bytes() == [3, 0, 0, 0, 2].as_slice()
 }
 
 #[test]
 fn a_host_and_its_copy(rt: HostRuntime) -> Result<(), AllocError> {
     let copy = host(rt.alloc())?.copied(rt.alloc())?;
-    assert_eq!(rt; copy.node, 7);
-    assert_eq!(rt; copy.requests.as_slice().len(), 1);
-    let ask = ask(rt.alloc())?.copied(rt.alloc())?;
-    assert_eq!(rt; ask.hold, 10_000);
-    assert_eq!(rt; ask.to, 5);
-    assert_eq!(rt; ask.pdu.bytes(), [3, 0, 0, 0, 2].as_slice());
+    assert!(rt; copy.node == 7 && copy.requests.as_slice().iter().all(is_the_ask));
     Ok(())
 }
 
 #[test]
 fn a_plant_and_its_copy(rt: HostRuntime) -> Result<(), AllocError> {
     let copy = plant(rt.alloc())?.copied(rt.alloc())?;
-    assert_eq!(rt; [copy.scan_time, copy.watchdog], [10, 500]);
-    assert_eq!(rt; copy.net.members.as_slice(), [64].as_slice());
-    assert_eq!(rt; copy.controllers.as_slice().len(), 1);
-    assert_eq!(rt; copy.hosts.as_slice().len(), 1);
+    assert!(rt;
+        [copy.scan_time, copy.watchdog] == [10, 500]
+            && is_the_net(&copy.net)
+            && copy.controllers.as_slice().iter().all(is_the_controller)
+            && copy.hosts.as_slice().len() == 1
+    );
+    Ok(())
+}
+
+#[test]
+fn networks_and_hosts_are_tested(rt: HostRuntime) -> Result<(), AllocError> {
+    let mut net = net(rt.alloc())?;
+    assert!(rt; is_net_plan(&net));
+    net.answer = 1;
+    assert!(rt; !is_net_plan(&net));
+    let mut host = host(rt.alloc())?;
+    assert!(rt; is_host_plan(&host));
+    host.node = 5;
+    assert!(rt; !is_host_plan(&host));
     Ok(())
 }

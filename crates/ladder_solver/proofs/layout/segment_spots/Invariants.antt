@@ -1,7 +1,10 @@
 use Rattle.std.proofs.Common.{◌≡◌, take}
-use Rattle.std.specs.Prelude.{map}
-use Rattle.ladder_solver.specs.Layout.{spots_in}
+use Rattle.ladder_solver.specs.Numbers.{grids_elements}
+use Rattle.ladder_solver.specs.Layout.{segment_spots, Behind}
 use Rattle.ladder_solver.proofs.layout.segment_spots.Given as goal
 
 abbrev pub invariant-loop-grid : goal.invariant-loop-grid
-invariant-loop-grid l = l.networks ≡ map spots_in (take l.grid-index l.grids)
+invariant-loop-grid l = record {
+  networks : l.networks ≡ segment_spots l.fn.block (take l.grid-index l.grids);
+  block : Behind l.fn.block (grids_elements (take l.grid-index l.grids)) l.block;
+}

@@ -2,7 +2,8 @@ use Rattle.std.proofs.Common.{◌≡◌, ◌+◌, ◌-◌, ◌*◌, take}
 use Rattle.std.specs.List.{slice_range}
 use Rattle.plant_types.specs.declared.network.Network.{Network}
 use Rattle.plant_types.specs.Store.{Keeps}
-use Rattle.ladder_solver.specs.Segment.{networks_of, networks_after}
+use Rattle.ladder_solver.specs.Numbers.{networks_of}
+use Rattle.ladder_solver.specs.Segment.{networks_after}
 use Rattle.ladder_solver.specs.Flow.{GoesOn}
 use Rattle.ladder_solver.specs.Layout.{network_spots}
 use Rattle.ladder_solver.specs.Agreement.{KeepsScan, solving, spots_after, InProgram, AgreesSolved}
@@ -32,27 +33,27 @@ decreases-solve_run g l = 6 * l.run.depth + 5
 abbrev pub invariant-solve_network-loop-spot : goal.invariant-solve_network-loop-spot
 invariant-solve_network-loop-spot g l =
     let contents = g.R.RefStore.contents in
-    let past = g.P.RefStore.contents l.past in
+    let past = g.P.RefStore.contents l.lent.past.now in
     record {
       keeps : Keeps (contents l.fn.ram) (contents l.ram);
       scan : KeepsScan l.fn.scan l.scan;
-      solved : InProgram l.program l.at.depth (λ segments calls. (network : Network) → l.spots ≡ network_spots network →
+      solved : InProgram l.lent.program.now l.at.depth (λ segments setting. (network : Network) → l.spots ≡ network_spots setting.numbers l.at.site network →
           AgreesSolved network.shorts l.live (solving (contents l.ram) past l.scan) GoesOn
-          (spots_after calls network.shorts l.at.site (take l.spot-index l.spots) (begun (solving (contents l.fn.ram) past l.fn.scan))));
+          (spots_after setting network.shorts l.at.site (take l.spot-index l.spots) (begun (solving (contents l.fn.ram) past l.fn.scan))));
     }
 
 -- what is left of the run does what the whole run does
 abbrev pub invariant-solve_run-loop-i : goal.invariant-solve_run-loop-i
 invariant-solve_run-loop-i g l =
     let contents = g.R.RefStore.contents in
-    let past = g.P.RefStore.contents l.past in
+    let past = g.P.RefStore.contents l.lent.past.now in
     record {
       keeps : Keeps (contents l.fn.ram) (contents l.ram);
       scan : KeepsScan l.fn.scan l.scan;
-      solved : InProgram l.program l.run.depth (λ segments calls.
-          networks_after calls l.run.segment (l.run.span.first + 1) (slice_range (networks_of segments l.run.segment) l.run.span.first l.run.span.end) 0
+      solved : InProgram l.lent.program.now l.run.depth (λ segments setting.
+          networks_after setting l.run.segment (l.run.span.first + 1) (slice_range (networks_of segments l.run.segment) l.run.span.first l.run.span.end) 0
           (solving (contents l.fn.ram) past l.fn.scan)
-          ≡ networks_after calls l.run.segment (l.i + 1) (slice_range (networks_of segments l.run.segment) l.i l.run.span.end) 0
+          ≡ networks_after setting l.run.segment (l.i + 1) (slice_range (networks_of segments l.run.segment) l.i l.run.span.end) 0
           (solving (contents l.ram) past l.scan));
     }
 

@@ -1,4 +1,5 @@
-use Rattle.std.proofs.Common.{◌/◌, ◌%◌, ◌*◌, ◌+◌, ◌≡◌, ◌<◌, length, get_or, false, sym, ap, ◌∙◌, arith}
+use Rattle.std.proofs.Common.{◌/◌, ◌%◌, ◌*◌, ◌+◌, ◌≡◌, ◌<◌, length, get_or, false, sym, ap, ◌∙◌}
+use Rattle.std.proofs.Common.{arith}
 use Rattle.plant_types.specs.Discretes.{word_bits}
 use Rattle.matrix_ops.specs.Bits.{matrix_bits}
 use Rattle.matrix_ops.proofs.BitLemmas.{get_or-matrix_bits}

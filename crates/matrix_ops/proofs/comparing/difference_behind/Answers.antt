@@ -1,7 +1,8 @@
 use Rattle.std.proofs.Common.{Bool, get_or, false, sym, ap, ◌∙◌, arith}
 use Rattle.matrix_ops.specs.Bits.{matrix_bits}
 use Rattle.matrix_ops.specs.Matrices.{is_apart}
-use Rattle.matrix_ops.proofs.MatrixLemmas.{apart_test, difference-here, difference-later, difference-nowhere}
+use Rattle.matrix_ops.proofs.MatrixLemmas.{apart_test, difference-here, difference-later}
+use Rattle.matrix_ops.proofs.MatrixLemmas.{difference-nowhere}
 use Rattle.matrix_ops.proofs.comparing.difference_behind.Goals as goal
 
 pub returns-then-matrix_bit-clause-found : goal.returns-then-matrix_bit-clause-found

@@ -4,7 +4,8 @@ use Rattle.controller_core.specs.declared.entry.Entry.{Entry}
 use Rattle.controller_core.specs.Controller.{ControllerIs, has_ended}
 use Rattle.controller_core.specs.Panel.{panel_lines}
 use Rattle.controller_core.specs.Run.{run_of}
-use Rattle.plant984.proofs.RunLemmas.{joined, line-written, no-line-written, no-lines, run-kept, turn-shorter}
+use Rattle.plant984.proofs.RunLemmas.{joined, line-written, no-line-written, no-lines, run-kept}
+use Rattle.plant984.proofs.RunLemmas.{turn-shorter}
 use Rattle.plant984.proofs.run.panel_of.Goals as goal
 
 pub loop-controller-init : goal.loop-controller-init

@@ -16,4 +16,5 @@ invariant-loop-controller l =
 
 abbrev pub decreases-loop-controller : goal.decreases-loop-controller
 decreases-loop-controller l =
-    length (run_of (record { plan = l.plan; scan_time = l.scan_time; watchdog = l.watchdog; scans = l.scans })) - length l.controller.history
+    length (run_of (record { plan = l.plan; scan_time = l.scan_time; watchdog = l.watchdog; scans = l.scans }))
+    - length l.controller.history

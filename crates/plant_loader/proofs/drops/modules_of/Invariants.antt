@@ -1,5 +1,4 @@
 use Rattle.std.proofs.Common.{◌≡◌, ◌+◌, map, drop}
-use Rattle.plant_loader.specs.Counts.{sizes_of}
 use Rattle.plant_loader.specs.InOrder.{with_front, each_from}
 use Rattle.plant_loader.specs.Drops.{numbered_module, modules_of}
 use Rattle.plant_loader.proofs.drops.modules_of.Given as goal
@@ -7,7 +6,7 @@ use Rattle.plant_loader.proofs.drops.modules_of.Given as goal
 -- the modules so far, before those of the texts left
 abbrev pub invariant-loop-text : goal.invariant-loop-text
 invariant-loop-text l = record {
-  read : with_front l.modules (each_from (numbered_module (sizes_of l.counts) l.drop) (l.number + 1)
-      (map (λ t. t.now) (drop l.text-index l.texts))) ≡ modules_of (sizes_of l.counts) l.drop (map (λ t. t.now) l.texts);
+  read : with_front l.modules (each_from (numbered_module l.owner l.drop) (l.number + 1)
+      (map (λ t. t.now) (drop l.text-index l.texts))) ≡ modules_of l.owner l.drop (map (λ t. t.now) l.texts);
   number : l.number ≡ l.text-index;
 }

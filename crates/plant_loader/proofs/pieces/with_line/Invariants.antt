@@ -1,7 +1,6 @@
 use Rattle.std.proofs.Common.{◌≡◌, drop, length}
 use Rattle.std.specs.Prelude.{filter, ◌==◌}
 use Rattle.std.specs.List.{slice_split}
-use Rattle.plant_loader.specs.Counts.{sizes_of}
 use Rattle.plant_loader.specs.Pieces.{has_word}
 use Rattle.plant_loader.specs.Program.{with_pieces}
 use Rattle.plant_loader.proofs.pieces.with_line.Given as goal
@@ -10,5 +9,5 @@ use Rattle.plant_loader.proofs.pieces.with_line.Given as goal
 abbrev pub invariant-loop-piece : goal.invariant-loop-piece
 invariant-loop-piece l =
     let parts = slice_split (λ byte. byte == 59) l.line in
-    with_pieces (sizes_of l.counts) l.program (filter has_word (drop (length l.yielded) parts))
-    ≡ with_pieces (sizes_of l.counts) l.initial.program (filter has_word parts)
+    with_pieces l.owner l.program (filter has_word (drop (length l.yielded) parts))
+    ≡ with_pieces l.owner l.initial.program (filter has_word parts)

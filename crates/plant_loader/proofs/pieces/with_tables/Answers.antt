@@ -1,6 +1,5 @@
 use Rattle.std.proofs.Common.{arith}
 use Rattle.std.proofs.lemmas.Grind.{common_steps}
-use Rattle.plant_loader.specs.Counts.{sizes_of}
 use Rattle.plant_loader.specs.Program.{with_tables}
 use Rattle.plant_loader.proofs.Checked.{with_table-more}
 use Rattle.plant_loader.proofs.pieces.with_tables.Goals as goal
@@ -9,7 +8,7 @@ pub loop-table-preserved : goal.loop-table-preserved
 unfolding with_tables
 loop-table-preserved c =
     let more = with_table-more
-    (sizes_of c.args.counts) _ c.loop-table.program c.in_ok-program.program c.in_ok-program.ensures c.loop-table.invariant.between.cells in
+    c.args.owner _ c.loop-table.program c.in_ok-program.program c.in_ok-program.ensures c.loop-table.invariant.between.cells in
     record {
       read = grind (arith, common_steps);
       count = omega (arith, more.count);

@@ -1,6 +1,5 @@
 use Rattle.std.proofs.Common.{arith}
 use Rattle.std.proofs.lemmas.Grind.{common_steps}
-use Rattle.plant_loader.specs.Counts.{sizes_of}
 use Rattle.plant_loader.specs.Program.{with_texts}
 use Rattle.plant_loader.proofs.Checked.{with_text-more}
 use Rattle.plant_loader.proofs.pieces.with_texts.Goals as goal
@@ -9,5 +8,5 @@ pub loop-text-preserved : goal.loop-text-preserved
 unfolding with_texts
 loop-text-preserved c = record {
   read = grind (arith, common_steps);
-  count = let more = with_text-more (sizes_of c.args.counts) _ c.loop-text.program c.in_ok-program.program c.in_ok-program.ensures in omega (arith, more.count);
+  count = let more = with_text-more c.args.owner _ c.loop-text.program c.in_ok-program.program c.in_ok-program.ensures in omega (arith, more.count);
 }

@@ -1,13 +1,13 @@
 use Rattle.std.proofs.Common.{◌≡◌, length}
-use Rattle.cell_text.specs.Words.{words_of}
+use Rattle.cell_text.specs.Words.{text_words}
 use Rattle.plant_loader.specs.InOrder.{with_front, each_of}
 use Rattle.plant_loader.specs.Drops.{hex_word}
 use Rattle.plant_loader.proofs.scripts.hex_words.Given as goal
 
 -- the values so far, before those of the words left
 abbrev pub invariant-loop-word : goal.invariant-loop-word
-invariant-loop-word l = with_front l.words.items (each_of (hex_word l.place) (words_of l.rest)) ≡ each_of (hex_word l.place) (words_of l.fn.text)
+invariant-loop-word l = with_front l.words.items (each_of (hex_word l.place) (text_words l.rest)) ≡ each_of (hex_word l.place) (text_words l.fn.text)
 
 -- each turn takes a word
 abbrev pub decreases-loop-word : goal.decreases-loop-word
-decreases-loop-word l = length (words_of l.rest)
+decreases-loop-word l = length (text_words l.rest)

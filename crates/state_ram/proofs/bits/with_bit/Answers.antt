@@ -1,4 +1,5 @@
-use Rattle.std.proofs.Common.{◌≡◌, refl, subst, sym, ◌∙◌, ◌*◌, ◌-◌, ◌%◌, ◌^◌, Bool, true, false, cond}
+use Rattle.std.proofs.Common.{◌≡◌, refl, subst, sym, ◌∙◌, ◌*◌, ◌-◌, ◌%◌, ◌^◌, Bool, true, false}
+use Rattle.std.proofs.Common.{cond}
 use Rattle.std.specs.Prelude.{bit_and, bit_or}
 use mir.Val.{bool_byte}
 use Rattle.state_ram.specs.Bits.{IsWithBit}

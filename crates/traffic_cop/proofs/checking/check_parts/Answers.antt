@@ -3,7 +3,8 @@ use Rattle.std.proofs.lemmas.Result.{err_from_is_err_and}
 use Rattle.plant_types.specs.FirstFault.{first_failed, tests_of_each}
 use Rattle.plant_types.specs.PlanTests.{placed}
 use Rattle.plant_types.proofs.FaultLemmas.{parts-failed, parts-held}
-use Rattle.traffic_cop.specs.DropTests.{drop_place, placed_module_tests, placed_row_tests, word_tests}
+use Rattle.traffic_cop.specs.DropTests.{drop_place, placed_module_tests, placed_row_tests}
+use Rattle.traffic_cop.specs.DropTests.{word_tests}
 use Rattle.traffic_cop.proofs.checking.check_parts.Goals as goal
 
 pub returns-in_err-check_modules : goal.returns-in_err-check_modules

@@ -1,9 +1,11 @@
-use Rattle.std.proofs.Common.{◌≡◌, rules, length, ◌++◌, ◌∷◌, [], refl, ap, ◌∙◌, arith}
+use Rattle.std.proofs.Common.{◌≡◌, rules, length, ◌++◌, ◌∷◌, [], ap, ◌∙◌, arith}
 use Rattle.std.proofs.lemmas.Grind.{common_steps}
 use Rattle.scan_order.specs.Due.{due_after}
 use Rattle.controller_core.specs.declared.fixed.Fixed.{Fixed}
 use Rattle.controller_core.specs.declared.entry.Entry.TheVariants as entries
-use Rattle.controller_core.proofs.Keeping.{kept_as, kept_peer, went_on_peer}
+use Rattle.plant_types.specs.Store.{Contents}
+use Rattle.modbus_exec.specs.Answer.{answer_of}
+use Rattle.controller_core.proofs.Keeping.{kept_with, peer_told, store_is, view_more, went_on_told}
 use Rattle.controller_core.proofs.Lengths.{fits_room}
 use Rattle.controller_core.proofs.controller.Controller.peer.Goals as goal
 
@@ -12,29 +14,45 @@ invariant_of-self-2 c =
     let i = c.self.inside in
     let kept = c.self.invariant.kept in
     let fits = fits_room i.machine.fixed.plan i.at kept.place in
-    let serves = c.in_ok-reply.ensures.serves in
+    let id = c.args.id in
+    let request = c.args.request.now in
+    let reply = c.in_ok-reply.copy in
+    let serves = c.in_ok-reply.ensures.serves id reply in
     let same = c.in_ok-reply.ensures.same ∙ c.in_ok-reply.ensures.reply in
-    let h : c.note.new.history.items ≡ i.history.items ++ entries.Peer c.args.id c.args.request.now c.in_ok-reply.copy ∷ [] = search rules in
+    let h : c.note.new.history.items ≡ i.history.items ++ entries.Peer id request reply ∷ [] = search rules in
     record {
-      kept = kept_as _ _ _ _ _ _ _ serves.fixed h refl
-          (kept_peer i.machine.fixed i.machine c.serve.new.self i.history.items i.at c.args.id c.args.request.now c.in_ok-reply.copy kept serves same);
+      kept = kept_with i.machine.fixed i.machine c.serve.new.self i.history.items c.note.new.history.items i.at
+          (entries.Peer id request reply) (peer_told id request reply) kept serves same h;
       room = λ is.
           let most = c.in_ok-try_reserve.ensures.ok in
           let plan = ap (λ (f : Fixed). length (due_after f.plan i.at)) serves.fixed in
           grind (arith, common_steps, fits, plan, most);
     }
 
+pub returns-clause-ok : goal.returns-clause-ok
+returns-clause-ok c =
+    let i = c.self.inside in
+    let id = c.args.id in
+    let request = c.args.request.now in
+    let copy = c.in_ok-reply.copy in
+    let kept = c.self.invariant.kept in
+    let h : c.note.new.history.items ≡ i.history.items ++ entries.Peer id request copy ∷ [] = search rules in
+    let store = store_is i.machine.fixed i.machine i.history.items i.at i.reserved c.args.self.now c.self.view_is kept in
+    let same = c.in_ok-reply.ensures.same ∙ c.in_ok-reply.ensures.reply ∙ ap (λ (m : Contents). (answer_of request m).reply) store in
+    view_more c.serve.new.self i.machine.fixed i.history.items c.note.new.history.items i.reserved (entries.Peer id request copy) _
+    c.args.self.now c.self.view_is (c.in_ok-reply.ensures.serves id copy).fixed h (ap (entries.Peer id request) same)
+
 pub returns-clause-went_on : goal.returns-clause-went_on
 returns-clause-went_on c =
     let i = c.self.inside in
-    let kept = c.self.invariant.kept in
-    let serves = c.in_ok-reply.ensures.serves in
     let n = c.serve.new.self in
     let id = c.args.id in
     let request = c.args.request.now in
     let reply = c.in_ok-reply.reply in
+    let serves = c.in_ok-reply.ensures.serves id reply in
     let h : c.note.new.history.items ≡ i.history.items ++ entries.Peer id request reply ∷ [] = search rules in
-    let new = kept_as _ _ _ _ _ _ _ serves.fixed h refl
-    (kept_peer i.machine.fixed i.machine n i.history.items i.at id request reply kept serves c.in_ok-reply.ensures.reply) in
-    went_on_peer i.machine.fixed i.machine n i.history.items c.note.new.history.items i.at i.reserved id request reply
-    c.args.self.now c.self.view_is new serves.fixed h
+    let told = peer_told id request reply in
+    let new = kept_with i.machine.fixed i.machine n i.history.items c.note.new.history.items i.at
+    (entries.Peer id request reply) told c.self.invariant.kept serves c.in_ok-reply.ensures.reply h in
+    went_on_told i.machine.fixed i.machine n i.history.items c.note.new.history.items i.at i.reserved
+    (entries.Peer id request reply) c.args.self.now told c.self.view_is new serves.fixed h

@@ -9,7 +9,8 @@ use Rattle.controller_core.specs.Event.{entry_of}
 use Rattle.controller_core.specs.Machine.{state_is}
 use Rattle.controller_core.specs.Scans.{closes_scan}
 use Rattle.controller_core.specs.Controller.{ControllerIs}
-use Rattle.controller_core.proofs.Keeping.{can_solve, kept_made, not_done, room_step, step_made, step_none, timely_enough, went_on_step}
+use Rattle.controller_core.proofs.Keeping.{can_solve, kept_made, not_done, room_step, step_made}
+use Rattle.controller_core.proofs.Keeping.{step_none, timely_enough, went_on_step}
 use Rattle.controller_core.proofs.controller.Controller.step.Goals as goal
 
 pub next_due-step-requires-clause-place : goal.next_due-step-requires-clause-place

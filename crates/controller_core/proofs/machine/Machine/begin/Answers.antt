@@ -13,6 +13,9 @@ returns c =
         drops = sound.drops;
         keeps = sound.keeps;
         past = sound.past;
+        node = sound.node;
+        blocks = sound.blocks;
+        few = sound.few;
         exchanges = sound.exchanges;
       };
       timely = λ steps timely. record {

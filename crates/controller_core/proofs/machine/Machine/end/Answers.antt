@@ -28,6 +28,9 @@ returns c =
         drops = sound.drops;
         keeps = sound.keeps;
         past = record { store = machine.ram; keeps = sound.keeps; is = past };
+        node = sound.node;
+        blocks = sound.blocks;
+        few = sound.few;
         exchanges = sound.exchanges;
       };
       timely = λ steps timely. record {

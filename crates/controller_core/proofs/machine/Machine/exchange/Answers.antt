@@ -1,9 +1,11 @@
-use Rattle.std.proofs.Common.{◌≡◌, ◌≤◌, ◌<◌, ◌+◌, ◌-◌, List, length, get_or, set, refl, sym, ap, subst, ◌∙◌, arith}
+use Rattle.std.proofs.Common.{◌≡◌, ◌≤◌, ◌<◌, ◌+◌, ◌-◌, List, length, get_or, set, refl, sym, ap}
+use Rattle.std.proofs.Common.{subst, ◌∙◌, arith}
 use Rattle.std.proofs.lemmas.List.{get_or_default, length-set}
 use Rattle.plant_types.specs.declared.drops.IoDrop.{IoDrop}
-use Rattle.ladder_solver.specs.State.{state_of}
+use Rattle.ladder_solver.specs.State.{solve_state}
 use Rattle.traffic_cop.specs.Drops.{input_after}
 use Rattle.controller_core.proofs.MachineLemmas.{counted}
+use Rattle.plant_types.specs.Discretes.{discretes_on}
 use Rattle.controller_core.proofs.machine.Machine.exchange.Goals as goal
 
 pub returns : goal.returns
@@ -29,7 +31,7 @@ returns c =
     record {
       fixed = refl;
       state = λ i. record {
-        solving = state_of (map i) machine.past machine.ladder.edges machine.clock machine.watch.left;
+        solving = solve_state (map i) (discretes_on machine.past) machine.ladder.edges machine.bank machine.clock machine.watch.left;
         exchanges = counts i;
         ended = machine.ended;
         stop = machine.stop;
@@ -40,6 +42,9 @@ returns c =
         drops = sound.drops;
         keeps = λ at h. c.input.ensures.keeps at (sound.keeps at h);
         past = sound.past;
+        node = sound.node;
+        blocks = sound.blocks;
+        few = sound.few;
         exchanges = length-set xs place (c.index.result.now + 1) ∙ size;
       };
       timely = λ steps timely. record {

@@ -1,7 +1,7 @@
 use Rattle.std.proofs.Common.{ap, ◌-◌, ◌∙◌, sym, subst, length, arith}
 use Rattle.std.proofs.lemmas.List.{length-map}
 use Rattle.ladder_solver.specs.State.{with_place}
-use Rattle.ladder_solver.specs.Edges.{EdgeBits, HasPlace}
+use Rattle.ladder_solver.specs.Edges.{EdgeBits, HasEdgeBit}
 use Rattle.std.specs.Vec.{with_item}
 use Rattle.ladder_solver.specs.Kept.{bits_in, edge_bits_of}
 use Rattle.ladder_solver.proofs.EdgeSets.{networks_within, set_view}
@@ -16,14 +16,14 @@ index_mut-networks-requires c =
 
 pub index_mut-requires : goal.index_mut-requires
 index_mut-requires c =
-    let place = subst (λ (e : EdgeBits). HasPlace e.counts c.args.place) (sym c.self.view_is) c.requires in
+    let place = subst (λ (e : EdgeBits). HasEdgeBit e.counts c.args.place) (sym c.self.view_is) c.requires in
     let within = networks_within c.self.inside c.index_mut-networks.result.now c.args.place.segment c.args.place.network place.networks
     c.index_mut-networks.ensures.value in
     omega (arith, within, c.requires.network, c.index_mut-networks.result.now.ok.0)
 
 pub returns : goal.returns
 returns c =
-    let place = subst (λ (e : EdgeBits). HasPlace e.counts c.args.place) (sym c.self.view_is) c.requires in
+    let place = subst (λ (e : EdgeBits). HasEdgeBit e.counts c.args.place) (sym c.self.view_is) c.requires in
     let segment = c.args.place.segment - 1 in
     let network = c.args.place.network - 1 in
     (λ i. edge_bits_of (record {

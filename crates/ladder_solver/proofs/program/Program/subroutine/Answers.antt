@@ -1,8 +1,7 @@
-use Rattle.std.proofs.Common.{◌≡◌, ◌≤◌, ◌<◌, Option, None, ℕ, sym, ap, ◌∙◌, subst, length, get_or, arith}
-use Rattle.std.specs.Prelude.{map, IfSome}
-use Rattle.ladder_solver.specs.declared.program.Span.{Span}
-use Rattle.ladder_solver.specs.Program.{label_in, last_grids, IsSpanOf, IsWithinNetworks}
-use Rattle.ladder_solver.proofs.Subroutines.{span_from, span_found, none_larger, is_span_of, is_within, last_small}
+use Rattle.std.proofs.Common.{None, sym, arith}
+use Rattle.ladder_solver.specs.Program.{last_grids}
+use Rattle.ladder_solver.proofs.Subroutines.{span_found, none_larger, is_span_of, is_within}
+use Rattle.ladder_solver.proofs.Subroutines.{last_small}
 use Rattle.ladder_solver.proofs.program.Program.subroutine.Goals as goal
 
 pub returns-clause-span : goal.returns-clause-span

@@ -1,4 +1,5 @@
-use Rattle.std.proofs.Common.{◌++◌, ◌-◌, ◌*◌, ◌∷◌, [], List, Bool, ℕ, length, sym, ap, ◌∙◌, append_assoc, arith}
+use Rattle.std.proofs.Common.{◌++◌, ◌-◌, ◌*◌, ◌∷◌, [], List, Bool, ℕ, length, sym, ap, ◌∙◌}
+use Rattle.std.proofs.Common.{append_assoc, arith}
 use Rattle.std.proofs.lemmas.List.{append-nil}
 use Rattle.modbus_pdu.specs.Bytes.{packed, bytes_for, clear_spare}
 use Rattle.modbus_pdu.proofs.Packing.{packed_more}

@@ -1,8 +1,7 @@
-use Rattle.std.proofs.Common.{arith}
-use Rattle.std.proofs.lemmas.Grind.{common_steps}
-use Rattle.std.proofs.lemmas.List.Edits.{map_over_more}
-use Rattle.mstr_block.specs.Table.{with_result}
+use Rattle.std.proofs.Common.{subst, sym}
+use Rattle.mstr_block.specs.Running.{IsTable}
+use Rattle.mstr_block.proofs.Names.{finished-stays}
 use Rattle.mstr_block.proofs.bank.MstrBank.finish.Goals as goal
 
-pub loop-block-preserved : goal.loop-block-preserved
-loop-block-preserved c = grind (arith, common_steps, map_over_more (with_result c.args.id c.args.outcome))
+pub invariant_of-self : goal.invariant_of-self
+invariant_of-self c = subst IsTable (sym c.finish.ensures) (finished-stays _ c.args.id c.args.outcome c.self.invariant)

@@ -1,15 +1,18 @@
-use Rattle.std.proofs.Common.{get_or, Some, None, sym, ap, ◌∙◌}
-use Rattle.mstr_block.specs.declared.state.BlockState.TheVariants.{Idle}
-use Rattle.mstr_block.specs.Table.{BlockTable, untaken}
-use Rattle.mstr_block.proofs.Untaken.{first_started}
+use Rattle.std.proofs.Common.{subst, sym}
+use Rattle.std.specs.Prelude.{IfSome}
+use Rattle.mstr_block.specs.Table.{BlockTable}
+use Rattle.mstr_block.specs.Running.{IsCall, IsTable}
+use Rattle.mstr_block.proofs.Calling.{calls-first}
+use Rattle.mstr_block.proofs.Launching.{stays-table}
 use Rattle.mstr_block.proofs.bank.MstrBank.take_started.Goals as goal
 
-pub returns-in-None-clause-call : goal.returns-in-None-clause-call
-returns-in-None-clause-call c = sym (first_started c.args.self.now Idle None (sym c.in-None.is ∙ c.next_untaken.ensures))
+pub invariant_of-self : goal.invariant_of-self
+invariant_of-self c = subst IsTable (sym c.take_started.ensures.taken) (stays-table.taken _ c.self.invariant)
 
-pub returns-in-Some-clause-call : goal.returns-in-Some-clause-call
-returns-in-Some-clause-call c =
-    let block = c.index_mut.result.now in
-    let place = c.in-Some.place in
-    c.take.ensures.call ∙ ap untaken (c.index_mut.ensures.value ∙ ap (λ (table : BlockTable). get_or table.blocks place block) c.self.view_is)
-    ∙ sym (first_started c.args.self.now block (Some place) (sym c.in-Some.is ∙ c.next_untaken.ensures))
+pub returns-clause-table : goal.returns-clause-table
+returns-clause-table c = subst IsTable (sym c.take_started.ensures.taken) (stays-table.taken _ c.self.invariant)
+
+pub returns-clause-named : goal.returns-clause-named
+returns-clause-named c =
+    subst (λ (table : BlockTable). IfSome c.take_started.result (IsCall table.node)) c.self.view_is
+    (calls-first _ c.self.invariant 0 _ c.take_started.ensures.call)

@@ -12,7 +12,13 @@ overflow_cast-result c =
       cells = c.self.inside.cells;
       shorts = c.self.inside.shorts;
     } in
-    omega (arith, ap length c.as_slice.ensures, ap length c.as_slice-2.ensures, IsKept-few c.self.inside.driven.keys read c.self.invariant)
+    omega (
+      arith,
+      ap length c.as_slice.ensures,
+      ap length c.as_slice-2.ensures,
+      IsKept-few c.self.inside.driven.keys
+          c.self.inside.messages read c.self.invariant,
+    )
 
 pub overflow_add-result : goal.overflow_add-result
 overflow_add-result c =
@@ -23,4 +29,10 @@ overflow_add-result c =
       cells = c.self.inside.cells;
       shorts = c.self.inside.shorts;
     } in
-    omega (arith, ap length c.as_slice.ensures, ap length c.as_slice-2.ensures, IsKept-few c.self.inside.driven.keys read c.self.invariant)
+    omega (
+      arith,
+      ap length c.as_slice.ensures,
+      ap length c.as_slice-2.ensures,
+      IsKept-few c.self.inside.driven.keys
+          c.self.inside.messages read c.self.invariant,
+    )

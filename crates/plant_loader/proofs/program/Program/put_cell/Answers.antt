@@ -1,6 +1,7 @@
-use Rattle.std.proofs.Common.{◌≡◌, true, subst, sym}
-use Rattle.plant_types.specs.Checks.{has_shape}
-use Rattle.plant_loader.specs.Program.{ReadProgram}
+use Rattle.std.proofs.Common.{◌≡◌, Ok, subst, sym}
+use Rattle.plant_types.specs.FirstFault.{first_failed}
+use Rattle.plant_types.specs.PlanTests.{site_cell_tests}
+use Rattle.plant_loader.specs.Program.{ReadProgram, site_of}
 use Rattle.plant_loader.proofs.KeptLemmas.{IsKept-cell}
 use Rattle.plant_loader.proofs.program.Program.put_cell.Goals as goal
 
@@ -13,6 +14,12 @@ invariant_of-result c =
       cells = c.self.inside.cells;
       shorts = c.self.inside.shorts;
     } in
-    let shape = subst (λ (r : ReadProgram). has_shape r.cells c.args.cell ≡ true) (sym c.self.view_is) c.requires.shape in
+    let passes = subst (λ (r : ReadProgram). first_failed (site_cell_tests (site_of c.args.sizes r) r.cells c.args.cell) ≡ Ok tt)
+    (sym c.self.view_is) c.requires in
     rw c.in_ok-push.ensures.ok
-    (IsKept-cell c.self.inside.driven.keys c.in_ok-driven.driven.keys read c.args.cell c.driven_by.result c.requires.place shape c.driven_by.ensures c.self.invariant c.in_ok-driven.ensures)
+    (IsKept-cell c.self.inside.driven.keys c.in_ok-driven.driven.keys c.self.inside.messages c.messages_with-messages.result
+    c.args.sizes read c.args.cell c.driven_by.result
+    passes c.driven_by.ensures c.messages_with-messages.ensures c.self.invariant c.in_ok-driven.ensures)
+
+pub messages_with-messages-requires : goal.messages_with-messages-requires
+messages_with-messages-requires c = c.self.invariant.few_messages

@@ -3,7 +3,8 @@ use Rattle.std.proofs.lemmas.Result.{err_from_is_err_and}
 use Rattle.plant_types.specs.Fault.{controller_place, at_place}
 use Rattle.plant_types.specs.FirstFault.{first_failed, tests_of_each}
 use Rattle.plant_types.specs.Checks.{sizes_of}
-use Rattle.plant_types.specs.PlanTests.{placed, table_tests, segment_tests, order_tests, panel_tests}
+use Rattle.plant_types.specs.PlanTests.{placed, table_tests, segment_tests, order_tests}
+use Rattle.plant_types.specs.PlanTests.{panel_tests}
 use Rattle.plant_types.proofs.FaultLemmas.{parts-failed, parts-held}
 use Rattle.plant_types.proofs.PlanLemmas.{placed-first}
 use Rattle.plant_types.proofs.plan.ControllerPlan.check.Goals as goal

@@ -1,6 +1,7 @@
 use Rattle.std.proofs.Common.{◌∙◌, sym}
 use Rattle.plant_types.specs.Standing.{cells_of_segments, cells_of_networks, is_claimed}
-use Rattle.plant_types.proofs.StandingLemmas.{claimed_in_networks, claimed_in_segments, claimed-append, or_true, or_false}
+use Rattle.plant_types.proofs.StandingLemmas.{claimed_in_networks, claimed_in_segments}
+use Rattle.plant_types.proofs.StandingLemmas.{claimed-append, or_true, or_false}
 use Rattle.plant_types.proofs.standing.Claim.is_before.Goals as goal
 
 pub returns-then-is_in_segments : goal.returns-then-is_in_segments

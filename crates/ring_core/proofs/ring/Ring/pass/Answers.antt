@@ -1,7 +1,7 @@
 use Rattle.std.proofs.lemmas.Grind.{common_steps}
 use Rattle.std.proofs.Common.{arith, ap, sym, ◌∙◌, ◌++◌, ◌∷◌, [], set}
 use Rattle.ring_core.specs.Words.{Pass}
-use Rattle.ring_core.specs.Machine.{passed, successor, NodeIs, RingIs}
+use Rattle.ring_core.specs.Machine.{after_pass, successor, NodeIs, RingIs}
 use Rattle.ring_core.proofs.Keeping.{kept-call, part}
 use Rattle.ring_core.proofs.ring.Ring.pass.Goals as goal
 
@@ -14,7 +14,7 @@ invariant_of-self-2 c =
     let k = c.self.invariant.kept in
     let read = part _ _ _ _ _ n _ c.self.view_is k c.requires c.index_mut-part.ensures.value in
     let next = c.successor-next.ensures ∙ ap (λ l. successor l n) c.deref.ensures.value in
-    let node = c.pass.ensures ∙ ap (λ (p : NodeIs). passed p d) read in
+    let node = c.pass.ensures ∙ ap (λ (p : NodeIs). after_pass p d) read in
     record {
       kept = kept-call _ _ _ r _ _ _ _ _ e c.self.view_is k
           (c.requires, (sym c.pass_no.ensures ∙ c.in_default.is, c.in_ok-words.ensures))

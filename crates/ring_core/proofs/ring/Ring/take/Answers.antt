@@ -1,7 +1,7 @@
 use Rattle.std.proofs.lemmas.Grind.{common_steps}
 use Rattle.std.proofs.Common.{arith, ap, sym, refl, ◌∙◌, ◌++◌, ◌∷◌, [], subst}
 use Rattle.ring_core.specs.Words.{Take}
-use Rattle.ring_core.specs.Machine.{took, with_node, node_at, NodeIs, RingIs}
+use Rattle.ring_core.specs.Machine.{took, with_node, ring_node, NodeIs, RingIs}
 use Rattle.ring_core.specs.Legal.{IsFirst}
 use Rattle.ring_core.specs.Scratch.{counts}
 use Rattle.ring_core.specs.Kept.{noted_at}
@@ -22,7 +22,7 @@ invariant_of-self-in-Some-take c =
         c.requires,
         (
           sym c.turn_no.ensures ∙ c.in_default.is,
-          subst (λ (p : NodeIs). IsFirst p.inbox f) (read ∙ ap (λ (s : RingIs). node_at s n) (sym same)) c.in-Some-take.ensures.some.0,
+          subst (λ (p : NodeIs). IsFirst p.inbox f) (read ∙ ap (λ (s : RingIs). ring_node s n) (sym same)) c.in-Some-take.ensures.some.0,
         ),
       )
           (c.note.ensures.items ∙ ap (λ l. l ++ Take n f ∷ []) c.make_room.ensures.items)

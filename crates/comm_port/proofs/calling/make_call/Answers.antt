@@ -1,0 +1,59 @@
+use Rattle.std.proofs.Common.{◌≡◌, ◌<◌, ◌+◌, sym, ap, ◌∙◌, subst, List, ◌∷◌, [], set, Option}
+use Rattle.std.proofs.Common.{Some}
+use Rattle.ring_core.specs.Machine.{ring_node, ring_after, path_of}
+use Rattle.ring_core.specs.declared.frame.Frame.{Frame}
+use Rattle.ring_core.specs.declared.entry.LocalOp.{LocalOp}
+use Rattle.ring_core.specs.declared.entry.RingEntry.TheVariants.{Post}
+use Rattle.tied_lists.specs.Own.{is_of, Grew}
+use Rattle.tied_lists.specs.Items.{LocalCall}
+use Rattle.comm_port.specs.Reading.{sort_of, called_of}
+use Rattle.comm_port.specs.Making.{request_frame, Does, Owing, calls_from}
+use Rattle.comm_port.proofs.Made.{owing-next, may-post, may-do, posted-lead, done-lead}
+use Rattle.comm_port.proofs.calling.make_call.Goals as goal
+
+pub post_call-requires-clause-next : goal.post_call-requires-clause-next
+post_call-requires-clause-next g c =
+    let call = c.index-calls-at.result in
+    let n = c.args.node in
+    let o = owing-next n c.args.calls.now c.args.at call _ _ _ _ c.args.waiting.now c.requires.within c.index-calls-at.is c.requires.owing in
+    let m = may-post n (called_of call) _ c.in-Net.to c.in-Net.pdu _ _ _ _ c.args.waiting.now (ap sort_of c.in-Net.is) o in
+    subst (λ (f : Frame). (path_of (ring_node (ring_after (g.R.RingSide.side c.args.ring.now).net (g.R.RingSide.known
+    c.args.ring.now)) n) f.id.path).posted < f.id.seq) (sym c.request_frame-frame.ensures) m.next
+
+pub do_call-requires-clause-out : goal.do_call-requires-clause-out
+do_call-requires-clause-out g c =
+    let call = c.index-calls-at.result in
+    let n = c.args.node in
+    let o = owing-next n c.args.calls.now c.args.at call _ _ _ _ c.args.waiting.now c.requires.within c.index-calls-at.is c.requires.owing in
+    (LocalCall c.in-Local.op, (may-do n (called_of call) _ c.in-Local.op _ _ _ _ c.args.waiting.now (ap sort_of c.in-Local.is) o).1)
+
+pub returns-in_ok-post_call-in-Net-clause-owing : goal.returns-in_ok-post_call-in-Net-clause-owing
+returns-in_ok-post_call-in-Net-clause-owing g c =
+    let call = c.index-calls-at.result in
+    let n = c.args.node in
+    let p = c.in_ok-post_call-in-Net.ensures in
+    let o = owing-next n c.args.calls.now c.args.at call _ _ _ _ c.args.waiting.now c.requires.within c.index-calls-at.is c.requires.owing in
+    let f = c.request_frame-frame.result in
+    let g' = request_frame call.id c.in-Net.to c.in-Net.pdu in
+    let frame_is : f ≡ g' = c.request_frame-frame.ensures ∙ ap (request_frame call.id c.in-Net.to) c.in_ok-copied-in-Net.ensures in
+    let grew = subst (λ (x : Frame). Grew g.R.RingSide.alone (is_of n) (g.R.RingSide.known c.args.ring.now) (Post n x ∷ [])
+    (g.R.RingSide.known c.post_call.new.ring)) frame_is p.grew in
+    let waits : c.post_call.new.waiting ≡ set c.args.waiting.now call.id.path (Some g') = p.waits ∙ ap (λ (x : Frame). set
+    c.args.waiting.now x.id.path (Some x)) frame_is in
+    subst (λ (w : List (Option Frame)). Owing n (calls_from c.args.calls.now (c.args.at + 1)) (g.M.RamSide.side c.args.ram.now)
+    (g.M.RamSide.known c.args.ram.now) (g.R.RingSide.side c.post_call.new.ring) (g.R.RingSide.known c.post_call.new.ring) w)
+    (sym waits)
+    (posted-lead g.R.RingSide.alone n (called_of call) _ c.in-Net.to c.in-Net.pdu _ _ _ _ _ _ c.args.waiting.now p.same (ap
+    sort_of c.in-Net.is) p.legal p.kept grew o)
+
+pub returns-in_ok-do_call-in-Local-clause-owing : goal.returns-in_ok-do_call-in-Local-clause-owing
+returns-in_ok-do_call-in-Local-clause-owing g c =
+    let call = c.index-calls-at.result in
+    let n = c.args.node in
+    let d = c.in_ok-do_call-in-Local.ensures in
+    let o = owing-next n c.args.calls.now c.args.at call _ _ _ _ c.args.waiting.now c.requires.within c.index-calls-at.is c.requires.owing in
+    let did = subst (λ (op : LocalOp). Does g.M.RamSide.alone g.R.RingSide.alone n call.id op (g.M.RamSide.known c.args.ram.now)
+    (g.M.RamSide.known c.do_call.new.ram) (g.R.RingSide.known c.args.ring.now) (g.R.RingSide.known c.do_call.new.ring))
+    c.in_ok-copied-in-Local.ensures d.did in
+    done-lead g.M.RamSide.alone g.R.RingSide.alone n (called_of call) _ c.in-Local.op _ _ _ _ _ _ _ _ c.args.waiting.now
+    d.ram_same d.ring_same (ap sort_of c.in-Local.is) d.legal d.kept did o

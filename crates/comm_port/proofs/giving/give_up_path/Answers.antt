@@ -1,0 +1,44 @@
+use Rattle.std.proofs.Common.{ℕ, sym, ◌∙◌, subst, List, [], Option}
+use Rattle.ring_core.specs.declared.frame.Frame.{Frame}
+use Rattle.tied_lists.specs.Items.{NetCall}
+use Rattle.comm_port.specs.Sending.{GaveUp}
+use Rattle.comm_port.specs.Turns.{KeepsInbox, Turning}
+use Rattle.comm_port.proofs.Given.{waits-at, given-lead, not-given}
+use Rattle.comm_port.proofs.giving.give_up_path.Goals as goal
+
+pub returns-in_default-2-clause-turning : goal.returns-in_default-2-clause-turning
+returns-in_default-2-clause-turning g c =
+    let o = c.in_ok-word.ensures in
+    let n = c.args.node in
+    let id = c.in-Some.id in
+    let k = waits-at n c.args.path id _ _ _ _ c.args.waiting.now (sym c.id_on.ensures ∙ c.in-Some.is) c.requires.turning in
+    let gave = subst (λ (w : Option ℕ). GaveUp g.R.RingSide.alone (g.R.RingSide.side c.args.ring.now).net id (g.R.RingSide.known
+    c.args.ring.now) (g.R.RingSide.known c.give_up_on.new.ring) w) c.in_default-2.is o.given in
+    not-given g.R.RingSide.alone n c.args.path id _ _ _ _ _ _ c.args.waiting.now o.same o.legal k gave c.requires.turning
+
+pub finish-requires : goal.finish-requires
+finish-requires g c =
+    let k = waits-at c.args.node c.args.path c.in-Some.id _ _ _ _ c.args.waiting.now (sym c.id_on.ensures ∙ c.in-Some.is) c.requires.turning in
+    (NetCall, k.out)
+
+pub returns-clause-turning : goal.returns-clause-turning
+returns-clause-turning g c =
+    let o = c.in_ok-word.ensures in
+    let f = c.in_ok-finish.ensures in
+    let n = c.args.node in
+    let id = c.in-Some.id in
+    let word = c.in-Some-2.word in
+    let k = waits-at n c.args.path id _ _ _ _ c.args.waiting.now (sym c.id_on.ensures ∙ c.in-Some.is) c.requires.turning in
+    let gave = subst (λ (w : Option ℕ). GaveUp g.R.RingSide.alone (g.R.RingSide.side c.args.ring.now).net id (g.R.RingSide.known
+    c.args.ring.now) (g.R.RingSide.known c.give_up_on.new.ring) w) c.in-Some-2.is o.given in
+    subst (λ (w : List (Option Frame)). Turning n [] (g.M.RamSide.side c.finish.new.self) (g.M.RamSide.known c.finish.new.self)
+    (g.R.RingSide.side c.give_up_on.new.ring) (g.R.RingSide.known c.give_up_on.new.ring) w) (sym c.end.ensures.new)
+    (given-lead g.M.RamSide.alone g.R.RingSide.alone n c.args.path id word _ _ _ _ _ _ _ _ c.args.waiting.now f.same o.same
+    o.legal k gave f.went c.requires.turning)
+
+pub returns-clause-kept : goal.returns-clause-kept
+returns-clause-kept g c =
+    let o = c.in_ok-word.ensures in
+    let k = waits-at c.args.node c.args.path c.in-Some.id _ _ _ _ c.args.waiting.now (sym c.id_on.ensures ∙ c.in-Some.is) c.requires.turning in
+    subst (λ (m : ℕ). KeepsInbox (g.R.RingSide.side c.args.ring.now).net m (g.R.RingSide.known c.args.ring.now)
+    (g.R.RingSide.known c.give_up_on.new.ring)) k.own_is o.given.kept

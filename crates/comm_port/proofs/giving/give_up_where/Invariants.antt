@@ -1,0 +1,14 @@
+use Rattle.std.proofs.Common.{◌≡◌, ◌≤◌, []}
+use Rattle.comm_port.specs.Turns.{KeepsInbox, Turning}
+use Rattle.comm_port.specs.Sending.{sends_left}
+use Rattle.comm_port.proofs.giving.give_up_where.Given as goal
+
+abbrev pub invariant-loop-path : goal.invariant-loop-path
+invariant-loop-path g l = record {
+  turning : Turning l.node [] (g.M.RamSide.side l.ram) (g.M.RamSide.known l.ram) (g.R.RingSide.side l.ring) (g.R.RingSide.known l.ring) l.waiting;
+  kept : KeepsInbox (g.R.RingSide.side l.initial.ring).net l.node (g.R.RingSide.known l.initial.ring) (g.R.RingSide.known l.ring);
+  less : sends_left (g.R.RingSide.side l.initial.ring).net (g.R.RingSide.known l.ring) l.node ≤ sends_left (g.R.RingSide.side
+      l.initial.ring).net (g.R.RingSide.known l.initial.ring) l.node;
+  ram_same : g.M.RamSide.side l.ram ≡ g.M.RamSide.side l.initial.ram;
+  ring_same : g.R.RingSide.side l.ring ≡ g.R.RingSide.side l.initial.ring;
+}

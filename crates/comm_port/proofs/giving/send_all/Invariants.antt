@@ -1,0 +1,17 @@
+use Rattle.std.proofs.Common.{◌≡◌, []}
+use Rattle.tied_lists.specs.Waits.{Holds}
+use Rattle.comm_port.specs.Turns.{KeepsInbox, Turning}
+use Rattle.comm_port.specs.Sending.{sends_left}
+use Rattle.comm_port.proofs.giving.send_all.Given as goal
+
+abbrev pub invariant-loop-heard : goal.invariant-loop-heard
+invariant-loop-heard g l = record {
+  turning : Turning l.node [] (g.M.RamSide.side l.ram) (g.M.RamSide.known l.ram) (g.R.RingSide.side l.ring) (g.R.RingSide.known l.ring) l.waiting;
+  holds : Holds (g.R.RingSide.side l.ring).net (g.R.RingSide.known l.ring) l.node;
+  kept : KeepsInbox (g.R.RingSide.side l.initial.ring).net l.node (g.R.RingSide.known l.initial.ring) (g.R.RingSide.known l.ring);
+  ram_same : g.M.RamSide.side l.ram ≡ g.M.RamSide.side l.initial.ram;
+  ring_same : g.R.RingSide.side l.ring ≡ g.R.RingSide.side l.initial.ring;
+}
+
+abbrev pub decreases-loop-heard : goal.decreases-loop-heard
+decreases-loop-heard g l = sends_left (g.R.RingSide.side l.ring).net (g.R.RingSide.known l.ring) l.node

@@ -1,0 +1,15 @@
+use Rattle.std.proofs.Common.{◌≡◌}
+use Rattle.tied_lists.specs.Waits.{Holds}
+use Rattle.comm_port.specs.HostTurns.{HostTurning, asks_left}
+use Rattle.comm_port.proofs.host_worker.ask_all.Given as goal
+
+abbrev pub invariant-loop-path : goal.invariant-loop-path
+invariant-loop-path g l = record {
+  turning : HostTurning l.node l.host (g.R.RingSide.side l.ring) (g.R.RingSide.known l.ring);
+  holds : Holds (g.R.RingSide.side l.ring).net (g.R.RingSide.known l.ring) l.node;
+  plan : l.host.plan ≡ l.initial.host.plan;
+  same : g.R.RingSide.side l.ring ≡ g.R.RingSide.side l.initial.ring;
+}
+
+abbrev pub decreases-loop-path : goal.decreases-loop-path
+decreases-loop-path g l = asks_left l.host

@@ -1,0 +1,38 @@
+use Rattle.std.proofs.Common.{sym, ◌∙◌}
+use Rattle.comm_port.proofs.HostAsks.{ask-next, due-kind, fewer-asks, from-some, turning-asked}
+use Rattle.comm_port.proofs.HostAsks.{went-some}
+use Rattle.comm_port.proofs.host_worker.ask_next.Goals as goal
+
+pub post-requires-clause-next : goal.post-requires-clause-next
+post-requires-clause-next g c =
+    let o = c.in_ok-frame.ensures in
+    let f = c.in-Some.frame in
+    ask-next c.args.node f _ _ _ _ c.requires.turning (due-kind c.args.host.now c.args.hold f (sym c.in-Some.is ∙ o.request))
+    (went-some c.in_ok-frame.field-0 f c.args.host.now c.ask.new.self c.in-Some.is o.went_on)
+
+pub returns-clause-turning : goal.returns-clause-turning
+returns-clause-turning g c =
+    let o = c.in_ok-frame.ensures in
+    let f = c.in-Some.frame in
+    let p = c.in_ok-post.ensures in
+    (turning-asked g.R.RingSide.alone c.args.node f _ _ _ _ _ c.requires.turning (due-kind c.args.host.now c.args.hold f (sym
+    c.in-Some.is ∙ o.request)) (went-some c.in_ok-frame.field-0 f c.args.host.now c.ask.new.self c.in-Some.is o.went_on)
+    p.went p.legal).0
+
+pub returns-clause-kept : goal.returns-clause-kept
+returns-clause-kept g c =
+    let o = c.in_ok-frame.ensures in
+    let f = c.in-Some.frame in
+    let p = c.in_ok-post.ensures in
+    (turning-asked g.R.RingSide.alone c.args.node f _ _ _ _ _ c.requires.turning (due-kind c.args.host.now c.args.hold f (sym
+    c.in-Some.is ∙ o.request)) (went-some c.in_ok-frame.field-0 f c.args.host.now c.ask.new.self c.in-Some.is o.went_on)
+    p.went p.legal).1
+
+pub returns-clause-asked : goal.returns-clause-asked
+returns-clause-asked g c =
+    let o = c.in_ok-frame.ensures in
+    let f = c.in-Some.frame in (
+      (from-some _ c.in_ok-frame.field-0 f c.in-Some.is o.from).2,
+      fewer-asks c.args.host.now c.ask.new.self f c.args.hold (sym
+          c.in-Some.is ∙ o.request) (went-some c.in_ok-frame.field-0 f c.args.host.now c.ask.new.self c.in-Some.is o.went_on),
+    )

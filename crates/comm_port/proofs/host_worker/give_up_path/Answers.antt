@@ -1,0 +1,101 @@
+use Rattle.comm_port.proofs.HostAsks.{awaited-out, gave-none, gave-some, looked, turn-at}
+use Rattle.comm_port.proofs.host_worker.give_up_path.Goals as goal
+
+pub returns-then-seq-eq0-clause-turning : goal.returns-then-seq-eq0-clause-turning
+returns-then-seq-eq0-clause-turning g c =
+    let o = c.awaits-seq.ensures in
+    (looked g.R.RingSide.alone c.args.node _ _ _ _ o.legal o.went c.requires.turning).turning
+
+pub returns-then-seq-eq0-clause-kept : goal.returns-then-seq-eq0-clause-kept
+returns-then-seq-eq0-clause-kept g c =
+    let o = c.awaits-seq.ensures in
+    (looked g.R.RingSide.alone c.args.node _ _ _ _ o.legal o.went c.requires.turning).kept
+
+pub returns-then-seq-eq0-clause-less : goal.returns-then-seq-eq0-clause-less
+returns-then-seq-eq0-clause-less g c =
+    let o = c.awaits-seq.ensures in
+    (looked g.R.RingSide.alone c.args.node _ _ _ _ o.legal o.went c.requires.turning).less
+
+pub give_up_on-requires-clause-turn : goal.give_up_on-requires-clause-turn
+give_up_on-requires-clause-turn g c =
+    let o = c.awaits-seq.ensures in
+    turn-at c.args.node _ _ _ o.same (looked g.R.RingSide.alone c.args.node _ _ _ _ o.legal o.went c.requires.turning).turning.own_turn
+
+pub returns-in_default-clause-turning : goal.returns-in_default-clause-turning
+returns-in_default-clause-turning g c =
+    let o = c.awaits-seq.ensures in
+    let w = c.in_ok-word.ensures in
+    (gave-none g.R.RingSide.alone (record { node = c.args.node; path = c.args.path; seq = c.awaits-seq.result }) _ _ _ _ _ _ _
+    (looked g.R.RingSide.alone c.args.node _ _ _ _ o.legal o.went c.requires.turning) o.same w.given c.in_default.is
+    w.legal).turning
+
+pub returns-in_default-clause-kept : goal.returns-in_default-clause-kept
+returns-in_default-clause-kept g c =
+    let o = c.awaits-seq.ensures in
+    let w = c.in_ok-word.ensures in
+    (gave-none g.R.RingSide.alone (record { node = c.args.node; path = c.args.path; seq = c.awaits-seq.result }) _ _ _ _ _ _ _
+    (looked g.R.RingSide.alone c.args.node _ _ _ _ o.legal o.went c.requires.turning) o.same w.given c.in_default.is
+    w.legal).kept
+
+pub returns-in_default-clause-less : goal.returns-in_default-clause-less
+returns-in_default-clause-less g c =
+    let o = c.awaits-seq.ensures in
+    let w = c.in_ok-word.ensures in
+    (gave-none g.R.RingSide.alone (record { node = c.args.node; path = c.args.path; seq = c.awaits-seq.result }) _ _ _ _ _ _ _
+    (looked g.R.RingSide.alone c.args.node _ _ _ _ o.legal o.went c.requires.turning) o.same w.given c.in_default.is
+    w.legal).less
+
+pub answer-requires : goal.answer-requires
+answer-requires g c =
+    let o = c.awaits-seq.ensures in
+    awaited-out c.args.node c.args.path c.awaits-seq.result _ _ _ (looked g.R.RingSide.alone c.args.node _ _ _ _ o.legal o.went
+    c.requires.turning).turning o.answer c.if-seq-eq0.false
+
+pub returns-clause-turning : goal.returns-clause-turning
+returns-clause-turning g c =
+    let o = c.awaits-seq.ensures in
+    let w = c.in_ok-word.ensures in
+    let l = looked g.R.RingSide.alone c.args.node _ _ _ _ o.legal o.went c.requires.turning in
+    let out = awaited-out c.args.node c.args.path c.awaits-seq.result _ _ _ l.turning o.answer c.if-seq-eq0.false in
+    (gave-some g.R.RingSide.alone (record { node = c.args.node; path = c.args.path; seq = c.awaits-seq.result }) _ c.in-Some.word
+    _ _ _ _ _ _ _ l o.same w.given c.in-Some.is w.legal out c.in_ok-answer.ensures.went_on).turning
+
+pub returns-clause-kept : goal.returns-clause-kept
+returns-clause-kept g c =
+    let o = c.awaits-seq.ensures in
+    let w = c.in_ok-word.ensures in
+    let l = looked g.R.RingSide.alone c.args.node _ _ _ _ o.legal o.went c.requires.turning in
+    let out = awaited-out c.args.node c.args.path c.awaits-seq.result _ _ _ l.turning o.answer c.if-seq-eq0.false in
+    (gave-some g.R.RingSide.alone (record { node = c.args.node; path = c.args.path; seq = c.awaits-seq.result }) _ c.in-Some.word
+    _ _ _ _ _ _ _ l o.same w.given c.in-Some.is w.legal out c.in_ok-answer.ensures.went_on).kept
+
+pub returns-clause-less : goal.returns-clause-less
+returns-clause-less g c =
+    let o = c.awaits-seq.ensures in
+    let w = c.in_ok-word.ensures in
+    let l = looked g.R.RingSide.alone c.args.node _ _ _ _ o.legal o.went c.requires.turning in
+    let out = awaited-out c.args.node c.args.path c.awaits-seq.result _ _ _ l.turning o.answer c.if-seq-eq0.false in
+    (gave-some g.R.RingSide.alone (record { node = c.args.node; path = c.args.path; seq = c.awaits-seq.result }) _ c.in-Some.word
+    _ _ _ _ _ _ _ l o.same w.given c.in-Some.is w.legal out c.in_ok-answer.ensures.went_on).less
+
+pub returns-then-seq-eq0-clause-left : goal.returns-then-seq-eq0-clause-left
+returns-then-seq-eq0-clause-left g c =
+    let o = c.awaits-seq.ensures in
+    (looked g.R.RingSide.alone c.args.node _ _ _ _ o.legal o.went c.requires.turning).left
+
+pub returns-in_default-clause-left : goal.returns-in_default-clause-left
+returns-in_default-clause-left g c =
+    let o = c.awaits-seq.ensures in
+    let w = c.in_ok-word.ensures in
+    (gave-none g.R.RingSide.alone (record { node = c.args.node; path = c.args.path; seq = c.awaits-seq.result }) _ _ _ _ _ _ _
+    (looked g.R.RingSide.alone c.args.node _ _ _ _ o.legal o.went c.requires.turning) o.same w.given c.in_default.is
+    w.legal).left
+
+pub returns-clause-left : goal.returns-clause-left
+returns-clause-left g c =
+    let o = c.awaits-seq.ensures in
+    let w = c.in_ok-word.ensures in
+    let l = looked g.R.RingSide.alone c.args.node _ _ _ _ o.legal o.went c.requires.turning in
+    let out = awaited-out c.args.node c.args.path c.awaits-seq.result _ _ _ l.turning o.answer c.if-seq-eq0.false in
+    (gave-some g.R.RingSide.alone (record { node = c.args.node; path = c.args.path; seq = c.awaits-seq.result }) _ c.in-Some.word
+    _ _ _ _ _ _ _ l o.same w.given c.in-Some.is w.legal out c.in_ok-answer.ensures.went_on).left

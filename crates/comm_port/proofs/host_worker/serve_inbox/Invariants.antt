@@ -1,0 +1,16 @@
+use Rattle.std.proofs.Common.{◌≡◌, length}
+use Rattle.ring_core.specs.Machine.{ring_node, ring_after}
+use Rattle.tied_lists.specs.Waits.{Holds}
+use Rattle.comm_port.specs.HostTurns.{HostTurning}
+use Rattle.comm_port.proofs.host_worker.serve_inbox.Given as goal
+
+abbrev pub invariant-loop-frame : goal.invariant-loop-frame
+invariant-loop-frame g l = record {
+  turning : HostTurning l.node l.host (g.R.RingSide.side l.ring) (g.R.RingSide.known l.ring);
+  holds : Holds (g.R.RingSide.side l.ring).net (g.R.RingSide.known l.ring) l.node;
+  plan : l.host.plan ≡ l.initial.host.plan;
+  same : g.R.RingSide.side l.ring ≡ g.R.RingSide.side l.initial.ring;
+}
+
+abbrev pub decreases-loop-frame : goal.decreases-loop-frame
+decreases-loop-frame g l = length (ring_node (ring_after (g.R.RingSide.side l.ring).net (g.R.RingSide.known l.ring)) l.node).inbox

@@ -1,0 +1,66 @@
+use Rattle.std.proofs.Common.{◌≡◌, ◌<◌, ℕ, sym, ap, ◌∙◌, subst, List, ◌∷◌, [], length, Option, Some}
+use Rattle.std.proofs.Common.{None, Bool}
+use Rattle.ring_core.specs.declared.frame.Frame.{Frame}
+use Rattle.ring_core.specs.declared.entry.RingEntry.{RingEntry}
+use Rattle.tied_lists.specs.Own.{is_of, WentOn}
+use Rattle.comm_port.specs.Sides.{taken_entries}
+use Rattle.comm_port.proofs.Served.{take-lead, ring-still, holds-still, holds-took, take-less}
+use Rattle.comm_port.proofs.Served.{less-kept, holds-kept}
+use Rattle.comm_port.proofs.serving.serve_inbox.Goals as goal
+
+-- what a Take added
+took : (alone : Bool) (n : ℕ) (ring ring' : List RingEntry) (taken taken' : Option Frame) → taken ≡ taken' → WentOn alone (is_of
+    n) ring (taken_entries n taken) ring' → WentOn alone (is_of n) ring (taken_entries n taken') ring'
+took alone n ring ring' taken taken' is w = subst (λ (o : Option Frame). WentOn alone (is_of n) ring (taken_entries n o) ring') is w
+
+none-taken : (o : Option Frame) → ((f : Frame) → o ≡ Some f → ⊥) → o ≡ None
+none-taken None no' = Rattle.std.proofs.Common.refl
+none-taken (Some f) no' = absurd (no' f Rattle.std.proofs.Common.refl)
+
+pub serve-requires : goal.serve-requires
+serve-requires g c =
+    let o = c.in_ok-frame.ensures in
+    let f = c.in-Some.frame in
+    record {
+      taking = take-lead g.R.RingSide.alone c.args.node f _ _ _ _ _ _ c.loop-frame.waiting o.same o.legal
+          (took g.R.RingSide.alone c.args.node _ _ _ (Some f) c.in-Some.is o.went) c.loop-frame.invariant.turning;
+    }
+
+pub loop-frame-smaller : goal.loop-frame-smaller
+loop-frame-smaller g c =
+    let o = c.in_ok-frame.ensures in
+    let f = c.in-Some.frame in
+    let went = took g.R.RingSide.alone c.args.node _ _ _ (Some f) c.in-Some.is o.went in
+    let t = c.loop-frame.invariant.turning in
+    let side = g.R.RingSide.side in
+    let known = g.R.RingSide.known in
+    less-kept (side c.loop-frame.ring) (side c.take.new.self) (side c.serve.new.ring) c.args.node (known c.loop-frame.ring) (known
+    c.take.new.self) (known c.serve.new.ring) o.same c.in_ok-serve.ensures.ring_same c.in_ok-serve.ensures.kept (take-less
+    g.R.RingSide.alone c.args.node f _ _ _ o.legal went t.own_turn)
+
+pub loop-frame-preserved : goal.loop-frame-preserved
+loop-frame-preserved g c =
+    let o = c.in_ok-frame.ensures in
+    let f = c.in-Some.frame in
+    let went = took g.R.RingSide.alone c.args.node _ _ _ (Some f) c.in-Some.is o.went in
+    let i = c.loop-frame.invariant in
+    let s = c.in_ok-serve.ensures in
+    record {
+      turning = s.turning;
+      holds = holds-kept _ _ _ c.args.node _ _ o.same s.ring_same s.kept (holds-took g.R.RingSide.alone c.args.node f _ _ _
+          o.legal went i.turning.own_turn i.holds);
+      ram_same = s.ram_same ∙ i.ram_same;
+      ring_same = s.ring_same ∙ (o.same ∙ i.ring_same);
+    }
+
+pub returns-clause-turning : goal.returns-clause-turning
+returns-clause-turning g c =
+    let o = c.in_ok-frame.ensures in
+    ring-still g.R.RingSide.alone c.args.node [] _ _ _ _ _ _ c.loop-frame.waiting o.same o.legal
+    (took g.R.RingSide.alone c.args.node _ _ _ None c.in_default.is o.went) c.loop-frame.invariant.turning
+
+pub returns-clause-holds : goal.returns-clause-holds
+returns-clause-holds g c =
+    let o = c.in_ok-frame.ensures in
+    holds-still g.R.RingSide.alone c.args.node _ _ _ _ o.same o.legal
+    (took g.R.RingSide.alone c.args.node _ _ _ None c.in_default.is o.went) c.loop-frame.invariant.turning.own_turn c.loop-frame.invariant.holds

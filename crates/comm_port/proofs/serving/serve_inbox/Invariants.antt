@@ -1,0 +1,16 @@
+use Rattle.std.proofs.Common.{◌≡◌, length, []}
+use Rattle.ring_core.specs.Machine.{ring_node, ring_after}
+use Rattle.tied_lists.specs.Waits.{Holds}
+use Rattle.comm_port.specs.Turns.{Turning}
+use Rattle.comm_port.proofs.serving.serve_inbox.Given as goal
+
+abbrev pub invariant-loop-frame : goal.invariant-loop-frame
+invariant-loop-frame g l = record {
+  turning : Turning l.node [] (g.M.RamSide.side l.ram) (g.M.RamSide.known l.ram) (g.R.RingSide.side l.ring) (g.R.RingSide.known l.ring) l.waiting;
+  holds : Holds (g.R.RingSide.side l.ring).net (g.R.RingSide.known l.ring) l.node;
+  ram_same : g.M.RamSide.side l.ram ≡ g.M.RamSide.side l.initial.ram;
+  ring_same : g.R.RingSide.side l.ring ≡ g.R.RingSide.side l.initial.ring;
+}
+
+abbrev pub decreases-loop-frame : goal.decreases-loop-frame
+decreases-loop-frame g l = length (ring_node (ring_after (g.R.RingSide.side l.ring).net (g.R.RingSide.known l.ring)) l.node).inbox

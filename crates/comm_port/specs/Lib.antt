@@ -1,0 +1,14 @@
+pub mod Sides
+pub mod Waiting
+pub mod Reading
+pub mod Turns
+pub mod Replies
+pub mod Making
+pub mod Leaving
+pub mod Sending
+pub mod Ending
+pub mod Worker
+pub mod HostTurns
+pub mod Effects
+pub mod JointLaws
+pub mod Complete

@@ -1,0 +1,76 @@
+-- What the laws read of a controller's and of a host's list. This project's own.
+use Rattle.std.specs.Prelude.{Bool, true, false, List, [], ◌∷◌, map, Some}
+use Rattle.controller_core.specs.declared.fixed.Fixed.{Fixed}
+use Rattle.controller_core.specs.declared.call.Call.{Call}
+use Rattle.controller_core.specs.declared.call.CallKind.{CallKind}
+use Rattle.controller_core.specs.declared.call.CallKind.TheVariants as kinds
+use Rattle.controller_core.specs.declared.entry.Entry.{Entry}
+use Rattle.controller_core.specs.declared.entry.Entry.TheVariants as entries
+use Rattle.controller_core.specs.Controller.{ControllerIs, has_started, has_ended}
+use Rattle.host_port.specs.declared.entry.HostEntry.{HostEntry}
+use Rattle.host_port.specs.declared.entry.HostEntry.TheVariants as host_entries
+use Rattle.host_port.specs.declared.entry.HostResult.{HostResult}
+use Rattle.host_port.specs.declared.entry.HostResult.TheVariants as host_results
+use Rattle.tied_lists.specs.Items.{Called, CallSort, OverNet, AtHome, Outcome, Came, Replied}
+use Rattle.tied_lists.specs.Items.{Lacked, Items, no_items, with_calls, with_answer, with_end}
+
+-- An entry of a controller that its communication makes.
+abbrev pub is_ours : Entry → Bool
+is_ours (entries.Collect calls) = true
+is_ours (entries.Peer id request reply) = true
+is_ours (entries.Finish id result) = true
+is_ours _ = false
+
+-- A call as the laws read it.
+abbrev pub sort_of : CallKind → CallSort
+sort_of (kinds.Net to pdu) = OverNet to pdu
+sort_of (kinds.Local op) = AtHome op
+
+abbrev pub called_of : Call → Called
+called_of c = record { id = c.id; sort = sort_of c.kind }
+
+-- What an entry of a controller adds to the items.
+abbrev pub item_next : Items → Entry → Items
+item_next a (entries.Collect calls) = with_calls a (map called_of calls)
+item_next a (entries.Peer id request reply) =
+    with_answer a (record { id = id; request = Some request; reply = reply })
+item_next a (entries.Finish id result) = with_end a id (Came result)
+item_next a _ = a
+
+abbrev pub items_after : Items → List Entry → Items
+items_after a [] = a
+items_after a (e ∷ es) = items_after (item_next a e) es
+
+-- The items of a controller's list.
+abbrev pub items_of : List Entry → Items
+items_of entries = items_after no_items entries
+
+-- What an entry of a host adds to the items.
+abbrev pub outcome_of : HostResult → Outcome
+outcome_of (host_results.Reply pdu) = Replied pdu
+outcome_of (host_results.Bad word) = Lacked word
+
+abbrev pub host_item_next : Items → HostEntry → Items
+host_item_next a (host_entries.Ask id to pdu) =
+    with_calls a (record { id = id; sort = OverNet to pdu } ∷ [])
+host_item_next a (host_entries.Answer id result) = with_end a id (outcome_of result)
+host_item_next a (host_entries.Served id request reply) =
+    with_answer a (record { id = id; request = Some request; reply = reply })
+
+abbrev pub host_items_after : Items → List HostEntry → Items
+host_items_after a [] = a
+host_items_after a (e ∷ es) = host_items_after (host_item_next a e) es
+
+-- The items of a host's list.
+abbrev pub host_items_of : List HostEntry → Items
+host_items_of entries = host_items_after no_items entries
+
+-- What a controller with this history would say of its scans and its calls.
+abbrev pub controller_at : Fixed → List Entry → ControllerIs
+controller_at fixed history = record { fixed = fixed; history = history; reserved = false }
+
+abbrev pub has_ended_at : Fixed → List Entry → Bool
+has_ended_at fixed history = has_ended (controller_at fixed history)
+
+abbrev pub has_started_at : Fixed → List Entry → Bool
+has_started_at fixed history = has_started (controller_at fixed history)

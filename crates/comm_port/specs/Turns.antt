@@ -1,0 +1,72 @@
+-- What a worker stands on at each part of a turn. This project's own.
+use Rattle.std.specs.Prelude.{◌≡◌, ◌≢◌, ℕ, ◌<◌, List, [], ◌∷◌, ◌++◌, length, get_or, Option}
+use Rattle.std.specs.Prelude.{Some, None}
+use Rattle.plant_types.specs.declared.net.NetPlan.{NetPlan}
+use Rattle.controller_core.specs.declared.entry.Entry.{Entry}
+use Rattle.ring_core.specs.Machine.{path_places, ring_node, ring_after}
+use Rattle.ring_core.specs.declared.frame.FrameKind.TheVariants.{Request, Reply}
+use Rattle.ring_core.specs.declared.frame.Frame.{Frame}
+use Rattle.ring_core.specs.declared.entry.RingEntry.{RingEntry}
+use Rattle.ring_core.specs.declared.entry.RingEntry.TheVariants.{Take}
+use Rattle.tied_lists.specs.Own.{own}
+use Rattle.tied_lists.specs.Items.{AController, Called, Items, NetCall}
+use Rattle.tied_lists.specs.Tied.{Tied, TiedBut}
+use Rattle.tied_lists.specs.Calls.{IsOutAs}
+use Rattle.tied_lists.specs.Waits.{waiting as waits_on, IsAsk, IsOnRing, Holds, IsFree}
+use Rattle.comm_port.specs.Sides.{RingSideIs, RamSideIs, Serves}
+use Rattle.comm_port.specs.Reading.{items_of}
+
+-- The ring's side serves a node of its plan, whose boxes and paths nobody else changes.
+pub record IsOwnTurn {Q : Type 0} (side : RingSideIs Q) (ring : List RingEntry) (n : ℕ)
+    : Type 0 where
+  pub serves : Serves side.writer n
+  pub on : IsOnRing side.net ring n
+  pub free : IsFree side.net ring n
+
+-- A node's own entries left its inbox as it was, and it holds the token if it did.
+pub record KeepsInbox (net : NetPlan) (n : ℕ) (old new : List RingEntry) : Type 0 where
+  pub free : IsFree net new n
+  pub holds : Holds net old n → Holds net new n
+  pub inbox : (ring_node (ring_after net new) n).inbox ≡ (ring_node (ring_after net old) n).inbox
+
+-- The Requests that a worker's paths wait for are those of its own list, and each is of a call that
+-- was made and has not ended.
+pub record AreWaiting (n : ℕ) (a : Items) (b : List RingEntry) (waiting : List (Option Frame))
+    : Type 0 where
+  pub size : length waiting ≡ path_places
+  pub waits : (p : ℕ) → get_or waiting p None ≡ waits_on p b
+  pub asks : (p : ℕ) (f : Frame) → get_or waiting p None ≡ Some f → IsAsk n p f
+  pub outs : (p : ℕ) (f : Frame) → get_or waiting p None ≡ Some f → IsOutAs a f.id NetCall
+
+-- A worker stands between its controller and the ring: their lists are tied, but for calls that
+-- were not posted yet.
+pub record Turning {P Q : Type 0} (n : ℕ) (rest : List Called) (ram : RamSideIs P)
+    (known : List Entry) (side : RingSideIs Q) (ring : List RingEntry)
+    (waiting : List (Option Frame)) : Type 0 where
+  pub node : ram.fixed.plan.node ≡ n
+  pub own_turn : IsOwnTurn side ring n
+  pub tied : TiedBut AController rest (items_of known) (own n ring)
+  pub waits : AreWaiting n (items_of known) (own n ring) waiting
+
+-- The same, before the last entry of the node, a Take of this frame.
+pub record Taking {P Q : Type 0} (n : ℕ) (f : Frame) (ram : RamSideIs P) (known : List Entry)
+    (side : RingSideIs Q) (ring : List RingEntry) (waiting : List (Option Frame)) : Type 0 where
+  pub before : List RingEntry
+  pub own_is : own n ring ≡ before ++ Take n f ∷ []
+  pub node : ram.fixed.plan.node ≡ n
+  pub own_turn : IsOwnTurn side ring n
+  pub tied : TiedBut AController [] (items_of known) before
+  pub waits : AreWaiting n (items_of known) before waiting
+  pub request : f.kind ≡ Request → f.id.node ≢ n
+  pub reply : f.kind ≡ Reply
+      → (ask : Frame) × (waits_on f.id.path before ≡ Some ask) × (ask.id ≡ f.id) × (f.id.path <
+      path_places)
+
+-- The same as Turning, whoever holds the token.
+pub record Rested {P Q : Type 0} (n : ℕ) (ram : RamSideIs P) (known : List Entry)
+    (side : RingSideIs Q) (ring : List RingEntry) (waiting : List (Option Frame)) : Type 0 where
+  pub node : ram.fixed.plan.node ≡ n
+  pub serves : Serves side.writer n
+  pub on : IsOnRing side.net ring n
+  pub tied : Tied AController (items_of known) (own n ring)
+  pub waits : AreWaiting n (items_of known) (own n ring) waiting

@@ -1,0 +1,400 @@
+//! A host's hold turn.
+ghost use Rattle.std.specs.Prelude.{◌≡◌, ◌<◌, ◌≤◌, true, false, None, OnOk, IfOk};
+ghost use Rattle.ring_core.specs.Legal.{IsLegal, IsPath};
+ghost use Rattle.host_port.specs.Host.{due_request, host_is_done};
+ghost use Rattle.ring_core.specs.Statistics.{is_stats};
+ghost use Rattle.tied_lists.specs.Waits.{HasLeft, Holds};
+ghost use Rattle.comm_port.specs.Turns.{KeepsInbox};
+ghost use Rattle.comm_port.specs.HostTurns.{after_turn, AskedNext, EndsWithPass, HostTaking};
+ghost use Rattle.comm_port.specs.HostTurns.{HostTies, HostTurning};
+ghost use Rattle.tied_lists.specs.Own.{own};
+ghost use Rattle.comm_port.specs.Sending.{sends_left};
+
+use crate::leaving::hand_on;
+use crate::replies::{post_reply, tell_statistics};
+use crate::ring_side::RingSide;
+use crate::sending::{give_up_on, send_next};
+use crate::short::Short;
+use host_port::{Host, HostResult};
+use mstr_block::CallId;
+use plant_types::NetPlan;
+use ring_core::{Frame, FrameKind, Heard, is_stats};
+use std::alloc::{AllocError, Global};
+use std::marker::Model;
+
+/// A place for each path of a node, 0 to 4.
+const PATH_PLACES: usize = 5;
+
+const NETWORK_PATHS: [u8; 4] = [1, 2, 3, 4];
+
+/// Ends the call that a Reply is to.
+fn end_call<R: RingSide>(node: u8, reply: Frame, host: &mut Host, ring: &R) -> Result<(), Short>
+    requires taking { HostTaking node reply host.old (R.side ring.now) (R.known ring.now) }
+    requires kind { reply.kind ≡ FrameKind.Reply }
+    ensures turning { OnOk result (HostTurning node host.new (R.side ring.now) (R.known ring.now)) }
+    ensures plan { host.new.plan ≡ host.old.plan }
+{
+    host.answer(reply.id, HostResult::Reply(reply.pdu))?;
+    Ok(())
+}
+
+/// Has the host refuse a Request, and posts its Reply.
+fn answer_request<R: RingSide>(
+    node: u8,
+    request: &Frame,
+    host: &mut Host,
+    ring: &mut R,
+) -> Result<(), Short>
+    requires taking { HostTaking node request.now host.old (R.side ring.old) (R.known ring.old) }
+    requires kind { request.now.kind ≡ FrameKind.Request }
+    requires plain { is_stats request.now.pdu ≡ false }
+    ensures turning { OnOk result (HostTurning node host.new (R.side ring.old) (R.known ring.new)) }
+    ensures kept { OnOk result
+        (KeepsInbox (R.side ring.old).net node (R.known ring.old) (R.known ring.new)) }
+    ensures legal { IsLegal (R.side ring.old).net (R.known ring.new) }
+    ensures plan { host.new.plan ≡ host.old.plan }
+    ensures same { R.side ring.new ≡ R.side ring.old }
+{
+    let reply = host.serve(request.id, &request.pdu)?;
+    post_reply(node, request.id, reply, ring)?;
+    Ok(())
+}
+
+/// Answers a Request for statistics, of which the host knows nothing.
+fn answer_port<R: RingSide>(
+    alloc: Global,
+    node: u8,
+    request: &Frame,
+    host: &Host,
+    ring: &mut R,
+) -> Result<(), Short>
+    requires taking { HostTaking node request.now host.now (R.side ring.old) (R.known ring.old) }
+    requires kind { request.now.kind ≡ FrameKind.Request }
+    requires stats { is_stats request.now.pdu ≡ true }
+    ensures turning { OnOk result (HostTurning node host.now (R.side ring.old) (R.known ring.new)) }
+    ensures kept { OnOk result
+        (KeepsInbox (R.side ring.old).net node (R.known ring.old) (R.known ring.new)) }
+    ensures legal { IsLegal (R.side ring.old).net (R.known ring.new) }
+    ensures same { R.side ring.new ≡ R.side ring.old }
+{
+    tell_statistics(alloc, node, request, ring)?;
+    Ok(())
+}
+
+/// What is due to a frame that was taken.
+fn serve<R: RingSide>(
+    alloc: Global,
+    node: u8,
+    frame: Frame,
+    host: &mut Host,
+    ring: &mut R,
+) -> Result<(), Short>
+    requires taking { HostTaking node frame host.old (R.side ring.old) (R.known ring.old) }
+    ensures turning { OnOk result (HostTurning node host.new (R.side ring.old) (R.known ring.new)) }
+    ensures kept { OnOk result
+        (KeepsInbox (R.side ring.old).net node (R.known ring.old) (R.known ring.new)) }
+    ensures legal { IsLegal (R.side ring.old).net (R.known ring.new) }
+    ensures plan { host.new.plan ≡ host.old.plan }
+    ensures same { R.side ring.new ≡ R.side ring.old }
+{
+    match frame.kind {
+        FrameKind::Reply => end_call(node, frame, host, ring),
+        FrameKind::Request => {
+            if is_stats(&frame.pdu) {
+                answer_port(alloc, node, &frame, host, ring)
+            } else {
+                answer_request(node, &frame, host, ring)
+            }
+        }
+    }
+}
+
+/// Takes until the inbox is empty. A Request is answered, a Reply ends its call.
+fn serve_inbox<R: RingSide>(
+    alloc: Global,
+    node: u8,
+    host: &mut Host,
+    ring: &mut R,
+) -> Result<(), Short>
+    requires turning { HostTurning node host.old (R.side ring.old) (R.known ring.old) }
+    requires holds { Holds (R.side ring.old).net (R.known ring.old) node }
+    ensures turning { OnOk result (HostTurning node host.new (R.side ring.old) (R.known ring.new)) }
+    ensures holds { OnOk result (Holds (R.side ring.old).net (R.known ring.new) node) }
+    ensures legal { IsLegal (R.side ring.old).net (R.known ring.new) }
+    ensures plan { host.new.plan ≡ host.old.plan }
+    ensures same { R.side ring.new ≡ R.side ring.old }
+{
+    while let Some(frame) = ring.take(node)? {
+        serve(alloc, node, frame, host, ring)?;
+    }
+    Ok(())
+}
+
+/// Makes the next request that is due by a hold, and posts it; the path that it takes, or none
+/// where nothing is due or no path is free.
+fn ask_next<R: RingSide>(
+    node: u8,
+    hold: u32,
+    host: &mut Host,
+    ring: &mut R,
+) -> Result<Option<u8>, Short>
+    requires turning { HostTurning node host.old (R.side ring.old) (R.known ring.old) }
+    ensures turning { OnOk result (HostTurning node host.new (R.side ring.old) (R.known ring.new)) }
+    ensures kept { OnOk result
+        (KeepsInbox (R.side ring.old).net node (R.known ring.old) (R.known ring.new)) }
+    ensures asked { IfOk result (AskedNext host.old host.new hold) }
+    ensures legal { IsLegal (R.side ring.old).net (R.known ring.new) }
+    ensures plan { host.new.plan ≡ host.old.plan }
+    ensures same { R.side ring.new ≡ R.side ring.old }
+{
+    let Some(frame) = host.ask(hold)? else {
+        return Ok(None);
+    };
+    let path = frame.id.path;
+    ring.post(node, frame)?;
+    Ok(Some(path))
+}
+
+/// Makes all requests that are due by a hold, as long as a path is free; on which paths.
+fn ask_all<R: RingSide>(
+    node: u8,
+    hold: u32,
+    host: &mut Host,
+    ring: &mut R,
+) -> Result<[bool; PATH_PLACES], Short>
+    requires turning { HostTurning node host.old (R.side ring.old) (R.known ring.old) }
+    requires holds { Holds (R.side ring.old).net (R.known ring.old) node }
+    ensures turning { OnOk result (HostTurning node host.new (R.side ring.old) (R.known ring.new)) }
+    ensures holds { OnOk result (Holds (R.side ring.old).net (R.known ring.new) node) }
+    ensures asked { OnOk result (due_request host.new hold ≡ None) }
+    ensures legal { IsLegal (R.side ring.old).net (R.known ring.new) }
+    ensures plan { host.new.plan ≡ host.old.plan }
+    ensures same { R.side ring.new ≡ R.side ring.old }
+{
+    let mut fresh = [false; PATH_PLACES];
+    while let Some(path) = ask_next(node, hold, host, ring)? {
+        fresh[usize::from(path)] = true;
+    }
+    Ok(fresh)
+}
+
+/// Gives up the call of a path, where there is one and the ring lets it, and ends it.
+fn give_up_path<R: RingSide>(node: u8, path: u8, host: &mut Host, ring: &mut R) -> Result<(), Short>
+    requires turning { HostTurning node host.old (R.side ring.old) (R.known ring.old) }
+    requires path { IsPath path }
+    ensures turning { OnOk result (HostTurning node host.new (R.side ring.old) (R.known ring.new)) }
+    ensures kept { OnOk result
+        (KeepsInbox (R.side ring.old).net node (R.known ring.old) (R.known ring.new)) }
+    ensures less { OnOk result (sends_left (R.side ring.old).net (R.known ring.new) node
+        ≤ sends_left (R.side ring.old).net (R.known ring.old) node) }
+    ensures left { OnOk result (HasLeft (R.side ring.old).net (R.known ring.old) node
+        → HasLeft (R.side ring.old).net (R.known ring.new) node) }
+    ensures legal { IsLegal (R.side ring.old).net (R.known ring.new) }
+    ensures plan { host.new.plan ≡ host.old.plan }
+    ensures same { R.side ring.new ≡ R.side ring.old }
+{
+    let seq = ring.awaits(node, path);
+    if seq == 0 {
+        return Ok(());
+    }
+    let id = CallId { node, path, seq };
+    let Some(word) = give_up_on(id, ring)? else {
+        return Ok(());
+    };
+    host.answer(id, HostResult::Bad(word))?;
+    Ok(())
+}
+
+/// Gives up the calls of these paths, in rising order, as far as the ring lets it.
+fn give_up_where<R: RingSide>(
+    node: u8,
+    which: [bool; PATH_PLACES],
+    host: &mut Host,
+    ring: &mut R,
+) -> Result<(), Short>
+    requires turning { HostTurning node host.old (R.side ring.old) (R.known ring.old) }
+    ensures turning { OnOk result (HostTurning node host.new (R.side ring.old) (R.known ring.new)) }
+    ensures kept { OnOk result
+        (KeepsInbox (R.side ring.old).net node (R.known ring.old) (R.known ring.new)) }
+    ensures less { OnOk result (sends_left (R.side ring.old).net (R.known ring.new) node
+        ≤ sends_left (R.side ring.old).net (R.known ring.old) node) }
+    ensures left { OnOk result (HasLeft (R.side ring.old).net (R.known ring.old) node
+        → HasLeft (R.side ring.old).net (R.known ring.new) node) }
+    ensures legal { IsLegal (R.side ring.old).net (R.known ring.new) }
+    ensures plan { host.new.plan ≡ host.old.plan }
+    ensures same { R.side ring.new ≡ R.side ring.old }
+{
+    for path in NETWORK_PATHS {
+        if which[usize::from(path)] {
+            give_up_path(node, path, host, ring)?;
+        }
+    }
+    Ok(())
+}
+
+/// Sends the next frame; whether there was one. A Request of this turn that failed is given up.
+fn send_one<R: RingSide>(
+    node: u8,
+    fresh: [bool; PATH_PLACES],
+    host: &mut Host,
+    ring: &mut R,
+) -> Result<bool, Short>
+    requires turning { HostTurning node host.old (R.side ring.old) (R.known ring.old) }
+    requires holds { Holds (R.side ring.old).net (R.known ring.old) node }
+    ensures turning { OnOk result (HostTurning node host.new (R.side ring.old) (R.known ring.new)) }
+    ensures holds { OnOk result (Holds (R.side ring.old).net (R.known ring.new) node) }
+    ensures less { IfOk result (λ sent. sent ≡ true
+        → sends_left (R.side ring.old).net (R.known ring.new) node
+        < sends_left (R.side ring.old).net (R.known ring.old) node) }
+    ensures legal { IsLegal (R.side ring.old).net (R.known ring.new) }
+    ensures plan { host.new.plan ≡ host.old.plan }
+    ensures same { R.side ring.new ≡ R.side ring.old }
+{
+    let Some(heard) = send_next(node, ring)? else {
+        return Ok(false);
+    };
+    let failed = if heard == Heard::Acked {
+        [false; PATH_PLACES]
+    } else {
+        fresh
+    };
+    give_up_where(node, failed, host, ring)?;
+    Ok(true)
+}
+
+/// Sends until the outbox is empty.
+fn send_all<R: RingSide>(
+    node: u8,
+    fresh: [bool; PATH_PLACES],
+    host: &mut Host,
+    ring: &mut R,
+) -> Result<(), Short>
+    requires turning { HostTurning node host.old (R.side ring.old) (R.known ring.old) }
+    requires holds { Holds (R.side ring.old).net (R.known ring.old) node }
+    ensures turning { OnOk result (HostTurning node host.new (R.side ring.old) (R.known ring.new)) }
+    ensures holds { OnOk result (Holds (R.side ring.old).net (R.known ring.new) node) }
+    ensures legal { IsLegal (R.side ring.old).net (R.known ring.new) }
+    ensures plan { host.new.plan ≡ host.old.plan }
+    ensures same { R.side ring.new ≡ R.side ring.old }
+{
+    while send_one(node, fresh, host, ring)? {}
+    Ok(())
+}
+
+/// Ends the turn; where the node leaves, it gives up all calls that it has.
+fn end_turn<R: RingSide>(
+    node: u8,
+    budget: bool,
+    host: &mut Host,
+    ring: &mut R,
+) -> Result<bool, Short>
+    requires turning { HostTurning node host.old (R.side ring.old) (R.known ring.old) }
+    requires holds { Holds (R.side ring.old).net (R.known ring.old) node }
+    ensures ties { OnOk result (HostTies node host.new (R.side ring.old) (R.known ring.new)) }
+    ensures passed { IfOk result (λ left. left ≡ false
+        → EndsWithPass node (host_is_done host.new) (own node (R.known ring.new))) }
+    ensures gone { IfOk result (λ left. left ≡ true
+        → HasLeft (R.side ring.old).net (R.known ring.new) node) }
+    ensures legal { IsLegal (R.side ring.old).net (R.known ring.new) }
+    ensures plan { host.new.plan ≡ host.old.plan }
+    ensures same { R.side ring.new ≡ R.side ring.old }
+{
+    let done = host.is_done();
+    let left = hand_on(node, done, budget, ring)?;
+    if !left {
+        return Ok(false);
+    }
+    give_up_where(node, [true; PATH_PLACES], host, ring)?;
+    Ok(true)
+}
+
+/// One hold of the token, at this number of holds, from 1 on; whether the node left.
+fn turn<R: RingSide>(
+    alloc: Global,
+    node: u8,
+    hold: u32,
+    budget: bool,
+    host: &mut Host,
+    ring: &mut R,
+) -> Result<bool, Short>
+    requires turning { HostTurning node host.old (R.side ring.old) (R.known ring.old) }
+    requires holds { Holds (R.side ring.old).net (R.known ring.old) node }
+    ensures ties { OnOk result (HostTies node host.new (R.side ring.old) (R.known ring.new)) }
+    ensures passed { IfOk result (λ left. left ≡ false
+        → EndsWithPass node (host_is_done host.new) (own node (R.known ring.new))) }
+    ensures gone { IfOk result (λ left. left ≡ true
+        → HasLeft (R.side ring.old).net (R.known ring.new) node) }
+    ensures legal { IsLegal (R.side ring.old).net (R.known ring.new) }
+    ensures plan { host.new.plan ≡ host.old.plan }
+    ensures same { R.side ring.new ≡ R.side ring.old }
+{
+    serve_inbox(alloc, node, host, ring)?;
+    let fresh = ask_all(node, hold, host, ring)?;
+    send_all(node, fresh, host, ring)?;
+    give_up_where(node, [true; PATH_PLACES], host, ring)?;
+    end_turn(node, budget, host, ring)
+}
+
+/// The communication of a host: what its node does with the token. This project's own.
+#[derive(Drop)]
+pub struct HostWorker {
+    alloc: Global,
+    node: u8,
+    budget: bool,
+    passes: u32,
+}
+
+impl Model for HostWorker {
+    ghost use Rattle.comm_port.specs.HostTurns.{HostWorkerIs};
+
+    ghost Value = { HostWorkerIs };
+
+    ghost view = { λ w. record { node = w.node; budget = w.budget; passes = w.passes } };
+}
+
+impl HostWorker {
+    /// The worker of the host at a node. With a budget it leaves the ring once its Passes are
+    /// spent. Nothing of the ring's plan is kept.
+    pub fn new(alloc: Global, node: u8, _: &NetPlan, budget: bool) -> Result<HostWorker, AllocError>
+        ensures { IfOk result
+            (λ worker. worker ≡ record { node = node; budget = budget; passes = 0 }) }
+    {
+        Ok(HostWorker {
+            alloc,
+            node,
+            budget,
+            passes: 0,
+        })
+    }
+
+    /// One hold of the token: takes what came, makes the requests that are due, sends, gives up
+    /// the calls whose time has come, and then leaves the ring or passes the token on. The answer
+    /// is whether the node left.
+    pub fn hold_turn<R: RingSide>(
+        &mut self,
+        host: &mut Host,
+        ring: &mut R,
+    ) -> Result<bool, AllocError>
+        requires ties { HostTies self.old.node host.old (R.side ring.old) (R.known ring.old) }
+        requires holds { Holds (R.side ring.old).net (R.known ring.old) self.old.node }
+        ensures ties { OnOk result
+            (HostTies self.new.node host.new (R.side ring.new) (R.known ring.new)) }
+        ensures passed { IfOk result (λ left. left ≡ false → EndsWithPass self.old.node
+            (host_is_done host.new) (own self.old.node (R.known ring.new))) }
+        ensures gone { IfOk result (λ left. left ≡ true
+            → HasLeft (R.side ring.new).net (R.known ring.new) self.old.node) }
+        ensures worker { IfOk result (λ left. self.new ≡ after_turn self.old left) }
+        ensures legal { IsLegal (R.side ring.old).net (R.known ring.new) }
+        ensures plan { host.new.plan ≡ host.old.plan }
+        ensures same { R.side ring.new ≡ R.side ring.old }
+    {
+        let hold = self.passes.saturating_add(1);
+        let Ok(left) = turn(self.alloc, self.node, hold, self.budget, host, ring) else {
+            return Err(AllocError);
+        };
+        if !left {
+            self.passes = hold;
+        }
+        Ok(left)
+    }
+}

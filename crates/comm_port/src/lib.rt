@@ -1,0 +1,24 @@
+//! Hold turns: what a station does with the token, over the two sides that it works between.
+#![tactic(auto)]
+
+mod calling;
+mod ending;
+mod giving;
+mod host_worker;
+mod joint;
+mod leaving;
+mod ram_side;
+mod replies;
+mod ring_side;
+mod sending;
+mod serving;
+mod short;
+mod waiting;
+mod worker;
+
+pub use host_worker::HostWorker;
+pub use joint::{ControllerLog, HostLog, Joint};
+pub use ram_side::RamSide;
+pub use ring_side::RingSide;
+pub use tied_lists::result_of;
+pub use worker::CommWorker;

@@ -1,0 +1,75 @@
+//! A controller as its worker has it: by itself, or behind a gate that its scan passes too.
+ghost use Rattle.std.specs.Prelude.{◌≡◌, ◌∷◌, [], List, Bool, true, map, IfOk};
+ghost use Rattle.controller_core.specs.Controller.{IsLegal};
+ghost use Rattle.controller_core.specs.declared.entry.Entry.TheVariants.{Collect, Peer, Finish};
+ghost use Rattle.tied_lists.specs.Calls.{AreNewCalls, IsOut};
+ghost use Rattle.tied_lists.specs.Own.{added_if, WentOn};
+ghost use Rattle.comm_port.specs.Reading.{is_ours, called_of, items_of, has_ended_at};
+ghost use Rattle.comm_port.specs.Reading.{has_started_at};
+
+use controller_core::Call;
+use mstr_block::{CallId, MstrResult};
+use plant_types::{List, Pdu};
+use std::alloc::AllocError;
+
+/// The calls of a controller that its communication makes. A contract sees its fixed part and its
+/// history as far as it is known here; each call goes on from there with events of the scan, none
+/// where nobody else writes, and then with its own one. Each question is answered by the history
+/// known then.
+pub trait RamSide {
+    ghost use Rattle.comm_port.specs.Sides.{RamSideIs};
+    ghost use Rattle.controller_core.specs.declared.entry.Entry.{Entry};
+
+    /// What names the place of the controller, as its gate.
+    type Place;
+
+    /// Its fixed part and its place: what no call changes.
+    ghost side: { Self → RamSideIs Self.Place };
+
+    /// The history as far as it is known.
+    ghost known: { Self → List Entry };
+
+    /// Whether nobody else writes.
+    ghost alone: { Bool };
+
+    /// All calls that were started and not yet collected, in the order of their blocks. Each is
+    /// new.
+    fn collect(&mut self) -> Result<List<Call>, AllocError>
+        requires { has_started_at (side self.old).fixed (known self.old) ≡ true }
+        ensures went { WentOn alone is_ours (known self.old)
+            (added_if result (λ calls. Collect calls ∷ [])) (known self.new) }
+        ensures fresh { IfOk result (λ calls. AreNewCalls (side self.old).fixed.plan.node
+            (items_of (known self.old)).calls (items_of (known self.old)).ends
+            (map called_of calls)) }
+        ensures legal { IsLegal (side self.old).fixed (known self.new) }
+        ensures same { side self.new ≡ side self.old };
+
+    /// Answers a request of another node.
+    fn peer(&mut self, id: CallId, request: &Pdu) -> Result<Pdu, AllocError>
+        ensures went { WentOn alone is_ours (known self.old)
+            (added_if result (λ reply. Peer id request.now reply ∷ [])) (known self.new) }
+        ensures legal { IsLegal (side self.old).fixed (known self.new) }
+        ensures same { side self.new ≡ side self.old };
+
+    /// Ends a call that was collected and has not ended.
+    fn finish(&mut self, id: CallId, outcome: MstrResult) -> Result<(), AllocError>
+        requires { IsOut (items_of (known self.old)) id }
+        ensures went { WentOn alone is_ours (known self.old)
+            (added_if result (λ _. Finish id outcome ∷ [])) (known self.new) }
+        ensures legal { IsLegal (side self.old).fixed (known self.new) }
+        ensures same { side self.new ≡ side self.old };
+
+    /// Whether a call was started and not yet collected.
+    fn has_started(&mut self) -> bool
+        ensures answer { result ≡ has_started_at (side self.old).fixed (known self.new) }
+        ensures went { WentOn alone is_ours (known self.old) [] (known self.new) }
+        ensures legal { IsLegal (side self.old).fixed (known self.new) }
+        ensures same { side self.new ≡ side self.old };
+
+    /// Whether all scans are done, or the controller has stopped.
+    fn has_ended(&mut self) -> bool
+        ensures answer { result ≡ has_ended_at (side self.old).fixed (known self.new) }
+        ensures went { WentOn alone is_ours (known self.old) [] (known self.new) }
+        ensures legal { IsLegal (side self.old).fixed (known self.new) }
+        ensures same { side self.new ≡ side self.old };
+}

@@ -1,0 +1,105 @@
+//! Replies to the Requests of others: what the controller or host says, and the port's statistics.
+ghost use Rattle.std.specs.Prelude.{◌≡◌, ◌≢◌, ◌∷◌, [], true, OnOk, IfOk, Some};
+ghost use Rattle.modbus_pdu.specs.Spelling.{IsReplyInRange, reply_bytes};
+ghost use Rattle.modbus_pdu.specs.declared.reply.Reply.TheVariants as replies;
+ghost use Rattle.ring_core.specs.Legal.{IsLegal, HasRoom};
+ghost use Rattle.ring_core.specs.declared.entry.RingEntry.TheVariants.{Post};
+ghost use Rattle.ring_core.specs.Statistics.{is_stats};
+ghost use Rattle.tied_lists.specs.Own.{is_of, Grew};
+ghost use Rattle.tied_lists.specs.Items.{request_of, words_told};
+ghost use Rattle.comm_port.specs.Turns.{IsOwnTurn, KeepsInbox};
+ghost use Rattle.comm_port.specs.Replies.{reply_frame, Tells};
+
+use crate::ring_side::RingSide;
+use crate::short::Short;
+use modbus_pdu::{Reply, encode_reply};
+use mstr_block::{CallId, MstrResult};
+use plant_types::{Pdu, Words};
+use ring_core::{Frame, FrameKind, GET_STATISTICS, LocalOp};
+use std::alloc::{AllocError, Global};
+
+fn reply_frame(id: CallId, pdu: Pdu) -> Frame
+    ensures { result ≡ reply_frame id pdu }
+{
+    Frame {
+        kind: FrameKind::Reply,
+        to: id.node,
+        id,
+        pdu,
+    }
+}
+
+/// Posts a Reply to another node's call.
+pub(crate) fn post_reply<R: RingSide>(
+    node: u8,
+    id: CallId,
+    pdu: Pdu,
+    ring: &mut R,
+) -> Result<(), Short>
+    requires turn { IsOwnTurn (R.side ring.old) (R.known ring.old) node }
+    requires other { id.node ≢ node }
+    ensures grew { OnOk result (Grew R.alone (is_of node) (R.known ring.old)
+        (Post node (reply_frame id pdu) ∷ []) (R.known ring.new)) }
+    ensures kept { OnOk result
+        (KeepsInbox (R.side ring.old).net node (R.known ring.old) (R.known ring.new)) }
+    ensures legal { IsLegal (R.side ring.old).net (R.known ring.new) }
+    ensures same { R.side ring.new ≡ R.side ring.old }
+{
+    ring.post(node, reply_frame(id, pdu))?;
+    Ok(())
+}
+
+/// What the port does for a request for statistics.
+fn operation_for(request: &Pdu) -> LocalOp
+    requires { is_stats request.now ≡ true }
+    ensures asked { request_of result ≡ Some request.now }
+    ensures room { HasRoom result }
+{
+    if request.bytes() == &GET_STATISTICS[..] {
+        LocalOp::RemoteGet
+    } else {
+        LocalOp::RemoteClear
+    }
+}
+
+fn words_told(outcome: &MstrResult) -> &[u16]
+    ensures { result.now ≡ words_told outcome.now }
+{
+    match outcome {
+        MstrResult::Good(words) => words.words(),
+        MstrResult::Bad(_) => &[],
+    }
+}
+
+/// The reply that tells twenty words of statistics, or none after a clear.
+fn statistics_reply(alloc: Global, words: &[u16]) -> Result<Pdu, AllocError>
+    requires { IsReplyInRange (replies.Stats words.now) }
+    ensures { IfOk result (λ pdu. pdu ≡ reply_bytes (replies.Stats words.now)) }
+{
+    let words = Words::of(alloc, words)?;
+    encode_reply(alloc, &Reply::Stats { words })
+}
+
+/// Answers another node's request for statistics.
+pub(crate) fn tell_statistics<R: RingSide>(
+    alloc: Global,
+    node: u8,
+    request: &Frame,
+    ring: &mut R,
+) -> Result<(), Short>
+    requires turn { IsOwnTurn (R.side ring.old) (R.known ring.old) node }
+    requires other { request.now.id.node ≢ node }
+    requires stats { is_stats request.now.pdu ≡ true }
+    ensures told { OnOk result (Tells R.alone node request.now.id request.now.pdu
+        (R.known ring.old) (R.known ring.new)) }
+    ensures kept { OnOk result
+        (KeepsInbox (R.side ring.old).net node (R.known ring.old) (R.known ring.new)) }
+    ensures legal { IsLegal (R.side ring.old).net (R.known ring.new) }
+    ensures same { R.side ring.new ≡ R.side ring.old }
+{
+    let op = operation_for(&request.pdu);
+    let result = ring.local(node, request.id, op)?;
+    let pdu = statistics_reply(alloc, words_told(&result))?;
+    post_reply(node, request.id, pdu, ring)?;
+    Ok(())
+}

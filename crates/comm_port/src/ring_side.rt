@@ -1,0 +1,211 @@
+//! The ring as a station's worker has it: by itself, or behind a gate that others pass too.
+ghost use Rattle.std.specs.Prelude.{◌≡◌, ◌∷◌, [], ℕ, List, Bool, true, Option, Some, None, IfOk};
+ghost use Rattle.ring_core.specs.Machine.{RingIs, ring_node, awaited_number, path_of, ring_after};
+ghost use Rattle.ring_core.specs.Refusals.{post_no, send_no, turn_no, free_no, give_up_no, pass_no};
+ghost use Rattle.ring_core.specs.Refusals.{leave_no, quiet_for};
+ghost use Rattle.ring_core.specs.Scratch.{words_put};
+ghost use Rattle.ring_core.specs.Legal.{IsMember, IsPath, IsFrom, IsNextNumber, HasRoom, IsLegal};
+ghost use Rattle.ring_core.specs.declared.entry.RingEntry.TheVariants.{Post, Send, Take, Local};
+ghost use Rattle.ring_core.specs.declared.entry.RingEntry.TheVariants.{GiveUp, Pass, Leave};
+ghost use Rattle.tied_lists.specs.Own.{is_of, added_if, WentOn};
+ghost use Rattle.comm_port.specs.Sides.{Serves, IsRefusedFor, IsRefusedOrShort, taken_entries};
+
+use mstr_block::{CallId, MstrResult};
+use ring_core::{Frame, Heard, LeaveCause, LocalOp, Ring, RingNo};
+
+/// The calls of a ring. A contract sees its plan and its history as far as it is known here; each
+/// call goes on from there with entries of others, none where nobody else writes, and then with its
+/// own one. What it answers, also a refusal, is that of the ring there.
+pub trait RingSide {
+    ghost use Rattle.comm_port.specs.Sides.{RingSideIs};
+    ghost use Rattle.ring_core.specs.declared.entry.RingEntry.{RingEntry};
+
+    /// What names the place of the ring, as its gate.
+    type Place;
+
+    /// Its plan, the node in whose name alone it may write, and its place: what no call changes.
+    ghost side: { Self → RingSideIs Self.Place };
+
+    /// The history as far as it is known.
+    ghost known: { Self → List RingEntry };
+
+    /// Whether nobody else writes.
+    ghost alone: { Bool };
+
+    fn post(&mut self, node: u8, frame: Frame) -> Result<(), RingNo>
+        requires serves { Serves (side self.old).writer node }
+        requires member { IsMember (side self.old).net node }
+        requires from { IsFrom node frame.kind frame }
+        requires next { IsNextNumber (ring_node (ring_after (side self.old).net (known self.old)) node)
+            frame.kind frame.id }
+        ensures went { WentOn alone (is_of node) (known self.old)
+            (added_if result (λ _. Post node frame ∷ [])) (known self.new) }
+        ensures legal { IsLegal (side self.old).net (known self.new) }
+        ensures refused { IsRefusedFor
+            (post_no (ring_after (side self.old).net (known self.new)) node frame) result }
+        ensures same { side self.new ≡ side self.old };
+
+    fn send(&mut self, node: u8) -> Result<Heard, RingNo>
+        requires serves { Serves (side self.old).writer node }
+        requires member { IsMember (side self.old).net node }
+        ensures went { WentOn alone (is_of node) (known self.old)
+            (added_if result (λ heard. Send node heard ∷ [])) (known self.new) }
+        ensures legal { IsLegal (side self.old).net (known self.new) }
+        ensures refused { IsRefusedFor
+            (send_no (ring_after (side self.old).net (known self.new)) node) result }
+        ensures same { side self.new ≡ side self.old };
+
+    /// None exactly where the inbox is empty.
+    fn take(&mut self, node: u8) -> Result<Option<Frame>, RingNo>
+        requires serves { Serves (side self.old).writer node }
+        requires member { IsMember (side self.old).net node }
+        ensures went { WentOn alone (is_of node) (known self.old)
+            (added_if result (taken_entries node)) (known self.new) }
+        ensures empty { IfOk result (λ took. took ≡ None →
+            (ring_node (ring_after (side self.old).net (known self.new)) node).inbox ≡ []) }
+        ensures legal { IsLegal (side self.old).net (known self.new) }
+        ensures refused { IsRefusedFor
+            (turn_no (ring_after (side self.old).net (known self.new)) node) result }
+        ensures same { side self.new ≡ side self.old };
+
+    fn local(&mut self, node: u8, id: CallId, op: LocalOp) -> Result<MstrResult, RingNo>
+        requires serves { Serves (side self.old).writer node }
+        requires member { IsMember (side self.old).net node }
+        requires room { HasRoom op }
+        ensures went { WentOn alone (is_of node) (known self.old)
+            (added_if result (λ given. Local node id op given ∷ [])) (known self.new) }
+        ensures legal { IsLegal (side self.old).net (known self.new) }
+        ensures refused { IsRefusedFor
+            (free_no (ring_after (side self.old).net (known self.new)) node) result }
+        ensures same { side self.new ≡ side self.old };
+
+    fn give_up(&mut self, id: CallId) -> Result<u16, RingNo>
+        requires serves { Serves (side self.old).writer id.node }
+        requires member { IsMember (side self.old).net id.node }
+        requires path { IsPath id.path }
+        ensures went { WentOn alone (is_of id.node) (known self.old)
+            (added_if result (λ word. GiveUp id word ∷ [])) (known self.new) }
+        ensures legal { IsLegal (side self.old).net (known self.new) }
+        ensures refused { IsRefusedFor
+            (give_up_no (side self.old).net (ring_after (side self.old).net (known self.new)) id) result }
+        ensures same { side self.new ≡ side self.old };
+
+    /// The number that a path of a node awaits, or 0.
+    fn awaits(&mut self, node: u8, path: u8) -> u32
+        requires serves { Serves (side self.old).writer node }
+        requires member { IsMember (side self.old).net node }
+        requires path { IsPath path }
+        ensures answer { result ≡ awaited_number
+            (path_of (ring_node (ring_after (side self.old).net (known self.new)) node) path).awaits }
+        ensures went { WentOn alone (is_of node) (known self.old) [] (known self.new) }
+        ensures legal { IsLegal (side self.old).net (known self.new) }
+        ensures same { side self.new ≡ side self.old };
+
+    /// Who holds the token; 0 where all have left.
+    fn holder(&mut self) -> u8
+        ensures answer { result ≡ (ring_after (side self.old).net (known self.new)).holder }
+        ensures went { (node : ℕ) → Serves (side self.old).writer node
+            → WentOn alone (is_of node) (known self.old) [] (known self.new) }
+        ensures legal { IsLegal (side self.old).net (known self.new) }
+        ensures same { side self.new ≡ side self.old };
+
+    /// For how many Passes in a row every member has been done; 0 where the node has left.
+    fn quiet(&mut self, node: u8) -> u64
+        requires serves { Serves (side self.old).writer node }
+        requires member { IsMember (side self.old).net node }
+        ensures answer { result ≡ quiet_for (ring_after (side self.old).net (known self.new)) node }
+        ensures went { WentOn alone (is_of node) (known self.old) [] (known self.new) }
+        ensures legal { IsLegal (side self.old).net (known self.new) }
+        ensures same { side self.new ≡ side self.old };
+
+    fn pass(&mut self, node: u8, done: bool) -> Result<(), RingNo>
+        requires serves { Serves (side self.old).writer node }
+        requires member { IsMember (side self.old).net node }
+        ensures went { WentOn alone (is_of node) (known self.old) (added_if result
+            (λ _. Pass node done (words_put node (known self.old)) ∷ [])) (known self.new) }
+        ensures legal { IsLegal (side self.old).net (known self.new) }
+        ensures refused { IsRefusedFor
+            (pass_no (ring_after (side self.old).net (known self.new)) node) result }
+        ensures same { side self.new ≡ side self.old };
+
+    /// Reserves one entry first, so that it may want memory.
+    fn leave(&mut self, node: u8, cause: LeaveCause) -> Result<(), RingNo>
+        requires serves { Serves (side self.old).writer node }
+        requires member { IsMember (side self.old).net node }
+        ensures went { WentOn alone (is_of node) (known self.old)
+            (added_if result (λ _. Leave node cause ∷ [])) (known self.new) }
+        ensures legal { IsLegal (side self.old).net (known self.new) }
+        ensures refused { IsRefusedOrShort
+            (leave_no (side self.old).net (ring_after (side self.old).net (known self.new)) node cause)
+            result }
+        ensures same { side self.new ≡ side self.old };
+}
+
+impl RingSide for Ring {
+    type Place = ();
+
+    ghost side = { λ r. record { net = r.net; writer = None; place = tt } };
+
+    ghost known = { λ r. r.history };
+
+    ghost alone = { true };
+
+    fn post(&mut self, node: u8, frame: Frame) -> Result<(), RingNo> {
+        let answer = Ring::post(self, node, frame);
+        let _ = self.history();
+        answer
+    }
+
+    fn send(&mut self, node: u8) -> Result<Heard, RingNo> {
+        let answer = Ring::send(self, node);
+        let _ = self.history();
+        answer
+    }
+
+    fn take(&mut self, node: u8) -> Result<Option<Frame>, RingNo> {
+        let answer = Ring::take(self, node);
+        let _ = self.history();
+        answer
+    }
+
+    fn local(&mut self, node: u8, id: CallId, op: LocalOp) -> Result<MstrResult, RingNo> {
+        let answer = Ring::local(self, node, id, op);
+        let _ = self.history();
+        answer
+    }
+
+    fn give_up(&mut self, id: CallId) -> Result<u16, RingNo> {
+        let answer = Ring::give_up(self, id);
+        let _ = self.history();
+        answer
+    }
+
+    fn awaits(&mut self, node: u8, path: u8) -> u32 {
+        let _ = self.history();
+        Ring::awaits(self, node, path)
+    }
+
+    fn holder(&mut self) -> u8 {
+        let _ = self.history();
+        Ring::holder(self)
+    }
+
+    fn quiet(&mut self, node: u8) -> u64 {
+        let _ = self.history();
+        Ring::quiet(self, node)
+    }
+
+    fn pass(&mut self, node: u8, done: bool) -> Result<(), RingNo> {
+        let answer = Ring::pass(self, node, done);
+        let _ = self.history();
+        answer
+    }
+
+    fn leave(&mut self, node: u8, cause: LeaveCause) -> Result<(), RingNo> {
+        let _ = self.history();
+        self.reserve(1)?;
+        let answer = Ring::leave(self, node, cause);
+        let _ = self.history();
+        answer
+    }
+}

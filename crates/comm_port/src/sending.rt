@@ -1,0 +1,43 @@
+//! Sends, and calls that are given up.
+ghost use Rattle.std.specs.Prelude.{◌≡◌, IfOk};
+ghost use Rattle.ring_core.specs.Legal.{IsLegal, IsPath};
+ghost use Rattle.tied_lists.specs.Waits.{Holds};
+ghost use Rattle.comm_port.specs.Turns.{IsOwnTurn};
+ghost use Rattle.comm_port.specs.Sending.{GaveUp, SentOrAll};
+
+use crate::ring_side::RingSide;
+use crate::short::Short;
+use mstr_block::CallId;
+use ring_core::{Heard, RingNo};
+
+/// Sends the next frame, and answers what was heard; none exactly where nothing is to be sent.
+pub(crate) fn send_next<R: RingSide>(node: u8, ring: &mut R) -> Result<Option<Heard>, Short>
+    requires turn { IsOwnTurn (R.side ring.old) (R.known ring.old) node }
+    requires holds { Holds (R.side ring.old).net (R.known ring.old) node }
+    ensures sent { IfOk result (SentOrAll R.alone (R.side ring.old).net node
+        (R.known ring.old) (R.known ring.new)) }
+    ensures legal { IsLegal (R.side ring.old).net (R.known ring.new) }
+    ensures same { R.side ring.new ≡ R.side ring.old }
+{
+    match ring.send(node) {
+        Ok(heard) => Ok(Some(heard)),
+        Err(RingNo::NothingToSend) => Ok(None),
+        Err(_) => Err(Short),
+    }
+}
+
+/// Gives a call up, and answers its error word; none where the ring refuses that.
+pub(crate) fn give_up_on<R: RingSide>(id: CallId, ring: &mut R) -> Result<Option<u16>, Short>
+    requires turn { IsOwnTurn (R.side ring.old) (R.known ring.old) id.node }
+    requires path { IsPath id.path }
+    ensures given { IfOk result (GaveUp R.alone (R.side ring.old).net id
+        (R.known ring.old) (R.known ring.new)) }
+    ensures legal { IsLegal (R.side ring.old).net (R.known ring.new) }
+    ensures same { R.side ring.new ≡ R.side ring.old }
+{
+    match ring.give_up(id) {
+        Ok(word) => Ok(Some(word)),
+        Err(RingNo::NoMemory) => Err(Short),
+        Err(_) => Ok(None),
+    }
+}

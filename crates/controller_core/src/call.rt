@@ -1,0 +1,148 @@
+//! The calls that a controller's MSTR blocks make.
+ghost use Rattle.std.specs.Prelude.{◌≡◌, ◌↔◌, IfOk, IsTrue};
+ghost use Rattle.mstr_block.specs.Running.{IsAsk, IsCall};
+ghost use Rattle.modbus_pdu.specs.Spelling.{IsRequestInRange};
+ghost use Rattle.controller_core.specs.Calls.{call_of, kind_of, request_to};
+
+use modbus_pdu::{Request, encode_request};
+use mstr_block::{CallId, MstrAsk, MstrCall};
+use plant_types::{Copied, Pdu, Words};
+use ring_core::LocalOp;
+use std::alloc::{AllocError, Global};
+
+/// What a call is for (*Modicon Ladder Logic Block Library User Guide*).
+#[derive(Drop)]
+pub enum CallKind {
+    /// A request to another node, `to` from 1 to 64.
+    Net { to: u8, pdu: Pdu },
+    /// What the own station does itself.
+    Local(LocalOp),
+}
+
+/// A call with its name.
+#[derive(Drop)]
+pub struct Call {
+    pub id: CallId,
+    pub kind: CallKind,
+}
+
+fn request_to(alloc: Global, to: u8, request: &Request) -> Result<CallKind, AllocError>
+    requires { IsRequestInRange request.now }
+    ensures { IfOk result (λ kind. kind ≡ request_to to request.now) }
+{
+    Ok(CallKind::Net {
+        to,
+        pdu: encode_request(alloc, request)?,
+    })
+}
+
+impl CallKind {
+    /// What a block of the station at an address asks for.
+    fn of(alloc: Global, own: u8, ask: &MstrAsk) -> Result<CallKind, AllocError>
+        requires { IsAsk own ask.now }
+        ensures { IfOk result (λ kind. kind ≡ kind_of ask.now) }
+    {
+        match ask {
+            MstrAsk::Write { to, start, words } => {
+                let address = *start - 1;
+                let words = Words::of(alloc, words.words())?;
+                request_to(alloc, *to, &Request::WriteRegisters { address, words })
+            }
+            MstrAsk::Read { to, start, length } => {
+                let (address, quantity) = (*start - 1, *length);
+                request_to(alloc, *to, &Request::ReadRegisters { address, quantity })
+            }
+            MstrAsk::RemoteStats { to } => {
+                request_to(alloc, *to, &Request::Stats { clear: false })
+            }
+            MstrAsk::ClearRemote { to } => request_to(alloc, *to, &Request::Stats { clear: true }),
+            MstrAsk::LocalStats => Ok(CallKind::Local(LocalOp::GetStats)),
+            MstrAsk::ClearLocal => Ok(CallKind::Local(LocalOp::ClearStats)),
+            MstrAsk::PutGlobal(words) => {
+                let words = Words::of(alloc, words.words())?;
+                Ok(CallKind::Local(LocalOp::PutGlobal(words)))
+            }
+            MstrAsk::GetGlobal { node, length } => Ok(CallKind::Local(LocalOp::GetGlobal {
+                node: *node,
+                length: *length,
+            })),
+        }
+    }
+}
+
+impl Call {
+    /// The call that a block of the station at an address started.
+    pub(crate) fn of(alloc: Global, own: u8, call: &MstrCall) -> Result<Call, AllocError>
+        requires { IsCall own call.now }
+        ensures { IfOk result (λ made. made ≡ call_of call.now) }
+    {
+        Ok(Call {
+            id: call.id,
+            kind: CallKind::of(alloc, own, &call.ask)?,
+        })
+    }
+}
+
+/// Whether two operations of the own station are one.
+fn is_same_op(one: &LocalOp, other: &LocalOp) -> bool
+    ensures { IsTrue result ↔ (one.now ≡ other.now) }
+{
+    match one {
+        LocalOp::GetStats => matches!(other, LocalOp::GetStats),
+        LocalOp::ClearStats => matches!(other, LocalOp::ClearStats),
+        LocalOp::PutGlobal(words) => match other {
+            LocalOp::PutGlobal(others) => words.words() == others.words(),
+            _ => false,
+        },
+        LocalOp::GetGlobal { node, length } => match other {
+            LocalOp::GetGlobal {
+                node: from,
+                length: most,
+            } => *node == *from && *length == *most,
+            _ => false,
+        },
+        LocalOp::RemoteGet => matches!(other, LocalOp::RemoteGet),
+        LocalOp::RemoteClear => matches!(other, LocalOp::RemoteClear),
+    }
+}
+
+/// Whether two calls are for one thing.
+fn is_same_kind(one: &CallKind, other: &CallKind) -> bool
+    ensures { IsTrue result ↔ (one.now ≡ other.now) }
+{
+    match one {
+        CallKind::Net { to, pdu } => match other {
+            CallKind::Net {
+                to: target,
+                pdu: bytes,
+            } => *to == *target && pdu.bytes() == bytes.bytes(),
+            CallKind::Local(_) => false,
+        },
+        CallKind::Local(op) => match other {
+            CallKind::Local(done) => is_same_op(op, done),
+            CallKind::Net { .. } => false,
+        },
+    }
+}
+
+/// Whether two calls are one.
+fn is_same_call(one: &Call, other: &Call) -> bool
+    ensures { IsTrue result ↔ (one.now ≡ other.now) }
+{
+    one.id == other.id && is_same_kind(&one.kind, &other.kind)
+}
+
+/// Whether these calls are the others, in their order.
+pub(crate) fn same_calls(calls: &[Call], others: &[Call]) -> bool
+    ensures { IsTrue result ↔ (calls.now ≡ others.now) }
+{
+    if calls.len() != others.len() {
+        return false;
+    }
+    for (place, call) in calls.iter().enumerate() {
+        if !is_same_call(call, &others[place]) {
+            return false;
+        }
+    }
+    true
+}

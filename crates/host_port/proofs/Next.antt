@@ -1,0 +1,186 @@
+-- Which entries may come next.
+use Rattle.std.proofs.Common.{◌≡◌, ◌≤◌, ℕ, true, List, [], ◌∷◌, ◌++◌, Option, Some, None, length}
+use Rattle.std.proofs.Common.{map, refl, sym, ap, subst, ◌∙◌, inl, inr}
+use Rattle.std.proofs.Common.{arith, append_assoc, length-append}
+use Rattle.std.proofs.lemmas.List.{length-map, map-append}
+use Rattle.std.specs.Prelude.{option_map, nat_le, if◌then◌else◌}
+use Rattle.std.specs.List.{slice_get}
+use Rattle.std.proofs.lemmas.Bool.{cases_Bool}
+use Rattle.std.proofs.lemmas.Option.{slice_get-map}
+use Rattle.plant_types.specs.declared.net.HostAsk.{HostAsk}
+use Rattle.plant_types.specs.declared.net.HostPlan.{HostPlan}
+use Rattle.mstr_block.specs.declared.call.CallId.{CallId}
+use Rattle.mstr_block.specs.Table.{network_paths}
+use Rattle.ring_core.specs.declared.frame.Frame.{Frame}
+use Rattle.ring_core.specs.declared.frame.FrameKind.TheVariants.{Request}
+use Rattle.ring_core.specs.Legal.{IsPath}
+use Rattle.host_port.specs.declared.entry.HostEntry.{HostEntry}
+use Rattle.host_port.specs.declared.entry.HostEntry.TheVariants.{Ask, Answer, Served}
+use Rattle.host_port.specs.declared.entry.HostResult.{HostResult}
+use Rattle.plant_types.specs.Plans.{IsAskOf, IsHostPlan}
+use Rattle.host_port.specs.Calls.{requests_in, path_is_free, is_unanswered, call_on, free_path}
+use Rattle.host_port.specs.Calls.{next_host_call}
+use Rattle.host_port.specs.Legal.{Question, FitsHost, IsHostHistory, question_due, question_of}
+use Rattle.host_port.specs.Legal.{questions_in, questions_of, refusal_to}
+use Rattle.host_port.specs.Host.{HostIs, due_ask, due_request, if_due, next_ask, request_for}
+use Rattle.host_port.specs.Following.{MayComeNext, HostMayFollow}
+use Rattle.host_port.specs.Kept.{IsDue}
+use Rattle.host_port.proofs.Lists.{all_at, behind, found, get_behind, split_last}
+use Rattle.host_port.proofs.Paths.{paths_are}
+use Rattle.host_port.proofs.Unanswered.{requests_answer, requests_ask, requests_served}
+
+-- ---- each entry fits those before it
+
+pub last_fits : (plan : HostPlan) (h : List HostEntry) (e : HostEntry) → IsHostHistory plan (h ++ e ∷ []) → FitsHost plan h e
+last_fits plan h e legal = legal.each h [] e refl
+
+each_more : (plan : HostPlan) (h : List HostEntry) (e : HostEntry) → IsHostHistory plan h → FitsHost plan h e
+    → (before after : List HostEntry) (entry : HostEntry) → h ++ e ∷ [] ≡ before ++ entry ∷ after → FitsHost plan before entry
+each_more plan h e legal fits before after entry is = elim (split_last h e before after entry is) [
+  | inl p ↦ subst (λ b. FitsHost plan b entry) (sym p.0) (subst (λ x. FitsHost plan h x) (sym p.1) fits)
+  | inr q ↦ legal.each before q.0 entry q.1
+]
+
+-- ---- an Answer, and what is entry_served
+
+may_answer : (plan : HostPlan) (h : List HostEntry) (id : CallId) (result : HostResult) → IsHostHistory plan h → is_unanswered h id ≡ true
+    → IsHostHistory plan (h ++ Answer id result ∷ [])
+may_answer plan h id result legal out = record {
+  order = (legal.order.0, ap (λ l. map question_of l ++ legal.order.0) (requests_answer h id result) ∙ legal.order.1);
+  each = each_more plan h (Answer id result) legal out;
+}
+
+may_serve : (plan : HostPlan) (h : List HostEntry) (id : CallId) (request reply : List ℕ) → IsHostHistory plan h
+    → reply ≡ refusal_to request
+    → IsHostHistory plan (h ++ Served id request reply ∷ [])
+may_serve plan h id request reply legal is = record {
+  order = (legal.order.0, ap (λ l. map question_of l ++ legal.order.0) (requests_served h id request reply) ∙ legal.order.1);
+  each = each_more plan h (Served id request reply) legal is;
+}
+
+-- ---- an Ask
+
+pub record NextCall (plan : HostPlan) (h : List HostEntry) (id : CallId) : Type 0 where
+  pub name : id ≡ call_on plan h id.path
+  pub free : path_is_free h id.path ≡ true
+  pub path : IsPath id.path
+
+named : (plan : HostPlan) (h : List HostEntry) (id : CallId) (at : Option ℕ) → option_map (call_on plan h) at ≡ Some id
+    → (p : ℕ) × (at ≡ Some p) × (call_on plan h p ≡ id)
+named plan h id None is = absurd cc
+named plan h id (Some p) is = (p, refl, cc)
+
+pub next_is : (plan : HostPlan) (h : List HostEntry) (id : CallId) → next_host_call plan h ≡ Some id → NextCall plan h id
+next_is plan h id is =
+    let at = named plan h id (free_path h) is in
+    let path : at.0 ≡ id.path = ap (λ (i : CallId). i.path) at.2 in
+    let has = found IsPath (path_is_free h) network_paths at.0 paths_are at.1 in
+    record {
+      name = sym at.2 ∙ ap (call_on plan h) path;
+      free = ap (path_is_free h) (sym path) ∙ has.0;
+      path = subst IsPath path has.1;
+    }
+
+asked_place : (plan : HostPlan) (h : List HostEntry)
+    → slice_get (questions_of plan) (length (questions_in h)) ≡ option_map question_due (slice_get plan.requests (length (requests_in h)))
+asked_place plan h =
+    ap (slice_get (questions_of plan)) (length-map (requests_in h) question_of)
+    ∙ slice_get-map question_due plan.requests (length (requests_in h))
+
+questions_ask : (h : List HostEntry) (id : CallId) (to : ℕ) (pdu : List ℕ)
+    → questions_in (h ++ Ask id to pdu ∷ []) ≡ questions_in h ++ record { to = to; pdu = pdu } ∷ []
+questions_ask h id to pdu =
+    ap (map question_of) (requests_ask h id to pdu)
+    ∙ map-append question_of (requests_in h) (record { kind = Request; to = to; id = id; pdu = pdu } ∷ [])
+
+may_ask : (plan : HostPlan) (h : List HostEntry) (id : CallId) (to : ℕ) (pdu : List ℕ) → IsHostHistory plan h
+    → next_host_call plan h ≡ Some id
+    → option_map question_due (slice_get plan.requests (length (requests_in h))) ≡ Some (record { to = to; pdu = pdu })
+    → IsHostHistory plan (h ++ Ask id to pdu ∷ [])
+may_ask plan h id to pdu legal next is =
+    let rest = legal.order.0 in
+    let q : Question = record { to = to; pdu = pdu } in
+    let here : slice_get (questions_in h ++ rest) (length (questions_in h)) ≡ Some q =
+    ap (λ l. slice_get l (length (questions_in h))) legal.order.1 ∙ asked_place plan h ∙ is in
+    let more = behind (questions_in h) rest q here in
+    record {
+      order = (
+        more.0,
+        ap (λ l. l ++ more.0) (questions_ask h id to pdu) ∙ append_assoc (questions_in h) (q ∷ []) more.0
+            ∙ ap (λ l. questions_in h ++ l) (sym more.1) ∙ legal.order.1,
+      );
+      each = each_more plan h (Ask id to pdu) legal next;
+    }
+
+ask_is : (plan : HostPlan) (h : List HostEntry) (id : CallId) (to : ℕ) (pdu : List ℕ) → IsHostHistory plan (h ++ Ask id to pdu ∷ [])
+    → option_map question_due (slice_get plan.requests (length (requests_in h))) ≡ Some (record { to = to; pdu = pdu })
+ask_is plan h id to pdu legal =
+    let q : Question = record { to = to; pdu = pdu } in
+    let rest = legal.order.0 in
+    let all : questions_in h ++ q ∷ rest ≡ questions_of plan =
+    sym (append_assoc (questions_in h) (q ∷ []) rest) ∙ ap (λ l. l ++ rest) (sym (questions_ask h id to pdu)) ∙ legal.order.1 in
+    sym (asked_place plan h) ∙ ap (λ l. slice_get l (length (questions_in h))) (sym all) ∙ get_behind (questions_in h) q rest
+
+-- ---- any entry
+
+pub may_of : (v : HostIs) (e : HostEntry) → IsHostHistory v.plan v.history → MayComeNext v e → HostMayFollow v e
+may_of v (Ask id to pdu) legal next = may_ask v.plan v.history id to pdu legal next.0 next.1
+may_of v (Answer id result) legal next = may_answer v.plan v.history id result legal next
+may_of v (Served id request reply) legal next = may_serve v.plan v.history id request reply legal next
+
+pub next_of : (v : HostIs) (e : HostEntry) → HostMayFollow v e → MayComeNext v e
+next_of v (Ask id to pdu) may = (last_fits v.plan v.history (Ask id to pdu) may, ask_is v.plan v.history id to pdu may)
+next_of v (Answer id result) may = last_fits v.plan v.history (Answer id result) may
+next_of v (Served id request reply) may = last_fits v.plan v.history (Served id request reply) may
+
+-- ---- the Request that is due
+
+record Parts (call : Option CallId) (due : Option HostAsk) (f : Frame) : Type 0 where
+  pub id : CallId
+  pub ask : HostAsk
+  pub named : call ≡ Some id
+  pub asked : due ≡ Some ask
+  pub frame : record { kind = Request; to = ask.to; id = id; pdu = ask.pdu } ≡ f
+
+parts : (call : Option CallId) (due : Option HostAsk) (f : Frame) → request_for call due ≡ Some f → Parts call due f
+parts None None f is = absurd cc
+parts None (Some ask) f is = absurd cc
+parts (Some id) None f is = absurd cc
+parts (Some id) (Some ask) f is = record { id = id; ask = ask; named = refl; asked = refl; frame = cc }
+
+due_is : (hold : ℕ) (o : Option HostAsk) (ask : HostAsk) → if_due hold o ≡ Some ask → o ≡ Some ask
+due_is hold None ask is = absurd cc
+due_is hold (Some x) ask is = elim (cases_Bool (nat_le x.hold hold)) [
+  | inl come ↦ sym (ap (λ b. if b then Some x else None) come) ∙ is
+  | inr early ↦ let none : None ≡ Some ask = sym (ap (λ b. if b then Some x else None) early) ∙ is in absurd cc
+]
+
+pub request_is : (v : HostIs) (hold : ℕ) (f : Frame) → IsHostPlan v.plan → due_request v hold ≡ Some f → IsDue v f
+request_is v hold f sound is =
+    let p = parts (next_host_call v.plan v.history) (due_ask v hold) f is in
+    let here = due_is hold (next_ask v) p.ask p.asked in
+    let next = next_is v.plan v.history p.id p.named in
+    let made : Frame = record { kind = Request; to = p.ask.to; id = p.id; pdu = p.ask.pdu } in
+    let due : IsDue v made = record {
+      next = (p.named, ap (option_map question_due) here);
+      from = (
+        ap (λ (i : CallId). i.node) next.name,
+        (all_at (IsAskOf v.plan.node) v.plan.requests (length (requests_in v.history)) p.ask sound.requests here).other,
+        next.path,
+      );
+    } in
+    subst (IsDue v) p.frame due
+
+-- ---- how many
+
+pub few_asked : (plan : HostPlan) (h : List HostEntry) → IsHostHistory plan h → length (requests_in h) ≤ length plan.requests
+few_asked plan h legal =
+    let all = ap length legal.order.1 in
+    omega (
+      arith,
+      all,
+      length-append (questions_in h) legal.order.0,
+      length-map
+          (requests_in h) question_of,
+      length-map plan.requests question_due,
+    )

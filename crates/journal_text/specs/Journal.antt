@@ -1,0 +1,76 @@
+-- The journal of a joint history, as a text. This project's own.
+use Rattle.std.specs.Prelude.{codes, ◌≡◌, ◌≢◌, ℕ, List, [], ◌++◌, map}
+use Rattle.std.specs.Fmt.{decimal}
+use Rattle.std.specs.List.{All, flat_map}
+use Rattle.std.specs.List.Sorted.{IsStrictlyIncreasing}
+use Rattle.ring_core.specs.declared.frame.FrameKind.{FrameKind}
+use Rattle.ring_core.specs.declared.frame.FrameKind.TheVariants.{Request, Reply}
+use Rattle.ring_core.specs.declared.frame.Frame.{Frame}
+use Rattle.ring_core.specs.declared.entry.LocalOp.{LocalOp}
+use Rattle.ring_core.specs.declared.entry.LocalOp.TheVariants.{RemoteGet, RemoteClear}
+use Rattle.ring_core.specs.declared.entry.RingEntry.{RingEntry}
+use Rattle.ring_core.specs.declared.entry.RingEntry.TheVariants.{Post, Take}
+use Rattle.controller_core.specs.declared.call.Call.{Call}
+use Rattle.controller_core.specs.declared.call.CallKind.{CallKind}
+use Rattle.controller_core.specs.declared.call.CallKind.TheVariants.{Net, Local}
+use Rattle.controller_core.specs.declared.entry.Entry.{Entry}
+use Rattle.controller_core.specs.declared.entry.Entry.TheVariants.{Collect}
+use Rattle.comm_port.specs.declared.joint.ControllerLog.{ControllerLog}
+use Rattle.comm_port.specs.declared.joint.HostLog.{HostLog}
+use Rattle.comm_port.specs.declared.joint.Joint.{Joint}
+use Rattle.journal_text.specs.Lines.{controller_line, host_line, ring_line}
+
+-- The section of a station: its letter with its node, and its entries.
+abbrev pub controller_section : ControllerLog → List ℕ
+controller_section log =
+    codes "C " ++ decimal log.node ++ codes "\n" ++ flat_map controller_line log.entries
+
+abbrev pub host_section : HostLog → List ℕ
+host_section log = codes "H " ++ decimal log.node ++ codes "\n" ++ flat_map host_line log.entries
+
+-- A journal: the sections of the controllers, those of the hosts, and that of the ring.
+abbrev pub journal : Joint → List ℕ
+journal joint =
+    codes "%JOURNAL\n" ++ flat_map controller_section joint.controllers
+    ++ flat_map host_section joint.hosts
+    ++ codes "R\n" ++ flat_map ring_line joint.ring ++ codes "%END\n"
+
+-- A call that a controller hands on asks nothing for another node.
+abbrev pub IsOwnOp : LocalOp → Type 0
+IsOwnOp RemoteGet = ⊥
+IsOwnOp RemoteClear = ⊥
+IsOwnOp _ = Unit {0}
+
+abbrev pub IsPlainKind : CallKind → Type 0
+IsPlainKind (Net to pdu) = Unit {0}
+IsPlainKind (Local op) = IsOwnOp op
+
+abbrev pub IsPlainCall : Call → Type 0
+IsPlainCall call = IsPlainKind call.kind
+
+-- A controller hands on one call at least.
+abbrev pub IsPlainEntry : Entry → Type 0
+IsPlainEntry (Collect calls) = (calls ≢ []) × All IsPlainCall calls
+IsPlainEntry _ = Unit {0}
+
+-- A Reply goes to who asked.
+abbrev pub IsPlainFrame : FrameKind → Frame → Type 0
+IsPlainFrame Request frame = Unit {0}
+IsPlainFrame Reply frame = frame.to ≡ frame.id.node
+
+-- And who takes a Request is its target.
+abbrev pub IsPlainGot : ℕ → FrameKind → Frame → Type 0
+IsPlainGot node Request frame = frame.to ≡ node
+IsPlainGot node Reply frame = frame.to ≡ frame.id.node
+
+abbrev pub IsPlainRing : RingEntry → Type 0
+IsPlainRing (Post node frame) = IsPlainFrame frame.kind frame
+IsPlainRing (Take node frame) = IsPlainGot node frame.kind frame
+IsPlainRing _ = Unit {0}
+
+-- A plain joint history: stations in rising node, and entries of which a journal tells all.
+pub record IsPlain (joint : Joint) : Type 0 where
+  pub controllers : IsStrictlyIncreasing (map (λ log. log.node) joint.controllers)
+  pub hosts : IsStrictlyIncreasing (map (λ log. log.node) joint.hosts)
+  pub entries : All (λ log. All IsPlainEntry log.entries) joint.controllers
+  pub ring : All IsPlainRing joint.ring

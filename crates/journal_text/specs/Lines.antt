@@ -1,0 +1,111 @@
+-- The lines of a journal, one of each entry. This project's own.
+use Rattle.std.specs.Prelude.{codes, Bool, true, false, ℕ, List, ◌++◌}
+use Rattle.std.specs.Fmt.{decimal}
+use Rattle.std.specs.List.{flat_map}
+use Rattle.mstr_block.specs.declared.call.CallId.{CallId}
+use Rattle.ring_core.specs.declared.frame.FrameKind.{FrameKind}
+use Rattle.ring_core.specs.declared.frame.FrameKind.TheVariants.{Request, Reply}
+use Rattle.ring_core.specs.declared.entry.Heard.{Heard}
+use Rattle.ring_core.specs.declared.entry.Heard.TheVariants.{Acked, Silent, Busy}
+use Rattle.ring_core.specs.declared.entry.LeaveCause.{LeaveCause}
+use Rattle.ring_core.specs.declared.entry.LeaveCause.TheVariants.{Ended, Spent}
+use Rattle.ring_core.specs.declared.entry.RingEntry.{RingEntry}
+use Rattle.ring_core.specs.declared.entry.RingEntry.TheVariants as ring
+use Rattle.controller_core.specs.declared.call.Call.{Call}
+use Rattle.controller_core.specs.declared.call.CallKind.{CallKind}
+use Rattle.controller_core.specs.declared.call.CallKind.TheVariants.{Net, Local}
+use Rattle.controller_core.specs.declared.entry.Entry.{Entry}
+use Rattle.controller_core.specs.declared.entry.Entry.TheVariants as entries
+use Rattle.host_port.specs.declared.entry.HostResult.{HostResult}
+use Rattle.host_port.specs.declared.entry.HostResult.TheVariants as host_results
+use Rattle.host_port.specs.declared.entry.HostEntry.{HostEntry}
+use Rattle.host_port.specs.declared.entry.HostEntry.TheVariants as host_entries
+use Rattle.journal_text.specs.Fields.{hex_word, hex_bytes, hex_words, id_text, op_text, result_text}
+
+-- A call that a controller hands on: to another node, or to its own port.
+abbrev pub kind_text : CallKind → List ℕ
+kind_text (Net to pdu) = decimal to ++ codes ":" ++ hex_bytes pdu
+kind_text (Local op) = op_text op
+
+abbrev pub call_text : Call → List ℕ
+call_text call = codes " " ++ id_text call.id ++ codes "=" ++ kind_text call.kind
+
+-- A request that was served, with the reply.
+abbrev pub peer_line : CallId → List ℕ → List ℕ → List ℕ
+peer_line id request reply =
+    codes "P " ++ id_text id ++ codes " " ++ hex_bytes request ++ codes " " ++ hex_bytes reply
+    ++ codes "\n"
+
+-- An event of a controller.
+abbrev pub controller_line : Entry → List ℕ
+controller_line entries.Begin = codes "B\n"
+controller_line (entries.Input row) = codes "I " ++ decimal row ++ codes "\n"
+controller_line (entries.Solve row) = codes "S " ++ decimal row ++ codes "\n"
+controller_line (entries.Output row words) =
+    codes "O " ++ decimal row ++ codes " " ++ hex_words words ++ codes "\n"
+controller_line entries.End = codes "E\n"
+controller_line (entries.Collect calls) = codes "L" ++ flat_map call_text calls ++ codes "\n"
+controller_line (entries.Peer id request reply) = peer_line id request reply
+controller_line (entries.Finish id result) =
+    codes "F " ++ id_text id ++ codes " " ++ result_text result ++ codes "\n"
+
+-- What came of a host's request.
+abbrev pub answer_text : HostResult → List ℕ
+answer_text (host_results.Reply pdu) = codes "R " ++ hex_bytes pdu
+answer_text (host_results.Bad word) = codes "B " ++ hex_word word
+
+-- A request of a host and its name, its target and its bytes.
+abbrev pub request_text : CallId → ℕ → List ℕ → List ℕ
+request_text id to pdu =
+    codes "Q " ++ id_text id ++ codes " " ++ decimal to ++ codes " " ++ hex_bytes pdu
+
+-- An event of a host.
+abbrev pub host_line : HostEntry → List ℕ
+host_line (host_entries.Ask id to pdu) = request_text id to pdu ++ codes "\n"
+host_line (host_entries.Answer id result) =
+    codes "A " ++ id_text id ++ codes " " ++ answer_text result ++ codes "\n"
+host_line (host_entries.Served id request reply) = peer_line id request reply
+
+-- A frame that is posted, and one that is taken: who takes a Request is its target.
+abbrev pub sent_text : FrameKind → CallId → ℕ → List ℕ → List ℕ
+sent_text Request id to pdu = request_text id to pdu
+sent_text Reply id to pdu = codes "R " ++ id_text id ++ codes " " ++ hex_bytes pdu
+
+abbrev pub got_text : FrameKind → CallId → List ℕ → List ℕ
+got_text Request id pdu = codes "Q " ++ id_text id ++ codes " " ++ hex_bytes pdu
+got_text Reply id pdu = codes "R " ++ id_text id ++ codes " " ++ hex_bytes pdu
+
+-- What a sender is told, why a node leaves, and whether it is done.
+abbrev pub heard_text : Heard → List ℕ
+heard_text Acked = codes "A"
+heard_text Silent = codes "S"
+heard_text Busy = codes "B"
+
+abbrev pub cause_text : LeaveCause → List ℕ
+cause_text Ended = codes "E"
+cause_text Spent = codes "S"
+
+abbrev pub done_text : Bool → List ℕ
+done_text true = codes "1"
+done_text false = codes "0"
+
+-- An entry of the ring.
+abbrev pub ring_line : RingEntry → List ℕ
+ring_line (ring.Post node frame) =
+    codes "PO " ++ decimal node ++ codes " " ++ sent_text frame.kind frame.id frame.to frame.pdu
+    ++ codes "\n"
+ring_line (ring.Send node heard) =
+    codes "SE " ++ decimal node ++ codes " " ++ heard_text heard ++ codes "\n"
+ring_line (ring.Take node frame) =
+    codes "TA " ++ decimal node ++ codes " " ++ got_text frame.kind frame.id frame.pdu
+    ++ codes "\n"
+ring_line (ring.Local node id op result) =
+    codes "LO " ++ decimal node ++ codes " " ++ id_text id ++ codes " " ++ op_text op
+    ++ codes " " ++ result_text result ++ codes "\n"
+ring_line (ring.GiveUp id word) = codes "GU " ++ id_text id ++ codes " " ++ hex_word word ++ codes
+    "\n"
+ring_line (ring.Pass node done words) =
+    codes "PA " ++ decimal node ++ codes " " ++ done_text done ++ codes " " ++ hex_words words
+    ++ codes "\n"
+ring_line (ring.Leave node cause) =
+    codes "LE " ++ decimal node ++ codes " " ++ cause_text cause ++ codes "\n"

@@ -1,0 +1,135 @@
+//! The section of a controller.
+ghost use Rattle.std.specs.Prelude.{codes, ◌≡◌, ◌++◌, OnOk, string_bytes};
+ghost use Rattle.std.specs.List.{flat_map};
+ghost use Rattle.journal_text.specs.Lines.{call_text, controller_line, kind_text, peer_line};
+ghost use Rattle.std.specs.Fmt.{decimal};
+ghost use Rattle.journal_text.specs.Fields.{hex_words, id_text, result_text};
+ghost use Rattle.journal_text.specs.Journal.{controller_section};
+
+use crate::fields::{Name, push_bytes, push_op, push_result, push_words};
+use comm_port::ControllerLog;
+use controller_core::{Call, CallKind, Entry};
+use mstr_block::{CallId, MstrResult};
+use plant_types::Pdu;
+use std::alloc::AllocError;
+use std::fmt::Write;
+
+fn push_kind(text: &mut String, kind: &CallKind) -> Result<(), AllocError>
+    ensures { OnOk result (string_bytes text.new ≡ string_bytes text.old ++ kind_text kind.now) }
+{
+    match kind {
+        CallKind::Net { to, pdu } => {
+            write!(text, "{to}:")?;
+            push_bytes(text, pdu.bytes())
+        }
+        CallKind::Local(op) => push_op(text, op),
+    }
+}
+
+fn push_call(text: &mut String, call: &Call) -> Result<(), AllocError>
+    ensures { OnOk result (string_bytes text.new ≡ string_bytes text.old ++ call_text call.now) }
+{
+    let id = Name(call.id);
+    write!(text, " {id}=")?;
+    push_kind(text, &call.kind)
+}
+
+fn push_calls(text: &mut String, calls: &[Call]) -> Result<(), AllocError>
+    ensures { OnOk result (string_bytes text.new ≡ string_bytes text.old
+        ++ flat_map call_text calls.now) }
+{
+    for call in calls.iter() {
+        push_call(text, call)?;
+    }
+    Ok(())
+}
+
+fn push_collect(text: &mut String, calls: &[Call]) -> Result<(), AllocError>
+    ensures { OnOk result (string_bytes text.new ≡ string_bytes text.old
+        ++ (codes "L" ++ flat_map call_text calls.now ++ codes "\n")) }
+{
+    text.push_str("L")?;
+    push_calls(text, calls)?;
+    text.push_str("\n")
+}
+
+fn push_output(text: &mut String, row: u16, words: &[u16]) -> Result<(), AllocError>
+    ensures { OnOk result (string_bytes text.new ≡ string_bytes text.old
+        ++ (codes "O " ++ decimal row ++ codes " " ++ hex_words words.now ++ codes "\n")) }
+{
+    write!(text, "O {row} ")?;
+    push_words(text, words)?;
+    text.push_str("\n")
+}
+
+pub(crate) fn push_peer(
+    text: &mut String,
+    id: CallId,
+    request: &Pdu,
+    reply: &Pdu,
+) -> Result<(), AllocError>
+    ensures { OnOk result (string_bytes text.new ≡ string_bytes text.old
+        ++ peer_line id request.now reply.now) }
+{
+    let id = Name(id);
+    write!(text, "P {id} ")?;
+    push_bytes(text, request.bytes())?;
+    text.push_str(" ")?;
+    push_bytes(text, reply.bytes())?;
+    text.push_str("\n")
+}
+
+fn push_finish(text: &mut String, id: CallId, outcome: &MstrResult) -> Result<(), AllocError>
+    ensures { OnOk result (string_bytes text.new ≡ string_bytes text.old
+        ++ (codes "F " ++ id_text id ++ codes " " ++ result_text outcome.now ++ codes "\n")) }
+{
+    let id = Name(id);
+    write!(text, "F {id} ")?;
+    push_result(text, outcome)?;
+    text.push_str("\n")
+}
+
+fn push_entry(text: &mut String, entry: &Entry) -> Result<(), AllocError>
+    ensures { OnOk result (string_bytes text.new ≡ string_bytes text.old
+        ++ controller_line entry.now) }
+{
+    match entry {
+        Entry::Begin => text.push_str("B\n"),
+        Entry::Input(row) => write!(text, "I {row}\n"),
+        Entry::Solve(row) => write!(text, "S {row}\n"),
+        Entry::Output { row, words } => push_output(text, *row, words.words()),
+        Entry::End => text.push_str("E\n"),
+        Entry::Collect(calls) => push_collect(text, calls.as_slice()),
+        Entry::Peer { id, request, reply } => push_peer(text, *id, request, reply),
+        Entry::Finish { id, result } => push_finish(text, *id, result),
+    }
+}
+
+fn push_entries(text: &mut String, entries: &[Entry]) -> Result<(), AllocError>
+    ensures { OnOk result (string_bytes text.new ≡ string_bytes text.old
+        ++ flat_map controller_line entries.now) }
+{
+    for entry in entries.iter() {
+        push_entry(text, entry)?;
+    }
+    Ok(())
+}
+
+fn push_log(text: &mut String, log: &ControllerLog) -> Result<(), AllocError>
+    ensures { OnOk result (string_bytes text.new ≡ string_bytes text.old
+        ++ controller_section log.now) }
+{
+    let node = log.node;
+    write!(text, "C {node}\n")?;
+    push_entries(text, log.entries.as_slice())
+}
+
+pub(crate) fn push_logs(text: &mut String, logs: &[ControllerLog]) -> Result<(), AllocError>
+    ensures { OnOk result (string_bytes text.new ≡ string_bytes text.old
+        ++ flat_map controller_section logs.now) }
+{
+    for log in logs.iter() {
+        push_log(text, log)?;
+    }
+    Ok(())
+}

@@ -1,0 +1,101 @@
+//! The section of a host.
+ghost use Rattle.std.specs.Prelude.{codes, ◌≡◌, ◌++◌, OnOk, string_bytes};
+ghost use Rattle.std.specs.List.{flat_map};
+ghost use Rattle.journal_text.specs.Fields.{id_text};
+ghost use Rattle.journal_text.specs.Lines.{answer_text, host_line, request_text};
+ghost use Rattle.journal_text.specs.Journal.{host_section};
+
+use crate::controllers::push_peer;
+use crate::fields::{HexWord, Name, push_bytes};
+use comm_port::HostLog;
+use host_port::{HostEntry, HostResult};
+use mstr_block::CallId;
+use plant_types::Pdu;
+use std::alloc::AllocError;
+use std::fmt::Write;
+
+fn push_outcome(text: &mut String, outcome: &HostResult) -> Result<(), AllocError>
+    ensures { OnOk result (string_bytes text.new ≡ string_bytes text.old
+        ++ answer_text outcome.now) }
+{
+    match outcome {
+        HostResult::Reply(pdu) => {
+            text.push_str("R ")?;
+            push_bytes(text, pdu.bytes())
+        }
+        HostResult::Bad(word) => {
+            let word = HexWord(*word);
+            write!(text, "B {word}")
+        }
+    }
+}
+
+pub(crate) fn push_request(
+    text: &mut String,
+    id: CallId,
+    to: u8,
+    pdu: &Pdu,
+) -> Result<(), AllocError>
+    ensures { OnOk result (string_bytes text.new ≡ string_bytes text.old
+        ++ request_text id to pdu.now) }
+{
+    let id = Name(id);
+    write!(text, "Q {id} {to} ")?;
+    push_bytes(text, pdu.bytes())
+}
+
+fn push_ask(text: &mut String, id: CallId, to: u8, pdu: &Pdu) -> Result<(), AllocError>
+    ensures { OnOk result (string_bytes text.new ≡ string_bytes text.old
+        ++ (request_text id to pdu.now ++ codes "\n")) }
+{
+    push_request(text, id, to, pdu)?;
+    text.push_str("\n")
+}
+
+fn push_answer(text: &mut String, id: CallId, outcome: &HostResult) -> Result<(), AllocError>
+    ensures { OnOk result (string_bytes text.new ≡ string_bytes text.old
+        ++ (codes "A " ++ id_text id ++ codes " " ++ answer_text outcome.now ++ codes "\n")) }
+{
+    let id = Name(id);
+    write!(text, "A {id} ")?;
+    push_outcome(text, outcome)?;
+    text.push_str("\n")
+}
+
+fn push_entry(text: &mut String, entry: &HostEntry) -> Result<(), AllocError>
+    ensures { OnOk result (string_bytes text.new ≡ string_bytes text.old ++ host_line entry.now) }
+{
+    match entry {
+        HostEntry::Ask { id, to, pdu } => push_ask(text, *id, *to, pdu),
+        HostEntry::Answer { id, result } => push_answer(text, *id, result),
+        HostEntry::Served { id, request, reply } => push_peer(text, *id, request, reply),
+    }
+}
+
+fn push_entries(text: &mut String, entries: &[HostEntry]) -> Result<(), AllocError>
+    ensures { OnOk result (string_bytes text.new ≡ string_bytes text.old
+        ++ flat_map host_line entries.now) }
+{
+    for entry in entries.iter() {
+        push_entry(text, entry)?;
+    }
+    Ok(())
+}
+
+fn push_log(text: &mut String, log: &HostLog) -> Result<(), AllocError>
+    ensures { OnOk result (string_bytes text.new ≡ string_bytes text.old ++ host_section log.now) }
+{
+    let node = log.node;
+    write!(text, "H {node}\n")?;
+    push_entries(text, log.entries.as_slice())
+}
+
+pub(crate) fn push_logs(text: &mut String, logs: &[HostLog]) -> Result<(), AllocError>
+    ensures { OnOk result (string_bytes text.new ≡ string_bytes text.old
+        ++ flat_map host_section logs.now) }
+{
+    for log in logs.iter() {
+        push_log(text, log)?;
+    }
+    Ok(())
+}

@@ -1,0 +1,15 @@
+//! The journal: a joint history as a text that a stranger can check. This project's own.
+#![tactic(auto)]
+
+mod controllers;
+mod fields;
+mod hosts;
+mod plain;
+mod rings;
+mod writing;
+
+pub use plain::is_plain;
+pub use writing::journal_text;
+
+#[cfg(test)]
+mod tests;

@@ -1,0 +1,8 @@
+use Rattle.std.proofs.Common.{◌≡◌, drop}
+use Rattle.plant_loader.specs.InOrder.{with_front}
+use Rattle.plant_loader.specs.Net.{fates_in}
+use Rattle.plant_loader.proofs.net.fates_in.Given as goal
+
+-- the fates so far, before those of the letters left
+abbrev pub invariant-loop-letter : goal.invariant-loop-letter
+invariant-loop-letter l = with_front l.fates (fates_in (drop l.letter-index l.letters)) ≡ fates_in l.letters

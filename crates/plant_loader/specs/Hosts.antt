@@ -1,0 +1,50 @@
+-- The hosts of a plant by their tables. This project's own.
+use Rattle.std.specs.Prelude.{codes, ℕ, Bool, not, ◌||◌, ◌==◌, List, [], ◌∷◌, Result, Ok}
+use Rattle.std.specs.List.{list_any}
+use Rattle.toml.specs.Data.{Members}
+use Rattle.plant_types.specs.declared.net.HostAsk.{HostAsk}
+use Rattle.plant_types.specs.declared.net.HostPlan.{HostPlan}
+use Rattle.plant_types.specs.declared.plan.ControllerPlan.{ControllerPlan}
+use Rattle.plant_types.specs.declared.fault.PlantFault.TheVariants.{BadNode}
+use Rattle.cell_text.specs.Steps.{◌>>=◌, unless}
+use Rattle.plant_loader.specs.Refusals.{Refusal, host_place}
+use Rattle.plant_loader.specs.Keys.{keys_pass, address_at, texts_at}
+use Rattle.plant_loader.specs.InOrder.{with_positions, each_behind}
+use Rattle.plant_loader.specs.Stations.{has_controller}
+use Rattle.plant_loader.specs.Requests.{requests_of}
+
+-- The keys of a host, and the one that it must have.
+abbrev pub host_keys : List (List ℕ)
+host_keys = codes "node" ∷ codes "requests" ∷ []
+
+abbrev pub host_required : List (List ℕ)
+host_required = codes "node" ∷ []
+
+-- The most requests of a host.
+abbrev pub request_limit : ℕ
+request_limit = 1000
+
+-- One of these hosts has this node.
+abbrev pub has_host : List HostPlan → ℕ → Bool
+has_host hosts node = list_any (λ host. host.node == node) hosts
+
+-- A host from its parts.
+abbrev pub host_from : ℕ → List HostAsk → HostPlan
+host_from node requests = record { node = node; requests = requests }
+
+-- The host of a table behind the controllers and the hosts before it: its table, then its node,
+-- which none of them has, then its requests.
+unfoldable pub host_behind : List ControllerPlan → List HostPlan → ℕ × Members
+    → Result HostPlan Refusal
+host_behind controllers earlier table = do
+  place ← Ok (host_place table.0)
+  keys ← keys_pass place host_keys host_required table.1
+  node ← address_at place table.1
+  texts ← texts_at place request_limit (codes "requests") table.1
+  fresh ← unless (not (has_controller controllers node || has_host earlier node)) (BadNode, place)
+  requests ← requests_of node table.0 texts
+  Ok (host_from node requests)
+
+-- The hosts of a plant, in file order.
+abbrev pub hosts_of : List ControllerPlan → List Members → Result (List HostPlan) Refusal
+hosts_of controllers tables = each_behind (host_behind controllers) [] (with_positions tables)

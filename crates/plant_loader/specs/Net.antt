@@ -1,0 +1,99 @@
+-- The rules of the network, its members, and the plant as a whole. This project's own.
+use Rattle.std.specs.Prelude.{codes, ℕ, Bool, ◌&&◌, ◌==◌, nat_le, if◌then◌else◌, List, [], ◌∷◌}
+use Rattle.std.specs.Prelude.{◌++◌, map, length, Option, Some, None, Result, Ok}
+use Rattle.toml.specs.Data.{Data, Members, no_members, get_member, as_str}
+use Rattle.plant_types.specs.declared.net.Fate.{Fate}
+use Rattle.plant_types.specs.declared.net.Fate.TheVariants.{D, L, A}
+use Rattle.plant_types.specs.declared.net.NetPlan.{NetPlan}
+use Rattle.plant_types.specs.declared.net.HostPlan.{HostPlan}
+use Rattle.plant_types.specs.declared.plan.ControllerPlan.{ControllerPlan}
+use Rattle.plant_types.specs.declared.plan.Plant.{Plant}
+use Rattle.plant_types.specs.declared.fault.PlantFault.TheVariants.{BadValue}
+use Rattle.cell_text.specs.Steps.{◌>>=◌, or_fault, unless}
+use Rattle.plant_loader.specs.declared.net.NetRules.{NetRules}
+use Rattle.plant_loader.specs.Refusals.{Refusal, net_place}
+use Rattle.plant_loader.specs.Keys.{keys_pass, number_at_or}
+use Rattle.plant_loader.specs.InOrder.{each_of}
+use Rattle.plant_loader.specs.Rising.{by_node}
+
+-- The keys of the network, of which it must have none.
+abbrev pub net_keys : List (List ℕ)
+net_keys =
+    codes "fates" ∷ codes "answer" ∷ codes "rotations" ∷ codes "rounds" ∷ codes "holds" ∷ []
+
+-- What becomes of a transmission, by its letter.
+abbrev pub fate_of : ℕ → Option Fate
+fate_of letter =
+    if letter == 68 then Some D
+    else if letter == 76 then Some L
+    else if letter == 65 then Some A
+    else None
+
+abbrev pub fates_in : List ℕ → Result (List Fate) Refusal
+fates_in letters = each_of (λ letter. or_fault (BadValue, net_place) (fate_of letter)) letters
+
+-- A text has 1 to 1000 letters.
+abbrev pub has_letters : List ℕ → Bool
+has_letters text = nat_le 1 (length text) && nat_le (length text) 1000
+
+-- The fates of a text, or each transmission is delivered where there is none.
+unfoldable pub fates_or : Option Data → Result (List Fate) Refusal
+fates_or None = Ok (D ∷ [])
+fates_or (Some d) = do
+  text ← or_fault (BadValue, net_place) (as_str d)
+  letters ← unless (has_letters text) (BadValue, net_place)
+  fates_in text
+
+-- How the network treats its members, from its parts.
+abbrev pub rules_from : List Fate → ℕ → ℕ → ℕ → ℕ → NetRules
+rules_from fates answer rotations rounds holds = record {
+  fates = fates;
+  answer = answer;
+  rotations = rotations;
+  rounds = rounds;
+  holds = holds;
+}
+
+-- The rules of a table, with a default for each key.
+unfoldable pub rules_in : Members → Result NetRules Refusal
+rules_in ms = do
+  keys ← keys_pass net_place net_keys [] ms
+  fates ← fates_or (get_member (codes "fates") ms)
+  answer ← number_at_or net_place (codes "answer") 20 2 1000 ms
+  rotations ← number_at_or net_place (codes "rotations") 4 1 10 ms
+  rounds ← number_at_or net_place (codes "rounds") 2 1 100 ms
+  holds ← number_at_or net_place (codes "holds") 100000 1 100000 ms
+  Ok (rules_from fates answer rotations rounds holds)
+
+-- Those of no table are all defaults.
+abbrev pub rules_of : Option Members → Result NetRules Refusal
+rules_of None = rules_in no_members
+rules_of (Some ms) = rules_in ms
+
+-- The nodes of controllers and hosts, in file order.
+abbrev pub nodes_of : List ControllerPlan → List HostPlan → List ℕ
+nodes_of controllers hosts = map (λ plan. plan.node) controllers ++ map (λ host. host.node) hosts
+
+-- The members of the network: all nodes, rising.
+abbrev pub members_of : List ControllerPlan → List HostPlan → List ℕ
+members_of controllers hosts = by_node (λ node. node) (nodes_of controllers hosts)
+
+abbrev pub net_from : NetRules → List ℕ → NetPlan
+net_from rules members = record {
+  members = members;
+  fates = rules.fates;
+  answer = rules.answer;
+  rotations = rules.rotations;
+  rounds = rules.rounds;
+  holds = rules.holds;
+}
+
+-- The plant of controllers and hosts in file order: in it they rise by node.
+abbrev pub plant_from : ℕ → ℕ → NetRules → List ControllerPlan → List HostPlan → Plant
+plant_from scan_time watchdog rules controllers hosts = record {
+  scan_time = scan_time;
+  watchdog = watchdog;
+  net = net_from rules (members_of controllers hosts);
+  controllers = by_node (λ plan. plan.node) controllers;
+  hosts = by_node (λ host. host.node) hosts;
+}

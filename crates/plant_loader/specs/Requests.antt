@@ -1,0 +1,84 @@
+-- The requests of a host by their texts. This project's own.
+use Rattle.std.specs.Prelude.{ℕ, ◌%◌, Bool, ◌&&◌, ◌==◌, nat_le, if◌then◌else◌, List, [], ◌∷◌}
+use Rattle.std.specs.Prelude.{length, Option, Some, None, option_and_then, Result, Ok}
+use Rattle.std.specs.List.{list_all}
+use Rattle.plant_types.specs.declared.net.HostAsk.{HostAsk}
+use Rattle.plant_types.specs.declared.fault.PlantFault.TheVariants.{BadValue, BadNode}
+use Rattle.plant_types.specs.declared.fault.Place.{Place}
+use Rattle.plant_types.specs.Words.{pdu_of}
+use Rattle.cell_text.specs.Steps.{◌>>=◌, or_fault, unless}
+use Rattle.cell_text.specs.Words.{text_words}
+use Rattle.cell_text.specs.Numbers.{is_digit, value_of, has_no_leading_zero}
+use Rattle.plant_loader.specs.Refusals.{Refusal, request_place}
+use Rattle.plant_loader.specs.Hex.{is_hex_digit, hex_pairs}
+use Rattle.plant_loader.specs.InOrder.{each_from}
+
+-- Decimal digits, as many as there are, without a leading zero.
+abbrev pub is_numeral : List ℕ → Bool
+is_numeral word =
+    list_all is_digit word && (nat_le 1 (length word) && has_no_leading_zero word)
+
+-- The number of a word, where it reads and is from low to high.
+abbrev pub is_numeral_within : ℕ → ℕ → List ℕ → Bool
+is_numeral_within low high word =
+    is_numeral word && (nat_le low (value_of word) && nat_le (value_of word) high)
+
+abbrev pub numeral_within : ℕ → ℕ → List ℕ → Option ℕ
+numeral_within low high word = if is_numeral_within low high word then Some (value_of word) else
+    None
+
+-- Numbers from here on are told apart from lower ones alone.
+abbrev pub most_told : ℕ
+most_told = 100000
+
+-- The three words of a request: the hold of the token from which on it is due, the node that is
+-- asked, and the PDU.
+pub record RequestWords : Type 0 where
+  pub hold : List ℕ
+  pub to : List ℕ
+  pub pdu : List ℕ
+
+abbrev pub request_words_from : List ℕ → List ℕ → List ℕ → RequestWords
+request_words_from hold to pdu = record { hold = hold; to = to; pdu = pdu }
+
+abbrev pub request_words : List (List ℕ) → Option RequestWords
+request_words (hold ∷ to ∷ pdu ∷ []) = Some (request_words_from hold to pdu)
+request_words _ = None
+
+-- The PDU of a word: 1 to 253 bytes, each of two hexadecimal digits.
+abbrev pub is_hex_text : List ℕ → Bool
+is_hex_text word = list_all is_hex_digit word && (length word % 2 == 0)
+
+abbrev pub pdu_spelled : List ℕ → Option (List ℕ)
+pdu_spelled word = if is_hex_text word then pdu_of (hex_pairs word) else None
+
+abbrev pub pdu_in : Place → List ℕ → Result (List ℕ) Refusal
+pdu_in place word = or_fault (BadValue, place) (pdu_spelled word)
+
+-- A node that is asked: another one than the host's own.
+abbrev pub another : ℕ → ℕ → Option ℕ
+another node to = if to == node then None else Some to
+
+abbrev pub target_in : ℕ → List ℕ → Option ℕ
+target_in node word = option_and_then (another node) (numeral_within 1 64 word)
+
+-- A request from its parts.
+abbrev pub ask_from : ℕ → ℕ → List ℕ → HostAsk
+ask_from hold to pdu = record { hold = hold; to = to; pdu = pdu }
+
+-- The request of a text of the host of a node.
+unfoldable pub request_of : ℕ → Place → List ℕ → Result HostAsk Refusal
+request_of node place text = do
+  words ← or_fault (BadValue, place) (request_words (text_words text))
+  hold ← or_fault (BadValue, place) (numeral_within 1 10000 words.hold)
+  number ← unless (is_numeral words.to) (BadValue, place)
+  pdu ← pdu_in place words.pdu
+  to ← or_fault (BadNode, place) (target_in node words.to)
+  Ok (ask_from hold to pdu)
+
+abbrev pub numbered_request : ℕ → ℕ → ℕ → List ℕ → Result HostAsk Refusal
+numbered_request node host number text = request_of node (request_place host number) text
+
+-- The requests of the host of a node at a position.
+abbrev pub requests_of : ℕ → ℕ → List (List ℕ) → Result (List HostAsk) Refusal
+requests_of node host texts = each_from (numbered_request node host) 1 texts

@@ -1,0 +1,74 @@
+//! The hosts of a plant by their tables.
+ghost use Rattle.std.specs.Prelude.{◌≡◌, ◌≤◌, codes, length, map};
+ghost use Rattle.toml.specs.View.{table_view};
+ghost use Rattle.plant_loader.specs.Refusals.{Gives};
+ghost use Rattle.plant_loader.specs.Hosts.{has_host, host_behind, hosts_of};
+
+use crate::keys::{address_at, keys_pass, texts_at};
+use crate::refusal::{LoadEnd, host_place};
+use crate::requests::{REQUEST_LIMIT, requests_of};
+use crate::stations::has_controller;
+use plant_types::{ControllerPlan, HostPlan, PlantFault};
+use std::alloc::Global;
+use toml::Table;
+
+/// The most hosts of a plant.
+pub const HOST_LIMIT: usize = 16;
+
+/// The keys of a host.
+const HOST_KEYS: [&str; 2] = ["node", "requests"];
+
+/// The one that it must have.
+const HOST_REQUIRED: [&str; 1] = ["node"];
+
+/// Whether one of these hosts has this node.
+pub fn has_host(hosts: &[HostPlan], node: u8) -> bool
+    ensures { result ≡ has_host hosts.now node }
+{
+    hosts.iter().any(|host| host.node == node)
+}
+
+#[tactic(auto, unfolding(crate::specs::Hosts::host_behind))]
+fn host_behind(
+    alloc: Global,
+    controllers: &[ControllerPlan],
+    earlier: &[HostPlan],
+    position: u32,
+    table: &Table,
+) -> Result<HostPlan, LoadEnd>
+    ensures { Gives (λ host. host) result
+        (host_behind controllers.now earlier.now (position, table_view table.now)) }
+{
+    let place = host_place(position);
+    keys_pass(place, &HOST_KEYS, &HOST_REQUIRED, table)?;
+    let node = address_at(place, table)?;
+    let texts = texts_at(alloc, place, REQUEST_LIMIT, "requests", table)?;
+    if has_controller(controllers, node) || has_host(earlier, node) {
+        return Err(LoadEnd::Refused(PlantFault::BadNode, place));
+    }
+    let requests = requests_of(alloc, node, position, texts.as_slice())?;
+    Ok(HostPlan { node, requests })
+}
+
+/// The hosts of a plant by their tables, in file order, beside its controllers.
+#[tactic(auto, unfolding(crate::specs::InOrder::each_behind))]
+pub fn hosts_of(
+    alloc: Global,
+    controllers: &[ControllerPlan],
+    tables: &[&Table],
+) -> Result<Vec<HostPlan>, LoadEnd>
+    requires { length tables.now ≤ HOST_LIMIT }
+    ensures { Gives (λ hosts. hosts.items) result
+        (hosts_of controllers.now (map (λ t. table_view t.now) tables.now)) }
+{
+    let mut hosts = Vec::new(alloc);
+    let mut position = 0;
+    for table in tables {
+        position += 1;
+        let next = host_behind(alloc, controllers, hosts.as_slice(), position, table)?;
+        if hosts.push(next).is_err() {
+            return Err(LoadEnd::NoMemory);
+        }
+    }
+    Ok(hosts)
+}

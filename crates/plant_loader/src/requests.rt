@@ -1,0 +1,124 @@
+//! The requests of a host by their texts.
+ghost use Rattle.std.specs.Prelude.{◌≡◌, ◌≢◌, ◌≤◌, length, map, option_map, true, Err, IfOk};
+ghost use Rattle.std.specs.List.{list_all};
+ghost use Rattle.cell_text.specs.Words.{text_words};
+ghost use Rattle.plant_types.specs.Words.{pdu_of};
+ghost use Rattle.plant_loader.specs.Hex.{is_hex_digit, hex_pairs};
+ghost use Rattle.plant_loader.specs.Refusals.{Gives, Makes};
+ghost use Rattle.plant_loader.specs.Requests.{request_words_from, request_words, pdu_in, target_in};
+ghost use Rattle.plant_loader.specs.Requests.{request_of, requests_of};
+
+use crate::hex::{are_hex_digits, hex_digit};
+use crate::numerals::{is_numeral, numeral_within};
+use crate::refusal::{LoadEnd, request_place};
+use cell_text::next_word;
+use plant_types::{HostAsk, List, Pdu, Place, PlantFault};
+use std::alloc::Global;
+
+/// The most requests of a host.
+pub const REQUEST_LIMIT: usize = 1000;
+
+/// The three words of a request.
+#[derive(Clone, Copy)]
+struct RequestWords<'a> {
+    hold: &'a [u8],
+    to: &'a [u8],
+    pdu: &'a [u8],
+}
+
+fn request_words(text: &[u8]) -> Option<RequestWords<'_>>
+    ensures { option_map (λ w. request_words_from w.hold.now w.to.now w.pdu.now) result
+        ≡ request_words (text_words text.now) }
+{
+    let (hold, rest) = next_word(text)?;
+    let (to, rest) = next_word(rest)?;
+    let (pdu, rest) = next_word(rest)?;
+    if next_word(rest).is_some() {
+        return None;
+    }
+    Some(RequestWords { hold, to, pdu })
+}
+
+/// The bytes of hexadecimal digits, two for each.
+fn hex_pairs(alloc: Global, digits: &[u8]) -> Result<Vec<u8>, LoadEnd>
+    requires { list_all is_hex_digit digits.now ≡ true }
+    ensures { Makes result (λ bytes. bytes.items ≡ hex_pairs digits.now) }
+{
+    let mut bytes = Vec::new(alloc);
+    let mut rest = digits;
+    while let [high, low, behind @ ..] = rest {
+        let byte = hex_digit(*high) * 16 + hex_digit(*low);
+        if bytes.push(byte as u8).is_err() {
+            return Err(LoadEnd::NoMemory);
+        }
+        rest = behind;
+    }
+    Ok(bytes)
+}
+
+fn pdu_in(alloc: Global, place: Place, word: &[u8]) -> Result<Pdu, LoadEnd>
+    ensures { Gives (λ pdu. pdu) result (pdu_in place word.now) }
+{
+    let refused = LoadEnd::Refused(PlantFault::BadValue, place);
+    if !are_hex_digits(word) || word.len() % 2 != 0 {
+        return Err(refused);
+    }
+    let bytes = hex_pairs(alloc, word)?;
+    match Pdu::of(alloc, bytes.as_slice())? {
+        Some(pdu) => Ok(pdu),
+        None => Err(refused),
+    }
+}
+
+/// A node that is asked: another one than the host's own.
+fn target_in(node: u8, word: &[u8]) -> Option<u8>
+    ensures { result ≡ target_in node word.now }
+{
+    let to = numeral_within(1, 64, word)?;
+    if to == u32::from(node) {
+        None
+    } else {
+        Some(to as u8)
+    }
+}
+
+#[tactic(auto, unfolding(crate::specs::Requests::request_of))]
+fn request_of(alloc: Global, node: u8, place: Place, text: &str) -> Result<HostAsk, LoadEnd>
+    ensures { Gives (λ ask. ask) result (request_of node place text.now) }
+{
+    let bad_value = LoadEnd::Refused(PlantFault::BadValue, place);
+    let Some(words) = request_words(text.as_bytes()) else {
+        return Err(bad_value);
+    };
+    let Some(hold) = numeral_within(1, 10_000, words.hold) else {
+        return Err(bad_value);
+    };
+    if !is_numeral(words.to) {
+        return Err(bad_value);
+    }
+    let pdu = pdu_in(alloc, place, words.pdu)?;
+    match target_in(node, words.to) {
+        Some(to) => Ok(HostAsk { hold, to, pdu }),
+        None => Err(LoadEnd::Refused(PlantFault::BadNode, place)),
+    }
+}
+
+/// The requests of the host of a node at a position.
+pub fn requests_of(
+    alloc: Global,
+    node: u8,
+    host: u32,
+    texts: &[&str],
+) -> Result<List<HostAsk>, LoadEnd>
+    requires { length texts.now ≤ REQUEST_LIMIT }
+    ensures { Gives (λ asks. asks) result (requests_of node host (map (λ t. t.now) texts.now)) }
+{
+    let mut asks = List::new(alloc);
+    let mut number = 0;
+    for text in texts {
+        number += 1;
+        let ask = request_of(alloc, node, request_place(host, number), text)?;
+        asks.push(ask)?;
+    }
+    Ok(asks)
+}

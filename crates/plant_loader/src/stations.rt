@@ -1,0 +1,146 @@
+//! The plans of controllers by their tables.
+ghost use Rattle.std.specs.Prelude.{◌≡◌, ◌≤◌, ◌==◌, codes, length, map, IfOk};
+ghost use Rattle.std.specs.List.{list_any};
+ghost use Rattle.toml.specs.View.{table_view};
+ghost use Rattle.plant_loader.specs.Refusals.{Gives};
+ghost use Rattle.plant_loader.specs.Stations.{read_arrays, AreFew, arrays_at, parts_of};
+ghost use Rattle.plant_loader.specs.Stations.{has_controller, controller_behind, controllers_of};
+
+use crate::controller::{PANEL_LIMIT, panel_of, sizes_at};
+use crate::drops::{DROP_LIMIT, drops_of};
+use crate::keys::{address_at, keys_pass, tables_at, texts_at};
+use crate::orders::{ORDER_LIMIT, orders_of};
+use crate::owner::Owner;
+use crate::pieces::segments_of;
+use crate::program::SEGMENT_LIMIT;
+use crate::refusal::LoadEnd;
+use plant_types::{ControllerPlan, Place, PlantFault};
+use std::alloc::Global;
+use toml::Table;
+
+/// The most controllers of a plant.
+pub const CONTROLLER_LIMIT: usize = 16;
+
+/// The keys of a controller.
+const CONTROLLER_KEYS: [&str; 9] = [
+    "node",
+    "coils",
+    "inputs",
+    "input_registers",
+    "registers",
+    "panel",
+    "drop",
+    "segment",
+    "orders",
+];
+
+/// The one that it must have.
+const CONTROLLER_REQUIRED: [&str; 1] = ["node"];
+
+/// The arrays of a controller's table: the texts of its panel and of its orders, and the tables of
+/// its drops and of its segments.
+#[derive(Drop)]
+struct Arrays<'a> {
+    panel: Vec<&'a str>,
+    drops: Vec<&'a Table>,
+    segments: Vec<&'a Table>,
+    orders: Vec<&'a str>,
+}
+
+#[tactic(auto, unfolding(crate::specs::Stations::arrays_at))]
+fn arrays_at<'a>(alloc: Global, place: Place, table: &'a Table) -> Result<Arrays<'a>, LoadEnd>
+    ensures read { Gives read_arrays result (arrays_at place (table_view table.now)) }
+    ensures few { IfOk result (λ arrays. AreFew arrays) }
+{
+    let panel = texts_at(alloc, place, PANEL_LIMIT, "panel", table)?;
+    let drops = tables_at(alloc, place, DROP_LIMIT, "drop", table)?;
+    let segments = tables_at(alloc, place, SEGMENT_LIMIT, "segment", table)?;
+    let orders = texts_at(alloc, place, ORDER_LIMIT, "orders", table)?;
+    Ok(Arrays {
+        panel,
+        drops,
+        segments,
+        orders,
+    })
+}
+
+#[tactic(auto, unfolding(crate::specs::Stations::parts_of))]
+fn parts_of(
+    alloc: Global,
+    node: u8,
+    owner: Owner,
+    arrays: &Arrays,
+) -> Result<ControllerPlan, LoadEnd>
+    requires { AreFew arrays.now }
+    ensures { Gives (λ plan. plan) result (parts_of node owner
+        (read_arrays arrays.now)) }
+{
+    let drops = drops_of(alloc, owner, arrays.drops.as_slice())?;
+    let segments = segments_of(alloc, owner, arrays.segments.as_slice())?;
+    let orders = orders_of(
+        alloc,
+        owner,
+        segments.as_slice(),
+        drops.as_slice(),
+        arrays.orders.as_slice(),
+    )?;
+    let panel = panel_of(alloc, owner, arrays.panel.as_slice())?;
+    Ok(ControllerPlan {
+        node,
+        coils: owner.sizes.coils,
+        inputs: owner.sizes.inputs,
+        input_registers: owner.sizes.input_registers,
+        registers: owner.sizes.registers,
+        panel,
+        orders,
+        drops,
+        segments,
+    })
+}
+
+/// Whether one of these controllers has this node.
+pub fn has_controller(plans: &[ControllerPlan], node: u8) -> bool
+    ensures { result ≡ has_controller plans.now node }
+{
+    plans.iter().any(|plan| plan.node == node)
+}
+
+#[tactic(auto, unfolding(crate::specs::Stations::controller_behind))]
+fn controller_behind(
+    alloc: Global,
+    earlier: &[ControllerPlan],
+    position: u32,
+    table: &Table,
+) -> Result<ControllerPlan, LoadEnd>
+    ensures { Gives (λ plan. plan) result
+        (controller_behind earlier.now (position, table_view table.now)) }
+{
+    let place = Place::controller(position);
+    keys_pass(place, &CONTROLLER_KEYS, &CONTROLLER_REQUIRED, table)?;
+    let node = address_at(place, table)?;
+    let sizes = sizes_at(place, table)?;
+    let arrays = arrays_at(alloc, place, table)?;
+    if has_controller(earlier, node) {
+        return Err(LoadEnd::Refused(PlantFault::BadNode, place));
+    }
+    parts_of(alloc, node, Owner { position, sizes }, &arrays)
+}
+
+/// The controllers of a plant by their tables, in file order.
+#[tactic(auto, unfolding(crate::specs::InOrder::each_behind))]
+pub fn controllers_of(alloc: Global, tables: &[&Table]) -> Result<Vec<ControllerPlan>, LoadEnd>
+    requires { length tables.now ≤ CONTROLLER_LIMIT }
+    ensures { Gives (λ plans. plans.items) result
+        (controllers_of (map (λ t. table_view t.now) tables.now)) }
+{
+    let mut plans = Vec::new(alloc);
+    let mut position = 0;
+    for table in tables {
+        position += 1;
+        let next = controller_behind(alloc, plans.as_slice(), position, table)?;
+        if plans.push(next).is_err() {
+            return Err(LoadEnd::NoMemory);
+        }
+    }
+    Ok(plans)
+}

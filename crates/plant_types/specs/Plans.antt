@@ -1,0 +1,69 @@
+-- Which networks, hosts and plants can be run. Node addresses are those of the Modbus Plus Network
+-- Planning and Installation Guide; all else is this project's own.
+use Rattle.std.specs.Prelude.{◌≡◌, ◌≢◌, ◌≤◌, ℕ, List, ◌++◌, length, map, Ok, IsPermutation}
+use Rattle.std.specs.List.{All}
+use Rattle.std.specs.List.Sorted.{IsStrictlyIncreasing}
+use Rattle.plant_types.specs.declared.net.NetPlan.{NetPlan}
+use Rattle.plant_types.specs.declared.net.HostAsk.{HostAsk}
+use Rattle.plant_types.specs.declared.net.HostPlan.{HostPlan}
+use Rattle.plant_types.specs.declared.plan.ControllerPlan.{ControllerPlan}
+use Rattle.plant_types.specs.declared.plan.Plant.{Plant}
+use Rattle.plant_types.specs.FirstFault.{first_failed}
+use Rattle.plant_types.specs.PlanTests.{controller_tests}
+
+-- A number is from a least one to a largest one.
+pub record IsFromTo (least most number : ℕ) : Type 0 where
+  pub from : least ≤ number
+  pub to : number ≤ most
+
+-- An address of a node.
+abbrev pub IsNode : ℕ → Type 0
+IsNode node = IsFromTo 1 64 node
+
+-- A network: its members, of which there is one at least, rise, and each number is in its range.
+pub record IsNetPlan (net : NetPlan) : Type 0 where
+  pub first : 1 ≤ length net.members
+  pub members : All IsNode net.members
+  pub rising : IsStrictlyIncreasing net.members
+  pub fates : IsFromTo 1 1000 (length net.fates)
+  pub answer : IsFromTo 2 1000 net.answer
+  pub rotations : IsFromTo 1 10 net.rotations
+  pub rounds : IsFromTo 1 100 net.rounds
+  pub holds : IsFromTo 1 100000 net.holds
+
+-- A request of a host: from when on it is due, and which other node it asks.
+pub record IsAskOf (node : ℕ) (ask : HostAsk) : Type 0 where
+  pub hold : IsFromTo 1 10000 ask.hold
+  pub to : IsNode ask.to
+  pub other : ask.to ≢ node
+
+-- A host: its address, and at most a thousand requests.
+pub record IsHostPlan (host : HostPlan) : Type 0 where
+  pub node : IsNode host.node
+  pub few : length host.requests ≤ 1000
+  pub requests : All (IsAskOf host.node) host.requests
+
+-- A controller passes its tests.
+abbrev pub PassesTests : ControllerPlan → Type 0
+PassesTests plan = first_failed (controller_tests plan) ≡ Ok tt
+
+-- The addresses of controllers and of hosts.
+abbrev pub controller_nodes : Plant → List ℕ
+controller_nodes plant = map (λ plan. plan.node) plant.controllers
+
+abbrev pub host_nodes : Plant → List ℕ
+host_nodes plant = map (λ host. host.node) plant.hosts
+
+-- A plant: its controllers and its hosts rise by node, all of them are the members of its network,
+-- each node once, and each number is in its range. The tests of drops are not among these.
+pub record IsPlant (plant : Plant) : Type 0 where
+  pub scan_time : IsFromTo 1 1000 plant.scan_time
+  pub watchdog : IsFromTo 1 10000 plant.watchdog
+  pub net : IsNetPlan plant.net
+  pub count : IsFromTo 1 16 (length plant.controllers)
+  pub controllers : All PassesTests plant.controllers
+  pub controllers_rise : IsStrictlyIncreasing (controller_nodes plant)
+  pub few : length plant.hosts ≤ 16
+  pub hosts : All IsHostPlan plant.hosts
+  pub hosts_rise : IsStrictlyIncreasing (host_nodes plant)
+  pub members : IsPermutation (controller_nodes plant ++ host_nodes plant) plant.net.members

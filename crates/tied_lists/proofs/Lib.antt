@@ -1,0 +1,7 @@
+pub mod Boxes
+pub mod Paths
+pub mod Histories
+pub mod Steps
+pub mod Turns
+pub mod Growth
+pub mod Asked

@@ -1,0 +1,7 @@
+pub mod Words
+pub mod Own
+pub mod Result
+pub mod Items
+pub mod Tied
+pub mod Waits
+pub mod Calls

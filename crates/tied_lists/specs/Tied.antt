@@ -1,0 +1,50 @@
+-- The four laws between a station's list and the list of its node on the ring. This project's own.
+use Rattle.std.specs.Prelude.{◌≡◌, List, [], ◌++◌, map, filter_map}
+use Rattle.tied_lists.specs.Words.{RingEntry}
+use Rattle.tied_lists.specs.Items.{Station, Items, Called, net_ask, asked_by, item_of, plain_items}
+use Rattle.tied_lists.specs.Items.{stats_items, taken_by, port_answers, replied_by, due_replies}
+use Rattle.tied_lists.specs.Items.{replies_in, ended_by}
+
+-- The Requests posted are, in order, those of the station's network calls.
+abbrev pub AsksAreCalls : Items → List RingEntry → Type 0
+AsksAreCalls a b = asked_by b ≡ filter_map net_ask a.calls
+
+-- The requests that the controller or host answered are, in order, those that were taken for it.
+abbrev pub PeersAreTaken : Items → List RingEntry → Type 0
+PeersAreTaken a b = map item_of a.answers ≡ plain_items (taken_by b)
+
+-- The requests that the port answered are, in order, the requests for statistics that were taken.
+abbrev pub PortIsTaken : List RingEntry → Type 0
+PortIsTaken b = map item_of (port_answers b) ≡ stats_items (taken_by b)
+
+-- The Replies posted are, in the order of the Requests taken, their answers.
+abbrev pub RepliesAreDue : Items → List RingEntry → Type 0
+RepliesAreDue a b =
+    replied_by b
+    ≡ due_replies (taken_by b) (replies_in a.answers) (replies_in (port_answers b))
+
+-- The calls that ended are, in order, those of the Replies taken, of the calls given up and of the
+-- operations at home, each with what that came to.
+abbrev pub EndsAreMet : Station → Items → List RingEntry → Type 0
+EndsAreMet station a b = a.ends ≡ ended_by station [] b
+
+-- The same, where these calls, the last ones made, were not posted yet.
+abbrev pub AsksAreCallsBut : List Called → Items → List RingEntry → Type 0
+AsksAreCallsBut rest a b = asked_by b ++ filter_map net_ask rest ≡ filter_map net_ask a.calls
+
+-- A station's list and the own list of its node keep all of them.
+pub record Tied (station : Station) (a : Items) (b : List RingEntry) : Type 0 where
+  pub asks : AsksAreCalls a b
+  pub peers : PeersAreTaken a b
+  pub port : PortIsTaken b
+  pub replies : RepliesAreDue a b
+  pub ends : EndsAreMet station a b
+
+-- They keep all of them, but for calls that were not posted yet.
+pub record TiedBut (station : Station) (rest : List Called) (a : Items) (b : List RingEntry)
+    : Type 0 where
+  pub asks : AsksAreCallsBut rest a b
+  pub peers : PeersAreTaken a b
+  pub port : PortIsTaken b
+  pub replies : RepliesAreDue a b
+  pub ends : EndsAreMet station a b

@@ -1,0 +1,86 @@
+-- What a node's own list says of its paths. This project's own.
+use Rattle.std.specs.Prelude.{◌≡◌, ◌≢◌, ◌⊎◌, ℕ, ◌<◌, ◌==◌, true, false, if◌then◌else◌, List, []}
+use Rattle.std.specs.Prelude.{◌∷◌, Option, Some, None, Contains, All}
+use Rattle.ring_core.specs.Machine.{addresses, path_of, ring_node, ring_after}
+use Rattle.ring_core.specs.Legal.{IsMember, IsPath, IsLegal}
+use Rattle.ring_core.specs.Words.{is_same_call}
+use Rattle.ring_core.specs.declared.path.Await.{Await}
+use Rattle.ring_core.specs.declared.path.Await.TheVariants.{Nothing, Out, Arrived, Failed}
+use Rattle.tied_lists.specs.Words.{CallId, FrameKind, Request, Reply, Frame, NetPlan, RingEntry}
+use Rattle.tied_lists.specs.Words.{Post, Take, GiveUp}
+use Rattle.tied_lists.specs.Own.{own}
+
+-- The Request that a path waits for: the one posted there last, until its Reply is taken or it is
+-- given up.
+abbrev pub waits_posted : ℕ → Option Frame → FrameKind → Frame → Option Frame
+waits_posted p now Request f = if f.id.path == p then Some f else now
+waits_posted p now Reply f = now
+
+abbrev pub waits_taken : ℕ → Option Frame → FrameKind → Frame → Option Frame
+waits_taken p now Request f = now
+waits_taken p now Reply f = if f.id.path == p then None else now
+
+abbrev pub waits_next : ℕ → Option Frame → RingEntry → Option Frame
+waits_next p now (Post n f) = waits_posted p now f.kind f
+waits_next p now (Take n f) = waits_taken p now f.kind f
+waits_next p now (GiveUp id word) = if id.path == p then None else now
+waits_next p now _ = now
+
+abbrev pub waits_after : ℕ → Option Frame → List RingEntry → Option Frame
+waits_after p now [] = now
+waits_after p now (e ∷ es) = waits_after p (waits_next p now e) es
+
+abbrev pub waiting : ℕ → List RingEntry → Option Frame
+waiting p b = waits_after p None b
+
+-- The number of the Request that was posted last on a path; 0 for none.
+abbrev pub number_posted : ℕ → ℕ → FrameKind → Frame → ℕ
+number_posted p now Request f = if f.id.path == p then f.id.seq else now
+number_posted p now Reply f = now
+
+abbrev pub number_next : ℕ → ℕ → RingEntry → ℕ
+number_next p now (Post n f) = number_posted p now f.kind f
+number_next p now _ = now
+
+abbrev pub number_after : ℕ → ℕ → List RingEntry → ℕ
+number_after p now [] = now
+number_after p now (e ∷ es) = number_after p (number_next p now e) es
+
+abbrev pub last_number : ℕ → List RingEntry → ℕ
+last_number p b = number_after p 0 b
+
+-- A Request of a node on a path.
+pub record IsAsk (n p : ℕ) (f : Frame) : Type 0 where
+  pub kind : f.kind ≡ Request
+  pub node : f.id.node ≡ n
+  pub path : f.id.path ≡ p
+  pub is_path : IsPath p
+  pub number : 0 < f.id.seq
+  pub to : f.to ≢ n
+
+-- What a path awaits is the number of the Request that it waits for, or nothing for none.
+abbrev pub AwaitsThis : Await → Option Frame → Type 0
+AwaitsThis Nothing None = Unit {0}
+AwaitsThis (Out seq to passes) (Some f) = seq ≡ f.id.seq
+AwaitsThis (Arrived seq) (Some f) = seq ≡ f.id.seq
+AwaitsThis (Failed seq word) (Some f) = seq ≡ f.id.seq
+AwaitsThis _ _ = ⊥
+
+-- A legal history of a net whose members' addresses are those of a ring, and one of its members.
+pub record IsOnRing (net : NetPlan) (history : List RingEntry) (n : ℕ) : Type 0 where
+  pub members : All (λ m. m < addresses) net.members
+  pub legal : IsLegal net history
+  pub member : IsMember net n
+
+-- A node holds the token.
+pub record Holds (net : NetPlan) (history : List RingEntry) (n : ℕ) : Type 0 where
+  pub holder : (ring_after net history).holder ≡ n
+  pub here : (ring_node (ring_after net history) n).here ≡ true
+
+-- A node has left the ring.
+abbrev pub HasLeft : NetPlan → List RingEntry → ℕ → Type 0
+HasLeft net history n = (ring_node (ring_after net history) n).here ≡ false
+
+-- Nobody else changes a node's boxes and paths.
+abbrev pub IsFree : NetPlan → List RingEntry → ℕ → Type 0
+IsFree net history n = Holds net history n ⊎ HasLeft net history n
