@@ -10,7 +10,8 @@ use Rattle.controller_core.specs.declared.entry.Entry.TheVariants.{Finish}
 use Rattle.ring_core.specs.declared.frame.Frame.{Frame}
 use Rattle.ring_core.specs.declared.entry.Heard.{Heard}
 use Rattle.ring_core.specs.declared.entry.RingEntry.{RingEntry}
-use Rattle.ring_core.specs.declared.entry.RingEntry.TheVariants.{Send, GiveUp}
+use Rattle.ring_core.specs.declared.entry.RingEntry.TheVariants.{Post, Send, Take, Local, GiveUp}
+use Rattle.ring_core.specs.declared.entry.RingEntry.TheVariants.{Pass, Leave}
 use Rattle.ring_core.specs.Machine.{path_places}
 use Rattle.ring_core.specs.Legal.{IsLegal, IsPath}
 use Rattle.tied_lists.specs.Own.{is_of, own, WentOn, Grew}
@@ -27,6 +28,7 @@ use Rattle.comm_port.specs.Reading.{is_ours, items_of}
 use Rattle.comm_port.specs.Waiting.{id_of}
 use Rattle.comm_port.specs.Sending.{GaveUp, SentNext, sends_left}
 use Rattle.comm_port.specs.Turns.{IsOwnTurn, KeepsInbox, AreWaiting, Turning}
+use Rattle.comm_port.specs.Order.{IsGivingUp, IsSending}
 use Rattle.comm_port.proofs.RingTurns.{turn-on}
 use Rattle.comm_port.proofs.Items.{items-one}
 use Rattle.comm_port.proofs.Served.{waiting-as, waiting-ended}
@@ -47,10 +49,10 @@ frame-of : (o : Option Frame) (id : CallId) → id_of o ≡ Some id → (g : Fra
 frame-of None id e = absurd (cc)
 frame-of (Some g) id e = (g, refl, cc)
 
-pub waits-at : {P Q : Type 0} (n p : ℕ) (id : CallId) (ram : RamSideIs P) (known : List Entry) (side : RingSideIs Q) (ring : List
-    RingEntry) (w : List (Option Frame)) → id_of (get_or w p None) ≡ Some id → Turning n [] ram known side ring w → Waits n p id
+pub waits-at-but : {P Q : Type 0} (rest : List Called) (n p : ℕ) (id : CallId) (ram : RamSideIs P) (known : List Entry) (side : RingSideIs Q) (ring : List
+    RingEntry) (w : List (Option Frame)) → id_of (get_or w p None) ≡ Some id → Turning n rest ram known side ring w → Waits n p id
     ram known side ring w
-waits-at n p id ram known side ring w is t =
+waits-at-but rest n p id ram known side ring w is t =
     let g = frame-of (get_or w p None) id is in
     let ask = t.waits.asks p g.0 g.1 in
     let path_is : id.path ≡ p = ap (λ (i : CallId). i.path) (sym g.2) ∙ ask.path in
@@ -66,27 +68,32 @@ waits-at n p id ram known side ring w is t =
       out = subst (λ (i : CallId). IsOutAs (items_of known) i NetCall) g.2 (t.waits.outs p g.0 g.1);
     }
 
+pub waits-at : {P Q : Type 0} (n p : ℕ) (id : CallId) (ram : RamSideIs P) (known : List Entry) (side : RingSideIs Q) (ring : List
+    RingEntry) (w : List (Option Frame)) → id_of (get_or w p None) ≡ Some id → Turning n [] ram known side ring w → Waits n p id
+    ram known side ring w
+waits-at n p id ram known side ring w is t = waits-at-but [] n p id ram known side ring w is t
+
 pub turn-at : {Q : Type 0} (side : RingSideIs Q) (ring : List RingEntry) (n m : ℕ) → m ≡ n → IsOwnTurn side ring n → IsOwnTurn side ring m
 turn-at side ring n m is t = subst (IsOwnTurn side ring) (sym is) t
 
 -- a call that was given up, and ended
-pub given-lead : {P Q : Type 0} (alone alone' : Bool) (n p : ℕ) (id : CallId) (word : ℕ) (ram ram' : RamSideIs P) (known known' :
+pub given-lead-but : {P Q : Type 0} (rest : List Called) (alone alone' : Bool) (n p : ℕ) (id : CallId) (word : ℕ) (ram ram' : RamSideIs P) (known known' :
     List Entry) (side side' : RingSideIs Q) (ring ring' : List RingEntry) (w : List (Option Frame)) → ram' ≡ ram → side' ≡ side →
     IsLegal side.net ring'
     → Waits n p id ram known side ring w → GaveUp alone' side.net id ring ring' (Some word) → WentOn alone is_ours known (Finish
-    id (Bad word) ∷ []) known' → Turning n [] ram known side ring w → Turning n [] ram' known' side' ring' (set w p None)
-given-lead {P} {Q} alone alone' n p id word ram ram' known known' side side' ring ring' w same same' legal k gave went t =
+    id (Bad word) ∷ []) known' → Turning n rest ram known side ring w → Turning n rest ram' known' side' ring' (set w p None)
+given-lead-but {P} {Q} rest alone alone' n p id word ram ram' known known' side side' ring ring' w same same' legal k gave went t =
     let e = GiveUp id word in
     let grew : Grew alone' (is_of n) ring (e ∷ []) ring' = subst (λ (m : ℕ). Grew alone' (is_of m) ring (e ∷ []) ring') k.own_is gave.grew in
     let kept = subst (λ (m : ℕ). KeepsInbox side.net m ring ring') k.own_is gave.kept in
     let own_is = grew-ours alone' (is_of n) ring (e ∷ []) ring' grew in
     let items_is = items-one alone known (Finish id (Bad word)) known' went in
     let a' = with_end (items_of known) id (Came (Bad word)) in
-    subst (λ (s : RamSideIs P). Turning n [] s known' side' ring' (set w p None)) (sym same) (record {
+    subst (λ (s : RamSideIs P). Turning n rest s known' side' ring' (set w p None)) (sym same) (record {
       node = t.node;
       own_turn = turn-on side side' ring ring' n same' t.own_turn legal kept;
-      tied = subst (λ (a : Items). TiedBut AController [] a (own n ring')) (sym items_is) (subst (TiedBut AController [] a') (sym own_is)
-          (tied-given_up AController [] (items_of known) (own n ring) id word k.out.made t.tied));
+      tied = subst (λ (a : Items). TiedBut AController rest a (own n ring')) (sym items_is) (subst (TiedBut AController rest a') (sym own_is)
+          (tied-given_up AController rest (items_of known) (own n ring) id word k.out.made t.tied));
       waits = subst (λ (a : Items). AreWaiting n a (own n ring') (set w p None)) (sym items_is) (subst (λ (l : List RingEntry).
           AreWaiting n a' l (set w p None)) (sym own_is)
           (waiting-ended n (items_of known) a' (own n ring) (own n ring ++ e ∷ []) w p k.low
@@ -98,6 +105,14 @@ given-lead {P} {Q} alone alone' n p id word ram ram' known known' side side' rin
                 (λ x. other (sym x ∙ k.path_is))) out.unended;
           }) t.waits));
     })
+
+pub given-lead : {P Q : Type 0} (alone alone' : Bool) (n p : ℕ) (id : CallId) (word : ℕ) (ram ram' : RamSideIs P) (known known' :
+    List Entry) (side side' : RingSideIs Q) (ring ring' : List RingEntry) (w : List (Option Frame)) → ram' ≡ ram → side' ≡ side →
+    IsLegal side.net ring'
+    → Waits n p id ram known side ring w → GaveUp alone' side.net id ring ring' (Some word) → WentOn alone is_ours known (Finish
+    id (Bad word) ∷ []) known' → Turning n [] ram known side ring w → Turning n [] ram' known' side' ring' (set w p None)
+given-lead alone alone' n p id word ram ram' known known' side side' ring ring' w same same' legal k gave went t =
+    given-lead-but [] alone alone' n p id word ram ram' known known' side side' ring ring' w same same' legal k gave went t
 
 -- a call that was not given up
 pub stays-lead : {P Q : Type 0} (alone : Bool) (n : ℕ) (rest : List Called) (ram : RamSideIs P) (known : List Entry) (side side' :
@@ -145,3 +160,20 @@ less-at side n m ring ring' is le = subst (λ (k : ℕ). sends_left side.net rin
 
 pub holds-at : {Q : Type 0} (side side' : RingSideIs Q) (ring : List RingEntry) (n : ℕ) → side' ≡ side → Holds side.net ring n → Holds side'.net ring n
 holds-at {Q} side side' ring n same h = subst (λ (s : RingSideIs Q). Holds s.net ring n) (sym same) h
+
+pub less-both : {Q : Type 0} (side side' : RingSideIs Q) (n : ℕ) (a b d : List RingEntry) → side' ≡ side → sends_left side.net b n
+    ≤ sends_left side.net a n → sends_left side'.net d n ≤ sends_left side'.net b n → sends_left side.net d n ≤ sends_left
+    side.net a n
+less-both {Q} side side' n a b d same one two =
+    let two' : sends_left side.net d n ≤ sends_left side.net b n = subst (λ (s : RingSideIs Q). sends_left s.net d n ≤ sends_left s.net b n) same two in
+    omega (arith, one, two')
+
+-- giving up is a part of sending
+pub sending-too : (e : RingEntry) → IsGivingUp e → IsSending e
+sending-too (GiveUp id word) k = tt
+sending-too (Send n heard) k = tt
+sending-too (Post n f) k = absurd k
+sending-too (Take n f) k = absurd k
+sending-too (Local n id op result) k = absurd k
+sending-too (Pass n done words) k = absurd k
+sending-too (Leave n cause) k = absurd k

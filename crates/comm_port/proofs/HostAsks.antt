@@ -41,9 +41,12 @@ use Rattle.comm_port.specs.Sides.{RingSideIs}
 use Rattle.comm_port.specs.Reading.{host_items_of}
 use Rattle.comm_port.specs.Turns.{IsOwnTurn, KeepsInbox}
 use Rattle.comm_port.specs.Sending.{AllSent, GaveUp, SentNext, SentOrAll, sends_left, sends_of}
-use Rattle.comm_port.specs.Leaving.{HandedOn, last_entry}
+use Rattle.comm_port.specs.Leaving.{HandedOn, IsHere, last_entry}
 use Rattle.comm_port.specs.HostTurns.{AskedNext, EndsWithPass, HostTies, HostTurning, PathsAgree}
-use Rattle.comm_port.specs.HostTurns.{asks_left}
+use Rattle.comm_port.specs.HostTurns.{asks_left, EndsHostTurn}
+use Rattle.comm_port.specs.HostTurns.{GrowsOn}
+use Rattle.comm_port.specs.Order.{IsGivingUp}
+use Rattle.comm_port.proofs.HostGrowth.{grown-by, grown-none, grown-then}
 use Rattle.comm_port.proofs.HostLists.{agree_asked, agree_given_up, agree_still}
 use Rattle.comm_port.proofs.HostLists.{made_net}
 use Rattle.comm_port.proofs.HostTurning.{items-now, legal-with, own-turn, turning-still}
@@ -193,15 +196,16 @@ turning-grew alone n host side ring ring' t grew kept legal =
 
 -- ---- one step of giving up, behind a look at the ring
 
-pub record Looked {Q : Type 0} (n : ℕ) (host : HostIs) (side : RingSideIs Q) (ring ring' : List RingEntry) : Type 0 where
+pub record Looked {Q : Type 0} (alone : Bool) (n : ℕ) (host : HostIs) (side : RingSideIs Q) (ring ring' : List RingEntry) : Type 0 where
   pub turning : HostTurning n host side ring'
   pub kept : KeepsInbox side.net n ring ring'
   pub less : sends_left side.net ring' n ≤ sends_left side.net ring n
   pub left : HasLeft side.net ring n → HasLeft side.net ring' n
+  pub grown : GrowsOn IsGivingUp alone n ring ring'
 
 pub looked : {Q : Type 0} (alone : Bool) (n : ℕ) (host : HostIs) (side : RingSideIs Q) (ring ring' : List RingEntry) → IsLegal
     side.net ring' → WentOn alone (is_of n) ring [] ring'
-    → HostTurning n host side ring → Looked n host side ring ring'
+    → HostTurning n host side ring → Looked alone n host side ring ring'
 looked alone n host side ring ring' legal went t =
     let found = unmoved side.net n alone ring ring' (on-ring side ring ring' n t.own_turn legal) went t.own_turn.free in
     let same : sends_left side.net ring' n ≡ sends_left side.net ring n = ap sends_of found.part_is in
@@ -210,6 +214,7 @@ looked alone n host side ring ring' legal went t =
       kept = kept-found side.net n ring ring' found;
       less = omega arith;
       left = λ gone. ap (λ (c : NodeIs). c.here) found.part_is ∙ gone;
+      grown = grown-none IsGivingUp alone n ring ring' went;
     }
 
 pub turn-at : {Q : Type 0} (n : ℕ) (side side' : RingSideIs Q) (ring : List RingEntry) → side' ≡ side → IsOwnTurn side ring n → IsOwnTurn side' ring n
@@ -222,8 +227,8 @@ gave-at {Q} alone id side side' ring ring' o o' same is gave =
     subst (λ (s : RingSideIs Q). GaveUp alone s.net id ring ring' o') same (subst (GaveUp alone side'.net id ring ring') is gave)
 
 pub gave-none : {Q : Type 0} (alone : Bool) (id : CallId) (o : Option ℕ) (host : HostIs) (side side' : RingSideIs Q) (a b c : List
-    RingEntry) → Looked id.node host side a b → side' ≡ side
-    → GaveUp alone side'.net id b c o → o ≡ None → IsLegal side'.net c → Looked id.node host side a c
+    RingEntry) → Looked alone id.node host side a b → side' ≡ side
+    → GaveUp alone side'.net id b c o → o ≡ None → IsLegal side'.net c → Looked alone id.node host side a c
 gave-none {Q} alone id o host side side' a b c l same gave is legal' =
     let g = gave-at alone id side side' b c o None same is gave in
     let legal = subst (λ (s : RingSideIs Q). IsLegal s.net c) same legal' in
@@ -232,12 +237,13 @@ gave-none {Q} alone id o host side side' a b c l same gave is legal' =
       kept = kept-both side.net id.node a b c l.kept g.kept;
       less = let x = g.less in let y = l.less in omega arith;
       left = λ gone. g.left (l.left gone);
+      grown = grown-then IsGivingUp alone id.node a b c l.grown (grown-by IsGivingUp alone id.node b [] c tt g.grew);
     }
 
 pub gave-some : {Q : Type 0} (alone : Bool) (id : CallId) (o : Option ℕ) (word : ℕ) (old new : HostIs) (side side' : RingSideIs Q)
-    (a b c : List RingEntry) → Looked id.node old side a b → side' ≡ side
+    (a b c : List RingEntry) → Looked alone id.node old side a b → side' ≡ side
     → GaveUp alone side'.net id b c o → o ≡ Some word → IsLegal side'.net c → is_unanswered old.history id ≡ true → HostWentOn
-    (Answer id (results.Bad word) ∷ []) old new → Looked id.node new side a c
+    (Answer id (results.Bad word) ∷ []) old new → Looked alone id.node new side a c
 gave-some {Q} alone id o word old new side side' a b c l same gave is legal' out w =
     let g = gave-at alone id side side' b c o (Some word) same is gave in
     let legal = subst (λ (s : RingSideIs Q). IsLegal s.net c) same legal' in
@@ -246,6 +252,7 @@ gave-some {Q} alone id o word old new side side' a b c l same gave is legal' out
       kept = kept-both side.net id.node a b c l.kept g.kept;
       less = let x = g.less in let y = l.less in omega arith;
       left = λ gone. g.left (l.left gone);
+      grown = grown-then IsGivingUp alone id.node a b c l.grown (grown-by IsGivingUp alone id.node b (GiveUp id word ∷ []) c (tt, tt) g.grew);
     }
 
 -- ---- what an ask answered
@@ -355,6 +362,17 @@ pub gone-with : (alone : Bool) (net : NetPlan) (n : ℕ) (done : Bool) (words : 
 gone-with alone net n done words None ring ring' handed is = absurd cc
 gone-with alone net n done words (Some cause) ring ring' handed is = handed.gone cause refl
 
+pub stays-with : (alone : Bool) (net : NetPlan) (n : ℕ) (done : Bool) (words : List ℕ) (cause : Option LeaveCause) (ring ring' :
+    List RingEntry) → HandedOn alone net n done words cause ring ring' → false ≡ is_some cause
+    → IsHere net ring' n
+stays-with alone net n done words None ring ring' handed is = handed.stays refl
+stays-with alone net n done words (Some cause) ring ring' handed is = absurd cc
+
 pub gone-on : {Q : Type 0} (n : ℕ) (side side' : RingSideIs Q) (ring ring' : List RingEntry) → side' ≡ side → HasLeft side.net ring n
     → (HasLeft side'.net ring n → HasLeft side'.net ring' n) → HasLeft side.net ring' n
 gone-on {Q} n side side' ring ring' same gone stays = subst (λ (s : RingSideIs Q). HasLeft s.net ring n → HasLeft s.net ring' n) same stays gone
+
+pub ends-host : {Q : Type 0} (alone : Bool) (side side' : RingSideIs Q) (n : ℕ) (budget left : Bool) (ring ring' : List RingEntry)
+    → side' ≡ side → EndsHostTurn alone side'.net n budget left ring ring' → EndsHostTurn alone side.net n budget left ring ring'
+ends-host {Q} alone side side' n budget left ring ring' same ends =
+    subst (λ (s : RingSideIs Q). EndsHostTurn alone s.net n budget left ring ring') same ends

@@ -7,7 +7,10 @@ pub mod TurnEnds
 pub mod Sends
 pub mod Given
 pub mod TurnsEnded
+pub mod HostGrowth
 pub mod HostLists
 pub mod HostTurning
 pub mod HostAsks
 mod Read2
+pub mod Collected
+pub mod Visited

@@ -94,12 +94,11 @@ front [] (y ∷ ys) zs e = absurd (let l = ap length e in let k = length-append 
 front (x ∷ xs) [] zs e = absurd (let l = ap length e in let k = length-append (x ∷ xs) zs in omega (arith, l, k))
 front (x ∷ xs) (y ∷ ys) zs e = let h : x ≡ y = cc in let t = front xs ys zs (tail x y (xs ++ zs) (ys ++ zs) e) in cc
 
-asked-before : {P Q : Type 0} (n : ℕ) (c : Called) (rest : List Called) (ram : RamSideIs P) (known : List Entry) (side :
-    RingSideIs Q) (ring : List RingEntry) (w : List (Option Frame)) → (o : Owing n (c ∷ rest) ram known side ring w)
-    → asked_by (own n ring) ≡ filter_map net_ask o.earlier
-asked-before n c rest ram known side ring w o =
-    front (asked_by (own n ring)) (filter_map net_ask o.earlier) (filter_map net_ask (c ∷ rest))
-    (o.turning.tied.asks ∙ (ap (filter_map net_ask) o.calls_are ∙ filter_map-append net_ask o.earlier (c ∷ rest)))
+pub asked-before : {P Q : Type 0} (n : ℕ) (rest : List Called) (ram : RamSideIs P) (known : List Entry) (side : RingSideIs Q) (ring : List RingEntry)
+    (w : List (Option Frame)) → (o : Owing n rest ram known side ring w) → asked_by (own n ring) ≡ filter_map net_ask o.earlier
+asked-before n rest ram known side ring w o =
+    front (asked_by (own n ring)) (filter_map net_ask o.earlier) (filter_map net_ask rest)
+    (o.turning.tied.asks ∙ (ap (filter_map net_ask) o.calls_are ∙ filter_map-append net_ask o.earlier rest))
 
 -- a network call may be posted
 pub record MayPost (net : NetPlan) (n : ℕ) (ring : List RingEntry) (id : CallId) (to : ℕ) : Type 0 where
@@ -120,7 +119,7 @@ may-post n c rest to pdu ram known side ring w is o =
     let f = fits-net n o.earlier c.id c.sort to pdu is o.fresh.0.fits in
     let follows = (legal-follows side.net ring n o.turning.own_turn.on).node.part in
     let low : c.id.path < path_places = let p = f.1.1 in omega (arith, p) in
-    let all = subst (Each (λ (a : Asked). a.id.path ≡ c.id.path → a.id.seq < c.id.seq)) (sym (asked-before n c rest ram known side
+    let all = subst (Each (λ (a : Asked). a.id.path ≡ c.id.path → a.id.seq < c.id.seq)) (sym (asked-before n (c ∷ rest) ram known side
     ring w o)) (nets-above c.id o.earlier f.3) in
     record {
       own_is = o.fresh.0.own;

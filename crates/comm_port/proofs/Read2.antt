@@ -12,7 +12,8 @@ use Rattle.ring_core.specs.declared.entry.RingEntry.{RingEntry}
 use Rattle.ring_core.specs.declared.entry.RingEntry.TheVariants.{Post, Send, Take, Pass, Leave}
 use Rattle.controller_core.specs.declared.call.CallKind.TheVariants.{Net}
 use Rattle.controller_core.specs.declared.entry.Entry.{Entry}
-use Rattle.controller_core.specs.declared.entry.Entry.TheVariants.{Begin, Solve, End, Collect, Peer, Finish}
+use Rattle.controller_core.specs.declared.entry.Entry.TheVariants.{Begin, Solve, End, Collect, Peer}
+use Rattle.controller_core.specs.declared.entry.Entry.TheVariants.{Finish}
 use Rattle.tied_lists.specs.Own.{own}
 use Rattle.tied_lists.specs.Items.{AController}
 use Rattle.tied_lists.specs.Tied.{Tied}

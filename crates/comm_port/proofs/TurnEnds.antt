@@ -27,12 +27,13 @@ use Rattle.ring_core.specs.Stability.{Stays}
 use Rattle.ring_core.proofs.Stability.{holder-stays}
 use Rattle.tied_lists.specs.Own.{is_of, own, WentOn, Grew}
 use Rattle.tied_lists.specs.Waits.{IsOnRing, Holds}
-use Rattle.tied_lists.proofs.Turns.{moved, after-leave, legal-parts, none-by}
+use Rattle.tied_lists.proofs.Turns.{moved, after-leave, after-pass, legal-parts, none-by}
 use Rattle.tied_lists.proofs.Growth.{grew-one, grew-more, grew-ours}
 use Rattle.comm_port.specs.Sides.{RingSideIs}
 use Rattle.comm_port.specs.Leaving.{cause_due, is_due, last_entry, HandedOn, LeftOrStood, LeftRing}
 use Rattle.comm_port.specs.Leaving.{StoodStill}
-use Rattle.comm_port.proofs.RingTurns.{mine}
+use Rattle.comm_port.specs.Turns.{IsOwnTurn}
+use Rattle.comm_port.proofs.RingTurns.{mine, on-ring}
 
 -- ---- what others leave of a node that holds the token
 
@@ -193,9 +194,9 @@ stood net n cause alone old new false is did = did
 passed-at : (net : NetPlan) (n : ℕ) (done budget alone : Bool) (a b c d : List RingEntry) (spent ended : Bool)
     → spent ≡ (budget && is_due net (ring_after net a) n Spent) → LeftOrStood alone net n Spent a b spent → spent ≡ false
     → ended ≡ (done && is_due net (ring_after net b) n Ended) → LeftOrStood alone net n Ended b c ended → ended ≡ false
-    → WentOn alone (is_of n) c (Pass n done (words_put n c) ∷ []) d
+    → WentOn alone (is_of n) c (Pass n done (words_put n c) ∷ []) d → IsOnRing net d n
     → HandedOn alone net n done (words_put n a) (cause_due net (ring_after net a) n done budget) a d
-passed-at net n done budget alone a b c d spent ended one did_one not_one two did_two not_two w =
+passed-at net n done budget alone a b c d spent ended one did_one not_one two did_two not_two w on =
     let s = stood net n Spent alone a b spent not_one did_one in
     let t = stood net n Ended alone b c ended not_two did_two in
     let second : (done && is_due net (ring_after net a) n Ended) ≡ false =
@@ -210,6 +211,7 @@ passed-at net n done budget alone a b c d spent ended one did_one not_one two di
       grew = subst (λ o. Grew alone (is_of n) a (last_entry n done (words_put n a) o ∷ []) d) (sym none)
           (subst (λ l. Grew alone (is_of n) a (Pass n done l ∷ []) d) words all);
       gone = λ why is. let no' : None ≡ Some why = sym none ∙ is in absurd cc;
+      stays = λ is. after-pass net n c done (words_put n c) d (moved net n alone c e d refl on w (inl t.holds)) t.holds;
     }
 
 left : (net : NetPlan) (n : ℕ) (cause : LeaveCause) (alone : Bool) (old new : List RingEntry) (did : Bool) → did ≡ true →
@@ -228,6 +230,7 @@ left-spent net n done budget alone words a b spent one did yes' =
       record {
         grew = subst (λ o. Grew alone (is_of n) a (last_entry n done words o ∷ []) b) (sym due) l.grew;
         gone = λ why is. l.gone;
+        stays = λ is. let no' : Some Spent ≡ None = sym due ∙ is in absurd cc;
       },
     )
 
@@ -248,19 +251,22 @@ left-at net n done budget alone words a b c spent ended one did_one not_one two 
         grew = subst (λ o. Grew alone (is_of n) a (last_entry n done words o ∷ []) c) (sym due) (grew-more alone (is_of n) a b c
             [] (Leave n Ended ∷ []) s.grew l.grew);
         gone = λ why is. l.gone;
+        stays = λ is. let no' : Some Ended ≡ None = sym due ∙ is in absurd cc;
       },
     )
 
 -- the same, where the second attempt speaks of a side that stayed the same
-pub passed-on : {Q : Type 0} (side side' : RingSideIs Q) (n : ℕ) (done budget alone : Bool) (a b c d : List RingEntry) (spent ended : Bool) → side' ≡ side
+pub passed-on : {Q : Type 0} (side side' side'' : RingSideIs Q) (n : ℕ) (done budget alone : Bool) (a b c d : List RingEntry)
+    (spent ended : Bool) → side' ≡ side → side'' ≡ side'
     → spent ≡ (budget && is_due side.net (ring_after side.net a) n Spent) → LeftOrStood alone side.net n Spent a b spent → spent ≡ false
     → ended ≡ (done && is_due side'.net (ring_after side'.net b) n Ended) → LeftOrStood alone side'.net n Ended b c ended → ended ≡ false
-    → WentOn alone (is_of n) c (Pass n done (words_put n c) ∷ []) d
+    → WentOn alone (is_of n) c (Pass n done (words_put n c) ∷ []) d → IsOwnTurn side a n → IsLegal side''.net d
     → HandedOn alone side.net n done (words_put n a) (cause_due side.net (ring_after side.net a) n done budget) a d
-passed-on {Q} side side' n done budget alone a b c d spent ended same one did_one not_one two did_two not_two w =
+passed-on {Q} side side' side'' n done budget alone a b c d spent ended same next_same one did_one not_one two did_two not_two w turn legal =
     passed-at side.net n done budget alone a b c d spent ended one did_one not_one
     (subst (λ (s : RingSideIs Q). ended ≡ (done && is_due s.net (ring_after s.net b) n Ended)) same two)
     (subst (λ (s : RingSideIs Q). LeftOrStood alone s.net n Ended b c ended) same did_two) not_two w
+    (on-ring side a d n turn (subst (λ (s : RingSideIs Q). IsLegal s.net d) (next_same ∙ same) legal))
 
 pub left-ended : {Q : Type 0} (side side' : RingSideIs Q) (n : ℕ) (done budget alone : Bool) (words : List ℕ) (a b c : List
     RingEntry) (spent ended : Bool) → side' ≡ side

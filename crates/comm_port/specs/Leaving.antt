@@ -35,6 +35,10 @@ pub record StoodStill (alone : Bool) (net : NetPlan) (n : ℕ) (old new : List R
   pub part : ring_node (ring_after net new) n ≡ ring_node (ring_after net old) n
   pub quiet : quiet_for (ring_after net new) n ≡ quiet_for (ring_after net old) n
 
+-- A node has not left.
+abbrev pub IsHere : NetPlan → List RingEntry → ℕ → Type 0
+IsHere net history n = (ring_node (ring_after net history) n).here ≡ true
+
 -- A node left.
 pub record LeftRing (alone : Bool) (net : NetPlan) (n : ℕ) (cause : LeaveCause)
     (old new : List RingEntry) : Type 0 where
@@ -51,3 +55,4 @@ pub record HandedOn (alone : Bool) (net : NetPlan) (n : ℕ) (done : Bool) (word
     (cause : Option LeaveCause) (old new : List RingEntry) : Type 0 where
   pub grew : Grew alone (is_of n) old (last_entry n done words cause ∷ []) new
   pub gone : (why : LeaveCause) → cause ≡ Some why → HasLeft net new n
+  pub stays : cause ≡ None → IsHere net new n

@@ -12,3 +12,4 @@ pub mod HostTurns
 pub mod Effects
 pub mod JointLaws
 pub mod Complete
+pub mod Order

@@ -5,8 +5,9 @@ ghost use Rattle.ring_core.specs.Legal.{IsLegal, IsPath, IsNextNumber, HasRoom};
 ghost use Rattle.ring_core.specs.declared.frame.FrameKind.TheVariants.{Request};
 ghost use Rattle.ring_core.specs.declared.entry.RingEntry.TheVariants.{Post};
 ghost use Rattle.tied_lists.specs.Calls.{IsOut};
-ghost use Rattle.tied_lists.specs.Own.{is_of, Grew};
-ghost use Rattle.comm_port.specs.Reading.{items_of};
+ghost use Rattle.tied_lists.specs.Own.{is_of, Grew, Adds};
+ghost use Rattle.comm_port.specs.Order.{IsCalling, IsMaking, IsFinish};
+ghost use Rattle.comm_port.specs.Reading.{items_of, is_ours};
 ghost use Rattle.comm_port.specs.Turns.{IsOwnTurn, KeepsInbox, Turning};
 ghost use Rattle.comm_port.specs.Making.{request_frame, Does, Owing, calls_from};
 
@@ -103,6 +104,10 @@ pub(crate) fn make_call<M: RamSide, R: RingSide>(
         (KeepsInbox (R.side ring.old).net node (R.known ring.old) (R.known ring.new)) }
     ensures ram_same { M.side ram.new ≡ M.side ram.old }
     ensures ring_same { R.side ring.new ≡ R.side ring.old }
+    ensures ring_adds { OnOk result (Adds R.alone (is_of node) (IsCalling node)
+        (R.known ring.old) (R.known ring.new)) }
+    ensures ram_adds { OnOk result (Adds M.alone is_ours IsFinish
+        (M.known ram.old) (M.known ram.new)) }
 {
     let call = &calls[at];
     match &call.kind {
@@ -131,6 +136,10 @@ pub(crate) fn make_calls<M: RamSide, R: RingSide>(
         (KeepsInbox (R.side ring.old).net node (R.known ring.old) (R.known ring.new)) }
     ensures ram_same { M.side ram.new ≡ M.side ram.old }
     ensures ring_same { R.side ring.new ≡ R.side ring.old }
+    ensures ring_adds { OnOk result (Adds R.alone (is_of node) (IsCalling node)
+        (R.known ring.old) (R.known ring.new)) }
+    ensures ram_adds { OnOk result (Adds M.alone is_ours IsMaking
+        (M.known ram.old) (M.known ram.new)) }
 {
     if !ram.has_started() {
         return Ok(());

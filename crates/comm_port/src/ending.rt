@@ -42,7 +42,8 @@ pub(crate) fn end_turn<M: RamSide, R: RingSide>(
     ensures rested { OnOk result (Rested node (M.side ram.new) (M.known ram.new) (R.side ring.new)
         (R.known ring.new) waiting.new) }
     ensures ends { IfOk result (EndsTurn M.alone R.alone (M.side ram.old).fixed
-        (R.side ring.old).net node budget waiting.old (M.known ram.old) (R.known ring.old)) }
+        (R.side ring.old).net node budget waiting.old (M.known ram.old) (M.known ram.new)
+        (R.known ring.old) (R.known ring.new)) }
     ensures ram_same { M.side ram.new ≡ M.side ram.old }
     ensures ring_same { R.side ring.new ≡ R.side ring.old }
 {

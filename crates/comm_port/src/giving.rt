@@ -2,6 +2,9 @@
 ghost use Rattle.std.specs.Prelude.{◌≡◌, ◌≤◌, [], OnOk};
 ghost use Rattle.ring_core.specs.Legal.{IsPath};
 ghost use Rattle.tied_lists.specs.Waits.{Holds};
+ghost use Rattle.tied_lists.specs.Own.{is_of, Adds};
+ghost use Rattle.comm_port.specs.Order.{IsSending, IsGivingUp, IsFinish};
+ghost use Rattle.comm_port.specs.Reading.{is_ours};
 ghost use Rattle.comm_port.specs.Turns.{KeepsInbox, Turning};
 ghost use Rattle.comm_port.specs.Sending.{sends_left};
 
@@ -32,6 +35,10 @@ pub(crate) fn give_up_path<M: RamSide, R: RingSide>(
         ≤ sends_left (R.side ring.old).net (R.known ring.old) node) }
     ensures ram_same { M.side ram.new ≡ M.side ram.old }
     ensures ring_same { R.side ring.new ≡ R.side ring.old }
+    ensures ring_adds { OnOk result (Adds R.alone (is_of node) (IsGivingUp)
+        (R.known ring.old) (R.known ring.new)) }
+    ensures ram_adds { OnOk result (Adds M.alone is_ours IsFinish
+        (M.known ram.old) (M.known ram.new)) }
 {
     let Some(id) = waiting.id_on(path) else {
         return Ok(());
@@ -62,11 +69,16 @@ pub(crate) fn give_up_where<M: RamSide, R: RingSide>(
         ≤ sends_left (R.side ring.old).net (R.known ring.old) node) }
     ensures ram_same { M.side ram.new ≡ M.side ram.old }
     ensures ring_same { R.side ring.new ≡ R.side ring.old }
+    ensures ring_adds { OnOk result (Adds R.alone (is_of node) (IsGivingUp)
+        (R.known ring.old) (R.known ring.new)) }
+    ensures ram_adds { OnOk result (Adds M.alone is_ours IsFinish
+        (M.known ram.old) (M.known ram.new)) }
 {
     for path in 1..5 {
-        if chosen[path as usize] {
-            give_up_path(node, waiting, path, ram, ring)?;
+        if !chosen[path as usize] {
+            continue;
         }
+        give_up_path(node, waiting, path, ram, ring)?;
     }
     Ok(())
 }
@@ -89,11 +101,16 @@ pub(crate) fn send_all<M: RamSide, R: RingSide>(
         (KeepsInbox (R.side ring.old).net node (R.known ring.old) (R.known ring.new)) }
     ensures ram_same { M.side ram.new ≡ M.side ram.old }
     ensures ring_same { R.side ring.new ≡ R.side ring.old }
+    ensures ring_adds { OnOk result (Adds R.alone (is_of node) (IsSending)
+        (R.known ring.old) (R.known ring.new)) }
+    ensures ram_adds { OnOk result (Adds M.alone is_ours IsFinish
+        (M.known ram.old) (M.known ram.new)) }
 {
     while let Some(heard) = send_next(node, ring)? {
-        if heard != Heard::Acked {
-            give_up_where(node, waiting, posted, ram, ring)?;
+        if heard == Heard::Acked {
+            continue;
         }
+        give_up_where(node, waiting, posted, ram, ring)?;
     }
     Ok(())
 }

@@ -6,7 +6,10 @@ ghost use Rattle.ring_core.specs.Statistics.{is_stats};
 ghost use Rattle.tied_lists.specs.Waits.{HasLeft, Holds};
 ghost use Rattle.comm_port.specs.Turns.{KeepsInbox};
 ghost use Rattle.comm_port.specs.HostTurns.{after_turn, AskedNext, EndsWithPass, HostTaking};
-ghost use Rattle.comm_port.specs.HostTurns.{HostTies, HostTurning};
+ghost use Rattle.comm_port.specs.HostTurns.{EndsHostTurn, GrowsOn, HoldsHostTurn, HostTies};
+ghost use Rattle.comm_port.specs.HostTurns.{HostTurning, IsAsking};
+ghost use Rattle.comm_port.specs.Order.{IsGivingUp, IsSending, IsServing};
+ghost use Rattle.comm_port.specs.Leaving.{IsHere};
 ghost use Rattle.tied_lists.specs.Own.{own};
 ghost use Rattle.comm_port.specs.Sending.{sends_left};
 
@@ -51,6 +54,8 @@ fn answer_request<R: RingSide>(
     ensures turning { OnOk result (HostTurning node host.new (R.side ring.old) (R.known ring.new)) }
     ensures kept { OnOk result
         (KeepsInbox (R.side ring.old).net node (R.known ring.old) (R.known ring.new)) }
+    ensures grown { OnOk result
+        (GrowsOn (IsServing node) R.alone node (R.known ring.old) (R.known ring.new)) }
     ensures legal { IsLegal (R.side ring.old).net (R.known ring.new) }
     ensures plan { host.new.plan ≡ host.old.plan }
     ensures same { R.side ring.new ≡ R.side ring.old }
@@ -74,6 +79,8 @@ fn answer_port<R: RingSide>(
     ensures turning { OnOk result (HostTurning node host.now (R.side ring.old) (R.known ring.new)) }
     ensures kept { OnOk result
         (KeepsInbox (R.side ring.old).net node (R.known ring.old) (R.known ring.new)) }
+    ensures grown { OnOk result
+        (GrowsOn (IsServing node) R.alone node (R.known ring.old) (R.known ring.new)) }
     ensures legal { IsLegal (R.side ring.old).net (R.known ring.new) }
     ensures same { R.side ring.new ≡ R.side ring.old }
 {
@@ -93,6 +100,8 @@ fn serve<R: RingSide>(
     ensures turning { OnOk result (HostTurning node host.new (R.side ring.old) (R.known ring.new)) }
     ensures kept { OnOk result
         (KeepsInbox (R.side ring.old).net node (R.known ring.old) (R.known ring.new)) }
+    ensures grown { OnOk result
+        (GrowsOn (IsServing node) R.alone node (R.known ring.old) (R.known ring.new)) }
     ensures legal { IsLegal (R.side ring.old).net (R.known ring.new) }
     ensures plan { host.new.plan ≡ host.old.plan }
     ensures same { R.side ring.new ≡ R.side ring.old }
@@ -120,6 +129,8 @@ fn serve_inbox<R: RingSide>(
     requires holds { Holds (R.side ring.old).net (R.known ring.old) node }
     ensures turning { OnOk result (HostTurning node host.new (R.side ring.old) (R.known ring.new)) }
     ensures holds { OnOk result (Holds (R.side ring.old).net (R.known ring.new) node) }
+    ensures grown { OnOk result
+        (GrowsOn (IsServing node) R.alone node (R.known ring.old) (R.known ring.new)) }
     ensures legal { IsLegal (R.side ring.old).net (R.known ring.new) }
     ensures plan { host.new.plan ≡ host.old.plan }
     ensures same { R.side ring.new ≡ R.side ring.old }
@@ -143,6 +154,8 @@ fn ask_next<R: RingSide>(
     ensures kept { OnOk result
         (KeepsInbox (R.side ring.old).net node (R.known ring.old) (R.known ring.new)) }
     ensures asked { IfOk result (AskedNext host.old host.new hold) }
+    ensures grown { OnOk result
+        (GrowsOn IsAsking R.alone node (R.known ring.old) (R.known ring.new)) }
     ensures legal { IsLegal (R.side ring.old).net (R.known ring.new) }
     ensures plan { host.new.plan ≡ host.old.plan }
     ensures same { R.side ring.new ≡ R.side ring.old }
@@ -167,6 +180,8 @@ fn ask_all<R: RingSide>(
     ensures turning { OnOk result (HostTurning node host.new (R.side ring.old) (R.known ring.new)) }
     ensures holds { OnOk result (Holds (R.side ring.old).net (R.known ring.new) node) }
     ensures asked { OnOk result (due_request host.new hold ≡ None) }
+    ensures grown { OnOk result
+        (GrowsOn IsAsking R.alone node (R.known ring.old) (R.known ring.new)) }
     ensures legal { IsLegal (R.side ring.old).net (R.known ring.new) }
     ensures plan { host.new.plan ≡ host.old.plan }
     ensures same { R.side ring.new ≡ R.side ring.old }
@@ -189,6 +204,8 @@ fn give_up_path<R: RingSide>(node: u8, path: u8, host: &mut Host, ring: &mut R) 
         ≤ sends_left (R.side ring.old).net (R.known ring.old) node) }
     ensures left { OnOk result (HasLeft (R.side ring.old).net (R.known ring.old) node
         → HasLeft (R.side ring.old).net (R.known ring.new) node) }
+    ensures grown { OnOk result
+        (GrowsOn IsGivingUp R.alone node (R.known ring.old) (R.known ring.new)) }
     ensures legal { IsLegal (R.side ring.old).net (R.known ring.new) }
     ensures plan { host.new.plan ≡ host.old.plan }
     ensures same { R.side ring.new ≡ R.side ring.old }
@@ -220,6 +237,8 @@ fn give_up_where<R: RingSide>(
         ≤ sends_left (R.side ring.old).net (R.known ring.old) node) }
     ensures left { OnOk result (HasLeft (R.side ring.old).net (R.known ring.old) node
         → HasLeft (R.side ring.old).net (R.known ring.new) node) }
+    ensures grown { OnOk result
+        (GrowsOn IsGivingUp R.alone node (R.known ring.old) (R.known ring.new)) }
     ensures legal { IsLegal (R.side ring.old).net (R.known ring.new) }
     ensures plan { host.new.plan ≡ host.old.plan }
     ensures same { R.side ring.new ≡ R.side ring.old }
@@ -246,6 +265,8 @@ fn send_one<R: RingSide>(
     ensures less { IfOk result (λ sent. sent ≡ true
         → sends_left (R.side ring.old).net (R.known ring.new) node
         < sends_left (R.side ring.old).net (R.known ring.old) node) }
+    ensures grown { OnOk result
+        (GrowsOn IsSending R.alone node (R.known ring.old) (R.known ring.new)) }
     ensures legal { IsLegal (R.side ring.old).net (R.known ring.new) }
     ensures plan { host.new.plan ≡ host.old.plan }
     ensures same { R.side ring.new ≡ R.side ring.old }
@@ -273,6 +294,8 @@ fn send_all<R: RingSide>(
     requires holds { Holds (R.side ring.old).net (R.known ring.old) node }
     ensures turning { OnOk result (HostTurning node host.new (R.side ring.old) (R.known ring.new)) }
     ensures holds { OnOk result (Holds (R.side ring.old).net (R.known ring.new) node) }
+    ensures grown { OnOk result
+        (GrowsOn IsSending R.alone node (R.known ring.old) (R.known ring.new)) }
     ensures legal { IsLegal (R.side ring.old).net (R.known ring.new) }
     ensures plan { host.new.plan ≡ host.old.plan }
     ensures same { R.side ring.new ≡ R.side ring.old }
@@ -295,6 +318,10 @@ fn end_turn<R: RingSide>(
         → EndsWithPass node (host_is_done host.new) (own node (R.known ring.new))) }
     ensures gone { IfOk result (λ left. left ≡ true
         → HasLeft (R.side ring.old).net (R.known ring.new) node) }
+    ensures ends { IfOk result (λ left. EndsHostTurn R.alone (R.side ring.old).net node budget left
+        (R.known ring.old) (R.known ring.new)) }
+    ensures stays { IfOk result (λ left. left ≡ false
+        → IsHere (R.side ring.old).net (R.known ring.new) node) }
     ensures legal { IsLegal (R.side ring.old).net (R.known ring.new) }
     ensures plan { host.new.plan ≡ host.old.plan }
     ensures same { R.side ring.new ≡ R.side ring.old }
@@ -324,6 +351,10 @@ fn turn<R: RingSide>(
         → EndsWithPass node (host_is_done host.new) (own node (R.known ring.new))) }
     ensures gone { IfOk result (λ left. left ≡ true
         → HasLeft (R.side ring.old).net (R.known ring.new) node) }
+    ensures held { IfOk result (λ left. HoldsHostTurn R.alone (R.side ring.old).net node budget left
+        (R.known ring.old) (R.known ring.new)) }
+    ensures stays { IfOk result (λ left. left ≡ false
+        → IsHere (R.side ring.old).net (R.known ring.new) node) }
     ensures legal { IsLegal (R.side ring.old).net (R.known ring.new) }
     ensures plan { host.new.plan ≡ host.old.plan }
     ensures same { R.side ring.new ≡ R.side ring.old }
@@ -384,6 +415,10 @@ impl HostWorker {
         ensures gone { IfOk result (λ left. left ≡ true
             → HasLeft (R.side ring.new).net (R.known ring.new) self.old.node) }
         ensures worker { IfOk result (λ left. self.new ≡ after_turn self.old left) }
+        ensures stays { IfOk result (λ left. left ≡ false
+            → IsHere (R.side ring.new).net (R.known ring.new) self.old.node) }
+        ensures held { IfOk result (λ left. HoldsHostTurn R.alone (R.side ring.old).net self.old.node
+            self.old.budget left (R.known ring.old) (R.known ring.new)) }
         ensures legal { IsLegal (R.side ring.old).net (R.known ring.new) }
         ensures plan { host.new.plan ≡ host.old.plan }
         ensures same { R.side ring.new ≡ R.side ring.old }

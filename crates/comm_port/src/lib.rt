@@ -2,6 +2,7 @@
 #![tactic(auto)]
 
 mod calling;
+mod controller_side;
 mod ending;
 mod giving;
 mod host_worker;
@@ -13,6 +14,7 @@ mod ring_side;
 mod sending;
 mod serving;
 mod short;
+mod visiting;
 mod waiting;
 mod worker;
 

@@ -2,6 +2,9 @@
 ghost use Rattle.std.specs.Prelude.{◌≡◌, [], true, false, OnOk};
 ghost use Rattle.ring_core.specs.Statistics.{is_stats};
 ghost use Rattle.tied_lists.specs.Waits.{Holds};
+ghost use Rattle.tied_lists.specs.Own.{is_of, Adds};
+ghost use Rattle.comm_port.specs.Order.{IsServing, IsAnswering};
+ghost use Rattle.comm_port.specs.Reading.{is_ours};
 ghost use Rattle.comm_port.specs.Turns.{Turning, Taking, KeepsInbox};
 
 use crate::ram_side::RamSide;
@@ -27,6 +30,8 @@ fn end_call<M: RamSide, R: RingSide>(
     ensures turning { OnOk result (Turning node [] (M.side ram.new) (M.known ram.new)
         (R.side ring.now) (R.known ring.now) waiting.new) }
     ensures same { M.side ram.new ≡ M.side ram.old }
+    ensures ram_adds { OnOk result (Adds M.alone is_ours IsAnswering
+        (M.known ram.old) (M.known ram.new)) }
 {
     let ask = waiting.end(reply.id.path).unwrap();
     ram.finish(reply.id, result_of(&ask.pdu, &reply.pdu))?;
@@ -51,6 +56,10 @@ fn answer_request<M: RamSide, R: RingSide>(
         (KeepsInbox (R.side ring.old).net node (R.known ring.old) (R.known ring.new)) }
     ensures ram_same { M.side ram.new ≡ M.side ram.old }
     ensures ring_same { R.side ring.new ≡ R.side ring.old }
+    ensures ring_adds { OnOk result (Adds R.alone (is_of node) (IsServing node)
+        (R.known ring.old) (R.known ring.new)) }
+    ensures ram_adds { OnOk result (Adds M.alone is_ours IsAnswering
+        (M.known ram.old) (M.known ram.new)) }
 {
     let reply = ram.peer(request.id, &request.pdu)?;
     post_reply(node, request.id, reply, ring)?;
@@ -75,12 +84,15 @@ fn answer_port<M: RamSide, R: RingSide>(
     ensures kept { OnOk result
         (KeepsInbox (R.side ring.old).net node (R.known ring.old) (R.known ring.new)) }
     ensures same { R.side ring.new ≡ R.side ring.old }
+    ensures ring_adds { OnOk result (Adds R.alone (is_of node) (IsServing node)
+        (R.known ring.old) (R.known ring.new)) }
 {
     tell_statistics(alloc, node, request, ring)?;
     Ok(())
 }
 
 /// What is due to a frame that was taken.
+#[tactic(auto, using(tied_lists::proofs::Growth::adds_none))]
 fn serve<M: RamSide, R: RingSide>(
     alloc: Global,
     node: u8,
@@ -97,6 +109,10 @@ fn serve<M: RamSide, R: RingSide>(
         (KeepsInbox (R.side ring.old).net node (R.known ring.old) (R.known ring.new)) }
     ensures ram_same { M.side ram.new ≡ M.side ram.old }
     ensures ring_same { R.side ring.new ≡ R.side ring.old }
+    ensures ring_adds { OnOk result (Adds R.alone (is_of node) (IsServing node)
+        (R.known ring.old) (R.known ring.new)) }
+    ensures ram_adds { OnOk result (Adds M.alone is_ours IsAnswering
+        (M.known ram.old) (M.known ram.new)) }
 {
     match frame.kind {
         FrameKind::Reply => end_call(node, waiting, frame, ram, ring)?,
@@ -127,6 +143,10 @@ pub(crate) fn serve_inbox<M: RamSide, R: RingSide>(
     ensures holds { OnOk result (Holds (R.side ring.new).net (R.known ring.new) node) }
     ensures ram_same { M.side ram.new ≡ M.side ram.old }
     ensures ring_same { R.side ring.new ≡ R.side ring.old }
+    ensures ring_adds { OnOk result (Adds R.alone (is_of node) (IsServing node)
+        (R.known ring.old) (R.known ring.new)) }
+    ensures ram_adds { OnOk result (Adds M.alone is_ours IsAnswering
+        (M.known ram.old) (M.known ram.new)) }
 {
     while let Some(frame) = ring.take(node)? {
         serve(alloc, node, waiting, &frame, ram, ring)?;

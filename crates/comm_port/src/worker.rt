@@ -2,8 +2,9 @@
 ghost use Rattle.std.specs.Prelude.{◌≡◌, ◌<◌, [], All, OnOk, IfOk, true, replicate, None};
 ghost use Rattle.ring_core.specs.Machine.{addresses, path_places};
 ghost use Rattle.ring_core.specs.Legal.{IsMember};
-ghost use Rattle.tied_lists.specs.Waits.{Holds};
+ghost use Rattle.tied_lists.specs.Waits.{Holds, HasLeft};
 ghost use Rattle.comm_port.specs.Turns.{Turning, Rested};
+ghost use Rattle.comm_port.specs.Ending.{HoldsTurn};
 ghost use Rattle.comm_port.specs.Worker.{Standing};
 
 use crate::calling::make_calls;
@@ -13,6 +14,7 @@ use crate::ram_side::RamSide;
 use crate::ring_side::RingSide;
 use crate::serving::serve_inbox;
 use crate::short::Short;
+use crate::visiting::visit;
 use crate::waiting::Waiting;
 use plant_types::{Copied, NetPlan};
 use std::alloc::{AllocError, Global};
@@ -63,6 +65,9 @@ fn turn<M: RamSide, R: RingSide>(
     requires holds { Holds (R.side ring.old).net (R.known ring.old) node }
     ensures rested { OnOk result (Rested node (M.side ram.new) (M.known ram.new) (R.side ring.new)
         (R.known ring.new) waiting.new) }
+    ensures held { IfOk result (HoldsTurn M.alone R.alone (M.side ram.old).fixed
+        (R.side ring.old).net node budget (M.known ram.old) (M.known ram.new) (R.known ring.old)
+        (R.known ring.new)) }
     ensures ram_same { M.side ram.new ≡ M.side ram.old }
     ensures ring_same { R.side ring.new ≡ R.side ring.old }
 {
@@ -71,7 +76,8 @@ fn turn<M: RamSide, R: RingSide>(
     make_calls(alloc, node, waiting, ram, ring)?;
     send_all(node, waiting, &posted, ram, ring)?;
     give_up_where(node, waiting, &ALL_PATHS, ram, ring)?;
-    end_turn(node, budget, waiting, ram, ring)
+    let left = end_turn(node, budget, waiting, ram, ring)?;
+    Ok(left)
 }
 
 impl CommWorker {
@@ -116,6 +122,9 @@ impl CommWorker {
         requires holds { Holds (R.side ring.old).net (R.known ring.old) self.old.node }
         ensures standing { OnOk result (Standing self.new (M.side ram.new) (M.known ram.new)
             (R.side ring.new) (R.known ring.new)) }
+        ensures held { IfOk result (HoldsTurn M.alone R.alone (M.side ram.old).fixed
+            (R.side ring.old).net self.old.node self.old.budget (M.known ram.old)
+            (M.known ram.new) (R.known ring.old) (R.known ring.new)) }
         ensures worker { self.new ≡ record self.old { waiting = self.new.waiting } }
         ensures ram_same { M.side ram.new ≡ M.side ram.old }
         ensures ring_same { R.side ring.new ≡ R.side ring.old }
@@ -123,6 +132,27 @@ impl CommWorker {
         let waiting = &mut self.waiting;
         match turn(self.alloc, self.node, self.budget, waiting, ram, ring) {
             Ok(left) => Ok(left),
+            Err(Short) => Err(AllocError),
+        }
+    }
+
+    /// Ends each call that the controller started since its node left. Only memory can want.
+    pub fn visit_end<M: RamSide, R: RingSide>(
+        &mut self,
+        ram: &mut M,
+        ring: &mut R,
+    ) -> Result<(), AllocError>
+        requires standing { Standing self.old (M.side ram.old) (M.known ram.old) (R.side ring.old)
+            (R.known ring.old) }
+        requires left { HasLeft (R.side ring.old).net (R.known ring.old) self.old.node }
+        ensures standing { OnOk result (Standing self.new (M.side ram.new) (M.known ram.new)
+            (R.side ring.new) (R.known ring.new)) }
+        ensures worker { self.new ≡ record self.old { waiting = self.new.waiting } }
+        ensures ram_same { M.side ram.new ≡ M.side ram.old }
+        ensures ring_same { R.side ring.new ≡ R.side ring.old }
+    {
+        match visit(self.alloc, self.node, &mut self.waiting, ram, ring) {
+            Ok(()) => Ok(()),
             Err(Short) => Err(AllocError),
         }
     }

@@ -1,4 +1,8 @@
 //! A controller with ample memory.
+mod ladders;
+mod messages;
+mod scans;
+
 ghost use Rattle.std.specs.Prelude.{IfOk};
 ghost use Rattle.controller_core.specs.Machine.{CanRun};
 

@@ -4,10 +4,12 @@
 mod controllers;
 mod fields;
 mod hosts;
+mod laws;
 mod plain;
 mod rings;
 mod writing;
 
+pub use laws::legal_is_plain;
 pub use plain::is_plain;
 pub use writing::journal_text;
 

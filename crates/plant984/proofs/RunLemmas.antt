@@ -19,7 +19,8 @@ use Rattle.controller_core.specs.Panel.{has_line, line_of_end, lines_from, panel
 use Rattle.controller_core.specs.Replay.{State}
 use Rattle.controller_core.specs.declared.entry.StepEnd.{StepEnd}
 use Rattle.controller_core.specs.Run.{ends_with, entries_from, run_of}
-use Rattle.plant984.specs.Run.{by_scan, lines_of, scan_lines}
+use Rattle.panel_text.specs.Scans.{by_scan, scan_lines}
+use Rattle.plant984.specs.Run.{lines_of}
 
 -- ---- one more step
 

@@ -15,7 +15,7 @@ use Rattle.plant984.specs.declared.status.Status.TheVariants as ends
 use Rattle.plant984.specs.declared.words.Command.{Command}
 use Rattle.plant984.specs.declared.words.Command.TheVariants.{Run}
 use Rattle.plant984.specs.Words.{IsCommand, SpellsCommand}
-use Rattle.plant984.specs.Run.{panel}
+use Rattle.plant984.specs.Run.{run_panel}
 
 -- A status and the text that goes with it.
 pub record Due : Type 0 where
@@ -29,7 +29,7 @@ refusal_text fault place =
 
 -- A plant that is accepted is run; one that has a fault is refused.
 abbrev pub due_of : Command → Result Plant Refusal → Due
-due_of (Run scans) (Ok plant) = record { status = ends.Ok; text = panel plant scans }
+due_of (Run scans) (Ok plant) = record { status = ends.Ok; text = run_panel plant scans }
 due_of (Run scans) (Err fault) =
     record { status = ends.Refused; text = refusal_text fault.0 fault.1 }
 

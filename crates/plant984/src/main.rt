@@ -3,7 +3,6 @@
 
 mod answering;
 mod arguments;
-mod panel;
 #[cfg(test)]
 mod rows;
 mod run;

@@ -4,8 +4,8 @@ ghost use Rattle.std.specs.List.{flat_map};
 ghost use Rattle.controller_core.specs.Machine.{IsRunnable};
 ghost use Rattle.plant984.specs.Run.{lines_of};
 
-use crate::panel::{push_line, readings_of};
 use controller_core::{Controller, steps_add_their_lines, steps_make_the_run};
+use panel_text::{push_line, readings_of};
 use plant_types::ControllerPlan;
 use std::alloc::{AllocError, Global};
 

@@ -22,10 +22,10 @@ same-refl a = λ i. eq-eqb a.node a.node refl i && (eq-eqb a.path a.path refl i 
 pub other-path : (a b : CallId) → a.path ≢ b.path → is_same_call a b ≡ false
 other-path a b other = and-false (a.node == b.node) (a.path == b.path) (a.seq == b.seq) (ne_eqb a.path b.path other)
   where
-  and-false : (x y z : Bool) → y ≡ false → (x && (y && z)) ≡ false
-  and-false true true z e = absurd (cc)
-  and-false true false z e = refl
-  and-false false y z e = refl
+    and-false : (x y z : Bool) → y ≡ false → (x && (y && z)) ≡ false
+    and-false true true z e = absurd (cc)
+    and-false true false z e = refl
+    and-false false y z e = refl
 
 -- the Request that a path waits for was the last asked by its name
 data Last (p : ℕ) (g : Frame) (now : Option Frame) (es : List RingEntry) : Type 0 where
@@ -60,29 +60,29 @@ posted : (p n : ℕ) (g : Frame) (now : Option Frame) (f : Frame) (es : List Rin
 posted p n g now f es path kind (within l) = within (last-post g.id n f es kind ∙ or_some-first _ _ g.pdu l)
 posted p n g now f es path kind (before is l) = ⊎_elim
     (λ (here : f.id.path ≡ p).
-        let f_is : Some f ≡ Some g = sym (cond-true (f.id.path == p) (Some f) now (eq-eqb f.id.path p here)) ∙ is in
-        let same : f ≡ g = cc in
-        within (last-post g.id n f es kind ∙ (or_some-none _ _ l ∙ (ap
-            (λ (x : Frame). cond (is_same_call x.id g.id) (Some x.pdu) None) same ∙ cond-true (is_same_call g.id g.id) _ _
-            (same-refl g.id)))))
+    let f_is : Some f ≡ Some g = sym (cond-true (f.id.path == p) (Some f) now (eq-eqb f.id.path p here)) ∙ is in
+    let same : f ≡ g = cc in
+    within (last-post g.id n f es kind ∙ (or_some-none _ _ l ∙ (ap
+    (λ (x : Frame). cond (is_same_call x.id g.id) (Some x.pdu) None) same ∙ cond-true (is_same_call g.id g.id) _ _
+    (same-refl g.id)))))
     (λ (else' : f.id.path ≡ p → ⊥).
-        before (sym (cond-false (f.id.path == p) (Some f) now (ne_eqb f.id.path p else')) ∙ is)
-        (last-post g.id n f es kind ∙ (or_some-none _ _ l ∙ cond-false (is_same_call f.id g.id) _ _ (other-path f.id g.id (λ e. else' (e ∙ path))))))
+    before (sym (cond-false (f.id.path == p) (Some f) now (ne_eqb f.id.path p else')) ∙ is)
+    (last-post g.id n f es kind ∙ (or_some-none _ _ l ∙ cond-false (is_same_call f.id g.id) _ _ (other-path f.id g.id (λ e. else' (e ∙ path))))))
     (cases_eq f.id.path p)
 
 last-of : (p : ℕ) (g : Frame) (now : Option Frame) (es : List RingEntry) → g.id.path ≡ p → waits_after p now es ≡ Some g → Last p g now es
 last-of p g now [] path is = before is refl
 last-of p g now (Post n f ∷ es) path is = by-kind f.kind refl (last-of p g (waits_posted p now f.kind f) es path is)
   where
-  by-kind : (k : FrameKind) → f.kind ≡ k → Last p g (waits_posted p now f.kind f) es → Last p g now (Post n f ∷ es)
-  by-kind Request e l = posted p n g now f es path e (subst (λ (x : FrameKind). Last p g (waits_posted p now x f) es) e l)
-  by-kind Reply e l = skip p g now now (Post n f) es (ap (λ k. asked_in k f) e) (λ x. x) (subst (λ (x : FrameKind). Last p g (waits_posted p now x f) es) e l)
+    by-kind : (k : FrameKind) → f.kind ≡ k → Last p g (waits_posted p now f.kind f) es → Last p g now (Post n f ∷ es)
+    by-kind Request e l = posted p n g now f es path e (subst (λ (x : FrameKind). Last p g (waits_posted p now x f) es) e l)
+    by-kind Reply e l = skip p g now now (Post n f) es (ap (λ k. asked_in k f) e) (λ x. x) (subst (λ (x : FrameKind). Last p g (waits_posted p now x f) es) e l)
 last-of p g now (Send n heard ∷ es) path is = skip p g now now (Send n heard) es refl (λ x. x) (last-of p g now es path is)
 last-of p g now (Take n f ∷ es) path is = by-kind f.kind refl (last-of p g (waits_taken p now f.kind f) es path is)
   where
-  by-kind : (k : FrameKind) → f.kind ≡ k → Last p g (waits_taken p now f.kind f) es → Last p g now (Take n f ∷ es)
-  by-kind Request e l = skip p g now now (Take n f) es refl (λ x. x) (subst (λ (x : FrameKind). Last p g (waits_taken p now x f) es) e l)
-  by-kind Reply e l = skip p g now _ (Take n f) es refl (closed (f.id.path == p) g now) (subst (λ (x : FrameKind). Last p g (waits_taken p now x f) es) e l)
+    by-kind : (k : FrameKind) → f.kind ≡ k → Last p g (waits_taken p now f.kind f) es → Last p g now (Take n f ∷ es)
+    by-kind Request e l = skip p g now now (Take n f) es refl (λ x. x) (subst (λ (x : FrameKind). Last p g (waits_taken p now x f) es) e l)
+    by-kind Reply e l = skip p g now _ (Take n f) es refl (closed (f.id.path == p) g now) (subst (λ (x : FrameKind). Last p g (waits_taken p now x f) es) e l)
 last-of p g now (Local n id op result ∷ es) path is = skip p g now now (Local n id op result) es refl (λ x. x) (last-of p g now es path is)
 last-of p g now (GiveUp id word ∷ es) path is = skip p g now _ (GiveUp id word) es refl (closed (id.path == p) g now) (last-of p g _ es path is)
 last-of p g now (Pass n done words ∷ es) path is = skip p g now now (Pass n done words) es refl (λ x. x) (last-of p g now es path is)
@@ -91,9 +91,9 @@ last-of p g now (Leave n cause ∷ es) path is = skip p g now now (Leave n cause
 pub waiting-last : (p : ℕ) (g : Frame) (b : List RingEntry) → g.id.path ≡ p → waiting p b ≡ Some g → last_asked g.id (asked_by b) ≡ Some g.pdu
 waiting-last p g b path is = found (last-of p g None b path is)
   where
-  found : Last p g None b → last_asked g.id (asked_by b) ≡ Some g.pdu
-  found (within l) = l
-  found (before none l) = absurd (let no' : None ≡ Some g = none in cc)
+    found : Last p g None b → last_asked g.id (asked_by b) ≡ Some g.pdu
+    found (within l) = l
+    found (before none l) = absurd (let no' : None ≡ Some g = none in cc)
 
 -- ends that are added
 pub no-end-push : (id : CallId) (ends : List Ended) (e : Ended) → is_same_call e.id id ≡ false → NoEnd id ends → NoEnd id (ends ++ e ∷ [])

@@ -2,7 +2,8 @@
 use Rattle.std.proofs.Common.{◌≡◌, Bool, true, List, [], ◌∷◌, ◌++◌, filter, refl, sym, ap, ◌∙◌}
 use Rattle.std.proofs.Common.{append_assoc, append-nil}
 use Rattle.std.proofs.lemmas.List.Elements.{filter-append}
-use Rattle.tied_lists.specs.Own.{WentOn, Grew}
+use Rattle.std.specs.List.{AllByRecursion}
+use Rattle.tied_lists.specs.Own.{WentOn, Grew, Adds}
 
 pub grew-one : {E : Type 0} (alone : Bool) (ours : E → Bool) (before added after' : List E) → filter ours added ≡ added → WentOn
     alone ours before added after' → Grew alone ours before added after'
@@ -30,3 +31,45 @@ pub went-ours : {E : Type 0} (alone : Bool) (ours : E → Bool) (before added af
     after' → filter ours after' ≡ filter ours before ++ filter ours added
 went-ours alone ours before added after' w = ap (filter ours) w.after_is ∙ (filter-append ours (before ++ w.between) added
     ∙ ap (λ l. l ++ filter ours added) (filter-append ours before w.between ∙ (ap (λ l. filter ours before ++ l) w.others ∙ append-nil (filter ours before))))
+
+-- entries of one sort
+pub adds_none : {E : Type 0} (alone : Bool) (ours : E → Bool) (Sort : E → Type 0) (xs : List E) → Adds alone ours Sort xs xs
+adds_none alone ours Sort xs = record {
+  added = [];
+  sort = tt;
+  grew = record {
+    more = [];
+    after_is = sym (append-nil xs);
+    ours_are
+        = refl;
+    all_alone = λ is. refl;
+  };
+}
+
+pub adds-went : {E : Type 0} (alone : Bool) (ours : E → Bool) (Sort : E → Type 0) (before added after' : List E) → AllByRecursion
+    Sort added → filter ours added ≡ added → WentOn alone ours before added after' → Adds alone ours Sort before after'
+adds-went alone ours Sort before added after' sorts mine w = record { added = added; sort = sorts; grew = grew-one alone ours before added after' mine w }
+
+pub adds-grew : {E : Type 0} (alone : Bool) (ours : E → Bool) (Sort : E → Type 0) (before added after' : List E) → AllByRecursion
+    Sort added → Grew alone ours before added after' → Adds alone ours Sort before after'
+adds-grew alone ours Sort before added after' sorts g = record { added = added; sort = sorts; grew = g }
+
+each-append : {E : Type 0} (Sort : E → Type 0) (xs ys : List E) → AllByRecursion Sort xs → AllByRecursion Sort ys → AllByRecursion Sort (xs ++ ys)
+each-append Sort [] ys a b = b
+each-append Sort (x ∷ xs) ys a b = (a.0, each-append Sort xs ys a.1 b)
+
+pub adds-both : {E : Type 0} (alone : Bool) (ours : E → Bool) (Sort : E → Type 0) (first middle last : List E) → Adds alone ours
+    Sort first middle → Adds alone ours Sort middle last → Adds alone ours Sort first last
+adds-both alone ours Sort first middle last a b = record {
+  added = a.added ++ b.added;
+  sort = each-append Sort a.added b.added a.sort b.sort;
+  grew = grew-more alone ours first middle last a.added b.added a.grew b.grew;
+}
+
+each-weaker : {E : Type 0} (Sort Sort' : E → Type 0) → ((x : E) → Sort x → Sort' x) → (xs : List E) → AllByRecursion Sort xs → AllByRecursion Sort' xs
+each-weaker Sort Sort' f [] a = tt
+each-weaker Sort Sort' f (x ∷ xs) a = (f x a.0, each-weaker Sort Sort' f xs a.1)
+
+pub adds-weaker : {E : Type 0} (alone : Bool) (ours : E → Bool) (Sort Sort' : E → Type 0) (before after' : List E) → ((x : E) →
+    Sort x → Sort' x) → Adds alone ours Sort before after' → Adds alone ours Sort' before after'
+adds-weaker alone ours Sort Sort' before after' f a = record { added = a.added; sort = each-weaker Sort Sort' f a.added a.sort; grew = a.grew }

@@ -30,7 +30,10 @@ tied-none station a b t = record { asks = append-nil (asked_by b) ∙ t.asks; pe
 pub tied-called : (station : Station) (calls : List Called) (a : Items) (b : List RingEntry) → Tied station a b → TiedBut station calls (with_calls a calls) b
 tied-called station calls a b t = record {
   asks = ap (λ l. l ++ filter_map net_ask calls) t.asks ∙ sym (filter_map-append net_ask a.calls calls);
-  peers = t.peers; port = t.port; replies = t.replies; ends = t.ends;
+  peers = t.peers;
+  port = t.port;
+  replies = t.replies;
+  ends = t.ends;
 }
 
 -- lists that go on
@@ -47,16 +50,17 @@ ends-append station asked [] c = ap (λ l. ended_by station l c) (sym (append-ni
 ends-append station asked (x ∷ b) c =
     let more = asked ++ cons_option (asked_of x) [] in
     let joins : more ++ asked_by b ≡ asked ++ asked_by (x ∷ b) = append_assoc asked (cons_option (asked_of x) []) (asked_by b) ∙
-        ap (λ l. asked ++ l) (cons-join (asked_of x) (asked_by b)) in
+    ap (λ l. asked ++ l) (cons-join (asked_of x) (asked_by b)) in
     ap (λ l. cons_option (ended_of station asked x) l) (ends-append station more b c ∙ ap (λ l. ended_by station more b ++ ended_by station l c) joins)
     ∙ cons-append (ended_of station asked x) (ended_by station more b) (ended_by station (asked ++ asked_by (x ∷ b)) c)
   where
-  cons-join : {X : Type 0} (o : Option X) (xs : List X) → cons_option o [] ++ xs ≡ cons_option o xs
-  cons-join None xs = refl
-  cons-join (Some x) xs = refl
-  cons-append : {X : Type 0} (o : Option X) (xs ys : List X) → cons_option o (xs ++ ys) ≡ cons_option o xs ++ ys
-  cons-append None xs ys = refl
-  cons-append (Some x) xs ys = refl
+    cons-join : {X : Type 0} (o : Option X) (xs : List X) → cons_option o [] ++ xs ≡ cons_option o xs
+    cons-join None xs = refl
+    cons-join (Some x) xs = refl
+
+    cons-append : {X : Type 0} (o : Option X) (xs ys : List X) → cons_option o (xs ++ ys) ≡ cons_option o xs ++ ys
+    cons-append None xs ys = refl
+    cons-append (Some x) xs ys = refl
 
 plain-append : (ts us : List Taken) → plain_items (ts ++ us) ≡ plain_items ts ++ plain_items us
 plain-append [] us = refl
@@ -74,7 +78,7 @@ cons-tail x y xs ys e = cc
 -- no answer is missing, so what is due composes
 due-append : (ts us : List Taken) (ps qs ls ms : List Answered) → map item_of ps ≡ plain_items ts → map item_of ls ≡ stats_items ts
     → due_replies (ts ++ us) (replies_in (ps ++ qs)) (replies_in (ls ++ ms)) ≡ due_replies ts (replies_in ps) (replies_in ls) ++
-        due_replies us (replies_in qs) (replies_in ms)
+    due_replies us (replies_in qs) (replies_in ms)
 due-append [] us [] qs [] ms p l = refl
 due-append [] us [] qs (y ∷ ls) ms p l = absurd (cc)
 due-append [] us (x ∷ ps) qs ls ms p l = absurd (cc)
@@ -115,21 +119,21 @@ tied-adds station rest rest' a a' b c answers t m =
       ends = m.ends ∙ (ap (λ l. l ++ ended_by station (asked_by b) c) t.ends ∙ sym (ends-append station [] b c));
     }
   where
-  map-append : {X Y : Type 0} (f : X → Y) (xs ys : List X) → map f (xs ++ ys) ≡ map f xs ++ map f ys
-  map-append f [] ys = refl
-  map-append f (x ∷ xs) ys = ap (λ l. f x ∷ l) (map-append f xs ys)
+    map-append : {X Y : Type 0} (f : X → Y) (xs ys : List X) → map f (xs ++ ys) ≡ map f xs ++ map f ys
+    map-append f [] ys = refl
+    map-append f (x ∷ xs) ys = ap (λ l. f x ∷ l) (map-append f xs ys)
 
 -- a Request that was served
 pub tied-served : (station : Station) (rest : List Called) (a : Items) (b : List RingEntry) (n : ℕ) (f g : Frame) (reply : List ℕ)
     → f.kind ≡ Request → is_stats f.pdu ≡ false → g.kind ≡ Reply → g.id ≡ f.id → g.pdu ≡ reply
     → TiedBut station rest a b → TiedBut station rest (with_answer a (record { id = f.id; request = Some f.pdu; reply = reply }))
-        (b ++ (Take n f ∷ Post n g ∷ []))
+    (b ++ (Take n f ∷ Post n g ∷ []))
 tied-served station rest a b n f g reply kind plain gkind gid gpdu t =
     let answer : Answered = record { id = f.id; request = Some f.pdu; reply = reply } in
     let c = Take n f ∷ Post n g ∷ [] in
     let none : asked_by c ≡ [] = ap (λ k. cons_option (asked_in k g) []) gkind in
     let taken : taken_by c ≡ Plain f.id f.pdu ∷ [] = ap (λ k. cons_option (taken_in k f) []) kind ∙ ap (λ x. x ∷ []) (cond-false
-        (is_stats f.pdu) (ForStats f.id f.pdu) (Plain f.id f.pdu) plain) in
+    (is_stats f.pdu) (ForStats f.id f.pdu) (Plain f.id f.pdu) plain) in
     let posted : replied_by c ≡ (f.id, Some reply) ∷ [] = ap (λ k. cons_option (replied_in k g) []) gkind ∙ (λ i. (gid i, Some (gpdu i)) ∷ []) in
     tied-adds station rest rest a _ b c (answer ∷ []) t (record {
       asks = ap (λ l. l ++ filter_map net_ask rest) none;
@@ -152,13 +156,13 @@ tied-told station rest a b n f g op result kind stats other op_is gkind gid gpdu
     let not_own : (f.id.node == n) ≡ false = ne_eqb f.id.node n other in
     let none : asked_by c ≡ [] = ap (λ k. cons_option (asked_in k g) []) gkind in
     let taken : taken_by c ≡ ForStats f.id f.pdu ∷ [] = ap (λ k. cons_option (taken_in k f) []) kind ∙ ap (λ x. x ∷ []) (cond-true
-        (is_stats f.pdu) (ForStats f.id f.pdu) (Plain f.id f.pdu) stats) in
+    (is_stats f.pdu) (ForStats f.id f.pdu) (Plain f.id f.pdu) stats) in
     let posted : replied_by c ≡ (f.id, Some (reply_of result)) ∷ [] = ap (λ k. cons_option (replied_in k g) []) gkind ∙ (λ i. (gid i, Some (gpdu i)) ∷ []) in
     let port : port_answers c ≡ answer ∷ [] = ap (λ x. cons_option (cond x None (Some answer)) []) not_own in
     let home : ended_at_home n f.id op result ≡ None = cond-false (f.id.node == n) (Some (record
-        { id = f.id; kind = Some (LocalCall op); outcome = Came result })) None not_own in
+    { id = f.id; kind = Some (LocalCall op); outcome = Came result })) None not_own in
     let no_end : ended_by station (asked_by b) c ≡ [] = ap (λ k. cons_option (ended_in station (asked_by b) k f) (cons_option
-        (ended_at_home n f.id op result) [])) kind ∙ ap (λ x. cons_option x []) home in
+    (ended_at_home n f.id op result) [])) kind ∙ ap (λ x. cons_option x []) home in
     tied-adds station rest rest a a b c [] t (record {
       asks = ap (λ l. l ++ filter_map net_ask rest) none;
       calls = refl;
@@ -176,14 +180,14 @@ pub tied-ended : (station : Station) (rest : List Called) (a : Items) (b : List 
     → TiedBut station rest a b → TiedBut station rest (with_end a id outcome) (b ++ e ∷ [])
 tied-ended station rest a b e id kind outcome asks takes answers replies ends made t = tied-adds station rest rest a (with_end a
     id outcome) b (e ∷ []) [] t (record {
-  asks = ap (λ o. cons_option o [] ++ filter_map net_ask rest) asks;
-  calls = refl;
-  answers_are = sym (append-nil a.answers);
-  peers = ap (λ o. plain_items (cons_option o [])) (sym takes);
-  port = ap (λ o. map item_of (cons_option o [])) answers ∙ ap (λ o. stats_items (cons_option o [])) (sym takes);
-  replies = ap (λ o. cons_option o []) replies ∙ (λ i. due_replies (cons_option (sym takes i) []) [] (replies_in (cons_option (sym answers i) [])));
-  ends = ap (λ (k : Option Kind). a.ends ++ record { id = id; kind = k; outcome = outcome } ∷ []) made ∙ ap (λ o. a.ends ++ cons_option o []) (sym ends);
-})
+      asks = ap (λ o. cons_option o [] ++ filter_map net_ask rest) asks;
+      calls = refl;
+      answers_are = sym (append-nil a.answers);
+      peers = ap (λ o. plain_items (cons_option o [])) (sym takes);
+      port = ap (λ o. map item_of (cons_option o [])) answers ∙ ap (λ o. stats_items (cons_option o [])) (sym takes);
+      replies = ap (λ o. cons_option o []) replies ∙ (λ i. due_replies (cons_option (sym takes i) []) [] (replies_in (cons_option (sym answers i) [])));
+      ends = ap (λ (k : Option Kind). a.ends ++ record { id = id; kind = k; outcome = outcome } ∷ []) made ∙ ap (λ o. a.ends ++ cons_option o []) (sym ends);
+    })
 
 -- an entry that says nothing to the laws, and what stays to be posted
 pub tied-quiet : (station : Station) (rest : List Called) (a : Items) (b : List RingEntry) (e : RingEntry) → asked_of e ≡ None →
@@ -227,8 +231,14 @@ tied-done station rest call a b n op result none own made t =
     tied-ended station rest a b (Local n call.id op result) call.id (LocalCall op) (Came result) refl refl
     (cond-true (call.id.node == n) None (Some (record { id = call.id; request = request_of op; reply = reply_of result })) mine) refl
     (cond-true (call.id.node == n) (Some (record { id = call.id; kind = Some (LocalCall op); outcome = Came result })) None mine) made
-    (record { asks = ap (λ o. asked_by b ++ cons_option o (filter_map net_ask rest)) (sym none) ∙ t.asks; peers = t.peers; port =
-        t.port; replies = t.replies; ends = t.ends })
+    (record {
+      asks = ap (λ o. asked_by b ++ cons_option o (filter_map net_ask rest)) (sym none) ∙ t.asks;
+      peers = t.peers;
+      port =
+          t.port;
+      replies = t.replies;
+      ends = t.ends;
+    })
 
 -- a Reply that was taken, and a call that was given up
 pub tied-got : (station : Station) (rest : List Called) (a : Items) (b : List RingEntry) (n : ℕ) (f : Frame) → f.kind ≡ Reply →
@@ -236,7 +246,7 @@ pub tied-got : (station : Station) (rest : List Called) (a : Items) (b : List Ri
     → TiedBut station rest a b → TiedBut station rest (with_end a f.id (outcome_of_reply station (last_asked f.id (asked_by b)) f.pdu)) (b ++ Take n f ∷ [])
 tied-got station rest a b n f kind made t =
     tied-ended station rest a b (Take n f) f.id NetCall (outcome_of_reply station (last_asked f.id (asked_by b)) f.pdu) refl (ap
-        (λ k. taken_in k f) kind) refl refl (ap (λ k. ended_in station (asked_by b) k f) kind) made t
+    (λ k. taken_in k f) kind) refl refl (ap (λ k. ended_in station (asked_by b) k f) kind) made t
 
 pub tied-given_up : (station : Station) (rest : List Called) (a : Items) (b : List RingEntry) (id : CallId) (word : ℕ) → kind_in a.calls id ≡ Some NetCall
     → TiedBut station rest a b → TiedBut station rest (with_end a id (outcome_of_word station word)) (b ++ GiveUp id word ∷ [])

@@ -15,7 +15,7 @@ use Rattle.ring_core.specs.declared.refusal.RingNo.{RingNo}
 use Rattle.ring_core.specs.Words.{maker, asks}
 use Rattle.ring_core.specs.Machine.{NodeIs, RingIs, addresses, path_places, no_path, fresh, part_of}
 use Rattle.ring_core.specs.Machine.{ring_node, path_of, posted, took, gave_up, gone, after, opening}
-use Rattle.ring_core.specs.Machine.{ring_after, heard_by, awaited_number, sent_head}
+use Rattle.ring_core.specs.Machine.{ring_after, heard_by, awaited_number, sent_head, after_pass}
 use Rattle.ring_core.specs.Legal.{IsFirst, IsPath, IsFrom, IsLawful, IsTimelyEntry, IsRingStep}
 use Rattle.ring_core.specs.Legal.{IsRun, IsLegal}
 use Rattle.ring_core.specs.Stability.{Stays, NoneBy}
@@ -76,14 +76,14 @@ pub found-at : (net : NetPlan) (n : ℕ) (before between : List RingEntry) → I
 found-at net n before between legal none free =
     let run = (legal-parts net before between legal).1 in
     ⊎_elim (λ (h : Holds net before n).
-        let s : Stays (ring_after net before) (ring_after net (before ++ between)) n = holder-stays net before between n run
-            h.holder (none-by n between none) in
-        let now : Holds net (before ++ between) n = record { holder = s.holder ∙ h.holder; here = ap (λ (c : NodeIs). c.here) s.part ∙ h.here } in
-        record { free = inl now; holds = λ _. now; part_is = s.part; own_is = own-found n before between none })
+    let s : Stays (ring_after net before) (ring_after net (before ++ between)) n = holder-stays net before between n run
+    h.holder (none-by n between none) in
+    let now : Holds net (before ++ between) n = record { holder = s.holder ∙ h.holder; here = ap (λ (c : NodeIs). c.here) s.part ∙ h.here } in
+    record { free = inl now; holds = λ _. now; part_is = s.part; own_is = own-found n before between none })
     (λ (l : HasLeft net before n).
-        let same : part net (before ++ between) n ≡ part net before n = left-stays net before between n l (none-by n between none) in
-        let gone' : HasLeft net (before ++ between) n = ap (λ (c : NodeIs). c.here) same ∙ l in
-        record { free = inr gone'; holds = λ h. absurd (let x = h.here in cc); part_is = same; own_is = own-found n before between none })
+    let same : part net (before ++ between) n ≡ part net before n = left-stays net before between n l (none-by n between none) in
+    let gone' : HasLeft net (before ++ between) n = ap (λ (c : NodeIs). c.here) same ∙ l in
+    record { free = inr gone'; holds = λ h. absurd (let x = h.here in cc); part_is = same; own_is = own-found n before between none })
     free
 
 -- a call that added nothing
@@ -136,8 +136,12 @@ pub record Wrote (net : NetPlan) (n : ℕ) (before after' : List RingEntry) (c :
 
 wrote-by : (net : NetPlan) (n : ℕ) (before past after' : List RingEntry) (c d : NodeIs) → Found net n before past → IsOnRing net
     past n → d.here ≡ (part net past n).here
-    → ring_after net after' ≡ record { holder = (ring_after net past).holder; sent = (ring_after net past).sent; nodes = set
-        (ring_after net past).nodes n d } → d ≡ c → Wrote net n before after' c
+    → ring_after net after' ≡ record {
+      holder = (ring_after net past).holder;
+      sent = (ring_after net past).sent;
+      nodes = set
+          (ring_after net past).nodes n d;
+    } → d ≡ c → Wrote net n before after' c
 wrote-by net n before past after' c d f on here is same =
     let now : part net after' n ≡ d = ap (λ (r : RingIs). ring_node r n) is ∙ written net n past d on in
     let holder : (ring_after net after').holder ≡ (ring_after net past).holder = ap (λ (r : RingIs). r.holder) is in
@@ -163,8 +167,12 @@ pub after-give_up : (net : NetPlan) (n : ℕ) (before : List RingEntry) (id : Ca
     ≡ n → Moved net n before (GiveUp id word) after' → Wrote net n before after' (gave_up (part net before n) id)
 after-give_up net n before id word after' own' m =
     wrote-by net n before m.past after' _ (gave_up (part net m.past n) id) m.found m.on refl
-    (m.ring_is ∙ ap (λ (k : ℕ). record { holder = (ring_after net m.past).holder; sent = (ring_after net m.past).sent; nodes = set
-        (ring_after net m.past).nodes k (gave_up (ring_node (ring_after net m.past) k) id) }) own')
+    (m.ring_is ∙ ap (λ (k : ℕ). record {
+      holder = (ring_after net m.past).holder;
+      sent = (ring_after net m.past).sent;
+      nodes = set
+          (ring_after net m.past).nodes k (gave_up (ring_node (ring_after net m.past) k) id);
+    }) own')
     (ap (λ (c : NodeIs). gave_up c id) m.found.part_is)
 
 pub after-local : (net : NetPlan) (n : ℕ) (before : List RingEntry) (id : CallId) (op : LocalOp) (result : MstrResult) (after' :
@@ -183,6 +191,12 @@ pub after-leave : (net : NetPlan) (n : ℕ) (before : List RingEntry) (cause : L
     before (Leave n cause) after' → HasLeft net after' n
 after-leave net n before cause after' m =
     ap (λ (r : RingIs). (ring_node r n).here) m.ring_is ∙ ap (λ (c : NodeIs). c.here) (written net n m.past (gone (part net m.past n)) m.on)
+
+pub after-pass : (net : NetPlan) (n : ℕ) (before : List RingEntry) (done : Bool) (words : List ℕ) (after' : List RingEntry)
+    → Moved net n before (Pass n done words) after' → Holds net before n → (part net after' n).here ≡ true
+after-pass net n before done words after' m h =
+    ap (λ (r : RingIs). (ring_node r n).here) m.ring_is
+    ∙ (ap (λ (c : NodeIs). c.here) (written net n m.past (after_pass (part net m.past n) done) m.on) ∙ (m.found.holds h).here)
 
 -- a Reply that is taken is to the Request that its path waits for
 first-come : (P : Frame → Type 0) (box : List Frame) (f : Frame) → IsFirst box f → Each P box → P f

@@ -1,5 +1,6 @@
 -- The entries of one maker, and lists that go on. This project's own.
 use Rattle.std.specs.Prelude.{◌≡◌, ℕ, ◌==◌, Bool, true, List, [], ◌++◌, filter, Result, Ok, Err}
+use Rattle.std.specs.List.{AllByRecursion}
 use Rattle.ring_core.specs.Words.{maker}
 use Rattle.tied_lists.specs.Words.{RingEntry}
 
@@ -33,3 +34,11 @@ pub record Grew {E : Type 0} (alone : Bool) (ours : E → Bool) (before added af
   pub after_is : after ≡ before ++ more
   pub ours_are : filter ours more ≡ added
   pub all_alone : alone ≡ true → more ≡ added
+
+-- A list went on by calls of ours, which added entries of one sort; by nothing else where nobody
+-- else writes.
+pub record Adds {E : Type 0} (alone : Bool) (ours : E → Bool) (Sort : E → Type 0)
+    (before after : List E) : Type 0 where
+  pub added : List E
+  pub sort : AllByRecursion Sort added
+  pub grew : Grew alone ours before added after

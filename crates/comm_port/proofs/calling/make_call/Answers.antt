@@ -1,3 +1,9 @@
+use Rattle.std.proofs.Common.{refl}
+use Rattle.controller_core.specs.declared.entry.Entry.TheVariants.{Finish}
+use Rattle.ring_core.specs.declared.entry.RingEntry.TheVariants.{Local}
+use Rattle.tied_lists.proofs.Growth.{adds-went, adds-grew}
+use Rattle.comm_port.specs.Reading.{is_ours}
+use Rattle.comm_port.specs.Order.{IsCalling, IsFinish}
 use Rattle.std.proofs.Common.{◌≡◌, ◌<◌, ◌+◌, sym, ap, ◌∙◌, subst, List, ◌∷◌, [], set, Option}
 use Rattle.std.proofs.Common.{Some}
 use Rattle.ring_core.specs.Machine.{ring_node, ring_after, path_of}
@@ -57,3 +63,26 @@ returns-in_ok-do_call-in-Local-clause-owing g c =
     c.in_ok-copied-in-Local.ensures d.did in
     done-lead g.M.RamSide.alone g.R.RingSide.alone n (called_of call) _ c.in-Local.op _ _ _ _ _ _ _ _ c.args.waiting.now
     d.ram_same d.ring_same (ap sort_of c.in-Local.is) d.legal d.kept did o
+
+pub returns-in_ok-post_call-in-Net-clause-ring_adds : goal.returns-in_ok-post_call-in-Net-clause-ring_adds
+returns-in_ok-post_call-in-Net-clause-ring_adds g c =
+    let n = c.args.node in
+    let f = c.request_frame-frame.result in
+    adds-grew g.R.RingSide.alone (is_of n) (IsCalling n) _ (Post n f ∷ []) _ (
+      ap (λ (x : Frame). x.kind)
+          c.request_frame-frame.ensures,
+      tt,
+    ) c.in_ok-post_call-in-Net.ensures.grew
+
+pub returns-in_ok-do_call-in-Local-clause-ring_adds : goal.returns-in_ok-do_call-in-Local-clause-ring_adds
+returns-in_ok-do_call-in-Local-clause-ring_adds g c =
+    let call = c.index-calls-at.result in
+    let n = c.args.node in
+    let did = c.in_ok-do_call-in-Local.ensures.did in
+    let o = owing-next n c.args.calls.now c.args.at call _ _ _ _ c.args.waiting.now c.requires.within c.index-calls-at.is c.requires.owing in
+    adds-grew g.R.RingSide.alone (is_of n) (IsCalling n) _ (Local n call.id c.in_ok-copied-in-Local.field-0 did.outcome ∷ []) _ (o.fresh.0.own, tt) did.grew
+
+pub returns-in_ok-do_call-in-Local-clause-ram_adds : goal.returns-in_ok-do_call-in-Local-clause-ram_adds
+returns-in_ok-do_call-in-Local-clause-ram_adds g c =
+    let did = c.in_ok-do_call-in-Local.ensures.did in
+    adds-went g.M.RamSide.alone is_ours IsFinish _ (Finish c.index-calls-at.result.id did.outcome ∷ []) _ (tt, tt) refl did.went

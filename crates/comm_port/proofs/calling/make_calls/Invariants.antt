@@ -1,3 +1,6 @@
+use Rattle.tied_lists.specs.Own.{is_of, Adds}
+use Rattle.comm_port.specs.Reading.{is_ours}
+use Rattle.comm_port.specs.Order.{IsCalling, IsFinish}
 use Rattle.std.proofs.Common.{◌≡◌}
 use Rattle.comm_port.specs.Turns.{KeepsInbox}
 use Rattle.comm_port.specs.Making.{Owing, calls_from}
@@ -8,6 +11,8 @@ invariant-loop-at g l = record {
   owing : Owing l.node (calls_from l.calls l.at) (g.M.RamSide.side l.ram) (g.M.RamSide.known l.ram) (g.R.RingSide.side l.ring)
       (g.R.RingSide.known l.ring) l.waiting;
   kept : KeepsInbox (g.R.RingSide.side l.initial.ring).net l.node (g.R.RingSide.known l.initial.ring) (g.R.RingSide.known l.ring);
+  ring_adds : Adds g.R.RingSide.alone (is_of l.node) (IsCalling l.node) (g.R.RingSide.known l.initial.ring) (g.R.RingSide.known l.ring);
+  ram_adds : Adds g.M.RamSide.alone is_ours IsFinish (g.M.RamSide.known l.initial.ram) (g.M.RamSide.known l.ram);
   ram_same : g.M.RamSide.side l.ram ≡ g.M.RamSide.side l.initial.ram;
   ring_same : g.R.RingSide.side l.ring ≡ g.R.RingSide.side l.initial.ring;
 }

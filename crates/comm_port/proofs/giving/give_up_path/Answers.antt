@@ -1,3 +1,11 @@
+use Rattle.std.proofs.Common.{refl, ◌∷◌}
+use Rattle.mstr_block.specs.declared.call.MstrResult.TheVariants.{Bad}
+use Rattle.controller_core.specs.declared.entry.Entry.TheVariants.{Finish}
+use Rattle.ring_core.specs.declared.entry.RingEntry.TheVariants.{GiveUp}
+use Rattle.tied_lists.specs.Own.{is_of, Adds}
+use Rattle.tied_lists.proofs.Growth.{adds_none, adds-went, adds-grew}
+use Rattle.comm_port.specs.Reading.{is_ours}
+use Rattle.comm_port.specs.Order.{IsGivingUp, IsFinish}
 use Rattle.std.proofs.Common.{ℕ, sym, ◌∙◌, subst, List, [], Option}
 use Rattle.ring_core.specs.declared.frame.Frame.{Frame}
 use Rattle.tied_lists.specs.Items.{NetCall}
@@ -42,3 +50,37 @@ returns-clause-kept g c =
     let k = waits-at c.args.node c.args.path c.in-Some.id _ _ _ _ c.args.waiting.now (sym c.id_on.ensures ∙ c.in-Some.is) c.requires.turning in
     subst (λ (m : ℕ). KeepsInbox (g.R.RingSide.side c.args.ring.now).net m (g.R.RingSide.known c.args.ring.now)
     (g.R.RingSide.known c.give_up_on.new.ring)) k.own_is o.given.kept
+
+pub returns-in_default-clause-ring_adds : goal.returns-in_default-clause-ring_adds
+returns-in_default-clause-ring_adds g c = adds_none g.R.RingSide.alone (is_of c.args.node) IsGivingUp _
+
+pub returns-in_default-clause-ram_adds : goal.returns-in_default-clause-ram_adds
+returns-in_default-clause-ram_adds g c = adds_none g.M.RamSide.alone is_ours IsFinish _
+
+pub returns-in_default-2-clause-ring_adds : goal.returns-in_default-2-clause-ring_adds
+returns-in_default-2-clause-ring_adds g c =
+    let o = c.in_ok-word.ensures in
+    let id = c.in-Some.id in
+    let k = waits-at c.args.node c.args.path id _ _ _ _ c.args.waiting.now (sym c.id_on.ensures ∙ c.in-Some.is) c.requires.turning in
+    let gave = subst (λ (w : Option ℕ). GaveUp g.R.RingSide.alone (g.R.RingSide.side c.args.ring.now).net id (g.R.RingSide.known
+    c.args.ring.now) (g.R.RingSide.known c.give_up_on.new.ring) w) c.in_default-2.is o.given in
+    subst (λ (m : ℕ). Adds g.R.RingSide.alone (is_of m) IsGivingUp (g.R.RingSide.known c.args.ring.now) (g.R.RingSide.known
+    c.give_up_on.new.ring)) k.own_is (adds-grew g.R.RingSide.alone (is_of id.node) IsGivingUp _ [] _ tt gave.grew)
+
+pub returns-in_default-2-clause-ram_adds : goal.returns-in_default-2-clause-ram_adds
+returns-in_default-2-clause-ram_adds g c = adds_none g.M.RamSide.alone is_ours IsFinish _
+
+pub returns-clause-ring_adds : goal.returns-clause-ring_adds
+returns-clause-ring_adds g c =
+    let o = c.in_ok-word.ensures in
+    let id = c.in-Some.id in
+    let k = waits-at c.args.node c.args.path id _ _ _ _ c.args.waiting.now (sym c.id_on.ensures ∙ c.in-Some.is) c.requires.turning in
+    let gave = subst (λ (w : Option ℕ). GaveUp g.R.RingSide.alone (g.R.RingSide.side c.args.ring.now).net id (g.R.RingSide.known
+    c.args.ring.now) (g.R.RingSide.known c.give_up_on.new.ring) w) c.in-Some-2.is o.given in
+    subst (λ (m : ℕ). Adds g.R.RingSide.alone (is_of m) IsGivingUp (g.R.RingSide.known c.args.ring.now) (g.R.RingSide.known
+    c.give_up_on.new.ring)) k.own_is (adds-grew g.R.RingSide.alone (is_of id.node) IsGivingUp _ (GiveUp id c.in-Some-2.word ∷
+    []) _ (tt, tt) gave.grew)
+
+pub returns-clause-ram_adds : goal.returns-clause-ram_adds
+returns-clause-ram_adds g c = adds-went g.M.RamSide.alone is_ours IsFinish _ (Finish c.in-Some.id (Bad c.in-Some-2.word) ∷ []) _
+    (tt, tt) refl c.in_ok-finish.ensures.went

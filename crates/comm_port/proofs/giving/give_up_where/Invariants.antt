@@ -1,3 +1,6 @@
+use Rattle.tied_lists.specs.Own.{is_of, Adds}
+use Rattle.comm_port.specs.Reading.{is_ours}
+use Rattle.comm_port.specs.Order.{IsGivingUp, IsFinish}
 use Rattle.std.proofs.Common.{◌≡◌, ◌≤◌, []}
 use Rattle.comm_port.specs.Turns.{KeepsInbox, Turning}
 use Rattle.comm_port.specs.Sending.{sends_left}
@@ -9,6 +12,8 @@ invariant-loop-path g l = record {
   kept : KeepsInbox (g.R.RingSide.side l.initial.ring).net l.node (g.R.RingSide.known l.initial.ring) (g.R.RingSide.known l.ring);
   less : sends_left (g.R.RingSide.side l.initial.ring).net (g.R.RingSide.known l.ring) l.node ≤ sends_left (g.R.RingSide.side
       l.initial.ring).net (g.R.RingSide.known l.initial.ring) l.node;
+  ring_adds : Adds g.R.RingSide.alone (is_of l.node) IsGivingUp (g.R.RingSide.known l.initial.ring) (g.R.RingSide.known l.ring);
+  ram_adds : Adds g.M.RamSide.alone is_ours IsFinish (g.M.RamSide.known l.initial.ram) (g.M.RamSide.known l.ram);
   ram_same : g.M.RamSide.side l.ram ≡ g.M.RamSide.side l.initial.ram;
   ring_same : g.R.RingSide.side l.ring ≡ g.R.RingSide.side l.initial.ring;
 }

@@ -15,6 +15,7 @@ loop-path-preserved g c =
       holds = holds-at c.args.node _ _ _ s.same (s.kept.holds i.holds);
       plan = s.plan ∙ i.plan;
       same = s.same ∙ i.same;
+      grown = λ first o. s.grown first (i.grown first o);
     }
 
 pub returns-clause-turning : goal.returns-clause-turning
@@ -29,3 +30,9 @@ returns-clause-holds g c =
 
 pub returns-clause-asked : goal.returns-clause-asked
 returns-clause-asked g c = asked-none c.loop-path.host c.ask_next.new.host c.args.hold _ c.in_default.is c.in_ok-path.ensures.asked
+
+pub returns-clause-grown : goal.returns-clause-grown
+returns-clause-grown g c =
+    let i = c.loop-path.invariant in
+    let s = c.in_ok-path.ensures in
+    λ first o. s.grown first (i.grown first o)

@@ -1,6 +1,10 @@
 use Rattle.std.proofs.Common.{sym, ◌∙◌}
 use Rattle.comm_port.proofs.HostAsks.{ask-next, due-kind, fewer-asks, from-some, turning-asked}
 use Rattle.comm_port.proofs.HostAsks.{went-some}
+use Rattle.std.proofs.Common.{refl}
+use Rattle.ring_core.specs.declared.entry.RingEntry.TheVariants.{Post}
+use Rattle.comm_port.proofs.HostGrowth.{grown-with}
+use Rattle.comm_port.specs.HostTurns.{IsAsking}
 use Rattle.comm_port.proofs.host_worker.ask_next.Goals as goal
 
 pub post-requires-clause-next : goal.post-requires-clause-next
@@ -36,3 +40,11 @@ returns-clause-asked g c =
       fewer-asks c.args.host.now c.ask.new.self f c.args.hold (sym
           c.in-Some.is ∙ o.request) (went-some c.in_ok-frame.field-0 f c.args.host.now c.ask.new.self c.in-Some.is o.went_on),
     )
+
+pub returns-clause-grown : goal.returns-clause-grown
+returns-clause-grown g c =
+    let o = c.in_ok-frame.ensures in
+    let f = c.in-Some.frame in
+    let p = c.in_ok-post.ensures in
+    grown-with IsAsking g.R.RingSide.alone c.args.node _ (Post c.args.node f) _ refl (due-kind c.args.host.now c.args.hold f
+    (sym c.in-Some.is ∙ o.request)) p.went

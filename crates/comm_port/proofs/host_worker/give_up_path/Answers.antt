@@ -99,3 +99,25 @@ returns-clause-left g c =
     let out = awaited-out c.args.node c.args.path c.awaits-seq.result _ _ _ l.turning o.answer c.if-seq-eq0.false in
     (gave-some g.R.RingSide.alone (record { node = c.args.node; path = c.args.path; seq = c.awaits-seq.result }) _ c.in-Some.word
     _ _ _ _ _ _ _ l o.same w.given c.in-Some.is w.legal out c.in_ok-answer.ensures.went_on).left
+
+pub returns-then-seq-eq0-clause-grown : goal.returns-then-seq-eq0-clause-grown
+returns-then-seq-eq0-clause-grown g c =
+    let o = c.awaits-seq.ensures in
+    (looked g.R.RingSide.alone c.args.node _ _ _ _ o.legal o.went c.requires.turning).grown
+
+pub returns-in_default-clause-grown : goal.returns-in_default-clause-grown
+returns-in_default-clause-grown g c =
+    let o = c.awaits-seq.ensures in
+    let w = c.in_ok-word.ensures in
+    (gave-none g.R.RingSide.alone (record { node = c.args.node; path = c.args.path; seq = c.awaits-seq.result }) _ _ _ _ _ _ _
+    (looked g.R.RingSide.alone c.args.node _ _ _ _ o.legal o.went c.requires.turning) o.same w.given c.in_default.is
+    w.legal).grown
+
+pub returns-clause-grown : goal.returns-clause-grown
+returns-clause-grown g c =
+    let o = c.awaits-seq.ensures in
+    let w = c.in_ok-word.ensures in
+    let l = looked g.R.RingSide.alone c.args.node _ _ _ _ o.legal o.went c.requires.turning in
+    let out = awaited-out c.args.node c.args.path c.awaits-seq.result _ _ _ l.turning o.answer c.if-seq-eq0.false in
+    (gave-some g.R.RingSide.alone (record { node = c.args.node; path = c.args.path; seq = c.awaits-seq.result }) _ c.in-Some.word
+    _ _ _ _ _ _ _ l o.same w.given c.in-Some.is w.legal out c.in_ok-answer.ensures.went_on).grown

@@ -1,3 +1,5 @@
+use Rattle.ring_core.specs.declared.entry.RingEntry.TheVariants.{Take}
+use Rattle.std.proofs.Common.{refl}
 use Rattle.std.proofs.Common.{◌≡◌, sym, ◌∙◌, subst, List, Option, Some, None}
 use Rattle.std.proofs.Common.{Bool, ℕ}
 use Rattle.ring_core.specs.declared.frame.Frame.{Frame}
@@ -6,6 +8,8 @@ use Rattle.tied_lists.specs.Own.{is_of, WentOn}
 use Rattle.comm_port.specs.Sides.{taken_entries}
 use Rattle.comm_port.proofs.Served.{holds-kept, holds-still, holds-took, less-kept, take-less}
 use Rattle.comm_port.proofs.HostTurning.{taking-now, turning-side, turning-still}
+use Rattle.comm_port.proofs.HostGrowth.{grown-none, grown-with}
+use Rattle.comm_port.specs.Order.{IsServing}
 use Rattle.comm_port.proofs.host_worker.serve_inbox.Goals as goal
 
 -- what a Take added
@@ -46,6 +50,8 @@ loop-frame-preserved g c =
       holds = holds-kept _ _ _ c.args.node _ _ o.same s.same s.kept (holds-took g.R.RingSide.alone c.args.node f _ _ _ o.legal went i.turning.own_turn i.holds);
       plan = s.plan ∙ i.plan;
       same = s.same ∙ (o.same ∙ i.same);
+      grown = λ first start. s.grown first (grown-with (IsServing c.args.node) g.R.RingSide.alone c.args.node _ (Take c.args.node
+          f) _ refl tt went first (i.grown first start));
     }
 
 pub returns-clause-turning : goal.returns-clause-turning
@@ -61,3 +67,10 @@ returns-clause-holds g c =
     let i = c.loop-frame.invariant in
     let went = took g.R.RingSide.alone c.args.node _ _ _ None c.in_default.is o.went in
     holds-still g.R.RingSide.alone c.args.node _ _ _ _ (sym i.same) o.legal went i.turning.own_turn i.holds
+
+pub returns-clause-grown : goal.returns-clause-grown
+returns-clause-grown g c =
+    let o = c.in_ok-frame.ensures in
+    let i = c.loop-frame.invariant in
+    let went = took g.R.RingSide.alone c.args.node _ _ _ None c.in_default.is o.went in
+    λ first start. grown-none (IsServing c.args.node) g.R.RingSide.alone c.args.node _ _ went first (i.grown first start)

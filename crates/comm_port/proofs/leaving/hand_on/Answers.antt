@@ -5,6 +5,6 @@ pub returns-clause-handed : goal.returns-clause-handed
 returns-clause-handed g c =
     let one = c.in_ok-spent in
     let two = c.in_ok-ended in
-    passed-on _ _ c.args.node c.args.done c.args.budget g.R.RingSide.alone _ _ _ _ one.spent two.ended one.ensures.same
+    passed-on _ _ _ c.args.node c.args.done c.args.budget g.R.RingSide.alone _ _ _ _ one.spent two.ended one.ensures.same two.ensures.same
     one.ensures.due one.ensures.did c.if-spent.false
-    two.ensures.due two.ensures.did c.if-ended.false c.in_ok-pass.ensures.went
+    two.ensures.due two.ensures.did c.if-ended.false c.in_ok-pass.ensures.went c.requires.turn c.in_ok-pass.ensures.legal

@@ -1,3 +1,10 @@
+use Rattle.std.proofs.Common.{refl, [], ◌∷◌}
+use Rattle.ring_core.specs.declared.entry.RingEntry.TheVariants.{Post, Local}
+use Rattle.tied_lists.specs.Own.{is_of}
+use Rattle.tied_lists.specs.Items.{reply_of}
+use Rattle.tied_lists.proofs.Growth.{adds-grew}
+use Rattle.comm_port.specs.Replies.{reply_frame}
+use Rattle.comm_port.specs.Order.{IsServing}
 use Rattle.comm_port.proofs.Served.{port-lead}
 use Rattle.comm_port.proofs.serving.answer_port.Goals as goal
 
@@ -6,3 +13,11 @@ returns-clause-turning g c =
     let o = c.in_ok-tell_statistics.ensures in
     port-lead g.R.RingSide.alone c.args.node c.args.request.now _ _ _ _ _ _ c.args.waiting.now
     o.same c.requires.kind c.requires.stats o.legal o.kept o.told c.requires.taking
+
+pub returns-clause-ring_adds : goal.returns-clause-ring_adds
+returns-clause-ring_adds g c =
+    let told = c.in_ok-tell_statistics.ensures.told in
+    let n = c.args.node in
+    let id = c.args.request.now.id in
+    adds-grew g.R.RingSide.alone (is_of n) (IsServing n) _ (Local n id told.op told.result ∷ Post n (reply_frame id (reply_of told.result)) ∷ []) _
+    (c.requires.taking.request c.requires.kind, (refl, tt)) told.grew

@@ -1,3 +1,6 @@
+use Rattle.std.proofs.Common.{refl}
+use Rattle.tied_lists.proofs.Growth.{adds-went}
+use Rattle.comm_port.specs.Order.{IsAnswering}
 use Rattle.std.proofs.Common.{◌≡◌, sym, ◌∙◌, subst, List, ◌∷◌, [], Option, Some, None}
 use Rattle.std.proofs.Common.{get_or}
 use Rattle.mstr_block.specs.declared.call.MstrResult.{MstrResult}
@@ -24,3 +27,7 @@ returns-clause-turning g c =
     subst (λ (w : List (Option Frame)). Turning n [] (g.M.RamSide.side c.finish.new.self) (g.M.RamSide.known c.finish.new.self)
     (g.R.RingSide.side c.args.ring.now) (g.R.RingSide.known c.args.ring.now) w) (sym c.end.ensures.new)
     (end-lead g.M.RamSide.alone n f ask _ _ _ _ _ _ c.args.waiting.now o.same c.requires.kind slot went c.requires.taking)
+
+pub returns-clause-ram_adds : goal.returns-clause-ram_adds
+returns-clause-ram_adds g c =
+    adds-went g.M.RamSide.alone is_ours IsAnswering _ (Finish c.args.reply.now.id c.result_of.result ∷ []) _ (tt, tt) refl c.in_ok-finish.ensures.went

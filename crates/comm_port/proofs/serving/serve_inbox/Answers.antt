@@ -1,3 +1,9 @@
+use Rattle.ring_core.specs.declared.entry.RingEntry.TheVariants.{Take}
+use Rattle.std.proofs.Common.{refl}
+use Rattle.tied_lists.proofs.Growth.{adds-both, adds-went}
+use Rattle.comm_port.specs.Reading.{is_ours}
+use Rattle.comm_port.specs.Order.{IsServing, IsAnswering}
+use Rattle.comm_port.proofs.RingTurns.{mine}
 use Rattle.std.proofs.Common.{◌≡◌, ◌<◌, ℕ, sym, ap, ◌∙◌, subst, List, ◌∷◌, [], length, Option, Some}
 use Rattle.std.proofs.Common.{None, Bool}
 use Rattle.ring_core.specs.declared.frame.Frame.{Frame}
@@ -49,6 +55,11 @@ loop-frame-preserved g c =
       turning = s.turning;
       holds = holds-kept _ _ _ c.args.node _ _ o.same s.ring_same s.kept (holds-took g.R.RingSide.alone c.args.node f _ _ _
           o.legal went i.turning.own_turn i.holds);
+      ring_adds = adds-both g.R.RingSide.alone (is_of c.args.node) (IsServing c.args.node) _ _ _ i.ring_adds
+          (adds-both g.R.RingSide.alone (is_of c.args.node) (IsServing c.args.node) _ _ _ (adds-went g.R.RingSide.alone (is_of
+          c.args.node) (IsServing c.args.node) _ (Take c.args.node f ∷ []) _ (tt, tt) (mine c.args.node (Take c.args.node f)
+          refl) went) s.ring_adds);
+      ram_adds = adds-both g.M.RamSide.alone is_ours IsAnswering _ _ _ i.ram_adds s.ram_adds;
       ram_same = s.ram_same ∙ i.ram_same;
       ring_same = s.ring_same ∙ (o.same ∙ i.ring_same);
     }
@@ -64,3 +75,10 @@ returns-clause-holds g c =
     let o = c.in_ok-frame.ensures in
     holds-still g.R.RingSide.alone c.args.node _ _ _ _ o.same o.legal
     (took g.R.RingSide.alone c.args.node _ _ _ None c.in_default.is o.went) c.loop-frame.invariant.turning.own_turn c.loop-frame.invariant.holds
+
+pub returns-clause-ring_adds : goal.returns-clause-ring_adds
+returns-clause-ring_adds g c =
+    let o = c.in_ok-frame.ensures in
+    let n = c.args.node in
+    adds-both g.R.RingSide.alone (is_of n) (IsServing n) _ _ _ c.loop-frame.invariant.ring_adds
+    (adds-went g.R.RingSide.alone (is_of n) (IsServing n) _ [] _ tt refl (took g.R.RingSide.alone n _ _ _ None c.in_default.is o.went))

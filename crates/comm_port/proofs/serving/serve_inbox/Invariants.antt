@@ -1,3 +1,6 @@
+use Rattle.tied_lists.specs.Own.{is_of, Adds}
+use Rattle.comm_port.specs.Reading.{is_ours}
+use Rattle.comm_port.specs.Order.{IsServing, IsAnswering}
 use Rattle.std.proofs.Common.{◌≡◌, length, []}
 use Rattle.ring_core.specs.Machine.{ring_node, ring_after}
 use Rattle.tied_lists.specs.Waits.{Holds}
@@ -9,6 +12,8 @@ invariant-loop-frame g l = record {
   turning : Turning l.node [] (g.M.RamSide.side l.ram) (g.M.RamSide.known l.ram) (g.R.RingSide.side l.ring) (g.R.RingSide.known l.ring) l.waiting;
   holds : Holds (g.R.RingSide.side l.ring).net (g.R.RingSide.known l.ring) l.node;
   ram_same : g.M.RamSide.side l.ram ≡ g.M.RamSide.side l.initial.ram;
+  ring_adds : Adds g.R.RingSide.alone (is_of l.node) (IsServing l.node) (g.R.RingSide.known l.initial.ring) (g.R.RingSide.known l.ring);
+  ram_adds : Adds g.M.RamSide.alone is_ours IsAnswering (g.M.RamSide.known l.initial.ram) (g.M.RamSide.known l.ram);
   ring_same : g.R.RingSide.side l.ring ≡ g.R.RingSide.side l.initial.ring;
 }
 

@@ -4,7 +4,9 @@ use Rattle.std.proofs.lemmas.List.Elements.{All-head}
 use Rattle.plant_types.specs.declared.plan.ControllerPlan.{ControllerPlan}
 use Rattle.plant984.specs.declared.status.Status.TheVariants as ends
 use Rattle.plant984.specs.declared.words.Command.TheVariants.{Run}
-use Rattle.plant984.specs.Run.{by_scan, fixed_of, lines_of, panel}
+use Rattle.comm_port.specs.JointLaws.{fixed_of}
+use Rattle.panel_text.specs.Scans.{by_scan}
+use Rattle.plant984.specs.Run.{lines_of, run_panel}
 use Rattle.plant984.specs.Due.{due_of}
 use Rattle.plant_loader.specs.Accepted.{IsSolvable}
 use Rattle.plant984.proofs.RunLemmas.{by_scan-single, list-single, solvable-runs}
@@ -31,7 +33,7 @@ returns-in_ok-text-in-Ok c =
     let controller = c.index-as_slice-0.result in
     let only : plant.controllers ≡ controller ∷ [] =
     list-single plant.controllers c.as_slice.result.now controller c.index-as_slice-0.is c.as_slice.ensures c.in-Ok.ensures.one in
-    let lines : panel plant scans ≡ string_bytes c.in_ok-text-in-Ok.text =
+    let lines : run_panel plant scans ≡ string_bytes c.in_ok-text-in-Ok.text =
     ap (λ (all : List ControllerPlan). by_scan (map (λ plan. lines_of (fixed_of plant scans plan)) all)) only
     ∙ by_scan-single (lines_of (fixed_of plant scans controller)) ∙ sym c.in_ok-text-in-Ok.ensures in
     ap (due_of (Run scans)) c.in-Ok.ensures.plant ∙ ap (λ (text : List ℕ). record { status = ends.Ok; text = text }) lines

@@ -1,0 +1,207 @@
+-- A request of another node is served at most once.
+use Rattle.std.proofs.Common.{◌≡◌, ℕ, zero, suc, ◌+◌, ◌<◌, ◌≤◌, ◌++◌, Bool, true, false, cond, not}
+use Rattle.std.proofs.Common.{Option, Some, None, List, [], ◌∷◌, length, map, refl, sym, ap, ◌∙◌}
+use Rattle.std.proofs.Common.{subst, arith}
+use Rattle.std.specs.Prelude.{◌==◌, ◌&&◌, filter_map, if◌then◌else◌}
+use Rattle.std.specs.List.{All, AllZip, Contains, count_by, sum_by, slice_index_or, cons_option}
+use Rattle.std.proofs.lemmas.List.Sums.{sum_by-append}
+use Rattle.std.proofs.lemmas.List.Sorted.{sum_by-IsPermutation}
+use Rattle.std.proofs.lemmas.List.Kept.{AllPairs-from_increasing}
+use Rattle.plant_types.specs.declared.net.NetPlan.{NetPlan}
+use Rattle.plant_types.specs.declared.plan.Plant.{Plant}
+use Rattle.plant_types.specs.Plans.{IsPlant, controller_nodes, host_nodes}
+use Rattle.mstr_block.specs.Call.{is_same_call}
+use Rattle.mstr_block.specs.declared.call.CallId.{CallId}
+use Rattle.mstr_block.specs.declared.call.MstrResult.{MstrResult}
+use Rattle.ring_core.specs.declared.frame.FrameKind.{FrameKind}
+use Rattle.ring_core.specs.declared.frame.FrameKind.TheVariants.{Request, Reply}
+use Rattle.ring_core.specs.declared.frame.Frame.{Frame}
+use Rattle.ring_core.specs.declared.entry.LocalOp.{LocalOp}
+use Rattle.ring_core.specs.declared.entry.RingEntry.{RingEntry}
+use Rattle.ring_core.specs.declared.entry.RingEntry.TheVariants.{Post, Send, Take, Local, GiveUp}
+use Rattle.ring_core.specs.declared.entry.RingEntry.TheVariants.{Pass, Leave}
+use Rattle.ring_core.specs.Statistics.{is_stats}
+use Rattle.ring_core.specs.Words.{maker}
+use Rattle.ring_core.specs.Legal.{IsLawful, IsMember, IsRun}
+use Rattle.ring_laws.specs.Once.{takes, IsRingHistory, TakenOnce}
+use Rattle.tied_lists.specs.Own.{own}
+use Rattle.tied_lists.specs.Items.{Answered, Items, Item, Station, Taken, Plain, ForStats, item_of}
+use Rattle.tied_lists.specs.Items.{plain_items, stats_items, taken_by, taken_of, answered_of}
+use Rattle.tied_lists.specs.Items.{port_answers, request_of, reply_of, AController, AHost}
+use Rattle.tied_lists.specs.Tied.{Tied}
+use Rattle.plant_types.specs.declared.net.HostPlan.{HostPlan}
+use Rattle.plant_types.specs.declared.plan.ControllerPlan.{ControllerPlan}
+use Rattle.comm_port.specs.declared.joint.ControllerLog.{ControllerLog}
+use Rattle.comm_port.specs.declared.joint.HostLog.{HostLog}
+use Rattle.comm_port.specs.JointLaws.{IsLegalLog, IsLegalHostLog}
+use Rattle.comm_port.specs.Reading.{items_of, host_items_of}
+use Rattle.comm_port.specs.Effects.{answers_to}
+use Rattle.joint_law.specs.Served.{ServedAtMostOnce, serves_another}
+use Rattle.joint_law.proofs.Counts.{sum_cons, count_cons, skip, once_rising, some_there}
+use Rattle.joint_law.proofs.Counts.{at_most_all, all_at_most}
+
+-- an item is of this call
+abbrev is_item : CallId → Item → Bool
+is_item id item = is_same_call item.0 id
+
+abbrev is_answer : CallId → Answered → Bool
+is_answer id answer = is_same_call answer.id id
+
+-- answers are counted by their items
+by_items : (id : CallId) (answers : List Answered) → count_by (is_answer id) answers ≡ count_by (is_item id) (map item_of answers)
+by_items id [] = refl
+by_items id (a ∷ as') =
+    count_cons (is_answer id) a as' ∙ ap (λ n. cond (is_same_call a.id id) 1 0 + n) (by_items id as')
+    ∙ sym (count_cons (is_item id) (item_of a) (map item_of as'))
+
+-- a Request that was taken is one of the two sorts
+abbrev is_taken : CallId → Taken → Bool
+is_taken id (Plain name pdu) = is_same_call name id
+is_taken id (ForStats name pdu) = is_same_call name id
+
+of_sorts : (id : CallId) (ts : List Taken) → count_by (is_item id) (plain_items ts) + count_by (is_item id) (stats_items ts) ≡ count_by (is_taken id) ts
+of_sorts id [] = refl
+of_sorts id (Plain name pdu ∷ ts) =
+    let rest = of_sorts id ts in
+    let one = count_cons (is_item id) (name, Some pdu) (plain_items ts) in
+    let all = count_cons (is_taken id) (Plain name pdu) ts in
+    omega arith
+of_sorts id (ForStats name pdu ∷ ts) =
+    let rest = of_sorts id ts in
+    let one = count_cons (is_item id) (name, Some pdu) (stats_items ts) in
+    let all = count_cons (is_taken id) (ForStats name pdu) ts in
+    omega arith
+
+-- and they are counted in the list of the ring
+taken_at : (id name : CallId) (pdu : List ℕ) (stats : Bool) (ts : List Taken)
+    → count_by (is_taken id) ((if stats then ForStats name pdu else Plain name pdu) ∷ ts) ≡ cond (is_same_call name id) 1 0 + count_by (is_taken id) ts
+taken_at id name pdu true ts = count_cons (is_taken id) (ForStats name pdu) ts
+taken_at id name pdu false ts = count_cons (is_taken id) (Plain name pdu) ts
+
+take_case : (id : CallId) (n : ℕ) (kind : FrameKind) (to : ℕ) (name : CallId) (pdu : List ℕ) (b : List RingEntry) → count_by
+    (is_taken id) (taken_by b) ≡ count_by (takes id) b
+    → count_by (is_taken id) (taken_by (Take n (record { kind = kind; to = to; id = name; pdu = pdu }) ∷ b))
+    ≡ count_by (takes id) (Take n (record { kind = kind; to = to; id = name; pdu = pdu }) ∷ b)
+take_case id n Request to name pdu b rest =
+    taken_at id name pdu (is_stats pdu) (taken_by b) ∙ ap (λ k. cond (is_same_call name id) 1 0 + k) rest
+    ∙ sym (count_cons (takes id) (Take n (record { kind = Request; to = to; id = name; pdu = pdu })) b)
+take_case id n Reply to name pdu b rest = rest ∙ sym (skip (takes id) (Take n (record { kind = Reply; to = to; id = name; pdu = pdu })) b refl)
+
+in_ring : (id : CallId) (b : List RingEntry) → count_by (is_taken id) (taken_by b) ≡ count_by (takes id) b
+in_ring id [] = refl
+in_ring id (Post n f ∷ b) = in_ring id b ∙ sym (skip (takes id) (Post n f) b refl)
+in_ring id (Send n heard ∷ b) = in_ring id b ∙ sym (skip (takes id) (Send n heard) b refl)
+in_ring id (Take n f ∷ b) = take_case id n f.kind f.to f.id f.pdu b (in_ring id b)
+in_ring id (Local n name op result ∷ b) = in_ring id b ∙ sym (skip (takes id) (Local n name op result) b refl)
+in_ring id (GiveUp name word ∷ b) = in_ring id b ∙ sym (skip (takes id) (GiveUp name word) b refl)
+in_ring id (Pass n done words ∷ b) = in_ring id b ∙ sym (skip (takes id) (Pass n done words) b refl)
+in_ring id (Leave n cause ∷ b) = in_ring id b ∙ sym (skip (takes id) (Leave n cause) b refl)
+
+-- what a port answered for others is counted in the list of the ring
+own_off : (x : Bool) (k : ℕ) → cond (x && false) 1 0 + k ≡ k
+own_off true k = omega arith
+own_off false k = omega arith
+
+other_on : (x : Bool) (k : ℕ) → cond (x && true) 1 0 + k ≡ cond x 1 0 + k
+other_on true k = refl
+other_on false k = refl
+
+local_at : (id : CallId) (answer : Answered) (here : Bool) (rest : List Answered)
+    → cond (is_same_call answer.id id && not here) 1 0 + count_by (is_answer id) rest
+    ≡ count_by (is_answer id) (cons_option (if here then None else Some answer) rest)
+local_at id answer true rest = own_off (is_same_call answer.id id) (count_by (is_answer id) rest)
+local_at id answer false rest = other_on (is_same_call answer.id id) (count_by (is_answer id) rest) ∙ sym (count_cons (is_answer id) answer rest)
+
+for_others : (id : CallId) (b : List RingEntry) → count_by (serves_another id) b ≡ count_by (is_answer id) (port_answers b)
+for_others id [] = refl
+for_others id (Post n f ∷ b) = skip (serves_another id) (Post n f) b refl ∙ for_others id b
+for_others id (Send n heard ∷ b) = skip (serves_another id) (Send n heard) b refl ∙ for_others id b
+for_others id (Take n f ∷ b) = skip (serves_another id) (Take n f) b refl ∙ for_others id b
+for_others id (Local n name op result ∷ b) =
+    count_cons (serves_another id) (Local n name op result) b
+    ∙ ap (λ k. cond (is_same_call name id && not (name.node == n)) 1 0 + k) (for_others id b)
+    ∙ local_at id (record { id = name; request = request_of op; reply = reply_of result }) (name.node == n) (port_answers b)
+for_others id (GiveUp name word ∷ b) = skip (serves_another id) (GiveUp name word) b refl ∙ for_others id b
+for_others id (Pass n done words ∷ b) = skip (serves_another id) (Pass n done words) b refl ∙ for_others id b
+for_others id (Leave n cause ∷ b) = skip (serves_another id) (Leave n cause) b refl ∙ for_others id b
+
+-- a station answered, with its port, as often as its node took the Request
+pub answers_are_taken : (id : CallId) (station : Station) (a : Items) (b : List RingEntry) → Tied station a b
+    → answers_to id a + count_by (serves_another id) b ≡ count_by (takes id) b
+answers_are_taken id station a b t =
+    let peers = by_items id a.answers ∙ ap (count_by (is_item id)) t.peers in
+    let port = for_others id b ∙ by_items id (port_answers b) ∙ ap (count_by (is_item id)) t.port in
+    let sorts = of_sorts id (taken_by b) in
+    let ring = in_ring id b in
+    omega arith
+
+-- over some stations
+sums : {L : Type 0} (p q : RingEntry → Bool) (ring : List RingEntry) (node answers : L → ℕ) (ls : List L)
+    → All (λ l. answers l + count_by q (own (node l) ring) ≡ count_by p (own (node l) ring)) ls
+    → sum_by answers ls + sum_by (λ n. count_by q (own n ring)) (map node ls) ≡ sum_by (λ n. count_by p (own n ring)) (map node ls)
+sums p q ring node answers [] all = refl
+sums p q ring node answers (l ∷ ls) all =
+    let here = all 0 l (omega arith) in
+    let rest = sums p q ring node answers ls (λ k d within. all (suc k) d (omega arith)) in
+    let one = sum_cons answers l ls in
+    let two = sum_cons (λ n. count_by q (own n ring)) (node l) (map node ls) in
+    let three = sum_cons (λ n. count_by p (own n ring)) (node l) (map node ls) in
+    omega arith
+
+-- the nodes of the lists are those of the plant
+nodes_of_logs : {P L : Type 0} (R : P → L → Type 0) (plan_node : P → ℕ) (log_node : L → ℕ) → ((p : P) (l : L) → R p l → log_node l ≡ plan_node p)
+    → (ps : List P) (ls : List L) → AllZip R ps ls → map log_node ls ≡ map plan_node ps
+nodes_of_logs R plan_node log_node same [] [] all = refl
+nodes_of_logs R plan_node log_node same [] (l ∷ ls) all = absurd all
+nodes_of_logs R plan_node log_node same (p ∷ ps) [] all = absurd all
+nodes_of_logs R plan_node log_node same (p ∷ ps) (l ∷ ls) all = λ i. same p l all.0 i ∷ nodes_of_logs R plan_node log_node same ps ls all.1 i
+
+-- each entry's node is a member
+member_of : (net : NetPlan) (e : RingEntry) → IsLawful net e → IsMember net (maker e)
+member_of net (Post n f) law = law.0
+member_of net (Send n heard) law = law
+member_of net (Take n f) law = law
+member_of net (Local n id op result) law = law.0
+member_of net (GiveUp id word) law = law.0
+member_of net (Pass n done words) law = law
+member_of net (Leave n cause) law = law
+
+members : (net : NetPlan) (past list : List RingEntry) → IsRun net past list → All (λ e. IsMember net (maker e)) list
+members net past [] run k d within = absurd (omega arith)
+members net past (e ∷ es) run zero d within = member_of net e run.0.0
+members net past (e ∷ es) run (suc k) d within = members net (past ++ e ∷ []) es run.1 k d (omega arith)
+
+pub served-at_most_once : TakenOnce → ServedAtMostOnce
+served-at_most_once once plant scans joint id is legal tied =
+    let ring = joint.ring in
+    let p = takes id in
+    let q = serves_another id in
+    let ns = controller_nodes plant ++ host_nodes plant in
+    let same : (m : ℕ) → count_by (λ n. m == n) plant.net.members ≡ count_by (λ n. m == n) ns =
+    λ m. sum_by-IsPermutation (λ n. cond (m == n) 1 0) ns plant.net.members is.members in
+    let apart : (m : ℕ) → count_by (λ n. m == n) ns ≤ 1 =
+    λ m. subst (λ (k : ℕ). k ≤ 1) (same m) (once_rising m plant.net.members (AllPairs-from_increasing plant.net.members is.net.rising)) in
+    let there : All (λ e. 1 ≤ count_by (λ n. maker e == n) ns) ring =
+    λ k d within. (let at = members plant.net [] ring legal.ring k d within in
+    subst (λ (c : ℕ). 1 ≤ c) (same (maker (slice_index_or ring k d))) (some_there (maker (slice_index_or ring k d)) plant.net.members at.0 at.1 at.2)) in
+    let history : IsRingHistory plant.net ring = record {
+      members = λ k d within. (let node = is.net.members k d within in let most = node.to in omega arith);
+      legal = legal.ring;
+    } in
+    let controllers = subst (λ (nodes : List ℕ). sum_by (λ (log : ControllerLog). answers_to id (items_of log.entries)) joint.controllers
+    + sum_by (λ n. count_by q (own n ring)) nodes ≡ sum_by (λ n. count_by p (own n ring)) nodes)
+    (nodes_of_logs (IsLegalLog plant scans) (λ (plan : ControllerPlan). plan.node) (λ (log : ControllerLog). log.node) (λ plan log r. r.0)
+    plant.controllers joint.controllers legal.controllers)
+    (sums p q ring (λ (log : ControllerLog). log.node) (λ (log : ControllerLog). answers_to id (items_of log.entries)) joint.controllers
+    (λ k d within. answers_are_taken id AController _ _ (tied.controllers k d within))) in
+    let hosts = subst (λ (nodes : List ℕ). sum_by (λ (log : HostLog). answers_to id (host_items_of log.entries)) joint.hosts
+    + sum_by (λ n. count_by q (own n ring)) nodes ≡ sum_by (λ n. count_by p (own n ring)) nodes)
+    (nodes_of_logs IsLegalHostLog (λ (plan : HostPlan). plan.node) (λ (log : HostLog). log.node) (λ plan log r. r.0) plant.hosts joint.hosts legal.hosts)
+    (sums p q ring (λ (log : HostLog). log.node) (λ (log : HostLog). answers_to id (host_items_of log.entries)) joint.hosts
+    (λ k d within. answers_are_taken id AHost _ _ (tied.hosts k d within))) in
+    let all_p = sum_by-append (λ n. count_by p (own n ring)) (controller_nodes plant) (host_nodes plant) in
+    let all_q = sum_by-append (λ n. count_by q (own n ring)) (controller_nodes plant) (host_nodes plant) in
+    let most = at_most_all p ns apart ring in
+    let least = all_at_most q ns ring there in
+    let taken = once plant.net ring id history in
+    omega arith

@@ -1,0 +1,32 @@
+-- How often the request of another node was served. This project's own.
+use Rattle.std.specs.Prelude.{ℕ, ◌+◌, ◌≤◌, ◌==◌, ◌&&◌, not, Bool, false}
+use Rattle.std.specs.List.{count_by, sum_by}
+use Rattle.plant_types.specs.declared.plan.Plant.{Plant}
+use Rattle.plant_types.specs.Plans.{IsPlant}
+use Rattle.mstr_block.specs.Call.{is_same_call}
+use Rattle.mstr_block.specs.declared.call.CallId.{CallId}
+use Rattle.ring_core.specs.declared.entry.RingEntry.{RingEntry}
+use Rattle.ring_core.specs.declared.entry.RingEntry.TheVariants.{Local}
+use Rattle.comm_port.specs.declared.joint.ControllerLog.{ControllerLog}
+use Rattle.comm_port.specs.declared.joint.HostLog.{HostLog}
+use Rattle.comm_port.specs.declared.joint.Joint.{Joint}
+use Rattle.comm_port.specs.Effects.{answers_to}
+use Rattle.comm_port.specs.JointLaws.{IsJoint, IsLegalJoint}
+use Rattle.comm_port.specs.Reading.{items_of, host_items_of}
+
+-- A node's own port did what a call of another node asks.
+abbrev pub serves_another : CallId → RingEntry → Bool
+serves_another id (Local n name op result) = is_same_call name id && not (name.node == n)
+serves_another id _ = false
+
+-- How often the request of a call was served: by controllers, by hosts, and by own ports.
+abbrev pub services : Joint → CallId → ℕ
+services joint id =
+    (sum_by (λ (log : ControllerLog). answers_to id (items_of log.entries)) joint.controllers
+    + sum_by (λ (log : HostLog). answers_to id (host_items_of log.entries)) joint.hosts)
+    + count_by (serves_another id) joint.ring
+
+-- In a legal joint history whose lists keep the laws between them, at most once.
+abbrev pub ServedAtMostOnce : Type 0
+ServedAtMostOnce = (plant : Plant) (scans : ℕ) (joint : Joint) (id : CallId) → IsPlant plant
+    → IsLegalJoint plant scans joint → IsJoint joint → services joint id ≤ 1

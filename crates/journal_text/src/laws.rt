@@ -1,0 +1,14 @@
+//! Which joint histories have a journal.
+ghost use Rattle.journal_text.specs.Laws.{LegalIsPlain};
+
+use mstr_block::calls_are_taken_in_order;
+use ring_laws::{only_its_target, reply_to_its_caller};
+
+/// Each legal joint history of a plant is plain, so it has a journal.
+pub fn legal_is_plain()
+    ensures { LegalIsPlain }
+{
+    calls_are_taken_in_order();
+    only_its_target();
+    reply_to_its_caller();
+}

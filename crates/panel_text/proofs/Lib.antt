@@ -1,0 +1,4 @@
+pub mod HostLemmas
+pub mod ScanLemmas
+pub mod ReplayLemmas
+pub mod LogLemmas

@@ -1,0 +1,31 @@
+-- The logs of a plant's stations.
+use Rattle.std.proofs.Common.{List, [], ◌∷◌}
+use Rattle.std.proofs.lemmas.List.Elements.{All-head, All-tail}
+use Rattle.std.specs.List.{All, AllByRecursion, AllZip, zip}
+use Rattle.plant_types.specs.declared.net.HostPlan.{HostPlan}
+use Rattle.plant_types.specs.declared.plan.ControllerPlan.{ControllerPlan}
+use Rattle.plant_types.specs.declared.plan.Plant.{Plant}
+use Rattle.controller_core.specs.Machine.{IsRunnable}
+use Rattle.comm_port.specs.declared.joint.ControllerLog.{ControllerLog}
+use Rattle.comm_port.specs.declared.joint.HostLog.{HostLog}
+use Rattle.comm_port.specs.JointLaws.{IsLegalHostLog, IsLegalLog, fixed_of}
+use Rattle.panel_text.specs.Panel.{CanShow, IsHostLog, most_scans}
+
+-- each log is a legal one of some host
+pub host_logs : (plans : List HostPlan) (logs : List HostLog) → AllZip IsLegalHostLog plans logs → AllByRecursion IsHostLog logs
+host_logs [] [] legal = tt
+host_logs [] (log ∷ logs) legal = absurd legal
+host_logs (plan ∷ plans) [] legal = tt
+host_logs (plan ∷ plans) (log ∷ logs) legal = ((plan, legal.0.1), host_logs plans logs legal.1)
+
+-- each controller can be run, and its log is legal
+pub controller_logs : (plant : Plant) (plans : List ControllerPlan) (logs : List ControllerLog)
+    → All (λ plan. IsRunnable (fixed_of plant most_scans plan)) plans → AllZip (IsLegalLog plant most_scans) plans logs
+    → AllByRecursion (CanShow plant) (zip plans logs)
+controller_logs plant [] logs runs legal = tt
+controller_logs plant (plan ∷ plans) [] runs legal = tt
+controller_logs plant (plan ∷ plans) (log ∷ logs) runs legal =
+    let P : ControllerPlan → Type 0 = λ p. IsRunnable (fixed_of plant most_scans p) in (
+      record { runs = All-head P plan plans runs; legal = legal.0.1 },
+      controller_logs plant plans logs (All-tail P plan plans runs) legal.1,
+    )

@@ -1,0 +1,101 @@
+//! The lines of a host, and those of controllers scan by scan.
+use crate::hosts::push_host;
+use crate::scans::push_scans;
+use host_port::{Host, HostResult};
+use mstr_block::CallId;
+use plant_types::{Fate, HostAsk, HostPlan, List, NetPlan, Pdu, is_host_plan};
+use std::alloc::{AllocError, Global};
+use std::process::Abort;
+
+fn pdu_of(alloc: Global, bytes: &[u8]) -> Result<Pdu, AllocError> {
+    match Pdu::of(alloc, bytes)? {
+        Some(pdu) => Ok(pdu),
+        None => Err(AllocError),
+    }
+}
+
+/// Host 9 asks node 2 for a register, twice.
+fn plan_of(alloc: Global) -> Result<HostPlan, AllocError> {
+    let mut requests = List::new(alloc);
+    for _ in 0..2 {
+        let pdu = pdu_of(alloc, &[3, 0, 0, 0, 1])?;
+        requests.push(HostAsk {
+            hold: 1,
+            to: 2,
+            pdu,
+        })?;
+    }
+    Ok(HostPlan { node: 9, requests })
+}
+
+fn net_of(alloc: Global) -> NetPlan {
+    let fates: List<Fate> = List::new(alloc);
+    NetPlan {
+        members: List::new(alloc),
+        fates,
+        answer: 20,
+        rotations: 4,
+        rounds: 2,
+        holds: 100,
+    }
+}
+
+fn host_of(rt: &impl Abort, alloc: Global) -> Result<Host, AllocError> {
+    let plan = plan_of(alloc)?;
+    let can = is_host_plan(&plan);
+    assert!(rt; can);
+    Host::new(alloc, &plan, &net_of(alloc))
+}
+
+/// Ends the call on a path.
+fn end(rt: &impl Abort, host: &mut Host, path: u8, outcome: HostResult) -> Result<(), AllocError> {
+    let id = CallId {
+        node: 9,
+        path,
+        seq: 1,
+    };
+    let out = host.is_out(id);
+    assert!(rt; out);
+    host.answer(id, outcome)
+}
+
+/// Both are asked; the second comes to its word before the first has its reply.
+fn converse(rt: &impl Abort, alloc: Global, host: &mut Host) -> Result<(), AllocError> {
+    let reply = pdu_of(alloc, &[3, 2, 0, 0x2a])?;
+    host.ask(1)?;
+    host.ask(1)?;
+    end(rt, host, 2, HostResult::Bad(0x6103))?;
+    end(rt, host, 1, HostResult::Reply(reply))
+}
+
+#[test]
+fn requests_stand_in_the_order_in_which_they_were_made(rt: HostRuntime) -> Result<(), AllocError> {
+    let alloc = rt.alloc();
+    let mut host = host_of(&rt, alloc)?;
+    converse(&rt, alloc, &mut host)?;
+    let mut text = String::new(alloc);
+    push_host(alloc, &mut text, 9, host.history())?;
+    assert!(rt; text.as_str() == "H 9 1 0302002a\nH 9 2 ERR 6103\n");
+    Ok(())
+}
+
+fn run_of(alloc: Global, lines: &[&str]) -> Result<Vec<String>, AllocError> {
+    let mut run = Vec::new(alloc);
+    for line in lines {
+        run.push(String::from_str(alloc, line)?)?;
+    }
+    Ok(run)
+}
+
+#[test]
+fn each_scan_has_the_lines_of_all(rt: HostRuntime) -> Result<(), AllocError> {
+    let alloc = rt.alloc();
+    let mut runs = Vec::new(alloc);
+    runs.push(run_of(alloc, &["a1 ", "a2 ", "a3 "])?)?;
+    runs.push(run_of(alloc, &["b1 "])?)?;
+    runs.push(run_of(alloc, &["c1 ", "c2 "])?)?;
+    let mut text = String::new(alloc);
+    push_scans(&mut text, runs.as_slice())?;
+    assert!(rt; text.as_str() == "a1 b1 c1 a2 c2 a3 ");
+    Ok(())
+}
