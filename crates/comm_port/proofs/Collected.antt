@@ -567,7 +567,7 @@ follows-all laws n f s a [] each old = old
 follows-all laws n f s a (e ∷ h) each old =
     follows-all laws n f (apply f s e) (item_next a e) h each.1 (follows-entry laws n f s a e each.0 old)
 
-history-follows : CallLaws → (f : Fixed) (h : List Entry) → IsLegal f h → Follows f.plan.node (table_of (replay f h)) (items_of h)
+pub history-follows : CallLaws → (f : Fixed) (h : List Entry) → IsLegal f h → Follows f.plan.node (table_of (replay f h)) (items_of h)
 history-follows laws f h legal =
     follows-all laws f.plan.node f (start f.plan) no_items h legal.each (follows-start f.plan.node (mstr_blocks f.plan.segments) laws.tables)
 

@@ -42,11 +42,7 @@ use Rattle.comm_port.specs.Reading.{host_items_of}
 use Rattle.comm_port.specs.Turns.{IsOwnTurn, KeepsInbox}
 use Rattle.comm_port.specs.Sending.{AllSent, GaveUp, SentNext, SentOrAll, sends_left, sends_of}
 use Rattle.comm_port.specs.Leaving.{HandedOn, IsHere, last_entry}
-use Rattle.comm_port.specs.HostTurns.{AskedNext, EndsWithPass, HostTies, HostTurning, PathsAgree}
-use Rattle.comm_port.specs.HostTurns.{asks_left, EndsHostTurn}
-use Rattle.comm_port.specs.HostTurns.{GrowsOn}
-use Rattle.comm_port.specs.Order.{IsGivingUp}
-use Rattle.comm_port.proofs.HostGrowth.{grown-by, grown-none, grown-then}
+use Rattle.comm_port.specs.HostTurns.{asks_left, EndsWithPass, HostTies, HostTurning, PathsAgree}
 use Rattle.comm_port.proofs.HostLists.{agree_asked, agree_given_up, agree_still}
 use Rattle.comm_port.proofs.HostLists.{made_net}
 use Rattle.comm_port.proofs.HostTurning.{items-now, legal-with, own-turn, turning-still}
@@ -201,7 +197,6 @@ pub record Looked {Q : Type 0} (alone : Bool) (n : ℕ) (host : HostIs) (side : 
   pub kept : KeepsInbox side.net n ring ring'
   pub less : sends_left side.net ring' n ≤ sends_left side.net ring n
   pub left : HasLeft side.net ring n → HasLeft side.net ring' n
-  pub grown : GrowsOn IsGivingUp alone n ring ring'
 
 pub looked : {Q : Type 0} (alone : Bool) (n : ℕ) (host : HostIs) (side : RingSideIs Q) (ring ring' : List RingEntry) → IsLegal
     side.net ring' → WentOn alone (is_of n) ring [] ring'
@@ -214,13 +209,12 @@ looked alone n host side ring ring' legal went t =
       kept = kept-found side.net n ring ring' found;
       less = omega arith;
       left = λ gone. ap (λ (c : NodeIs). c.here) found.part_is ∙ gone;
-      grown = grown-none IsGivingUp alone n ring ring' went;
     }
 
 pub turn-at : {Q : Type 0} (n : ℕ) (side side' : RingSideIs Q) (ring : List RingEntry) → side' ≡ side → IsOwnTurn side ring n → IsOwnTurn side' ring n
 turn-at {Q} n side side' ring same t = subst (λ (s : RingSideIs Q). IsOwnTurn s ring n) (sym same) t
 
-gave-at : {Q : Type 0} (alone : Bool) (id : CallId) (side side' : RingSideIs Q) (ring ring' : List RingEntry) (o o' : Option ℕ) →
+pub gave-at : {Q : Type 0} (alone : Bool) (id : CallId) (side side' : RingSideIs Q) (ring ring' : List RingEntry) (o o' : Option ℕ) →
     side' ≡ side → o ≡ o' → GaveUp alone side'.net id ring ring' o
     → GaveUp alone side.net id ring ring' o'
 gave-at {Q} alone id side side' ring ring' o o' same is gave =
@@ -237,7 +231,6 @@ gave-none {Q} alone id o host side side' a b c l same gave is legal' =
       kept = kept-both side.net id.node a b c l.kept g.kept;
       less = let x = g.less in let y = l.less in omega arith;
       left = λ gone. g.left (l.left gone);
-      grown = grown-then IsGivingUp alone id.node a b c l.grown (grown-by IsGivingUp alone id.node b [] c tt g.grew);
     }
 
 pub gave-some : {Q : Type 0} (alone : Bool) (id : CallId) (o : Option ℕ) (word : ℕ) (old new : HostIs) (side side' : RingSideIs Q)
@@ -252,7 +245,6 @@ gave-some {Q} alone id o word old new side side' a b c l same gave is legal' out
       kept = kept-both side.net id.node a b c l.kept g.kept;
       less = let x = g.less in let y = l.less in omega arith;
       left = λ gone. g.left (l.left gone);
-      grown = grown-then IsGivingUp alone id.node a b c l.grown (grown-by IsGivingUp alone id.node b (GiveUp id word ∷ []) c (tt, tt) g.grew);
     }
 
 -- ---- what an ask answered
@@ -263,12 +255,6 @@ went-some o f old new is w = subst (λ (x : Option Frame). HostWentOn (entry_ask
 
 pub from-some : (n : ℕ) (o : Option Frame) (f : Frame) → o ≡ Some f → IfSome o (IsFrom n Request) → IsFrom n Request f
 from-some n o f is from = subst (λ (x : Option Frame). IfSome x (IsFrom n Request)) is from
-
-pub asked-some : (old new : HostIs) (hold : ℕ) (o : Option ℕ) (p : ℕ) → o ≡ Some p → AskedNext old new hold o → IsPath p × (asks_left new < asks_left old)
-asked-some old new hold o p is asked = subst (AskedNext old new hold) is asked
-
-pub asked-none : (old new : HostIs) (hold : ℕ) (o : Option ℕ) → o ≡ None → AskedNext old new hold o → due_request new hold ≡ None
-asked-none old new hold o is asked = subst (AskedNext old new hold) is asked
 
 -- ---- a Send
 
@@ -371,8 +357,3 @@ stays-with alone net n done words (Some cause) ring ring' handed is = absurd cc
 pub gone-on : {Q : Type 0} (n : ℕ) (side side' : RingSideIs Q) (ring ring' : List RingEntry) → side' ≡ side → HasLeft side.net ring n
     → (HasLeft side'.net ring n → HasLeft side'.net ring' n) → HasLeft side.net ring' n
 gone-on {Q} n side side' ring ring' same gone stays = subst (λ (s : RingSideIs Q). HasLeft s.net ring n → HasLeft s.net ring' n) same stays gone
-
-pub ends-host : {Q : Type 0} (alone : Bool) (side side' : RingSideIs Q) (n : ℕ) (budget left : Bool) (ring ring' : List RingEntry)
-    → side' ≡ side → EndsHostTurn alone side'.net n budget left ring ring' → EndsHostTurn alone side.net n budget left ring ring'
-ends-host {Q} alone side side' n budget left ring ring' same ends =
-    subst (λ (s : RingSideIs Q). EndsHostTurn alone s.net n budget left ring ring') same ends

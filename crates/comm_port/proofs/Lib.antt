@@ -7,10 +7,16 @@ pub mod TurnEnds
 pub mod Sends
 pub mod Given
 pub mod TurnsEnded
-pub mod HostGrowth
+pub mod HostServes
+pub mod HostAsked
+pub mod HostRuns
+pub mod HostGives
+pub mod HostSends
+pub mod HostHolds
+pub mod HostTurnLaws
 pub mod HostLists
 pub mod HostTurning
 pub mod HostAsks
-mod Read2
+pub mod Read2
 pub mod Collected
 pub mod Visited

@@ -74,14 +74,14 @@ sends-no-more id (f ∷ fs) tries few =
 
 -- ---- a Send
 
-record SentOne (net : NetPlan) (n : ℕ) (before : List RingEntry) (heard : Heard) (after' : List RingEntry) : Type 0 where
-  f : Frame
-  fs : List Frame
-  there : Bool
-  box : (part net before n).outbox ≡ f ∷ fs
-  part_is : part net after' n ≡ heard_by (part net before n) f.kind f.id there heard
-  holds : Holds net before n → Holds net after' n
-  free : IsFree net after' n
+pub record SentOne (net : NetPlan) (n : ℕ) (before : List RingEntry) (heard : Heard) (after' : List RingEntry) : Type 0 where
+  pub f : Frame
+  pub fs : List Frame
+  pub there : Bool
+  pub box : (part net before n).outbox ≡ f ∷ fs
+  pub part_is : part net after' n ≡ heard_by (part net before n) f.kind f.id there heard
+  pub holds : Holds net before n → Holds net after' n
+  pub free : IsFree net after' n
 
 record SentPart (n : ℕ) (r s : RingIs) (heard : Heard) : Type 0 where
   f : Frame
@@ -117,7 +117,7 @@ sent-part net h n heard (f ∷ fs) r s range follows is told after_is =
 low-address : (net : NetPlan) (h : List RingEntry) (n : ℕ) → IsOnRing net h n → n < addresses
 low-address net h n on = Rattle.std.proofs.lemmas.List.Elements.All-contains (λ m. m < addresses) net.members n on.members on.member
 
-sent-one : (net : NetPlan) (n : ℕ) (before : List RingEntry) (heard : Heard) (after' : List RingEntry) → Holds net before n →
+pub sent-one : (net : NetPlan) (n : ℕ) (before : List RingEntry) (heard : Heard) (after' : List RingEntry) → Holds net before n →
     Moved net n before (Send n heard) after' → SentOne net n before heard after'
 sent-one net n before heard after' holding m =
     let r = ring_after net m.past in

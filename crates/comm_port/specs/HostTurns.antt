@@ -1,27 +1,49 @@
 -- What a host's worker stands on at each part of a turn. This project's own.
 use Rattle.std.specs.Prelude.{◌≡◌, ◌≢◌, ◌<◌, ◌-◌, ℕ, ◌+◌, min, Bool, true, false, List, [], ◌∷◌}
-use Rattle.std.specs.Prelude.{◌++◌, length, Option, Some, None, is_some}
+use Rattle.std.specs.Prelude.{◌++◌, length, map, filter, filter_map, flat_map, count_by, Option}
+use Rattle.std.specs.Prelude.{Some, None, is_some, is_none, get_or, replicate}
+use Rattle.std.specs.List.{AllZip, list_any}
 use Rattle.plant_types.specs.declared.net.NetPlan.{NetPlan}
-use Rattle.ring_core.specs.Machine.{ring_after}
+use Rattle.plant_types.specs.declared.net.HostPlan.{HostPlan}
+use Rattle.mstr_block.specs.Table.{network_paths}
+use Rattle.mstr_block.specs.declared.call.CallId.{CallId}
+use Rattle.mstr_block.specs.declared.call.MstrResult.{MstrResult}
+use Rattle.ring_core.specs.Words.{maker}
+use Rattle.ring_core.specs.Machine.{NodeIs, awaited_number, path_of, path_places, ring_after}
+use Rattle.ring_core.specs.Machine.{ring_node}
+use Rattle.ring_core.specs.Refusals.{give_up_no}
 use Rattle.ring_core.specs.Scratch.{words_put}
+use Rattle.ring_core.specs.Statistics.{is_stats}
+use Rattle.ring_core.specs.declared.frame.FrameKind.{FrameKind}
 use Rattle.ring_core.specs.declared.frame.FrameKind.TheVariants.{Request, Reply}
 use Rattle.ring_core.specs.declared.frame.Frame.{Frame}
+use Rattle.ring_core.specs.declared.path.Await.{Await}
+use Rattle.ring_core.specs.declared.path.Await.TheVariants.{Nothing, Out, Arrived, Failed}
+use Rattle.ring_core.specs.declared.entry.Heard.{Heard}
+use Rattle.ring_core.specs.declared.entry.Heard.TheVariants.{Acked, Silent, Busy}
+use Rattle.ring_core.specs.declared.entry.LocalOp.{LocalOp}
+use Rattle.ring_core.specs.declared.entry.LeaveCause.{LeaveCause}
 use Rattle.ring_core.specs.declared.entry.RingEntry.{RingEntry}
-use Rattle.ring_core.specs.declared.entry.RingEntry.TheVariants.{Post, Take, Pass}
-use Rattle.host_port.specs.declared.entry.HostEntry.{HostEntry}
+use Rattle.ring_core.specs.declared.entry.RingEntry.TheVariants.{Post, Send, Take, Local, GiveUp}
+use Rattle.ring_core.specs.declared.entry.RingEntry.TheVariants.{Pass}
 use Rattle.ring_core.specs.Legal.{IsPath}
-use Rattle.host_port.specs.Calls.{asked_on, is_unanswered, open_on, requests_in}
-use Rattle.host_port.specs.Host.{HostIs, due_request}
-use Rattle.host_port.specs.Legal.{IsHostHistory}
-use Rattle.tied_lists.specs.Own.{is_of, own, Adds}
-use Rattle.tied_lists.specs.Items.{AHost}
+use Rattle.host_port.specs.declared.entry.HostEntry.{HostEntry}
+use Rattle.host_port.specs.declared.entry.HostEntry.TheVariants.{Ask, Answer, Served}
+use Rattle.host_port.specs.declared.entry.HostResult.TheVariants as results
+use Rattle.host_port.specs.Calls.{asked_on, goes_on, is_unanswered, open_on, requests_in}
+use Rattle.host_port.specs.Calls.{unanswered_in}
+use Rattle.host_port.specs.Host.{HostIs, due_request, host_is_done}
+use Rattle.host_port.specs.Legal.{IsHostHistory, refusal_to}
+use Rattle.tied_lists.specs.Own.{is_of, own, Grew}
+use Rattle.tied_lists.specs.Items.{AHost, reply_of, request_of}
 use Rattle.tied_lists.specs.Tied.{Tied}
 use Rattle.tied_lists.specs.Waits.{waiting, last_number, IsOnRing}
 use Rattle.comm_port.specs.Sides.{RingSideIs, Serves}
 use Rattle.comm_port.specs.Reading.{host_items_of}
 use Rattle.comm_port.specs.Turns.{IsOwnTurn}
 use Rattle.comm_port.specs.Leaving.{cause_due, HandedOn}
-use Rattle.comm_port.specs.Order.{IsServing, IsSending, IsGivingUp}
+use Rattle.comm_port.specs.Replies.{reply_frame}
+use Rattle.comm_port.specs.Complete.{is_pass}
 
 -- Each path of the node waits for the Request that the host has there without an answer, and was
 -- posted as many Requests as the host asked on it.
@@ -71,11 +93,6 @@ pub record HostTaking {Q : Type 0} (n : ℕ) (f : Frame) (host : HostIs) (side :
 abbrev pub asks_left : HostIs → ℕ
 asks_left host = length host.plan.requests - length (requests_in host.history)
 
--- A host made its next request, on this path; or none was due.
-abbrev pub AskedNext : HostIs → HostIs → ℕ → Option ℕ → Type 0
-AskedNext old new hold (Some path) = IsPath path × (asks_left new < asks_left old)
-AskedNext old new hold None = due_request new hold ≡ None
-
 -- A host's worker: its node, whether it keeps to a budget of Passes, and how many it made, up to
 -- the largest number of 32 bits.
 pub record HostWorkerIs : Type 0 where
@@ -88,37 +105,301 @@ abbrev pub after_turn : HostWorkerIs → Bool → HostWorkerIs
 after_turn w true = w
 after_turn w false = record w { passes = min (w.passes + 1) 4294967295 }
 
--- Second, of a host: Requests that are posted.
-abbrev pub IsAsking : RingEntry → Type 0
-IsAsking (Post m f) = f.kind ≡ Request
-IsAsking _ = ⊥
+-- A worker's count is that of its node's Passes on the ring, up to the largest number of 32 bits.
+abbrev pub CountsPasses : HostWorkerIs → List RingEntry → Type 0
+CountsPasses w ring = w.passes ≡ min (count_by is_pass (own w.node ring)) 4294967295
 
--- What went on by entries of a node and of one sort until one list went on so until another.
-abbrev pub GrowsOn : (RingEntry → Type 0) → Bool → ℕ → List RingEntry → List RingEntry → Type 0
-GrowsOn sort alone n old new = (first : List RingEntry) → Adds alone (is_of n) sort first old
-    → Adds alone (is_of n) sort first new
+-- ---- What a hold of the token is to a host.
 
--- The end of a host's turn: the node left or passed the token on, as was due; after a Leave it gave
--- up calls, after a Pass nothing came.
-pub record EndsHostTurn (alone : Bool) (net : NetPlan) (n : ℕ) (budget left : Bool)
-    (old new : List RingEntry) : Type 0 where
-  pub done : Bool
+-- A host, by its plan and its list.
+abbrev pub host_at : HostPlan → List HostEntry → HostIs
+host_at plan list = record { plan = plan; history = list }
+
+-- The number of the hold that runs: one more than the node made Passes.
+abbrev pub hold_of : ℕ → List RingEntry → ℕ
+hold_of n ring = 1 + count_by is_pass (own n ring)
+
+-- The frames in a node's inbox, and those in its outbox.
+abbrev pub inbox_of : NetPlan → List RingEntry → ℕ → List Frame
+inbox_of net ring n = (ring_node (ring_after net ring) n).inbox
+
+abbrev pub outbox_of : NetPlan → List RingEntry → ℕ → List Frame
+outbox_of net ring n = (ring_node (ring_after net ring) n).outbox
+
+-- ---- First: what came is served.
+
+-- What a host notes of a frame that its node took: a Reply is the answer to its call, a Request is
+-- refused, and of one for statistics the host knows nothing.
+abbrev pub notes_of_request : Bool → Frame → List HostEntry
+notes_of_request true f = []
+notes_of_request false f = Served f.id f.pdu (refusal_to f.pdu) ∷ []
+
+abbrev pub notes_of_kind : FrameKind → Frame → List HostEntry
+notes_of_kind Reply f = Answer f.id (results.Reply f.pdu) ∷ []
+notes_of_kind Request f = notes_of_request (is_stats f.pdu) f
+
+abbrev pub notes_of : Frame → List HostEntry
+notes_of f = notes_of_kind f.kind f
+
+-- A Request for statistics was taken, and replied to with what the port's operation came to.
+pub record TellsTaken (n : ℕ) (f : Frame) (entries : List RingEntry) : Type 0 where
+  pub op : LocalOp
+  pub result : MstrResult
+  pub answers : request_of op ≡ Some f.pdu
+  pub entries_are : entries
+      ≡ Take n f ∷ Local n f.id op result ∷ Post n (reply_frame f.id (reply_of result)) ∷ []
+
+-- What a node does on the ring with a frame: it takes it, and posts the Reply to a Request.
+abbrev pub ServesRequest : Bool → ℕ → Frame → List RingEntry → Type 0
+ServesRequest true n f entries = TellsTaken n f entries
+ServesRequest false n f entries =
+    entries ≡ Take n f ∷ Post n (reply_frame f.id (refusal_to f.pdu)) ∷ []
+
+abbrev pub ServesKind : FrameKind → ℕ → Frame → List RingEntry → Type 0
+ServesKind Reply n f entries = entries ≡ Take n f ∷ []
+ServesKind Request n f entries = ServesRequest (is_stats f.pdu) n f entries
+
+abbrev pub ServesFrame : ℕ → Frame → List RingEntry → Type 0
+ServesFrame n f entries = ServesKind f.kind n f entries
+
+-- What came of a frame behind its Take.
+pub record ServesTaken (alone : Bool) (n : ℕ) (f : Frame) (list new_list : List HostEntry)
+    (ring new_ring : List RingEntry) : Type 0 where
+  pub rest : List RingEntry
+  pub serves : ServesFrame n f (Take n f ∷ rest)
+  pub grew : Grew alone (is_of n) ring rest new_ring
+  pub notes : new_list ≡ list ++ notes_of f
+
+-- These frames were served in their order.
+pub record ServesFrames (alone : Bool) (n : ℕ) (frames : List Frame)
+    (list new_list : List HostEntry) (ring new_ring : List RingEntry) : Type 0 where
+  pub parts : List (List RingEntry)
+  pub serves : AllZip (ServesFrame n) frames parts
+  pub grew : Grew alone (is_of n) ring (flat_map (λ part. part) parts) new_ring
+  pub notes : new_list ≡ list ++ flat_map notes_of frames
+
+-- All that lay in the inbox was served, and nothing lies there any more.
+pub record ServesInbox (alone : Bool) (net : NetPlan) (n : ℕ)
+    (list new_list : List HostEntry) (ring new_ring : List RingEntry) : Type 0 where
+  pub all : ServesFrames alone n (inbox_of net ring n) list new_list ring new_ring
+  pub empty : inbox_of net new_ring n ≡ []
+
+-- ---- Second: requests are made.
+
+abbrev pub ask_of : Frame → HostEntry
+ask_of f = Ask f.id f.to f.pdu
+
+-- These Requests were made and posted in their order: each was the one that was due behind those
+-- before it, which is the next of the plan, on the least free path.
+pub record AsksInOrder (alone : Bool) (n : ℕ) (plan : HostPlan) (hold : ℕ) (asks : List Frame)
+    (list new_list : List HostEntry) (ring new_ring : List RingEntry) : Type 0 where
+  pub each : (before after : List Frame) (ask : Frame) → asks ≡ before ++ ask ∷ after
+      → due_request (host_at plan (list ++ map ask_of before)) hold ≡ Some ask
+  pub asked : new_list ≡ list ++ map ask_of asks
+  pub grew : Grew alone (is_of n) ring (map (Post n) asks) new_ring
+
+-- They are all that were due: none is afterwards, or no path is free.
+pub record AsksAllDue (alone : Bool) (n : ℕ) (plan : HostPlan) (hold : ℕ) (asks : List Frame)
+    (list new_list : List HostEntry) (ring new_ring : List RingEntry) : Type 0 where
+  pub in_order : AsksInOrder alone n plan hold asks list new_list ring new_ring
+  pub no_more : due_request (host_at plan new_list) hold ≡ None
+
+-- ---- Calls that are given up.
+
+-- A call that was given up, and its word.
+pub record GivenUp : Type 0 where
+  pub id : CallId
+  pub word : ℕ
+
+abbrev pub give_up_of : GivenUp → RingEntry
+give_up_of end = GiveUp end.id end.word
+
+abbrev pub bad_answer_of : GivenUp → HostEntry
+bad_answer_of end = Answer end.id (results.Bad end.word)
+
+-- The call that a path awaits; its number is 0 where it awaits none.
+abbrev pub call_on_path : NetPlan → List RingEntry → ℕ → ℕ → CallId
+call_on_path net ring n path = record {
+  node = n;
+  path = path;
+  seq = awaited_number (path_of (ring_node (ring_after net ring) n) path).awaits;
+}
+
+-- The ring lets a call be given up: it failed, or has waited for long enough, or its node has left.
+abbrev pub may_go : NetPlan → List RingEntry → CallId → Bool
+may_go net ring id = is_none (give_up_no net (ring_after net ring) id)
+
+-- The calls of these paths that the ring lets be given up, in the order of the paths.
+abbrev pub due_calls : NetPlan → List RingEntry → ℕ → List ℕ → List CallId
+due_calls net ring n paths = filter (may_go net ring) (map (call_on_path net ring n) paths)
+
+-- By these paths, in their order, each call that the ring lets go was given up and answered with
+-- its word; afterwards there is none.
+pub record GivesUpDue (alone : Bool) (net : NetPlan) (n : ℕ) (paths : List ℕ)
+    (list new_list : List HostEntry) (ring new_ring : List RingEntry) : Type 0 where
+  pub ends : List GivenUp
+  pub calls : map (λ (end : GivenUp). end.id) ends ≡ due_calls net ring n paths
+  pub grew : Grew alone (is_of n) ring (map give_up_of ends) new_ring
+  pub answers : new_list ≡ list ++ map bad_answer_of ends
+  pub none_left : due_calls net new_ring n paths ≡ []
+
+-- ---- Third: frames are sent.
+
+-- What a host notes of an entry of the ring that gives a call up.
+abbrev pub bad_answer_to : RingEntry → Option HostEntry
+bad_answer_to (GiveUp id word) = Some (Answer id (results.Bad word))
+bad_answer_to _ = None
+
+-- A path's call failed.
+abbrev pub IsFailed : Await → Type 0
+IsFailed (Failed seq word) = Unit {0}
+IsFailed _ = ⊥
+
+-- One of these Requests went on this path.
+abbrev pub went_on : List Frame → ℕ → Bool
+went_on asks path = list_any (goes_on path) asks
+
+-- On none of these paths is a failed call.
+abbrev pub NoneFailed : (ℕ → Bool) → NodeIs → Type 0
+NoneFailed on part =
+    (path : ℕ) → IsPath path → on path ≡ true → IsFailed (path_of part path).awaits → ⊥
+
+-- An entry while the calls on these paths are sent, with the node's part before it: a Send comes
+-- only where none of them is a failed one, and a GiveUp is of a failed one.
+abbrev pub IsSendingStep : NetPlan → (ℕ → Bool) → NodeIs → RingEntry → Type 0
+IsSendingStep net on part (Send m heard) = NoneFailed on part
+IsSendingStep net on part (GiveUp id word) =
+    (on id.path ≡ true) × (0 < net.answer → IsFailed (path_of part id.path).awaits)
+IsSendingStep net on part _ = ⊥
+
+-- So is each of a node's entries, behind those before it.
+abbrev pub EachSends : NetPlan → ℕ → (ℕ → Bool) → List RingEntry → List RingEntry → Type 0
+EachSends net n on past [] = Unit {0}
+EachSends net n on past (e ∷ more) =
+    (maker e ≡ n → IsSendingStep net on (ring_node (ring_after net past) n) e)
+    × EachSends net n on (past ++ e ∷ []) more
+
+-- Frames were sent, and those of the calls on these paths that failed were given up at once and
+-- answered with their word.
+pub record Sends (alone : Bool) (net : NetPlan) (n : ℕ) (on : ℕ → Bool)
+    (list new_list : List HostEntry) (ring new_ring : List RingEntry) : Type 0 where
+  pub entries : List RingEntry
+  pub grew : Grew alone (is_of n) ring entries new_ring
+  pub each : EachSends net n on ring grew.more
+  pub answers : new_list ≡ list ++ filter_map bad_answer_to entries
+
+-- They were until nothing was left to be sent, and none of the calls is a failed one.
+pub record SendsOut (alone : Bool) (net : NetPlan) (n : ℕ) (on : ℕ → Bool)
+    (list new_list : List HostEntry) (ring new_ring : List RingEntry) : Type 0 where
+  pub sends : Sends alone net n on list new_list ring new_ring
+  pub empty : outbox_of net new_ring n ≡ []
+  pub none_failed : NoneFailed on (ring_node (ring_after net new_ring) n)
+
+-- ---- The end, and the whole.
+
+-- Why a host leaves at the end of its turn, if it does.
+abbrev pub host_cause : NetPlan → ℕ → HostPlan → Bool → List HostEntry → List RingEntry
+    → Option LeaveCause
+host_cause net n plan budget list ring =
+    cause_due net (ring_after net ring) n (host_is_done (host_at plan list)) budget
+
+-- The end of a host's turn: the node left or passed the token on, as was due, and a Pass said
+-- exactly whether the host is done; after a Pass nothing came, after a Leave each call that waited
+-- was given up and answered, so that none is without an answer.
+pub record EndsHostTurn (alone : Bool) (net : NetPlan) (n : ℕ) (plan : HostPlan) (budget : Bool)
+    (list new_list : List HostEntry) (ring new_ring : List RingEntry) (left : Bool) : Type 0 where
   pub handed_ring : List RingEntry
-  pub left_is : left ≡ is_some (cause_due net (ring_after net old) n done budget)
-  pub handed : HandedOn alone net n done (words_put n old)
-      (cause_due net (ring_after net old) n done budget) old handed_ring
-  pub gives_up : Adds alone (is_of n) IsGivingUp handed_ring new
-  pub ends_there : left ≡ false → new ≡ handed_ring
+  pub left_is : left ≡ is_some (host_cause net n plan budget list ring)
+  pub handed : HandedOn alone net n (host_is_done (host_at plan list)) (words_put n ring)
+      (host_cause net n plan budget list ring) ring handed_ring
+  pub ends_there : left ≡ false → (new_ring ≡ handed_ring) × (new_list ≡ list)
+  pub gives_up : left ≡ true
+      → GivesUpDue alone net n network_paths list new_list handed_ring new_ring
+  pub answered : left ≡ true → unanswered_in new_list ≡ []
 
--- A host's turn: its parts one after another, each of which adds entries of its sort alone.
-pub record HoldsHostTurn (alone : Bool) (net : NetPlan) (n : ℕ) (budget left : Bool)
-    (old new : List RingEntry) : Type 0 where
+-- A host's turn: its parts one after another, on the host's list and on the ring.
+pub record HoldsHostTurn (alone : Bool) (net : NetPlan) (n : ℕ) (plan : HostPlan) (budget : Bool)
+    (list new_list : List HostEntry) (ring new_ring : List RingEntry) (left : Bool) : Type 0 where
+  pub served_list : List HostEntry
+  pub asked_list : List HostEntry
+  pub sent_list : List HostEntry
+  pub given_list : List HostEntry
   pub served_ring : List RingEntry
   pub asked_ring : List RingEntry
   pub sent_ring : List RingEntry
   pub given_ring : List RingEntry
-  pub serves : Adds alone (is_of n) (IsServing n) old served_ring
-  pub asks : Adds alone (is_of n) IsAsking served_ring asked_ring
-  pub sends : Adds alone (is_of n) IsSending asked_ring sent_ring
-  pub gives_up : Adds alone (is_of n) IsGivingUp sent_ring given_ring
-  pub ends : EndsHostTurn alone net n budget left given_ring new
+  pub asks : List Frame
+  pub serves : ServesInbox alone net n list served_list ring served_ring
+  pub makes : AsksAllDue alone n plan (hold_of n ring) asks served_list asked_list
+      served_ring asked_ring
+  pub sends : SendsOut alone net n (went_on asks) asked_list sent_list asked_ring sent_ring
+  pub gives_up : GivesUpDue alone net n network_paths sent_list given_list sent_ring given_ring
+  pub ends : EndsHostTurn alone net n plan budget given_list new_list given_ring new_ring left
+
+-- ---- What the parts of a host's worker say of one another.
+
+-- The paths that an array chooses.
+abbrev pub chosen : List Bool → ℕ → Bool
+chosen which path = get_or which path false
+
+abbrev pub chosen_paths : List Bool → List ℕ
+chosen_paths which = filter (chosen which) network_paths
+
+-- A path, where it is wanted.
+abbrev pub wanted_path : Bool → ℕ → List ℕ
+wanted_path true path = path ∷ []
+wanted_path false path = []
+
+-- The paths that are looked at after a Send: none where the frame arrived, else the fresh ones.
+abbrev pub looked_at : Heard → List Bool → List Bool
+looked_at Acked fresh = replicate path_places false
+looked_at Silent fresh = fresh
+looked_at Busy fresh = fresh
+
+-- A path's call has not failed, nor waited for a Pass.
+abbrev pub IsNew : Await → Type 0
+IsNew Nothing = Unit {0}
+IsNew (Out seq to passes) = passes ≡ 0
+IsNew (Arrived seq) = Unit {0}
+IsNew (Failed seq word) = ⊥
+
+abbrev pub AreNew : (ℕ → Bool) → NodeIs → Type 0
+AreNew on part =
+    (path : ℕ) → IsPath path → on path ≡ true → IsNew (path_of part path).awaits
+
+-- A host made the request that was due and posted it on this path.
+pub record AskedOnce (alone : Bool) (net : NetPlan) (n hold : ℕ) (path : ℕ) (old new : HostIs)
+    (ring new_ring : List RingEntry) : Type 0 where
+  pub ask : Frame
+  pub due : due_request old hold ≡ Some ask
+  pub asked : new.history ≡ old.history ++ ask_of ask ∷ []
+  pub grew : Grew alone (is_of n) ring (Post n ask ∷ []) new_ring
+  pub path_is : ask.id.path ≡ path
+  pub is_path : IsPath path
+  pub out : path_of (ring_node (ring_after net new_ring) n) path
+      ≡ record { awaits = Out ask.id.seq ask.to 0; posted = ask.id.seq }
+  pub others : (p : ℕ) → p ≢ path → path_of (ring_node (ring_after net new_ring) n) p
+      ≡ path_of (ring_node (ring_after net ring) n) p
+  pub fewer : asks_left new < asks_left old
+
+-- None was due.
+pub record AskedNone (hold : ℕ) (old new : HostIs) (ring new_ring : List RingEntry)
+    : Type 0 where
+  pub none : due_request new hold ≡ None
+  pub same : new.history ≡ old.history
+  pub ring_same : new_ring ≡ ring
+
+abbrev pub AskedNext : Bool → NetPlan → ℕ → ℕ → HostIs → HostIs → List RingEntry
+    → List RingEntry → Option ℕ → Type 0
+AskedNext alone net n hold old new ring new_ring (Some path) =
+    AskedOnce alone net n hold path old new ring new_ring
+AskedNext alone net n hold old new ring new_ring None = AskedNone hold old new ring new_ring
+
+-- All requests that were due were made, on the paths that an array notes.
+pub record AskedAll (alone : Bool) (net : NetPlan) (n : ℕ) (plan : HostPlan) (hold : ℕ)
+    (list new_list : List HostEntry) (ring new_ring : List RingEntry) (fresh : List Bool)
+    : Type 0 where
+  pub asks : List Frame
+  pub all : AsksAllDue alone n plan hold asks list new_list ring new_ring
+  pub paths : (path : ℕ) → chosen fresh path ≡ went_on asks path
+  pub new_calls : AreNew (chosen fresh) (ring_node (ring_after net new_ring) n)

@@ -1,17 +1,21 @@
 //! A host's hold turn.
-ghost use Rattle.std.specs.Prelude.{◌≡◌, ◌<◌, ◌≤◌, true, false, None, OnOk, IfOk};
+ghost use Rattle.std.specs.Prelude.{◌≡◌, ◌<◌, ◌≤◌, min, true, false, None, [], ◌∷◌, OnOk, IfOk};
+ghost use Rattle.mstr_block.specs.Table.{network_paths};
 ghost use Rattle.ring_core.specs.Legal.{IsLegal, IsPath};
-ghost use Rattle.host_port.specs.Host.{due_request, host_is_done};
+ghost use Rattle.ring_core.specs.Machine.{ring_after, ring_node};
 ghost use Rattle.ring_core.specs.Statistics.{is_stats};
+ghost use Rattle.host_port.specs.Host.{host_is_done};
+ghost use Rattle.host_port.specs.Legal.{IsHostHistory};
+ghost use Rattle.tied_lists.specs.Own.{own};
 ghost use Rattle.tied_lists.specs.Waits.{HasLeft, Holds};
 ghost use Rattle.comm_port.specs.Turns.{KeepsInbox};
-ghost use Rattle.comm_port.specs.HostTurns.{after_turn, AskedNext, EndsWithPass, HostTaking};
-ghost use Rattle.comm_port.specs.HostTurns.{EndsHostTurn, GrowsOn, HoldsHostTurn, HostTies};
-ghost use Rattle.comm_port.specs.HostTurns.{HostTurning, IsAsking};
-ghost use Rattle.comm_port.specs.Order.{IsGivingUp, IsSending, IsServing};
 ghost use Rattle.comm_port.specs.Leaving.{IsHere};
-ghost use Rattle.tied_lists.specs.Own.{own};
 ghost use Rattle.comm_port.specs.Sending.{sends_left};
+ghost use Rattle.comm_port.specs.HostTurns.{after_turn, AreNew, AskedAll, AskedNext, chosen};
+ghost use Rattle.comm_port.specs.HostTurns.{chosen_paths, CountsPasses, EndsHostTurn, EndsWithPass};
+ghost use Rattle.comm_port.specs.HostTurns.{GivesUpDue, hold_of, HoldsHostTurn, HostTaking, looked_at};
+ghost use Rattle.comm_port.specs.HostTurns.{HostTies, HostTurning, outbox_of, Sends, SendsOut};
+ghost use Rattle.comm_port.specs.HostTurns.{ServesInbox, ServesTaken, wanted_path};
 
 use crate::leaving::hand_on;
 use crate::replies::{post_reply, tell_statistics};
@@ -35,6 +39,9 @@ fn end_call<R: RingSide>(node: u8, reply: Frame, host: &mut Host, ring: &R) -> R
     requires taking { HostTaking node reply host.old (R.side ring.now) (R.known ring.now) }
     requires kind { reply.kind ≡ FrameKind.Reply }
     ensures turning { OnOk result (HostTurning node host.new (R.side ring.now) (R.known ring.now)) }
+    ensures served { OnOk result (ServesTaken R.alone node reply host.old.history host.new.history
+        (R.known ring.now) (R.known ring.now)) }
+    ensures legal_list { IsHostHistory host.new.plan host.new.history }
     ensures plan { host.new.plan ≡ host.old.plan }
 {
     host.answer(reply.id, HostResult::Reply(reply.pdu))?;
@@ -54,9 +61,10 @@ fn answer_request<R: RingSide>(
     ensures turning { OnOk result (HostTurning node host.new (R.side ring.old) (R.known ring.new)) }
     ensures kept { OnOk result
         (KeepsInbox (R.side ring.old).net node (R.known ring.old) (R.known ring.new)) }
-    ensures grown { OnOk result
-        (GrowsOn (IsServing node) R.alone node (R.known ring.old) (R.known ring.new)) }
+    ensures served { OnOk result (ServesTaken R.alone node request.now host.old.history
+        host.new.history (R.known ring.old) (R.known ring.new)) }
     ensures legal { IsLegal (R.side ring.old).net (R.known ring.new) }
+    ensures legal_list { IsHostHistory host.new.plan host.new.history }
     ensures plan { host.new.plan ≡ host.old.plan }
     ensures same { R.side ring.new ≡ R.side ring.old }
 {
@@ -79,8 +87,8 @@ fn answer_port<R: RingSide>(
     ensures turning { OnOk result (HostTurning node host.now (R.side ring.old) (R.known ring.new)) }
     ensures kept { OnOk result
         (KeepsInbox (R.side ring.old).net node (R.known ring.old) (R.known ring.new)) }
-    ensures grown { OnOk result
-        (GrowsOn (IsServing node) R.alone node (R.known ring.old) (R.known ring.new)) }
+    ensures served { OnOk result (ServesTaken R.alone node request.now host.now.history
+        host.now.history (R.known ring.old) (R.known ring.new)) }
     ensures legal { IsLegal (R.side ring.old).net (R.known ring.new) }
     ensures same { R.side ring.new ≡ R.side ring.old }
 {
@@ -100,9 +108,10 @@ fn serve<R: RingSide>(
     ensures turning { OnOk result (HostTurning node host.new (R.side ring.old) (R.known ring.new)) }
     ensures kept { OnOk result
         (KeepsInbox (R.side ring.old).net node (R.known ring.old) (R.known ring.new)) }
-    ensures grown { OnOk result
-        (GrowsOn (IsServing node) R.alone node (R.known ring.old) (R.known ring.new)) }
+    ensures served { OnOk result (ServesTaken R.alone node frame host.old.history host.new.history
+        (R.known ring.old) (R.known ring.new)) }
     ensures legal { IsLegal (R.side ring.old).net (R.known ring.new) }
+    ensures legal_list { IsHostHistory host.new.plan host.new.history }
     ensures plan { host.new.plan ≡ host.old.plan }
     ensures same { R.side ring.new ≡ R.side ring.old }
 {
@@ -129,9 +138,10 @@ fn serve_inbox<R: RingSide>(
     requires holds { Holds (R.side ring.old).net (R.known ring.old) node }
     ensures turning { OnOk result (HostTurning node host.new (R.side ring.old) (R.known ring.new)) }
     ensures holds { OnOk result (Holds (R.side ring.old).net (R.known ring.new) node) }
-    ensures grown { OnOk result
-        (GrowsOn (IsServing node) R.alone node (R.known ring.old) (R.known ring.new)) }
+    ensures served { OnOk result (ServesInbox R.alone (R.side ring.old).net node host.old.history
+        host.new.history (R.known ring.old) (R.known ring.new)) }
     ensures legal { IsLegal (R.side ring.old).net (R.known ring.new) }
+    ensures legal_list { IsHostHistory host.new.plan host.new.history }
     ensures plan { host.new.plan ≡ host.old.plan }
     ensures same { R.side ring.new ≡ R.side ring.old }
 {
@@ -153,10 +163,10 @@ fn ask_next<R: RingSide>(
     ensures turning { OnOk result (HostTurning node host.new (R.side ring.old) (R.known ring.new)) }
     ensures kept { OnOk result
         (KeepsInbox (R.side ring.old).net node (R.known ring.old) (R.known ring.new)) }
-    ensures asked { IfOk result (AskedNext host.old host.new hold) }
-    ensures grown { OnOk result
-        (GrowsOn IsAsking R.alone node (R.known ring.old) (R.known ring.new)) }
+    ensures asked { IfOk result (AskedNext R.alone (R.side ring.old).net node hold host.old host.new
+        (R.known ring.old) (R.known ring.new)) }
     ensures legal { IsLegal (R.side ring.old).net (R.known ring.new) }
+    ensures legal_list { IsHostHistory host.new.plan host.new.history }
     ensures plan { host.new.plan ≡ host.old.plan }
     ensures same { R.side ring.new ≡ R.side ring.old }
 {
@@ -179,10 +189,10 @@ fn ask_all<R: RingSide>(
     requires holds { Holds (R.side ring.old).net (R.known ring.old) node }
     ensures turning { OnOk result (HostTurning node host.new (R.side ring.old) (R.known ring.new)) }
     ensures holds { OnOk result (Holds (R.side ring.old).net (R.known ring.new) node) }
-    ensures asked { OnOk result (due_request host.new hold ≡ None) }
-    ensures grown { OnOk result
-        (GrowsOn IsAsking R.alone node (R.known ring.old) (R.known ring.new)) }
+    ensures asked { IfOk result (AskedAll R.alone (R.side ring.old).net node host.old.plan hold
+        host.old.history host.new.history (R.known ring.old) (R.known ring.new)) }
     ensures legal { IsLegal (R.side ring.old).net (R.known ring.new) }
+    ensures legal_list { IsHostHistory host.new.plan host.new.history }
     ensures plan { host.new.plan ≡ host.old.plan }
     ensures same { R.side ring.new ≡ R.side ring.old }
 {
@@ -204,9 +214,10 @@ fn give_up_path<R: RingSide>(node: u8, path: u8, host: &mut Host, ring: &mut R) 
         ≤ sends_left (R.side ring.old).net (R.known ring.old) node) }
     ensures left { OnOk result (HasLeft (R.side ring.old).net (R.known ring.old) node
         → HasLeft (R.side ring.old).net (R.known ring.new) node) }
-    ensures grown { OnOk result
-        (GrowsOn IsGivingUp R.alone node (R.known ring.old) (R.known ring.new)) }
+    ensures gives_up { OnOk result (GivesUpDue R.alone (R.side ring.old).net node (path ∷ [])
+        host.old.history host.new.history (R.known ring.old) (R.known ring.new)) }
     ensures legal { IsLegal (R.side ring.old).net (R.known ring.new) }
+    ensures legal_list { IsHostHistory host.new.plan host.new.history }
     ensures plan { host.new.plan ≡ host.old.plan }
     ensures same { R.side ring.new ≡ R.side ring.old }
 {
@@ -220,6 +231,38 @@ fn give_up_path<R: RingSide>(node: u8, path: u8, host: &mut Host, ring: &mut R) 
     };
     host.answer(id, HostResult::Bad(word))?;
     Ok(())
+}
+
+/// The same, where the path is wanted.
+fn give_up_if<R: RingSide>(
+    node: u8,
+    path: u8,
+    wanted: bool,
+    host: &mut Host,
+    ring: &mut R,
+) -> Result<(), Short>
+    requires turning { HostTurning node host.old (R.side ring.old) (R.known ring.old) }
+    requires path { IsPath path }
+    ensures turning { OnOk result (HostTurning node host.new (R.side ring.old) (R.known ring.new)) }
+    ensures kept { OnOk result
+        (KeepsInbox (R.side ring.old).net node (R.known ring.old) (R.known ring.new)) }
+    ensures less { OnOk result (sends_left (R.side ring.old).net (R.known ring.new) node
+        ≤ sends_left (R.side ring.old).net (R.known ring.old) node) }
+    ensures left { OnOk result (HasLeft (R.side ring.old).net (R.known ring.old) node
+        → HasLeft (R.side ring.old).net (R.known ring.new) node) }
+    ensures gives_up { OnOk result (GivesUpDue R.alone (R.side ring.old).net node
+        (wanted_path wanted path) host.old.history host.new.history (R.known ring.old)
+        (R.known ring.new)) }
+    ensures legal { IsLegal (R.side ring.old).net (R.known ring.new) }
+    ensures legal_list { IsHostHistory host.new.plan host.new.history }
+    ensures plan { host.new.plan ≡ host.old.plan }
+    ensures same { R.side ring.new ≡ R.side ring.old }
+{
+    if wanted {
+        give_up_path(node, path, host, ring)
+    } else {
+        Ok(())
+    }
 }
 
 /// Gives up the calls of these paths, in rising order, as far as the ring lets it.
@@ -237,18 +280,28 @@ fn give_up_where<R: RingSide>(
         ≤ sends_left (R.side ring.old).net (R.known ring.old) node) }
     ensures left { OnOk result (HasLeft (R.side ring.old).net (R.known ring.old) node
         → HasLeft (R.side ring.old).net (R.known ring.new) node) }
-    ensures grown { OnOk result
-        (GrowsOn IsGivingUp R.alone node (R.known ring.old) (R.known ring.new)) }
+    ensures gives_up { OnOk result (GivesUpDue R.alone (R.side ring.old).net node
+        (chosen_paths which) host.old.history host.new.history (R.known ring.old)
+        (R.known ring.new)) }
     ensures legal { IsLegal (R.side ring.old).net (R.known ring.new) }
+    ensures legal_list { IsHostHistory host.new.plan host.new.history }
     ensures plan { host.new.plan ≡ host.old.plan }
     ensures same { R.side ring.new ≡ R.side ring.old }
 {
     for path in NETWORK_PATHS {
-        if which[usize::from(path)] {
-            give_up_path(node, path, host, ring)?;
-        }
+        give_up_if(node, path, which[usize::from(path)], host, ring)?;
     }
     Ok(())
+}
+
+/// The paths on which a Send may have made a call fail.
+fn may_have_failed(heard: Heard, fresh: [bool; PATH_PLACES]) -> [bool; PATH_PLACES]
+    ensures { result ≡ looked_at heard fresh }
+{
+    match heard {
+        Heard::Acked => [false; PATH_PLACES],
+        Heard::Silent | Heard::Busy => fresh,
+    }
 }
 
 /// Sends the next frame; whether there was one. A Request of this turn that failed is given up.
@@ -260,26 +313,28 @@ fn send_one<R: RingSide>(
 ) -> Result<bool, Short>
     requires turning { HostTurning node host.old (R.side ring.old) (R.known ring.old) }
     requires holds { Holds (R.side ring.old).net (R.known ring.old) node }
+    requires new_calls { AreNew (chosen fresh)
+        (ring_node (ring_after (R.side ring.old).net (R.known ring.old)) node) }
     ensures turning { OnOk result (HostTurning node host.new (R.side ring.old) (R.known ring.new)) }
     ensures holds { OnOk result (Holds (R.side ring.old).net (R.known ring.new) node) }
     ensures less { IfOk result (λ sent. sent ≡ true
         → sends_left (R.side ring.old).net (R.known ring.new) node
         < sends_left (R.side ring.old).net (R.known ring.old) node) }
-    ensures grown { OnOk result
-        (GrowsOn IsSending R.alone node (R.known ring.old) (R.known ring.new)) }
+    ensures sends { OnOk result (Sends R.alone (R.side ring.old).net node (chosen fresh)
+        host.old.history host.new.history (R.known ring.old) (R.known ring.new)) }
+    ensures new_calls { OnOk result (AreNew (chosen fresh)
+        (ring_node (ring_after (R.side ring.old).net (R.known ring.new)) node)) }
+    ensures empty { IfOk result
+        (λ sent. sent ≡ false → outbox_of (R.side ring.old).net (R.known ring.new) node ≡ []) }
     ensures legal { IsLegal (R.side ring.old).net (R.known ring.new) }
+    ensures legal_list { IsHostHistory host.new.plan host.new.history }
     ensures plan { host.new.plan ≡ host.old.plan }
     ensures same { R.side ring.new ≡ R.side ring.old }
 {
     let Some(heard) = send_next(node, ring)? else {
         return Ok(false);
     };
-    let failed = if heard == Heard::Acked {
-        [false; PATH_PLACES]
-    } else {
-        fresh
-    };
-    give_up_where(node, failed, host, ring)?;
+    give_up_where(node, may_have_failed(heard, fresh), host, ring)?;
     Ok(true)
 }
 
@@ -292,11 +347,14 @@ fn send_all<R: RingSide>(
 ) -> Result<(), Short>
     requires turning { HostTurning node host.old (R.side ring.old) (R.known ring.old) }
     requires holds { Holds (R.side ring.old).net (R.known ring.old) node }
+    requires new_calls { AreNew (chosen fresh)
+        (ring_node (ring_after (R.side ring.old).net (R.known ring.old)) node) }
     ensures turning { OnOk result (HostTurning node host.new (R.side ring.old) (R.known ring.new)) }
     ensures holds { OnOk result (Holds (R.side ring.old).net (R.known ring.new) node) }
-    ensures grown { OnOk result
-        (GrowsOn IsSending R.alone node (R.known ring.old) (R.known ring.new)) }
+    ensures sends { OnOk result (SendsOut R.alone (R.side ring.old).net node (chosen fresh)
+        host.old.history host.new.history (R.known ring.old) (R.known ring.new)) }
     ensures legal { IsLegal (R.side ring.old).net (R.known ring.new) }
+    ensures legal_list { IsHostHistory host.new.plan host.new.history }
     ensures plan { host.new.plan ≡ host.old.plan }
     ensures same { R.side ring.new ≡ R.side ring.old }
 {
@@ -318,11 +376,12 @@ fn end_turn<R: RingSide>(
         → EndsWithPass node (host_is_done host.new) (own node (R.known ring.new))) }
     ensures gone { IfOk result (λ left. left ≡ true
         → HasLeft (R.side ring.old).net (R.known ring.new) node) }
-    ensures ends { IfOk result (λ left. EndsHostTurn R.alone (R.side ring.old).net node budget left
-        (R.known ring.old) (R.known ring.new)) }
+    ensures ends { IfOk result (EndsHostTurn R.alone (R.side ring.old).net node host.old.plan budget
+        host.old.history host.new.history (R.known ring.old) (R.known ring.new)) }
     ensures stays { IfOk result (λ left. left ≡ false
         → IsHere (R.side ring.old).net (R.known ring.new) node) }
     ensures legal { IsLegal (R.side ring.old).net (R.known ring.new) }
+    ensures legal_list { IsHostHistory host.new.plan host.new.history }
     ensures plan { host.new.plan ≡ host.old.plan }
     ensures same { R.side ring.new ≡ R.side ring.old }
 {
@@ -346,19 +405,22 @@ fn turn<R: RingSide>(
 ) -> Result<bool, Short>
     requires turning { HostTurning node host.old (R.side ring.old) (R.known ring.old) }
     requires holds { Holds (R.side ring.old).net (R.known ring.old) node }
+    requires hold { hold ≡ min (hold_of node (R.known ring.old)) 4294967295 }
     ensures ties { OnOk result (HostTies node host.new (R.side ring.old) (R.known ring.new)) }
     ensures passed { IfOk result (λ left. left ≡ false
         → EndsWithPass node (host_is_done host.new) (own node (R.known ring.new))) }
     ensures gone { IfOk result (λ left. left ≡ true
         → HasLeft (R.side ring.old).net (R.known ring.new) node) }
-    ensures held { IfOk result (λ left. HoldsHostTurn R.alone (R.side ring.old).net node budget left
-        (R.known ring.old) (R.known ring.new)) }
+    ensures held { IfOk result (HoldsHostTurn R.alone (R.side ring.old).net node host.old.plan
+        budget host.old.history host.new.history (R.known ring.old) (R.known ring.new)) }
     ensures stays { IfOk result (λ left. left ≡ false
         → IsHere (R.side ring.old).net (R.known ring.new) node) }
     ensures legal { IsLegal (R.side ring.old).net (R.known ring.new) }
+    ensures legal_list { IsHostHistory host.new.plan host.new.history }
     ensures plan { host.new.plan ≡ host.old.plan }
     ensures same { R.side ring.new ≡ R.side ring.old }
 {
+    let _ = host.history();
     serve_inbox(alloc, node, host, ring)?;
     let fresh = ask_all(node, hold, host, ring)?;
     send_all(node, fresh, host, ring)?;
@@ -408,6 +470,7 @@ impl HostWorker {
     ) -> Result<bool, AllocError>
         requires ties { HostTies self.old.node host.old (R.side ring.old) (R.known ring.old) }
         requires holds { Holds (R.side ring.old).net (R.known ring.old) self.old.node }
+        requires counts { CountsPasses self.old (R.known ring.old) }
         ensures ties { OnOk result
             (HostTies self.new.node host.new (R.side ring.new) (R.known ring.new)) }
         ensures passed { IfOk result (λ left. left ≡ false → EndsWithPass self.old.node
@@ -415,11 +478,14 @@ impl HostWorker {
         ensures gone { IfOk result (λ left. left ≡ true
             → HasLeft (R.side ring.new).net (R.known ring.new) self.old.node) }
         ensures worker { IfOk result (λ left. self.new ≡ after_turn self.old left) }
+        ensures counts { OnOk result (CountsPasses self.new (R.known ring.new)) }
         ensures stays { IfOk result (λ left. left ≡ false
             → IsHere (R.side ring.new).net (R.known ring.new) self.old.node) }
-        ensures held { IfOk result (λ left. HoldsHostTurn R.alone (R.side ring.old).net self.old.node
-            self.old.budget left (R.known ring.old) (R.known ring.new)) }
+        ensures held { IfOk result (HoldsHostTurn R.alone (R.side ring.old).net self.old.node
+            host.old.plan self.old.budget host.old.history host.new.history (R.known ring.old)
+            (R.known ring.new)) }
         ensures legal { IsLegal (R.side ring.old).net (R.known ring.new) }
+        ensures legal_list { IsHostHistory host.new.plan host.new.history }
         ensures plan { host.new.plan ≡ host.old.plan }
         ensures same { R.side ring.new ≡ R.side ring.old }
     {

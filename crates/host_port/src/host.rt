@@ -121,6 +121,7 @@ impl Host {
     pub fn history(&self) -> &[HostEntry]
         ensures history { result.now ≡ self.now.history }
         ensures legal { IsHostHistory self.now.plan self.now.history }
+        ensures sound { IsHostPlan self.now.plan }
     {
         self.history.as_slice()
     }

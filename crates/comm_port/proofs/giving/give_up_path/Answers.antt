@@ -44,6 +44,13 @@ returns-clause-turning g c =
     (given-lead g.M.RamSide.alone g.R.RingSide.alone n c.args.path id word _ _ _ _ _ _ _ _ c.args.waiting.now f.same o.same
     o.legal k gave f.went c.requires.turning)
 
+pub returns-in_default-2-clause-kept : goal.returns-in_default-2-clause-kept
+returns-in_default-2-clause-kept g c =
+    let o = c.in_ok-word.ensures in
+    let k = waits-at c.args.node c.args.path c.in-Some.id _ _ _ _ c.args.waiting.now (sym c.id_on.ensures ∙ c.in-Some.is) c.requires.turning in
+    subst (λ (m : ℕ). KeepsInbox (g.R.RingSide.side c.args.ring.now).net m (g.R.RingSide.known c.args.ring.now)
+    (g.R.RingSide.known c.give_up_on.new.ring)) k.own_is o.given.kept
+
 pub returns-clause-kept : goal.returns-clause-kept
 returns-clause-kept g c =
     let o = c.in_ok-word.ensures in

@@ -1,7 +1,5 @@
-use Rattle.std.proofs.Common.{refl}
+use Rattle.comm_port.proofs.HostServes.{served-refused}
 use Rattle.comm_port.proofs.HostTurning.{turning-served}
-use Rattle.comm_port.proofs.HostGrowth.{grown-by}
-use Rattle.comm_port.specs.Order.{IsServing}
 use Rattle.comm_port.proofs.host_worker.answer_request.Goals as goal
 
 pub returns-clause-turning : goal.returns-clause-turning
@@ -11,7 +9,8 @@ returns-clause-turning g c =
     c.requires.kind c.requires.plain c.in_ok-reply.ensures.went_on
     o.grew o.legal o.kept
 
-pub returns-clause-grown : goal.returns-clause-grown
-returns-clause-grown g c =
-    let o = c.in_ok-post_reply.ensures in
-    grown-by (IsServing c.args.node) g.R.RingSide.alone c.args.node _ _ _ (refl, tt) o.grew
+pub returns-clause-served : goal.returns-clause-served
+returns-clause-served g c =
+    let s = c.in_ok-reply.ensures in
+    served-refused g.R.RingSide.alone c.args.node c.args.request.now c.in_ok-reply.reply _ _ _ _ c.requires.kind
+    c.requires.plain s.reply s.went_on.history c.in_ok-post_reply.ensures.grew

@@ -1,21 +1,36 @@
-use Rattle.std.proofs.Common.{sym, ◌∙◌}
-use Rattle.comm_port.proofs.HostAsks.{asked-none, asked-some, holds-at}
+use Rattle.std.proofs.Common.{refl, sym, ◌∙◌}
+use Rattle.comm_port.proofs.HostAsks.{holds-at}
+use Rattle.comm_port.proofs.HostAsked.{asked-all-at, asked-at, asked-end, asked-next, asked-none}
+use Rattle.comm_port.proofs.HostAsked.{asked-some, asked-start}
 use Rattle.comm_port.proofs.HostTurning.{turning-side}
 use Rattle.comm_port.proofs.host_worker.ask_all.Goals as goal
 
+pub loop-path-init : goal.loop-path-init
+loop-path-init g c = record {
+  turning = c.requires.turning;
+  holds = c.requires.holds;
+  plan = refl;
+  same = refl;
+  asked = asked-start g.R.RingSide.alone _ c.args.node _ c.args.hold _ _;
+}
+
 pub loop-path-smaller : goal.loop-path-smaller
-loop-path-smaller g c = (asked-some c.loop-path.host c.ask_next.new.host c.args.hold _ c.in-Some.path c.in-Some.is c.in_ok-path.ensures.asked).1
+loop-path-smaller g c =
+    (asked-some g.R.RingSide.alone _ c.args.node c.args.hold _ _ _ _ _ c.in-Some.path c.in-Some.is c.in_ok-path.ensures.asked).fewer
 
 pub loop-path-preserved : goal.loop-path-preserved
 loop-path-preserved g c =
     let i = c.loop-path.invariant in
     let s = c.in_ok-path.ensures in
+    let once = asked-some g.R.RingSide.alone _ c.args.node c.args.hold _ _ _ _ _ c.in-Some.path c.in-Some.is s.asked in
     record {
       turning = turning-side c.args.node _ _ _ _ s.same s.turning;
       holds = holds-at c.args.node _ _ _ s.same (s.kept.holds i.holds);
       plan = s.plan ∙ i.plan;
       same = s.same ∙ i.same;
-      grown = λ first o. s.grown first (i.grown first o);
+      asked = asked-at g.R.RingSide.alone c.args.node _ c.args.hold _ _ _ _ _ _ _ s.same
+          (asked-next g.R.RingSide.alone _ c.args.node _ c.args.hold c.in-Some.path _ c.loop-path.host c.ask_next.new.host _ _ _ _
+          c.from.result c.from.ensures i.plan i.asked once);
     }
 
 pub returns-clause-turning : goal.returns-clause-turning
@@ -29,10 +44,9 @@ returns-clause-holds g c =
     holds-at c.args.node _ _ _ (sym i.same) (c.in_ok-path.ensures.kept.holds i.holds)
 
 pub returns-clause-asked : goal.returns-clause-asked
-returns-clause-asked g c = asked-none c.loop-path.host c.ask_next.new.host c.args.hold _ c.in_default.is c.in_ok-path.ensures.asked
-
-pub returns-clause-grown : goal.returns-clause-grown
-returns-clause-grown g c =
+returns-clause-asked g c =
     let i = c.loop-path.invariant in
     let s = c.in_ok-path.ensures in
-    λ first o. s.grown first (i.grown first o)
+    let none = asked-none g.R.RingSide.alone _ c.args.node c.args.hold _ _ _ _ _ c.in_default.is s.asked in
+    asked-all-at g.R.RingSide.alone c.args.node _ c.args.hold _ _ _ _ _ _ _ (sym i.same)
+    (asked-end g.R.RingSide.alone _ c.args.node _ c.args.hold _ c.loop-path.host c.ask_next.new.host _ _ _ _ (s.plan ∙ i.plan) i.asked none)

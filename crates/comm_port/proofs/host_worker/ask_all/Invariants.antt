@@ -1,7 +1,7 @@
 use Rattle.std.proofs.Common.{◌≡◌}
 use Rattle.tied_lists.specs.Waits.{Holds}
 use Rattle.comm_port.specs.HostTurns.{HostTurning, asks_left}
-use Rattle.comm_port.specs.HostTurns.{GrowsOn, IsAsking}
+use Rattle.comm_port.proofs.HostAsked.{AskedSoFar}
 use Rattle.comm_port.proofs.host_worker.ask_all.Given as goal
 
 abbrev pub invariant-loop-path : goal.invariant-loop-path
@@ -10,7 +10,8 @@ invariant-loop-path g l = record {
   holds : Holds (g.R.RingSide.side l.ring).net (g.R.RingSide.known l.ring) l.node;
   plan : l.host.plan ≡ l.initial.host.plan;
   same : g.R.RingSide.side l.ring ≡ g.R.RingSide.side l.initial.ring;
-  grown : GrowsOn IsAsking g.R.RingSide.alone l.node (g.R.RingSide.known l.initial.ring) (g.R.RingSide.known l.ring);
+  asked : AskedSoFar g.R.RingSide.alone (g.R.RingSide.side l.ring).net l.node l.initial.host.plan l.hold l.initial.host.history
+      l.host.history (g.R.RingSide.known l.initial.ring) (g.R.RingSide.known l.ring) l.fresh;
 }
 
 abbrev pub decreases-loop-path : goal.decreases-loop-path

@@ -1,10 +1,11 @@
-use Rattle.std.proofs.Common.{sym, ◌∙◌}
+use Rattle.std.proofs.Common.{refl, sym, ◌∙◌, [], ◌∷◌}
+use Rattle.ring_core.specs.declared.entry.RingEntry.TheVariants.{Post}
+use Rattle.tied_lists.specs.Own.{is_of}
+use Rattle.tied_lists.proofs.Growth.{grew-one}
 use Rattle.comm_port.proofs.HostAsks.{ask-next, due-kind, fewer-asks, from-some, turning-asked}
 use Rattle.comm_port.proofs.HostAsks.{went-some}
-use Rattle.std.proofs.Common.{refl}
-use Rattle.ring_core.specs.declared.entry.RingEntry.TheVariants.{Post}
-use Rattle.comm_port.proofs.HostGrowth.{grown-with}
-use Rattle.comm_port.specs.HostTurns.{IsAsking}
+use Rattle.comm_port.proofs.HostAsked.{path-out}
+use Rattle.comm_port.proofs.RingTurns.{mine}
 use Rattle.comm_port.proofs.host_worker.ask_next.Goals as goal
 
 pub post-requires-clause-next : goal.post-requires-clause-next
@@ -35,16 +36,21 @@ returns-clause-kept g c =
 pub returns-clause-asked : goal.returns-clause-asked
 returns-clause-asked g c =
     let o = c.in_ok-frame.ensures in
-    let f = c.in-Some.frame in (
-      (from-some _ c.in_ok-frame.field-0 f c.in-Some.is o.from).2,
-      fewer-asks c.args.host.now c.ask.new.self f c.args.hold (sym
-          c.in-Some.is ∙ o.request) (went-some c.in_ok-frame.field-0 f c.args.host.now c.ask.new.self c.in-Some.is o.went_on),
-    )
-
-pub returns-clause-grown : goal.returns-clause-grown
-returns-clause-grown g c =
-    let o = c.in_ok-frame.ensures in
     let f = c.in-Some.frame in
     let p = c.in_ok-post.ensures in
-    grown-with IsAsking g.R.RingSide.alone c.args.node _ (Post c.args.node f) _ refl (due-kind c.args.host.now c.args.hold f
-    (sym c.in-Some.is ∙ o.request)) p.went
+    let due = sym c.in-Some.is ∙ o.request in
+    let kind = due-kind c.args.host.now c.args.hold f due in
+    let went = went-some c.in_ok-frame.field-0 f c.args.host.now c.ask.new.self c.in-Some.is o.went_on in
+    let is_path = (from-some _ c.in_ok-frame.field-0 f c.in-Some.is o.from).2 in
+    let out = path-out g.R.RingSide.alone c.args.node f _ _ _ c.requires.turning.own_turn kind is_path p.went p.legal in
+    record {
+      ask = f;
+      due = sym due;
+      asked = went.history;
+      grew = grew-one g.R.RingSide.alone (is_of c.args.node) _ (Post c.args.node f ∷ []) _ (mine c.args.node (Post c.args.node f) refl) p.went;
+      path_is = refl;
+      is_path = is_path;
+      out = out.out;
+      others = out.others;
+      fewer = fewer-asks c.args.host.now c.ask.new.self f c.args.hold due went;
+    }

@@ -1,13 +1,12 @@
-use Rattle.std.proofs.Common.{refl}
 use Rattle.std.proofs.Common.{sym, ◌∙◌, subst, Bool}
-use Rattle.tied_lists.specs.Own.{is_of, own}
+use Rattle.tied_lists.specs.Own.{own}
 use Rattle.comm_port.specs.HostTurns.{EndsWithPass}
 use Rattle.comm_port.proofs.HostAsks.{stays-with, ends-with, gone-on, gone-with, ties-handed}
 use Rattle.comm_port.proofs.HostAsks.{turning-left}
 use Rattle.comm_port.proofs.HostTurning.{turning-side}
-use Rattle.tied_lists.proofs.Growth.{adds_none}
-use Rattle.comm_port.proofs.HostGrowth.{grown-all}
-use Rattle.comm_port.specs.Order.{IsGivingUp}
+use Rattle.mstr_block.specs.Table.{network_paths}
+use Rattle.comm_port.proofs.HostGives.{gives-at}
+use Rattle.comm_port.proofs.HostHolds.{ends-host, leaves-host, none-unanswered}
 use Rattle.comm_port.proofs.host_worker.end_turn.Goals as goal
 
 pub give_up_where-requires : goal.give_up_where-requires
@@ -38,27 +37,22 @@ returns-clause-gone g c =
 pub returns-then-not-left-clause-ends : goal.returns-then-not-left-clause-ends
 returns-then-not-left-clause-ends g c =
     let o = c.in_ok-left.ensures in
-    record {
-      done = _;
-      handed_ring = g.R.RingSide.known c.hand_on.new.ring;
-      left_is = sym c.if-not-left.true ∙ o.left;
-      handed = o.handed;
-      gives_up = adds_none g.R.RingSide.alone (is_of c.args.node) IsGivingUp (g.R.RingSide.known c.hand_on.new.ring);
-      ends_there = λ e. refl;
-    }
+    ends-host g.R.RingSide.alone _ c.args.node c.args.host.now.plan c.args.budget c.is_done-done.result c.args.host.now.history _ _ c.is_done-done.ensures
+    (sym c.if-not-left.true ∙ o.left) o.handed
 
 pub returns-clause-ends : goal.returns-clause-ends
 returns-clause-ends g c =
     let o = c.in_ok-left.ensures in
-    record {
-      done = _;
-      handed_ring = g.R.RingSide.known c.hand_on.new.ring;
-      left_is = sym c.if-not-left.false ∙ o.left;
-      handed = o.handed;
-      gives_up = grown-all IsGivingUp g.R.RingSide.alone c.args.node (g.R.RingSide.known c.hand_on.new.ring)
-          (g.R.RingSide.known c.give_up_where.new.ring) c.in_ok-give_up_where.ensures.grown;
-      ends_there = λ e. absurd cc;
-    }
+    let w = c.in_ok-give_up_where.ensures in
+    let n = c.args.node in
+    let before = g.R.RingSide.side c.args.ring.now in
+    let there = g.R.RingSide.side c.hand_on.new.ring in
+    let gives = gives-at g.R.RingSide.alone n network_paths _ _ _ _ there before (sym o.same) w.gives_up in
+    let gone = gone-with g.R.RingSide.alone before.net n _ _ _ _ _ o.handed (sym c.if-not-left.false ∙ o.left) in
+    let left = gone-on n before there (g.R.RingSide.known c.hand_on.new.ring) (g.R.RingSide.known c.give_up_where.new.ring) o.same gone w.left in
+    let turning = turning-side n _ there before _ (sym o.same) w.turning in
+    leaves-host g.R.RingSide.alone before.net n c.args.host.now.plan c.args.budget c.is_done-done.result c.args.host.now.history _ _ _ _ c.is_done-done.ensures
+    (sym c.if-not-left.false ∙ o.left) o.handed gives (none-unanswered n c.give_up_where.new.host before _ turning left gives.none_left)
 
 pub returns-then-not-left-clause-stays : goal.returns-then-not-left-clause-stays
 returns-then-not-left-clause-stays g c =

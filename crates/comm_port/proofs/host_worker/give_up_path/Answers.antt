@@ -1,4 +1,8 @@
-use Rattle.comm_port.proofs.HostAsks.{awaited-out, gave-none, gave-some, looked, turn-at}
+use Rattle.comm_port.proofs.HostAsks.{awaited-out, gave-at, gave-none, gave-some, looked, turn-at}
+use Rattle.comm_port.proofs.HostGives.{gives-kept, gives-word, gives-zero}
+use Rattle.std.proofs.Common.{Some, None}
+use Rattle.mstr_block.specs.declared.call.CallId.{CallId}
+use Rattle.comm_port.proofs.HostRuns.{legal-at, not-due-at}
 use Rattle.comm_port.proofs.host_worker.give_up_path.Goals as goal
 
 pub returns-then-seq-eq0-clause-turning : goal.returns-then-seq-eq0-clause-turning
@@ -100,24 +104,27 @@ returns-clause-left g c =
     (gave-some g.R.RingSide.alone (record { node = c.args.node; path = c.args.path; seq = c.awaits-seq.result }) _ c.in-Some.word
     _ _ _ _ _ _ _ l o.same w.given c.in-Some.is w.legal out c.in_ok-answer.ensures.went_on).left
 
-pub returns-then-seq-eq0-clause-grown : goal.returns-then-seq-eq0-clause-grown
-returns-then-seq-eq0-clause-grown g c =
+pub returns-then-seq-eq0-clause-gives_up : goal.returns-then-seq-eq0-clause-gives_up
+returns-then-seq-eq0-clause-gives_up g c =
     let o = c.awaits-seq.ensures in
-    (looked g.R.RingSide.alone c.args.node _ _ _ _ o.legal o.went c.requires.turning).grown
+    gives-zero g.R.RingSide.alone c.args.node c.args.path c.awaits-seq.result _ _ _ _ _ c.requires.turning o.legal o.went o.answer c.if-seq-eq0.true
 
-pub returns-in_default-clause-grown : goal.returns-in_default-clause-grown
-returns-in_default-clause-grown g c =
+pub returns-in_default-clause-gives_up : goal.returns-in_default-clause-gives_up
+returns-in_default-clause-gives_up g c =
     let o = c.awaits-seq.ensures in
     let w = c.in_ok-word.ensures in
-    (gave-none g.R.RingSide.alone (record { node = c.args.node; path = c.args.path; seq = c.awaits-seq.result }) _ _ _ _ _ _ _
-    (looked g.R.RingSide.alone c.args.node _ _ _ _ o.legal o.went c.requires.turning) o.same w.given c.in_default.is
-    w.legal).grown
+    let id : CallId = record { node = c.args.node; path = c.args.path; seq = c.awaits-seq.result } in
+    gives-kept g.R.RingSide.alone c.args.node c.args.path c.awaits-seq.result _ (g.R.RingSide.side c.args.ring.now) _ _ _ _ c.requires.turning o.legal o.went
+    o.answer (gave-at g.R.RingSide.alone id _ _ _ _ _ None o.same c.in_default.is w.given)
+    (legal-at (g.R.RingSide.side c.args.ring.now) (g.R.RingSide.side c.awaits-seq.new.self) _ o.same w.legal)
+    (not-due-at (g.R.RingSide.side c.args.ring.now) (g.R.RingSide.side c.awaits-seq.new.self) (g.R.RingSide.known c.give_up_on.new.ring) id o.same (w.not_due c.in_default.is))
 
-pub returns-clause-grown : goal.returns-clause-grown
-returns-clause-grown g c =
+pub returns-clause-gives_up : goal.returns-clause-gives_up
+returns-clause-gives_up g c =
     let o = c.awaits-seq.ensures in
     let w = c.in_ok-word.ensures in
-    let l = looked g.R.RingSide.alone c.args.node _ _ _ _ o.legal o.went c.requires.turning in
-    let out = awaited-out c.args.node c.args.path c.awaits-seq.result _ _ _ l.turning o.answer c.if-seq-eq0.false in
-    (gave-some g.R.RingSide.alone (record { node = c.args.node; path = c.args.path; seq = c.awaits-seq.result }) _ c.in-Some.word
-    _ _ _ _ _ _ _ l o.same w.given c.in-Some.is w.legal out c.in_ok-answer.ensures.went_on).grown
+    let id : CallId = record { node = c.args.node; path = c.args.path; seq = c.awaits-seq.result } in
+    gives-word g.R.RingSide.alone c.args.node c.args.path c.awaits-seq.result c.in-Some.word _ (g.R.RingSide.side c.args.ring.now) _ _ _ _ _
+    c.requires.turning o.legal o.went o.answer (gave-at g.R.RingSide.alone id _ _ _ _ _ (Some c.in-Some.word) o.same c.in-Some.is w.given)
+    (legal-at (g.R.RingSide.side c.args.ring.now) (g.R.RingSide.side c.awaits-seq.new.self) _ o.same w.legal)
+    c.in_ok-answer.ensures.went_on.history

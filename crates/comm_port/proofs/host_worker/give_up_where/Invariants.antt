@@ -4,8 +4,8 @@ use Rattle.tied_lists.specs.Waits.{HasLeft}
 use Rattle.comm_port.specs.HostTurns.{HostTurning}
 use Rattle.comm_port.specs.Turns.{KeepsInbox}
 use Rattle.comm_port.specs.Sending.{sends_left}
-use Rattle.comm_port.specs.HostTurns.{GrowsOn}
-use Rattle.comm_port.specs.Order.{IsGivingUp}
+use Rattle.comm_port.specs.HostTurns.{GivesUpDue}
+use Rattle.comm_port.proofs.HostGives.{paths_to}
 use Rattle.comm_port.proofs.host_worker.give_up_where.Given as goal
 
 abbrev pub invariant-loop-path : goal.invariant-loop-path
@@ -19,5 +19,6 @@ invariant-loop-path g l = record {
       → HasLeft (g.R.RingSide.side l.initial.ring).net (g.R.RingSide.known l.ring) l.node;
   plan : l.host.plan ≡ l.initial.host.plan;
   same : g.R.RingSide.side l.ring ≡ g.R.RingSide.side l.initial.ring;
-  grown : GrowsOn IsGivingUp g.R.RingSide.alone l.node (g.R.RingSide.known l.initial.ring) (g.R.RingSide.known l.ring);
+  gives_up : GivesUpDue g.R.RingSide.alone (g.R.RingSide.side l.initial.ring).net l.node (paths_to l.which l.path-index) l.initial.host.history
+      l.host.history (g.R.RingSide.known l.initial.ring) (g.R.RingSide.known l.ring);
 }

@@ -1,8 +1,11 @@
 use Rattle.comm_port.proofs.HostAsks.{sent-some, turning-sent}
 use Rattle.comm_port.proofs.HostTurning.{turning-side}
 use Rattle.comm_port.proofs.HostAsks.{sent-none}
-use Rattle.comm_port.proofs.HostGrowth.{grown-by, grown-sent, grown-then}
-use Rattle.comm_port.specs.Order.{IsSending}
+use Rattle.std.proofs.Common.{sym}
+use Rattle.comm_port.proofs.HostGives.{gives-at}
+use Rattle.comm_port.proofs.HostRuns.{legal-at}
+use Rattle.comm_port.proofs.HostSends.{new-still, sends-none, sent-step}
+use Rattle.comm_port.proofs.RingTurns.{on-ring}
 use Rattle.comm_port.proofs.host_worker.send_one.Goals as goal
 
 pub give_up_where-requires : goal.give_up_where-requires
@@ -14,15 +17,45 @@ give_up_where-requires g c =
           _ c.requires.turning sent o.legal);
     }
 
-pub returns-in_default-clause-grown : goal.returns-in_default-clause-grown
-returns-in_default-clause-grown g c =
+pub returns-in_default-clause-sends : goal.returns-in_default-clause-sends
+returns-in_default-clause-sends g c =
     let o = c.in_ok-heard.ensures in
-    grown-by IsSending g.R.RingSide.alone c.args.node _ _ _ tt (sent-none g.R.RingSide.alone _ c.args.node _ _ _ c.in_default.is o.sent).grew
+    let all = sent-none g.R.RingSide.alone _ c.args.node _ _ _ c.in_default.is o.sent in
+    sends-none g.R.RingSide.alone _ c.args.node _ _ _ _ all.grew
 
-pub returns-clause-grown : goal.returns-clause-grown
-returns-clause-grown g c =
+pub returns-clause-sends : goal.returns-clause-sends
+returns-clause-sends g c =
     let o = c.in_ok-heard.ensures in
-    let sent = sent-some g.R.RingSide.alone _ c.args.node c.in-Some.heard _ _ _ c.in-Some.is o.sent in
-    grown-then IsSending g.R.RingSide.alone c.args.node (g.R.RingSide.known c.args.ring.now) (g.R.RingSide.known c.send_next.new.ring)
-    (g.R.RingSide.known c.give_up_where.new.ring) (grown-by IsSending g.R.RingSide.alone c.args.node _ _ _ (tt, tt) sent.grew)
-    (grown-sent g.R.RingSide.alone c.args.node _ _ c.in_ok-give_up_where.ensures.grown)
+    let w = c.in_ok-give_up_where.ensures in
+    let n = c.args.node in
+    let before = g.R.RingSide.side c.args.ring.now in
+    let sent = sent-some g.R.RingSide.alone before.net n c.in-Some.heard _ _ _ c.in-Some.is o.sent in
+    (sent-step g.R.RingSide.alone before.net n c.in-Some.heard c.args.fresh _ _ _ _ _ _ (on-ring before _ _ n c.requires.turning.own_turn o.legal)
+    (on-ring before _ _ n c.requires.turning.own_turn (legal-at before (g.R.RingSide.side c.send_next.new.ring) _ o.same w.legal)) c.requires.holds
+    c.requires.new_calls sent.grew c.may_have_failed.ensures
+    (gives-at g.R.RingSide.alone n _ _ _ _ _ (g.R.RingSide.side c.send_next.new.ring) before (sym o.same) w.gives_up)).sends
+
+pub returns-clause-new_calls : goal.returns-clause-new_calls
+returns-clause-new_calls g c =
+    let o = c.in_ok-heard.ensures in
+    let w = c.in_ok-give_up_where.ensures in
+    let n = c.args.node in
+    let before = g.R.RingSide.side c.args.ring.now in
+    let sent = sent-some g.R.RingSide.alone before.net n c.in-Some.heard _ _ _ c.in-Some.is o.sent in
+    (sent-step g.R.RingSide.alone before.net n c.in-Some.heard c.args.fresh _ _ _ _ _ _ (on-ring before _ _ n c.requires.turning.own_turn o.legal)
+    (on-ring before _ _ n c.requires.turning.own_turn (legal-at before (g.R.RingSide.side c.send_next.new.ring) _ o.same w.legal)) c.requires.holds
+    c.requires.new_calls sent.grew c.may_have_failed.ensures
+    (gives-at g.R.RingSide.alone n _ _ _ _ _ (g.R.RingSide.side c.send_next.new.ring) before (sym o.same) w.gives_up)).new_calls
+
+pub returns-in_default-clause-new_calls : goal.returns-in_default-clause-new_calls
+returns-in_default-clause-new_calls g c =
+    let o = c.in_ok-heard.ensures in
+    let n = c.args.node in
+    let before = g.R.RingSide.side c.args.ring.now in
+    let all = sent-none g.R.RingSide.alone before.net n _ _ _ c.in_default.is o.sent in
+    new-still g.R.RingSide.alone before.net n _ _ _ (on-ring before _ _ n c.requires.turning.own_turn o.legal) c.requires.turning.own_turn.free all.grew c.requires.new_calls
+
+pub returns-in_default-clause-empty : goal.returns-in_default-clause-empty
+returns-in_default-clause-empty g c =
+    let o = c.in_ok-heard.ensures in
+    λ e. (sent-none g.R.RingSide.alone _ c.args.node _ _ _ c.in_default.is o.sent).empty

@@ -1,5 +1,3 @@
-use Rattle.ring_core.specs.declared.entry.RingEntry.TheVariants.{Take}
-use Rattle.std.proofs.Common.{refl}
 use Rattle.std.proofs.Common.{◌≡◌, sym, ◌∙◌, subst, List, Option, Some, None}
 use Rattle.std.proofs.Common.{Bool, ℕ}
 use Rattle.ring_core.specs.declared.frame.Frame.{Frame}
@@ -8,8 +6,9 @@ use Rattle.tied_lists.specs.Own.{is_of, WentOn}
 use Rattle.comm_port.specs.Sides.{taken_entries}
 use Rattle.comm_port.proofs.Served.{holds-kept, holds-still, holds-took, less-kept, take-less}
 use Rattle.comm_port.proofs.HostTurning.{taking-now, turning-side, turning-still}
-use Rattle.comm_port.proofs.HostGrowth.{grown-none, grown-with}
-use Rattle.comm_port.specs.Order.{IsServing}
+use Rattle.std.proofs.Common.{refl}
+use Rattle.comm_port.proofs.HostServes.{serves-at, so-far-at, so-far-end, so-far-next, so-far-start}
+use Rattle.comm_port.proofs.RingTurns.{kept-same}
 use Rattle.comm_port.proofs.host_worker.serve_inbox.Goals as goal
 
 -- what a Take added
@@ -50,8 +49,9 @@ loop-frame-preserved g c =
       holds = holds-kept _ _ _ c.args.node _ _ o.same s.same s.kept (holds-took g.R.RingSide.alone c.args.node f _ _ _ o.legal went i.turning.own_turn i.holds);
       plan = s.plan ∙ i.plan;
       same = s.same ∙ (o.same ∙ i.same);
-      grown = λ first start. s.grown first (grown-with (IsServing c.args.node) g.R.RingSide.alone c.args.node _ (Take c.args.node
-          f) _ refl tt went first (i.grown first start));
+      served = so-far-at g.R.RingSide.alone c.args.node (g.R.RingSide.side c.loop-frame.ring) _ _ _ _ _ (s.same ∙ o.same)
+          (so-far-next g.R.RingSide.alone c.args.node f _ _ _ _ _ _ _ _ i.turning.own_turn i.served o.legal went
+          (kept-same (g.R.RingSide.side c.loop-frame.ring) (g.R.RingSide.side c.take.new.self) c.args.node _ _ (sym o.same) s.kept) s.served);
     }
 
 pub returns-clause-turning : goal.returns-clause-turning
@@ -68,9 +68,19 @@ returns-clause-holds g c =
     let went = took g.R.RingSide.alone c.args.node _ _ _ None c.in_default.is o.went in
     holds-still g.R.RingSide.alone c.args.node _ _ _ _ (sym i.same) o.legal went i.turning.own_turn i.holds
 
-pub returns-clause-grown : goal.returns-clause-grown
-returns-clause-grown g c =
+pub returns-clause-served : goal.returns-clause-served
+returns-clause-served g c =
     let o = c.in_ok-frame.ensures in
     let i = c.loop-frame.invariant in
     let went = took g.R.RingSide.alone c.args.node _ _ _ None c.in_default.is o.went in
-    λ first start. grown-none (IsServing c.args.node) g.R.RingSide.alone c.args.node _ _ went first (i.grown first start)
+    serves-at g.R.RingSide.alone c.args.node (g.R.RingSide.side c.loop-frame.ring) _ _ _ _ _ (sym i.same)
+    (so-far-end g.R.RingSide.alone c.args.node _ _ _ _ _ _ i.turning.own_turn i.served o.legal went (o.empty c.in_default.is))
+
+pub loop-frame-init : goal.loop-frame-init
+loop-frame-init g c = record {
+  turning = c.requires.turning;
+  holds = c.requires.holds;
+  plan = refl;
+  same = refl;
+  served = so-far-start g.R.RingSide.alone _ c.args.node _ _;
+}

@@ -2,8 +2,7 @@ use Rattle.std.proofs.Common.{◌≡◌, length}
 use Rattle.ring_core.specs.Machine.{ring_node, ring_after}
 use Rattle.tied_lists.specs.Waits.{Holds}
 use Rattle.comm_port.specs.HostTurns.{HostTurning}
-use Rattle.comm_port.specs.HostTurns.{GrowsOn}
-use Rattle.comm_port.specs.Order.{IsServing}
+use Rattle.comm_port.proofs.HostServes.{ServedSoFar}
 use Rattle.comm_port.proofs.host_worker.serve_inbox.Given as goal
 
 abbrev pub invariant-loop-frame : goal.invariant-loop-frame
@@ -12,7 +11,8 @@ invariant-loop-frame g l = record {
   holds : Holds (g.R.RingSide.side l.ring).net (g.R.RingSide.known l.ring) l.node;
   plan : l.host.plan ≡ l.initial.host.plan;
   same : g.R.RingSide.side l.ring ≡ g.R.RingSide.side l.initial.ring;
-  grown : GrowsOn (IsServing l.node) g.R.RingSide.alone l.node (g.R.RingSide.known l.initial.ring) (g.R.RingSide.known l.ring);
+  served : ServedSoFar g.R.RingSide.alone (g.R.RingSide.side l.ring).net l.node l.initial.host.history l.host.history
+      (g.R.RingSide.known l.initial.ring) (g.R.RingSide.known l.ring);
 }
 
 abbrev pub decreases-loop-frame : goal.decreases-loop-frame

@@ -1,14 +1,18 @@
-use Rattle.std.proofs.Common.{◌∙◌}
-use Rattle.comm_port.specs.HostTurns.{EndsHostTurn, HoldsHostTurn, IsAsking}
-use Rattle.comm_port.specs.Order.{IsGivingUp, IsSending, IsServing}
-use Rattle.comm_port.proofs.HostAsks.{ends-host}
-use Rattle.comm_port.proofs.HostGrowth.{grown-all, ok-then}
+use Rattle.std.proofs.Common.{sym, ◌∙◌}
+use Rattle.mstr_block.specs.Table.{network_paths}
+use Rattle.comm_port.specs.HostTurns.{EndsHostTurn, HoldsHostTurn}
+use Rattle.comm_port.proofs.HostAsked.{asked-all-at}
+use Rattle.comm_port.proofs.HostGives.{gives-at}
+use Rattle.comm_port.proofs.HostHolds.{asks-of, ends-at, ok-then, sends-of}
+use Rattle.comm_port.proofs.HostSends.{sends-out-at}
 use Rattle.comm_port.proofs.host_worker.turn.Goals as goal
 
 pub returns-clause-held : goal.returns-clause-held
 returns-clause-held g c =
     let alone = g.R.RingSide.alone in
     let n = c.args.node in
+    let side = g.R.RingSide.side in
+    let plan = c.args.host.now.plan in
     let a = g.R.RingSide.known c.args.ring.now in
     let b = g.R.RingSide.known c.serve_inbox.new.ring in
     let d = g.R.RingSide.known c.ask_all.new.ring in
@@ -19,17 +23,31 @@ returns-clause-held g c =
     let asks = c.in_ok-fresh.ensures in
     let sends = c.in_ok-send_all.ensures in
     let gives = c.in_ok-give_up_where.ensures in
-    let same = gives.same ∙ (sends.same ∙ (asks.same ∙ serves.same)) in
-    ok-then (λ left. EndsHostTurn alone (g.R.RingSide.side c.give_up_where.new.ring).net n c.args.budget left f z)
-    (λ left. HoldsHostTurn alone (g.R.RingSide.side c.args.ring.now).net n c.args.budget left a z) c.end_turn.result
+    let same1 = serves.same in
+    let same2 = asks.same ∙ same1 in
+    let same3 = sends.same ∙ same2 in
+    let same4 = gives.same ∙ same3 in
+    let plan1 = serves.plan in
+    let plan4 = gives.plan ∙ (sends.plan ∙ (asks.plan ∙ plan1)) in
+    let before = side c.args.ring.now in
+    let asked = asks-of alone before.net n plan c.args.hold c.args.host.now.history _ _ a b d _ c.serve_inbox.new.host.plan plan1 c.history.ensures.sound
+    c.requires.hold (asked-all-at alone n _ c.args.hold _ _ _ _ _ (side c.serve_inbox.new.ring) before (sym same1) asks.asked) in
+    ok-then (EndsHostTurn alone (side c.give_up_where.new.ring).net n c.give_up_where.new.host.plan c.args.budget c.give_up_where.new.host.history
+    c.end_turn.new.host.history f z)
+    (HoldsHostTurn alone before.net n plan c.args.budget c.args.host.now.history c.end_turn.new.host.history a z) c.end_turn.result
     (λ left ends. record {
+      served_list = c.serve_inbox.new.host.history;
+      asked_list = c.ask_all.new.host.history;
+      sent_list = c.send_all.new.host.history;
+      given_list = c.give_up_where.new.host.history;
       served_ring = b;
       asked_ring = d;
       sent_ring = e;
       given_ring = f;
-      serves = grown-all (IsServing c.args.node) alone n a b serves.grown;
-      asks = grown-all IsAsking alone n b d asks.grown;
-      sends = grown-all IsSending alone n d e sends.grown;
-      gives_up = grown-all IsGivingUp alone n e f gives.grown;
-      ends = ends-host alone (g.R.RingSide.side c.args.ring.now) (g.R.RingSide.side c.give_up_where.new.ring) n c.args.budget left f z same ends;
+      asks = asked.asks;
+      serves = serves.served;
+      makes = asked.makes;
+      sends = sends-of alone before.net n _ _ _ _ _ _ asked.same (sends-out-at alone n _ _ _ _ _ (side c.ask_all.new.ring) before (sym same2) sends.sends);
+      gives_up = gives-at alone n network_paths _ _ _ _ (side c.send_all.new.ring) before (sym same3) gives.gives_up;
+      ends = ends-at alone n plan c.give_up_where.new.host.plan c.args.budget _ _ _ _ left before (side c.give_up_where.new.ring) same4 plan4 ends;
     }) c.end_turn.ensures.ends

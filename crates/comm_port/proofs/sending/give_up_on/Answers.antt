@@ -1,4 +1,5 @@
 use Rattle.comm_port.proofs.Sends.{gave-not, gave-up}
+use Rattle.comm_port.proofs.HostRuns.{not-due, not-true-is}
 use Rattle.comm_port.proofs.sending.give_up_on.Goals as goal
 
 pub returns-in-Ok-clause-given : goal.returns-in-Ok-clause-given
@@ -6,11 +7,10 @@ returns-in-Ok-clause-given g c =
     let o = c.in-Ok.ensures in
     gave-up _ g.R.RingSide.alone c.args.id c.in-Ok.word _ _ c.requires.turn o.legal o.went
 
-pub returns-in-Err : goal.returns-in-Err
-returns-in-Err g c =
+pub returns-else-wants_memory-clause-given : goal.returns-else-wants_memory-clause-given
+returns-else-wants_memory-clause-given g c =
     let o = c.in-Err.ensures in
-    record {
-      given = gave-not _ g.R.RingSide.alone c.args.id _ _ c.requires.turn o.legal o.went;
-      legal = o.legal;
-      same = o.same;
-    }
+    gave-not _ g.R.RingSide.alone c.args.id _ _ c.requires.turn o.legal o.went
+
+pub returns-else-wants_memory-clause-not_due : goal.returns-else-wants_memory-clause-not_due
+returns-else-wants_memory-clause-not_due g c = λ e. not-due _ c.in-Err.why c.in-Err.ensures.refused (not-true-is _ _ c.wants_memory.ensures c.if-wants_memory.false)

@@ -1,4 +1,4 @@
-use Rattle.std.proofs.Common.{◌≡◌, ℕ, sym, ◌∙◌, subst, List, [], set, Option, Some, None}
+use Rattle.std.proofs.Common.{ℕ, sym, ◌∙◌, subst, List, [], Option}
 use Rattle.ring_core.specs.declared.frame.Frame.{Frame}
 use Rattle.tied_lists.specs.Own.{is_of, Grew}
 use Rattle.tied_lists.specs.Items.{NetCall}

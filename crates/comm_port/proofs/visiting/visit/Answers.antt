@@ -1,4 +1,4 @@
-use Rattle.std.proofs.Common.{◌≡◌, [], refl, sym, subst, List, map}
+use Rattle.std.proofs.Common.{[], refl, sym, subst, List}
 use Rattle.controller_core.specs.declared.call.Call.{Call}
 use Rattle.comm_port.specs.Making.{Owing, calls_from}
 use Rattle.comm_port.proofs.Made.{ram-still, collected-lead}

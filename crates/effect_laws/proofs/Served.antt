@@ -1,9 +1,9 @@
 -- A request of another node is served at most once.
-use Rattle.std.proofs.Common.{◌≡◌, ℕ, zero, suc, ◌+◌, ◌<◌, ◌≤◌, ◌++◌, Bool, true, false, cond, not}
-use Rattle.std.proofs.Common.{Option, Some, None, List, [], ◌∷◌, length, map, refl, sym, ap, ◌∙◌}
+use Rattle.std.proofs.Common.{◌≡◌, ℕ, zero, suc, ◌+◌, ◌≤◌, ◌++◌, Bool, true, false, cond, not}
+use Rattle.std.proofs.Common.{Some, None, List, [], ◌∷◌, map, refl, sym, ap, ◌∙◌}
 use Rattle.std.proofs.Common.{subst, arith}
-use Rattle.std.specs.Prelude.{◌==◌, ◌&&◌, filter_map, if◌then◌else◌}
-use Rattle.std.specs.List.{All, AllZip, Contains, count_by, sum_by, slice_index_or, cons_option}
+use Rattle.std.specs.Prelude.{◌==◌, ◌&&◌, if◌then◌else◌}
+use Rattle.std.specs.List.{All, AllZip, count_by, sum_by, slice_index_or, cons_option}
 use Rattle.std.proofs.lemmas.List.Sums.{sum_by-append}
 use Rattle.std.proofs.lemmas.List.Sorted.{sum_by-IsPermutation}
 use Rattle.std.proofs.lemmas.List.Kept.{AllPairs-from_increasing}
@@ -12,11 +12,8 @@ use Rattle.plant_types.specs.declared.plan.Plant.{Plant}
 use Rattle.plant_types.specs.Plans.{IsPlant, controller_nodes, host_nodes}
 use Rattle.mstr_block.specs.Call.{is_same_call}
 use Rattle.mstr_block.specs.declared.call.CallId.{CallId}
-use Rattle.mstr_block.specs.declared.call.MstrResult.{MstrResult}
 use Rattle.ring_core.specs.declared.frame.FrameKind.{FrameKind}
 use Rattle.ring_core.specs.declared.frame.FrameKind.TheVariants.{Request, Reply}
-use Rattle.ring_core.specs.declared.frame.Frame.{Frame}
-use Rattle.ring_core.specs.declared.entry.LocalOp.{LocalOp}
 use Rattle.ring_core.specs.declared.entry.RingEntry.{RingEntry}
 use Rattle.ring_core.specs.declared.entry.RingEntry.TheVariants.{Post, Send, Take, Local, GiveUp}
 use Rattle.ring_core.specs.declared.entry.RingEntry.TheVariants.{Pass, Leave}
@@ -26,19 +23,20 @@ use Rattle.ring_core.specs.Legal.{IsLawful, IsMember, IsRun}
 use Rattle.ring_laws.specs.Once.{takes, IsRingHistory, TakenOnce}
 use Rattle.tied_lists.specs.Own.{own}
 use Rattle.tied_lists.specs.Items.{Answered, Items, Item, Station, Taken, Plain, ForStats, item_of}
-use Rattle.tied_lists.specs.Items.{plain_items, stats_items, taken_by, taken_of, answered_of}
+use Rattle.tied_lists.specs.Items.{plain_items, stats_items, taken_by}
 use Rattle.tied_lists.specs.Items.{port_answers, request_of, reply_of, AController, AHost}
 use Rattle.tied_lists.specs.Tied.{Tied}
 use Rattle.plant_types.specs.declared.net.HostPlan.{HostPlan}
 use Rattle.plant_types.specs.declared.plan.ControllerPlan.{ControllerPlan}
 use Rattle.comm_port.specs.declared.joint.ControllerLog.{ControllerLog}
 use Rattle.comm_port.specs.declared.joint.HostLog.{HostLog}
-use Rattle.comm_port.specs.JointLaws.{IsLegalLog, IsLegalHostLog}
+use Rattle.comm_port.specs.declared.joint.Joint.{Joint}
+use Rattle.comm_port.specs.JointLaws.{IsJoint, IsLegalJoint, IsLegalLog, IsLegalHostLog}
 use Rattle.comm_port.specs.Reading.{items_of, host_items_of}
 use Rattle.comm_port.specs.Effects.{answers_to}
-use Rattle.joint_law.specs.Served.{ServedAtMostOnce, serves_another}
-use Rattle.joint_law.proofs.Counts.{sum_cons, count_cons, skip, once_rising, some_there}
-use Rattle.joint_law.proofs.Counts.{at_most_all, all_at_most}
+use Rattle.effect_laws.specs.Served.{ServedAtMostOnce, serves_another, services}
+use Rattle.effect_laws.proofs.Counts.{sum_cons, count_cons, skip, once_rising, some_there}
+use Rattle.effect_laws.proofs.Counts.{at_most_all, all_at_most}
 
 -- an item is of this call
 abbrev is_item : CallId → Item → Bool
@@ -166,42 +164,78 @@ member_of net (GiveUp id word) law = law.0
 member_of net (Pass n done words) law = law
 member_of net (Leave n cause) law = law
 
-members : (net : NetPlan) (past list : List RingEntry) → IsRun net past list → All (λ e. IsMember net (maker e)) list
+pub members : (net : NetPlan) (past list : List RingEntry) → IsRun net past list → All (λ e. IsMember net (maker e)) list
 members net past [] run k d within = absurd (omega arith)
 members net past (e ∷ es) run zero d within = member_of net e run.0.0
 members net past (e ∷ es) run (suc k) d within = members net (past ++ e ∷ []) es run.1 k d (omega arith)
 
-pub served-at_most_once : TakenOnce → ServedAtMostOnce
-served-at_most_once once plant scans joint id is legal tied =
+-- a joint history of a plant
+pub record JointOf (plant : Plant) (scans : ℕ) (joint : Joint) : Type 0 where
+  pub is : IsPlant plant
+  pub legal : IsLegalJoint plant scans joint
+  pub tied : IsJoint joint
+
+pub ring-history : (plant : Plant) (scans : ℕ) (joint : Joint) → JointOf plant scans joint → IsRingHistory plant.net joint.ring
+ring-history plant scans joint j = record {
+  members = λ k d within. (let node = j.is.net.members k d within in let most = node.to in omega arith);
+  legal = j.legal.ring;
+}
+
+-- the nodes of the stations are the members of the ring
+pub counted-member : (plant : Plant) (m : ℕ) → IsPlant plant
+    → count_by (λ n. m == n) plant.net.members ≡ count_by (λ n. m == n) (controller_nodes plant ++ host_nodes plant)
+counted-member plant m is =
+    sum_by-IsPermutation (λ n. cond (m == n) 1 0) (controller_nodes plant ++ host_nodes plant) plant.net.members is.members
+
+pub member-station : (plant : Plant) (m : ℕ) → IsPlant plant → IsMember plant.net m
+    → 1 ≤ count_by (λ n. m == n) (controller_nodes plant ++ host_nodes plant)
+member-station plant m is at =
+    subst (λ (c : ℕ). 1 ≤ c) (counted-member plant m is) (some_there m plant.net.members at.0 at.1 at.2)
+
+pub controller-nodes : (plant : Plant) (scans : ℕ) (joint : Joint) → IsLegalJoint plant scans joint
+    → map (λ (log : ControllerLog). log.node) joint.controllers ≡ controller_nodes plant
+controller-nodes plant scans joint legal =
+    nodes_of_logs (IsLegalLog plant scans) (λ (plan : ControllerPlan). plan.node) (λ (log : ControllerLog). log.node) (λ plan log r. r.0)
+    plant.controllers joint.controllers legal.controllers
+
+pub host-nodes : (plant : Plant) (scans : ℕ) (joint : Joint) → IsLegalJoint plant scans joint
+    → map (λ (log : HostLog). log.node) joint.hosts ≡ host_nodes plant
+host-nodes plant scans joint legal =
+    nodes_of_logs IsLegalHostLog (λ (plan : HostPlan). plan.node) (λ (log : HostLog). log.node) (λ plan log r. r.0)
+    plant.hosts joint.hosts legal.hosts
+
+-- a call was served as often as its Request was taken
+pub services-are_taken : (plant : Plant) (scans : ℕ) (joint : Joint) (id : CallId) → JointOf plant scans joint
+    → services joint id ≡ count_by (takes id) joint.ring
+services-are_taken plant scans joint id j =
     let ring = joint.ring in
     let p = takes id in
     let q = serves_another id in
     let ns = controller_nodes plant ++ host_nodes plant in
-    let same : (m : ℕ) → count_by (λ n. m == n) plant.net.members ≡ count_by (λ n. m == n) ns =
-    λ m. sum_by-IsPermutation (λ n. cond (m == n) 1 0) ns plant.net.members is.members in
     let apart : (m : ℕ) → count_by (λ n. m == n) ns ≤ 1 =
-    λ m. subst (λ (k : ℕ). k ≤ 1) (same m) (once_rising m plant.net.members (AllPairs-from_increasing plant.net.members is.net.rising)) in
+    λ m. subst (λ (k : ℕ). k ≤ 1) (counted-member plant m j.is) (once_rising m plant.net.members (AllPairs-from_increasing plant.net.members j.is.net.rising)) in
     let there : All (λ e. 1 ≤ count_by (λ n. maker e == n) ns) ring =
-    λ k d within. (let at = members plant.net [] ring legal.ring k d within in
-    subst (λ (c : ℕ). 1 ≤ c) (same (maker (slice_index_or ring k d))) (some_there (maker (slice_index_or ring k d)) plant.net.members at.0 at.1 at.2)) in
-    let history : IsRingHistory plant.net ring = record {
-      members = λ k d within. (let node = is.net.members k d within in let most = node.to in omega arith);
-      legal = legal.ring;
-    } in
+    λ k d within. member-station plant (maker (slice_index_or ring k d)) j.is (members plant.net [] ring j.legal.ring k d within) in
     let controllers = subst (λ (nodes : List ℕ). sum_by (λ (log : ControllerLog). answers_to id (items_of log.entries)) joint.controllers
     + sum_by (λ n. count_by q (own n ring)) nodes ≡ sum_by (λ n. count_by p (own n ring)) nodes)
-    (nodes_of_logs (IsLegalLog plant scans) (λ (plan : ControllerPlan). plan.node) (λ (log : ControllerLog). log.node) (λ plan log r. r.0)
-    plant.controllers joint.controllers legal.controllers)
+    (controller-nodes plant scans joint j.legal)
     (sums p q ring (λ (log : ControllerLog). log.node) (λ (log : ControllerLog). answers_to id (items_of log.entries)) joint.controllers
-    (λ k d within. answers_are_taken id AController _ _ (tied.controllers k d within))) in
+    (λ k d within. answers_are_taken id AController _ _ (j.tied.controllers k d within))) in
     let hosts = subst (λ (nodes : List ℕ). sum_by (λ (log : HostLog). answers_to id (host_items_of log.entries)) joint.hosts
     + sum_by (λ n. count_by q (own n ring)) nodes ≡ sum_by (λ n. count_by p (own n ring)) nodes)
-    (nodes_of_logs IsLegalHostLog (λ (plan : HostPlan). plan.node) (λ (log : HostLog). log.node) (λ plan log r. r.0) plant.hosts joint.hosts legal.hosts)
+    (host-nodes plant scans joint j.legal)
     (sums p q ring (λ (log : HostLog). log.node) (λ (log : HostLog). answers_to id (host_items_of log.entries)) joint.hosts
-    (λ k d within. answers_are_taken id AHost _ _ (tied.hosts k d within))) in
+    (λ k d within. answers_are_taken id AHost _ _ (j.tied.hosts k d within))) in
     let all_p = sum_by-append (λ n. count_by p (own n ring)) (controller_nodes plant) (host_nodes plant) in
     let all_q = sum_by-append (λ n. count_by q (own n ring)) (controller_nodes plant) (host_nodes plant) in
-    let most = at_most_all p ns apart ring in
-    let least = all_at_most q ns ring there in
-    let taken = once plant.net ring id history in
+    let most_p = at_most_all p ns apart ring in
+    let least_p = all_at_most p ns ring there in
+    let most_q = at_most_all q ns apart ring in
+    let least_q = all_at_most q ns ring there in
     omega arith
+
+pub served-at_most_once : TakenOnce → ServedAtMostOnce
+served-at_most_once once plant scans joint id is legal tied =
+    let j : JointOf plant scans joint = record { is = is; legal = legal; tied = tied } in
+    subst (λ (k : ℕ). k ≤ 1) (sym (services-are_taken plant scans joint id j))
+    (once plant.net joint.ring id (ring-history plant scans joint j))

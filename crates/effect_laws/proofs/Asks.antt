@@ -1,0 +1,148 @@
+-- What a legal history of a controller asked other nodes for, and what stations answered.
+use Rattle.std.proofs.Common.{◌≡◌, ℕ, suc, ◌-◌, true, false, Option, Some, None, List, []}
+use Rattle.std.proofs.Common.{◌∷◌, ◌++◌, map, get_or}
+use Rattle.std.proofs.Common.{refl, sym, ap, subst, append_assoc}
+use Rattle.std.specs.List.{AllByRecursion as Each, cons_option, filter_map}
+use Rattle.std.specs.Option.{option_map}
+use Rattle.plant_types.specs.declared.net.HostPlan.{HostPlan}
+use Rattle.modbus_pdu.specs.Spelling.{spelling_of}
+use Rattle.modbus_pdu.specs.declared.request.Request.TheVariants as requests
+use Rattle.mstr_block.specs.Running.{IsAsk, IsRunning, IsStateOf}
+use Rattle.mstr_block.specs.Table.{untaken}
+use Rattle.mstr_block.specs.declared.call.MstrAsk.{MstrAsk}
+use Rattle.mstr_block.specs.declared.call.MstrAsk.TheVariants as asks
+use Rattle.mstr_block.specs.declared.call.MstrCall.{MstrCall}
+use Rattle.mstr_block.specs.declared.state.BlockState.{BlockState}
+use Rattle.mstr_block.specs.declared.state.BlockState.TheVariants.{Idle, Waiting, Active, Aborted}
+use Rattle.mstr_block.specs.declared.state.BlockState.TheVariants.{Ready}
+use Rattle.mstr_block.specs.declared.state.Running.{Running}
+use Rattle.controller_core.specs.declared.call.Call.{Call}
+use Rattle.controller_core.specs.declared.entry.Entry.{Entry}
+use Rattle.controller_core.specs.declared.entry.Entry.TheVariants as entries
+use Rattle.controller_core.specs.declared.fixed.Fixed.{Fixed}
+use Rattle.controller_core.specs.Calls.{call_of, kind_of}
+use Rattle.controller_core.specs.Controller.{Fits, IsLegal}
+use Rattle.controller_core.specs.Replay.{replay, table_of}
+use Rattle.host_port.specs.Legal.{IsHostHistory}
+use Rattle.host_port.specs.declared.entry.HostEntry.{HostEntry}
+use Rattle.host_port.specs.declared.entry.HostEntry.TheVariants as host_entries
+use Rattle.host_port.proofs.Lists.{all_append}
+use Rattle.tied_lists.specs.Items.{Answered, Called, Items, OverNet, no_items}
+use Rattle.comm_port.specs.Reading.{called_of, host_item_next, host_items_after, host_items_of}
+use Rattle.comm_port.specs.Reading.{item_next, items_of, sort_of}
+use Rattle.comm_port.proofs.Collected.{CallLaws, history-follows}
+use Rattle.effect_laws.proofs.Calls.{by-entries}
+use Rattle.effect_laws.proofs.Fits.{Fitting, NetAsk, answer-fits, for_statistics, refusal-fits}
+use Rattle.effect_laws.proofs.Fits.{to_read, to_write}
+
+-- a call by the network is one of the three requests
+abbrev pub IsAskOf : Called → Type 0
+IsAskOf c = (to : ℕ) (pdu : List ℕ) → c.sort ≡ OverNet to pdu → NetAsk pdu
+
+-- a request that was answered has a fitting answer
+abbrev pub IsFitAnswer : Answered → Type 0
+IsFitAnswer a = (ask : List ℕ) → a.request ≡ Some ask → NetAsk ask → Fitting ask a.reply
+
+pub record FitItems (a : Items) : Type 0 where
+  pub asks : Each IsAskOf a.calls
+  pub answers : Each IsFitAnswer a.answers
+
+-- ---- calls
+
+ask-is : (own : ℕ) (ask : MstrAsk) → IsAsk own ask → (to : ℕ) (pdu : List ℕ) → sort_of (kind_of ask) ≡ OverNet to pdu → NetAsk pdu
+ask-is own (asks.Write other start words) is to pdu e =
+    let same : spelling_of (requests.WriteRegisters (start - 1) words) ≡ pdu = cc in
+    to_write (start - 1) words is.1.1 is.1.2 (sym same)
+ask-is own (asks.Read other start count) is to pdu e =
+    let same : spelling_of (requests.ReadRegisters (start - 1) count) ≡ pdu = cc in
+    to_read (start - 1) count is.1.1 is.1.2 (sym same)
+ask-is own asks.LocalStats is to pdu e = absurd cc
+ask-is own asks.ClearLocal is to pdu e = absurd cc
+ask-is own (asks.PutGlobal words) is to pdu e = absurd cc
+ask-is own (asks.GetGlobal node count) is to pdu e = absurd cc
+ask-is own (asks.RemoteStats other) is to pdu e =
+    let same : spelling_of (requests.Stats false) ≡ pdu = cc in for_statistics false (sym same)
+ask-is own (asks.ClearRemote other) is to pdu e =
+    let same : spelling_of (requests.Stats true) ≡ pdu = cc in for_statistics true (sym same)
+
+running-ask : (n : ℕ) (numbers : List ℕ) (r : Running) (call : MstrCall) (o : Option MstrAsk) → r.ask ≡ o → IsRunning n numbers r
+    → option_map (λ ask. record { id = r.id; ask = ask }) o ≡ Some call → IsAsk n call.ask
+running-ask n numbers r call None asked is e = absurd cc
+running-ask n numbers r call (Some ask) asked is e =
+    let this : MstrCall = record { id = r.id; ask = ask } in
+    let same : this ≡ call = cc in
+    subst (IsAsk n) (ap (λ (c : MstrCall). c.ask) same) (is.ask ask asked).0
+
+untaken-ask : (n : ℕ) (numbers : List ℕ) (b : BlockState) (call : MstrCall) → IsStateOf n numbers b → untaken b ≡ Some call → IsAsk n call.ask
+untaken-ask n numbers Idle call is e = absurd cc
+untaken-ask n numbers Waiting call is e = absurd cc
+untaken-ask n numbers (Active r) call is e = running-ask n numbers r call r.ask refl is e
+untaken-ask n numbers (Aborted r) call is e = running-ask n numbers r call r.ask refl is e
+untaken-ask n numbers (Ready kept result) call is e = absurd cc
+
+blocks-ask : (n : ℕ) (numbers : List ℕ) (bs : List BlockState) → ((place : ℕ) → IsStateOf n numbers (get_or bs place Idle))
+    → Each IsAskOf (map called_of (map call_of (filter_map untaken bs)))
+blocks-ask n numbers [] states = tt
+blocks-ask n numbers (b ∷ bs) states = at (untaken b) refl (blocks-ask n numbers bs (λ place. states (suc place)))
+  where
+    at : (o : Option MstrCall) → untaken b ≡ o → Each IsAskOf (map called_of (map call_of (filter_map untaken bs)))
+        → Each IsAskOf (map called_of (map call_of (cons_option o (filter_map untaken bs))))
+    at None is rest = rest
+    at (Some call) is rest = (ask-is n call.ask (untaken-ask n numbers b call (states 0) is), rest)
+
+-- ---- what a controller keeps
+
+fit-next : CallLaws → (fixed : Fixed) (h : List Entry) (e : Entry) → IsLegal fixed h → Fits fixed (replay fixed h) e → FitItems (items_of h)
+    → FitItems (item_next (items_of h) e)
+fit-next laws fixed h entries.Begin legal fits f = f
+fit-next laws fixed h (entries.Input row) legal fits f = f
+fit-next laws fixed h (entries.Solve row) legal fits f = f
+fit-next laws fixed h (entries.Output row words) legal fits f = f
+fit-next laws fixed h entries.End legal fits f = f
+fit-next laws fixed h (entries.Collect calls) legal fits f =
+    let T = table_of (replay fixed h) in
+    let follows = history-follows laws fixed h legal in
+    record {
+      asks = all_append IsAskOf (items_of h).calls (map called_of calls) f.asks
+          (subst (λ (l : List Call). Each IsAskOf (map called_of l)) (sym fits.1) (blocks-ask T.node T.numbers T.blocks follows.table.states));
+      answers = f.answers;
+    }
+fit-next laws fixed h (entries.Peer id request reply) legal fits f = record {
+  asks = f.asks;
+  answers = all_append IsFitAnswer (items_of h).answers _ f.answers (last, tt);
+}
+  where
+    last : IsFitAnswer (record { id = id; request = Some request; reply = reply })
+    last ask is net =
+        let same : request ≡ ask = cc in
+        subst (λ (l : List ℕ). Fitting l reply) same
+        (subst (λ (l : List ℕ). Fitting request l) (sym fits) (answer-fits request (replay fixed h).solving.map (subst NetAsk (sym same) net)))
+fit-next laws fixed h (entries.Finish id result) legal fits f = record { asks = f.asks; answers = f.answers }
+
+pub controller-fits : CallLaws → (fixed : Fixed) (h : List Entry) → IsLegal fixed h → FitItems (items_of h)
+controller-fits laws fixed h legal = by-entries fixed FitItems (record { asks = tt; answers = tt }) (fit-next laws fixed) h legal
+
+-- ---- what a host keeps
+
+host-next : (plan : HostPlan) (before : List HostEntry) (e : HostEntry) (h : List HostEntry) (a : Items) → IsHostHistory plan (before ++ e ∷ h)
+    → Each IsFitAnswer a.answers → Each IsFitAnswer (host_item_next a e).answers
+host-next plan before (host_entries.Ask id to pdu) h a legal all = all
+host-next plan before (host_entries.Answer id result) h a legal all = all
+host-next plan before (host_entries.Served id request reply) h a legal all =
+    let told = legal.each before h (host_entries.Served id request reply) refl in
+    all_append IsFitAnswer a.answers _ all (
+      (λ ask is net.
+          let same : request ≡ ask = cc in
+          subst (λ (l : List ℕ). Fitting l reply) same (subst (λ (l : List ℕ). Fitting request l) (sym told) (refusal-fits request))),
+      tt,
+    )
+
+host-from : (plan : HostPlan) (before h : List HostEntry) (a : Items) → IsHostHistory plan (before ++ h) → Each IsFitAnswer a.answers
+    → Each IsFitAnswer (host_items_after a h).answers
+host-from plan before [] a legal all = all
+host-from plan before (e ∷ h) a legal all =
+    host-from plan (before ++ e ∷ []) h (host_item_next a e) (subst (IsHostHistory plan) (sym (append_assoc before (e ∷ []) h)) legal)
+    (host-next plan before e h a legal all)
+
+pub host-fits : (plan : HostPlan) (h : List HostEntry) → IsHostHistory plan h → Each IsFitAnswer (host_items_of h).answers
+host-fits plan h legal = host-from plan [] h no_items legal tt

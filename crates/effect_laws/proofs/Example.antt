@@ -1,0 +1,256 @@
+-- A host asks a controller for an echo, and then for what it doesn't serve, as a legal joint history
+-- tells it. The first call reports success; each took effect once.
+use Rattle.std.proofs.Common.{◌≡◌, ℕ, zero, suc, true, false, List, [], ◌∷◌, ◌++◌, refl, inr, arith}
+use Rattle.std.specs.List.{All, AllByRecursion as Each}
+use Rattle.std.specs.List.Sorted.{IsStrictlyIncreasing}
+use Rattle.std.proofs.lemmas.List.Sorted.{IsPermutation-refl}
+use Rattle.plant_types.specs.declared.net.Fate.TheVariants.{D}
+use Rattle.plant_types.specs.declared.net.NetPlan.{NetPlan}
+use Rattle.plant_types.specs.declared.net.HostPlan.{HostPlan}
+use Rattle.plant_types.specs.declared.plan.ControllerPlan.{ControllerPlan}
+use Rattle.plant_types.specs.declared.plan.Plant.{Plant}
+use Rattle.plant_types.specs.FirstFault.{tests_behind}
+use Rattle.plant_types.specs.Plans.{IsPlant, IsNetPlan, IsHostPlan, IsAskOf, IsNode, PassesTests}
+use Rattle.mstr_block.specs.declared.call.CallId.{CallId}
+use Rattle.ring_core.specs.declared.frame.FrameKind.{FrameKind}
+use Rattle.ring_core.specs.declared.frame.FrameKind.TheVariants.{Request, Reply}
+use Rattle.ring_core.specs.declared.frame.Frame.{Frame}
+use Rattle.ring_core.specs.declared.entry.Heard.TheVariants.{Acked}
+use Rattle.ring_core.specs.declared.entry.RingEntry.{RingEntry}
+use Rattle.ring_core.specs.declared.entry.RingEntry.TheVariants.{Post, Send, Take, Pass}
+use Rattle.ring_core.specs.Legal.{IsLegal as IsLegalRing}
+use Rattle.controller_core.specs.declared.entry.Entry.{Entry}
+use Rattle.controller_core.specs.declared.entry.Entry.TheVariants.{Peer}
+use Rattle.controller_core.specs.Controller.{IsLegal, EachFits}
+use Rattle.controller_core.specs.Scans.{all_due}
+use Rattle.host_port.specs.declared.entry.HostEntry.{HostEntry}
+use Rattle.host_port.specs.declared.entry.HostEntry.TheVariants.{Ask, Answer}
+use Rattle.host_port.specs.declared.entry.HostResult.TheVariants as results
+use Rattle.host_port.specs.Legal.{IsHostHistory}
+use Rattle.host_port.proofs.Next.{may_of}
+use Rattle.host_port.proofs.Keeping.{kept_new}
+use Rattle.comm_port.specs.declared.joint.Joint.{Joint}
+use Rattle.comm_port.specs.Effects.{effects}
+use Rattle.comm_port.specs.JointLaws.{IsJoint, IsLegalJoint, IsTiedController, IsTiedHost, fixed_of}
+use Rattle.effect_laws.specs.Success.{ReportsSuccess, is_exception_reply}
+
+-- ---- the plant
+
+abbrev id : ℕ → CallId
+id path = record { node = 5; path = path; seq = 1 }
+
+abbrev echo : List ℕ
+echo = 8 ∷ 0 ∷ 0 ∷ 18 ∷ 52 ∷ []
+
+abbrev unknown : List ℕ
+unknown = 99 ∷ []
+
+abbrev refused : List ℕ
+refused = 227 ∷ 1 ∷ []
+
+abbrev controller : ControllerPlan
+controller = record {
+  node = 1;
+  coils = 16;
+  inputs = 16;
+  input_registers = 1;
+  registers = 1;
+  panel = [];
+  orders = [];
+  drops = [];
+  segments = [];
+}
+
+abbrev host : HostPlan
+host = record {
+  node = 5;
+  requests = record { hold = 1; to = 1; pdu = echo } ∷ record { hold = 1; to = 1; pdu = unknown } ∷ [];
+}
+
+abbrev net : NetPlan
+net = record { members = 1 ∷ 5 ∷ []; fates = D ∷ []; answer = 2; rotations = 1; rounds = 1; holds = 9 }
+
+abbrev plant : Plant
+plant = record { scan_time = 10; watchdog = 1; net = net; controllers = controller ∷ []; hosts = host ∷ [] }
+
+all-from : {X : Type 0} (P : X → Type 0) (xs : List X) → Each P xs → All P xs
+all-from P [] e k d within = absurd (omega (arith, within))
+all-from P (x ∷ xs) e zero d within = e.0
+all-from P (x ∷ xs) e (suc k) d within = all-from P xs e.1 k d (omega (arith, within))
+
+one-rises : (n : ℕ) → IsStrictlyIncreasing (n ∷ [])
+one-rises n k within = absurd (omega (arith, within))
+
+two-rise : IsStrictlyIncreasing (1 ∷ 5 ∷ [])
+two-rise zero within = omega arith
+two-rise (suc k) within = absurd (omega (arith, within))
+
+one : IsNode 1
+one = record { from = omega arith; to = omega arith }
+
+five : IsNode 5
+five = record { from = omega arith; to = omega arith }
+
+is-net : IsNetPlan net
+is-net = record {
+  first = omega arith;
+  members = all-from IsNode net.members (one, (five, tt));
+  rising = two-rise;
+  fates = record { from = omega arith; to = omega arith };
+  answer = record { from = omega arith; to = omega arith };
+  rotations = record { from = omega arith; to = omega arith };
+  rounds = record { from = omega arith; to = omega arith };
+  holds = record { from = omega arith; to = omega arith };
+}
+
+asks-one : (pdu : List ℕ) → IsAskOf 5 (record { hold = 1; to = 1; pdu = pdu })
+asks-one pdu = record {
+  hold = record { from = omega arith; to = omega arith };
+  to = one;
+  other = λ e. omega (arith, e);
+}
+
+is-host : IsHostPlan host
+is-host = record {
+  node = five;
+  few = omega arith;
+  requests = all-from (IsAskOf 5) host.requests (asks-one echo, (asks-one unknown, tt));
+}
+
+is-plant : IsPlant plant
+unfolding tests_behind
+is-plant = record {
+  scan_time = record { from = omega arith; to = omega arith };
+  watchdog = record { from = omega arith; to = omega arith };
+  net = is-net;
+  count = record { from = omega arith; to = omega arith };
+  controllers = all-from PassesTests plant.controllers (refl, tt);
+  controllers_rise = one-rises 1;
+  few = omega arith;
+  hosts = all-from IsHostPlan plant.hosts (is-host, tt);
+  hosts_rise = one-rises 5;
+  members = IsPermutation-refl (1 ∷ 5 ∷ []);
+}
+
+-- ---- its history
+
+abbrev frame : FrameKind → ℕ → ℕ → List ℕ → Frame
+frame kind to path pdu = record { kind = kind; to = to; id = id path; pdu = pdu }
+
+abbrev asked : List HostEntry
+asked = Ask (id 1) 1 echo ∷ Ask (id 2) 1 unknown ∷ []
+
+abbrev answered : List HostEntry
+answered = asked ++ Answer (id 1) (results.Reply echo) ∷ []
+
+abbrev asker : List HostEntry
+asker = answered ++ Answer (id 2) (results.Reply refused) ∷ []
+
+abbrev target : List Entry
+target = Peer (id 1) echo echo ∷ Peer (id 2) unknown refused ∷ []
+
+abbrev ring : List RingEntry
+ring =
+    Pass 1 false []
+    ∷ Post 5 (frame Request 1 1 echo)
+    ∷ Post 5 (frame Request 1 2 unknown)
+    ∷ Send 5 Acked
+    ∷ Send 5 Acked
+    ∷ Pass 5 false []
+    ∷ Take 1 (frame Request 1 1 echo)
+    ∷ Post 1 (frame Reply 5 1 echo)
+    ∷ Take 1 (frame Request 1 2 unknown)
+    ∷ Post 1 (frame Reply 5 2 refused)
+    ∷ Send 1 Acked
+    ∷ Send 1 Acked
+    ∷ Pass 1 false []
+    ∷ Take 5 (frame Reply 5 1 echo)
+    ∷ Take 5 (frame Reply 5 2 refused) ∷ []
+
+abbrev joint : Joint
+joint = record {
+  controllers = record { node = 1; entries = target } ∷ [];
+  hosts = record { node = 5; entries = asker } ∷ [];
+  ring = ring;
+}
+
+target-legal : IsLegal (fixed_of plant 1 controller) target
+unfolding EachFits
+target-legal = record { each = (refl, (refl, tt)); due = (all_due (fixed_of plant 1 controller), refl) }
+
+asker-legal : IsHostHistory host asker
+asker-legal =
+    let first = may_of (record { plan = host; history = [] }) (Ask (id 1) 1 echo) (kept_new host).legal (refl, refl) in
+    let second = may_of (record { plan = host; history = Ask (id 1) 1 echo ∷ [] }) (Ask (id 2) 1 unknown) first (refl, refl) in
+    let third = may_of (record { plan = host; history = asked }) (Answer (id 1) (results.Reply echo)) second refl in
+    may_of (record { plan = host; history = answered }) (Answer (id 2) (results.Reply refused)) third refl
+
+ring-legal : IsLegalRing net ring
+ring-legal = (
+  ((0, omega arith, refl), (refl, refl)),
+  (
+    (((1, omega arith, refl), (refl, (λ e. omega (arith, e)), (omega arith, omega arith))), (omega arith, refl)),
+    (
+      (((1, omega arith, refl), (refl, (λ e. omega (arith, e)), (omega arith, omega arith))), (omega arith, refl)),
+      (
+        ((1, omega arith, refl), (refl, refl)),
+        (
+          ((1, omega arith, refl), (refl, refl)),
+          (
+            ((1, omega arith, refl), (refl, refl)),
+            (
+              ((0, omega arith, refl), (refl, refl)),
+              (
+                (((0, omega arith, refl), (refl, (λ e. omega (arith, e)))), (tt, refl)),
+                (
+                  ((0, omega arith, refl), (refl, refl)),
+                  (
+                    (((0, omega arith, refl), (refl, (λ e. omega (arith, e)))), (tt, refl)),
+                    (
+                      ((0, omega arith, refl), (refl, refl)),
+                      (
+                        ((0, omega arith, refl), (refl, refl)),
+                        (
+                          ((0, omega arith, refl), (refl, refl)),
+                          (
+                            ((1, omega arith, refl), (refl, refl)),
+                            (((1, omega arith, refl), (refl, refl)), tt),
+                          ),
+                        ),
+                      ),
+                    ),
+                  ),
+                ),
+              ),
+            ),
+          ),
+        ),
+      ),
+    ),
+  ),
+)
+
+is-legal : IsLegalJoint plant 1 joint
+is-legal = record { controllers = ((refl, target-legal), tt); hosts = ((refl, asker-legal), tt); ring = ring-legal }
+
+is-joint : IsJoint joint
+is-joint = record {
+  controllers = all-from (IsTiedController ring) joint.controllers
+      (record { asks = refl; peers = refl; port = refl; replies = refl; ends = refl }, tt);
+  hosts = all-from (IsTiedHost ring) joint.hosts
+      (record { asks = refl; peers = refl; port = refl; replies = refl; ends = refl }, tt);
+}
+
+-- ---- its calls
+
+succeeds : ReportsSuccess joint (id 1)
+succeeds = inr (record { node = 5; entries = asker }, (0, omega arith, refl), (echo, (2, omega arith, refl), refl))
+
+no-success : is_exception_reply refused ≡ true
+no-success = refl
+
+once : effects joint (id 1) ≡ 1
+once = refl
+
+once-too : effects joint (id 2) ≡ 1
+once-too = refl

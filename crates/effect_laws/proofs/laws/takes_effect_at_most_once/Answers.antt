@@ -1,0 +1,13 @@
+use Rattle.comm_port.proofs.Collected.{CallLaws}
+use Rattle.effect_laws.proofs.Once.{at-most-once}
+use Rattle.effect_laws.proofs.laws.takes_effect_at_most_once.Goals as goal
+
+pub returns : goal.returns
+returns c =
+    let laws : CallLaws = record {
+      segments = c.segments_keep_calls.ensures;
+      taking = c.calls_are_taken_in_order.ensures;
+      finishing = c.finishes_end_one_call.ensures;
+      tables = c.stays_table.ensures;
+    } in
+    at-most-once laws c.taken_once.ensures
