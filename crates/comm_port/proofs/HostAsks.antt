@@ -17,7 +17,7 @@ use Rattle.ring_core.specs.declared.entry.RingEntry.{RingEntry}
 use Rattle.ring_core.specs.declared.entry.RingEntry.TheVariants.{Post, Send, GiveUp, Pass, Leave}
 use Rattle.ring_core.specs.declared.entry.Heard.{Heard}
 use Rattle.ring_core.specs.declared.entry.LeaveCause.{LeaveCause}
-use Rattle.ring_core.specs.Legal.{IsFrom, IsLegal, IsNextNumber, IsPath}
+use Rattle.ring_core.specs.Legal.{IsFrom, IsLegal, IsNextNumber}
 use Rattle.ring_core.specs.Machine.{NodeIs, awaited_number, path_of, ring_after, ring_node}
 use Rattle.host_port.specs.declared.entry.HostEntry.{HostEntry}
 use Rattle.host_port.specs.declared.entry.HostEntry.TheVariants.{Ask, Answer}

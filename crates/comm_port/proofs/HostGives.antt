@@ -1,18 +1,16 @@
 -- Calls that a host's worker gives up, path by path.
-use Rattle.std.proofs.Common.{◌≡◌, ◌≢◌, ℕ, zero, suc, ◌+◌, ◌<◌, ◌≤◌, ◌==◌, ◌||◌, Bool, true, false}
-use Rattle.std.proofs.Common.{cond, List}
+use Rattle.std.proofs.Common.{◌≡◌, ℕ, zero, suc, ◌+◌, ◌<◌, ◌≤◌, ◌==◌, ◌||◌, Bool, true, false, cond}
+use Rattle.std.proofs.Common.{List}
 use Rattle.std.proofs.Common.{[], ◌∷◌, ◌++◌, map, take, get_or, Option, Some, None, refl, sym, ap}
 use Rattle.std.proofs.Common.{◌∙◌}
 use Rattle.std.proofs.Common.{subst, arith, append_assoc, append-nil, eq-eqb}
 use Rattle.std.specs.Prelude.{is_none}
 use Rattle.std.specs.List.{filter, list_any, AllByRecursion as Each}
-use Rattle.std.proofs.lemmas.Bool.{cases_Bool, eqb-true}
 use Rattle.std.proofs.lemmas.List.{map-append}
 use Rattle.std.proofs.lemmas.List.Elements.{filter-append}
 use Rattle.plant_types.specs.declared.net.NetPlan.{NetPlan}
 use Rattle.mstr_block.specs.Table.{network_paths}
 use Rattle.mstr_block.specs.declared.call.CallId.{CallId}
-use Rattle.ring_core.specs.Words.{maker}
 use Rattle.ring_core.specs.Legal.{IsLegal}
 use Rattle.ring_core.specs.Machine.{awaited_number, NodeIs, path_of, ring_after}
 use Rattle.ring_core.specs.Refusals.{give_up_no}
@@ -20,9 +18,7 @@ use Rattle.ring_core.specs.declared.frame.Frame.{Frame}
 use Rattle.ring_core.specs.declared.path.Path.{Path}
 use Rattle.ring_core.specs.declared.path.Await.{Await}
 use Rattle.ring_core.specs.declared.path.Await.TheVariants.{Nothing, Out, Arrived, Failed}
-use Rattle.ring_core.specs.declared.refusal.RingNo.{RingNo}
 use Rattle.ring_core.specs.declared.entry.RingEntry.{RingEntry}
-use Rattle.ring_core.specs.declared.entry.RingEntry.TheVariants.{GiveUp}
 use Rattle.host_port.specs.declared.entry.HostEntry.{HostEntry}
 use Rattle.host_port.specs.declared.entry.HostEntry.TheVariants.{Answer}
 use Rattle.host_port.specs.declared.entry.HostResult.TheVariants as results
@@ -35,11 +31,10 @@ use Rattle.tied_lists.proofs.Histories.{legal-follows}
 use Rattle.tied_lists.proofs.Turns.{Found, part, unmoved}
 use Rattle.comm_port.specs.Sides.{RingSideIs}
 use Rattle.comm_port.specs.Sending.{GaveUp, sends_left}
-use Rattle.comm_port.specs.Turns.{IsOwnTurn}
 use Rattle.comm_port.specs.HostTurns.{bad_answer_of, call_on_path, chosen, due_calls, GivenUp}
 use Rattle.comm_port.specs.HostTurns.{GivesUpDue, give_up_of, HostTurning, may_go, wanted_path}
 use Rattle.comm_port.proofs.HostRuns.{all-let, due-both, due-nothing, due-one, due-same, ends_on}
-use Rattle.comm_port.proofs.HostRuns.{kept_for, kept-why, left-grew, LeftBy, still-none}
+use Rattle.comm_port.proofs.HostRuns.{kept_for, kept-why, left-grew, still-none}
 use Rattle.comm_port.proofs.HostServes.{grew_not}
 use Rattle.comm_port.proofs.RingTurns.{on-ring}
 

@@ -1,14 +1,12 @@
 -- A host's turn, from its parts.
-use Rattle.std.proofs.Common.{◌≡◌, ◌≢◌, ℕ, ◌+◌, ◌<◌, ◌≤◌, ◌==◌, min, nat_le, Bool, true, false}
-use Rattle.std.proofs.Common.{cond, List}
+use Rattle.std.proofs.Common.{◌≡◌, ℕ, ◌+◌, ◌≤◌, min, nat_le, Bool, true, false, cond, List}
 use Rattle.std.proofs.Common.{[], ◌∷◌, ◌++◌, length, map, Option, Some, None, refl, sym, ap, ◌∙◌}
 use Rattle.std.proofs.Common.{subst}
-use Rattle.std.proofs.Common.{inl, inr, ◌⊎◌, ⊎_elim, arith, All, eq-eqb}
-use Rattle.std.specs.Prelude.{if◌then◌else◌, is_some, is_none, flat_map, filter_map, count_by}
-use Rattle.std.specs.Prelude.{slice_get}
+use Rattle.std.proofs.Common.{inl, inr, arith, All, eq-eqb}
+use Rattle.std.specs.Prelude.{if◌then◌else◌, is_some, is_none, flat_map, count_by}
 use Rattle.std.specs.Prelude.{IfOk, Result, Ok, Err}
-use Rattle.std.specs.List.{AllByRecursion as Each, AllZip, find}
-use Rattle.std.proofs.Math.Nat.{min-le_left, min-le_right, le-min}
+use Rattle.std.specs.List.{AllZip, find}
+use Rattle.std.proofs.Math.Nat.{min-le_left, le-min}
 use Rattle.std.proofs.lemmas.Bool.{cases_Bool, eqb-true, leb-true, le-leb}
 use Rattle.std.proofs.lemmas.List.Sums.{sum_by-append}
 use Rattle.plant_types.specs.Plans.{IsAskOf, IsHostPlan}
@@ -36,14 +34,14 @@ use Rattle.ring_core.specs.declared.entry.RingEntry.TheVariants.{Post, Send, Tak
 use Rattle.ring_core.specs.declared.entry.RingEntry.TheVariants.{Pass, Leave}
 use Rattle.host_port.specs.declared.entry.HostEntry.{HostEntry}
 use Rattle.host_port.specs.Calls.{goes_on, next_host_call, open_on, requests_in, unanswered_in}
-use Rattle.host_port.specs.Host.{due_ask, due_request, host_is_done, HostIs, if_due, next_ask}
+use Rattle.host_port.specs.Host.{due_request, host_is_done, HostIs, if_due, next_ask}
 use Rattle.host_port.specs.Host.{request_for}
 use Rattle.host_port.specs.Legal.{IsHostHistory}
 use Rattle.host_port.proofs.Lists.{all_at}
 use Rattle.host_port.proofs.OpenRequests.{open_requests}
 use Rattle.host_port.proofs.Paths.{at_path}
 use Rattle.tied_lists.specs.Own.{is_of, own, Grew}
-use Rattle.tied_lists.specs.Waits.{AwaitsThis, HasLeft, IsFree, waiting}
+use Rattle.tied_lists.specs.Waits.{AwaitsThis, HasLeft, waiting}
 use Rattle.tied_lists.proofs.Growth.{grew-ours}
 use Rattle.tied_lists.proofs.Histories.{legal-follows}
 use Rattle.tied_lists.proofs.Turns.{part}
@@ -51,11 +49,11 @@ use Rattle.comm_port.specs.Complete.{is_pass}
 use Rattle.comm_port.specs.Sides.{RingSideIs}
 use Rattle.comm_port.specs.Leaving.{cause_due, HandedOn, last_entry}
 use Rattle.comm_port.specs.HostTurns.{ask_of}
-use Rattle.comm_port.specs.HostTurns.{AskedAll, AsksAllDue, AsksInOrder, chosen}
+use Rattle.comm_port.specs.HostTurns.{AskedAll, AsksAllDue, chosen}
 use Rattle.comm_port.specs.HostTurns.{due_calls, EachSends, EndsHostTurn, GivenUp, GivesUpDue}
 use Rattle.comm_port.specs.HostTurns.{give_up_of, hold_of, HoldsHostTurn, host_at, HostTurning}
-use Rattle.comm_port.specs.HostTurns.{IsSendingStep, Sends, SendsOut, ServesFrame, ServesFrames}
-use Rattle.comm_port.specs.HostTurns.{ServesInbox, ServesKind, ServesRequest, went_on}
+use Rattle.comm_port.specs.HostTurns.{IsSendingStep, SendsOut, ServesFrame}
+use Rattle.comm_port.specs.HostTurns.{ServesKind, ServesRequest, went_on}
 use Rattle.comm_port.proofs.HostRuns.{due-one, goes_by, kept_for, none-due}
 
 -- ---- after a Leave no call of the host is without an answer

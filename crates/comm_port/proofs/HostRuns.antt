@@ -3,7 +3,7 @@ use Rattle.std.proofs.Common.{◌≡◌, ◌≢◌, ◌⊎◌, ℕ, ◌<◌, ◌
 use Rattle.std.proofs.Common.{length, ◌∷◌, ◌++◌, map, get_or, set, Option, Some, None, refl, sym}
 use Rattle.std.proofs.Common.{ap, ◌∙◌}
 use Rattle.std.proofs.Common.{subst, inl, inr, ⊎_elim, arith, append_assoc, append-nil}
-use Rattle.std.proofs.Common.{get_or-set_same, get_or-set_other, eq-eqb, ne_eqb}
+use Rattle.std.proofs.Common.{get_or-set_same, get_or-set_other, eq-eqb}
 use Rattle.std.specs.Prelude.{if◌then◌else◌, is_none, ◌↔◌}
 use Rattle.std.specs.List.{filter, list_any, AllByRecursion as Each}
 use Rattle.std.proofs.lemmas.Bool.{cases_Bool, cases_eq, eqb-true, lt-ltb}
@@ -14,18 +14,17 @@ use Rattle.plant_types.specs.declared.net.NetPlan.{NetPlan}
 use Rattle.mstr_block.specs.declared.call.CallId.{CallId}
 use Rattle.ring_core.specs.Words.{maker}
 use Rattle.ring_core.specs.Legal.{IsLegal, IsPath}
-use Rattle.ring_core.specs.Machine.{awaited_number, awaiting, gave_up, no_path, NodeIs, passes_of}
-use Rattle.ring_core.specs.Machine.{path_of, path_places, ring_after, ring_node, RingIs}
+use Rattle.ring_core.specs.Machine.{awaited_number, no_path, NodeIs, passes_of}
+use Rattle.ring_core.specs.Machine.{path_of, ring_after, ring_node, RingIs}
 use Rattle.ring_core.specs.Refusals.{answer_after, awaited_no, due_no, free_no, give_up_no, or_no}
 use Rattle.ring_core.specs.Refusals.{other_no}
 use Rattle.ring_core.specs.declared.refusal.RingNo.{RingNo}
-use Rattle.ring_core.specs.declared.refusal.RingNo.TheVariants.{NotAwaited, Untaken, NotHolder}
+use Rattle.ring_core.specs.declared.refusal.RingNo.TheVariants.{Untaken, NotHolder}
 use Rattle.ring_core.specs.declared.refusal.RingNo.TheVariants.{NoMemory, NotDue}
 use Rattle.ring_core.specs.declared.path.Path.{Path}
 use Rattle.ring_core.specs.declared.path.Await.{Await}
 use Rattle.ring_core.specs.declared.path.Await.TheVariants.{Nothing, Out, Arrived, Failed}
 use Rattle.ring_core.specs.declared.entry.RingEntry.{RingEntry}
-use Rattle.ring_core.specs.declared.entry.RingEntry.TheVariants.{GiveUp}
 use Rattle.tied_lists.specs.Own.{is_of, own, Grew, WentOn}
 use Rattle.tied_lists.specs.Waits.{HasLeft, Holds, IsFree, IsOnRing}
 use Rattle.tied_lists.proofs.Histories.{legal-follows}
@@ -243,7 +242,7 @@ left-grew alone net n ends a b on free g =
 abbrev pub kept_for : ℕ → Bool → Await → ℕ → Option RingNo
 kept_for answer here a seq = or_no (awaited_no a seq) (if here then answer_after answer a else None)
 
-free-none : (net : NetPlan) (ring : List RingEntry) (n : ℕ) → IsFree net ring n → free_no (ring_after net ring) n ≡ None
+pub free-none : (net : NetPlan) (ring : List RingEntry) (n : ℕ) → IsFree net ring n → free_no (ring_after net ring) n ≡ None
 free-none net ring n free = ⊎_elim
     (λ (h : Holds net ring n). both (ring_node (ring_after net ring) n).here ((ring_after net ring).holder == n) h.here (eq-eqb _ n h.holder))
     (λ (l : HasLeft net ring n). gone' (ring_node (ring_after net ring) n).here ((ring_after net ring).holder == n) l)

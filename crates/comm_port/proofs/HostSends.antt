@@ -1,23 +1,19 @@
 -- What a host's worker sends.
-use Rattle.std.proofs.Common.{◌≡◌, ◌≢◌, ◌⊎◌, ℕ, ◌+◌, ◌<◌, ◌==◌, nat_le, Bool, true, false, cond}
-use Rattle.std.proofs.Common.{List, []}
-use Rattle.std.proofs.Common.{length, ◌∷◌, ◌++◌, map, get_or, set, drop, replicate, Option, Some}
-use Rattle.std.proofs.Common.{None}
+use Rattle.std.proofs.Common.{◌≡◌, ◌≢◌, ◌⊎◌, ℕ, ◌+◌, ◌<◌, nat_le, Bool, true, false, cond, List, []}
+use Rattle.std.proofs.Common.{length, ◌∷◌, ◌++◌, map, get_or, set, replicate, Option, Some, None}
 use Rattle.std.proofs.Common.{refl, sym, ap, ◌∙◌, subst, inl, inr, ⊎_elim, arith, append_assoc}
 use Rattle.std.proofs.Common.{append-nil, get_or-set_same, get_or-set_other, eq-eqb}
 use Rattle.std.specs.Prelude.{filter_map, if◌then◌else◌, is_none}
 use Rattle.std.specs.List.{filter, AllByRecursion as Each}
-use Rattle.std.proofs.lemmas.Bool.{cases_Bool, cases_eq, eqb-true}
+use Rattle.std.proofs.lemmas.Bool.{cases_Bool, cases_eq}
 use Rattle.std.proofs.lemmas.List.Elements.{filter-append, filter_map-append}
 use Rattle.plant_types.specs.declared.net.NetPlan.{NetPlan}
 use Rattle.mstr_block.specs.Table.{network_paths}
 use Rattle.mstr_block.specs.declared.call.CallId.{CallId}
 use Rattle.ring_core.specs.Words.{maker}
-use Rattle.ring_core.specs.Legal.{IsFrom, IsLegal, IsPath}
-use Rattle.ring_core.specs.Machine.{awaited_number, awaiting, busy_word, failed, heard_by, no_path}
-use Rattle.ring_core.specs.Machine.{NodeIs}
-use Rattle.ring_core.specs.Machine.{passes_of, path_of, path_places, ring_after, sent_off}
-use Rattle.ring_core.specs.Machine.{silence_word}
+use Rattle.ring_core.specs.Legal.{IsFrom, IsPath}
+use Rattle.ring_core.specs.Machine.{awaiting, busy_word, failed, heard_by, no_path, NodeIs}
+use Rattle.ring_core.specs.Machine.{passes_of, path_of, path_places, sent_off, silence_word}
 use Rattle.ring_core.specs.Refusals.{or_no, other_no}
 use Rattle.ring_core.specs.declared.refusal.RingNo.{RingNo}
 use Rattle.ring_core.specs.declared.refusal.RingNo.TheVariants.{NotAwaited}
@@ -36,10 +32,8 @@ use Rattle.host_port.proofs.Paths.{at_path}
 use Rattle.tied_lists.specs.Own.{is_of, own, Grew}
 use Rattle.tied_lists.specs.Waits.{Holds, IsFree, IsOnRing}
 use Rattle.tied_lists.proofs.Histories.{legal-follows}
-use Rattle.tied_lists.proofs.Turns.{Found, found-at, Moved, part}
+use Rattle.tied_lists.proofs.Turns.{Found, found-at, part}
 use Rattle.comm_port.specs.Sides.{RingSideIs}
-use Rattle.comm_port.specs.Sending.{AllSent, SentNext}
-use Rattle.comm_port.specs.Turns.{IsOwnTurn}
 use Rattle.comm_port.specs.HostTurns.{AreNew, bad_answer_of, bad_answer_to, call_on_path, chosen}
 use Rattle.comm_port.specs.HostTurns.{chosen_paths, due_calls, EachSends, GivenUp, GivesUpDue}
 use Rattle.comm_port.specs.HostTurns.{give_up_of, IsFailed, IsNew, IsSendingStep, may_go}
@@ -50,9 +44,7 @@ use Rattle.comm_port.proofs.HostRuns.{AreYoung, due-one, each-gone, goes_by, kep
 use Rattle.comm_port.proofs.HostRuns.{LeftBy}
 use Rattle.comm_port.proofs.HostRuns.{none-due, not-own, on-front, on-step, other-step, own-step}
 use Rattle.comm_port.proofs.HostRuns.{still-young}
-use Rattle.comm_port.proofs.HostServes.{grew_not}
-use Rattle.comm_port.proofs.RingTurns.{on-ring}
-use Rattle.comm_port.proofs.Sends.{sent-one, SentOne}
+use Rattle.comm_port.proofs.Sends.{sent-one}
 
 -- ---- entries behind one another
 

@@ -32,6 +32,13 @@ use Rattle.comm_port.specs.Sides.{RingSideIs}
 use Rattle.comm_port.specs.Turns.{IsOwnTurn, KeepsInbox}
 use Rattle.comm_port.specs.Sending.{AllSent, GaveUp, SentNext, sends_left, sends_of}
 use Rattle.comm_port.proofs.RingTurns.{kept-by, mine, on-ring, own-moved}
+use Rattle.std.proofs.Common.{◌++◌, Option, ⊎_elim}
+use Rattle.ring_core.specs.Refusals.{free_no, give_up_no}
+use Rattle.tied_lists.proofs.Turns.{found-at, legal-parts}
+use Rattle.comm_port.specs.Giving.{part_at, part_no}
+use Rattle.comm_port.specs.Sending.{IsThis, IsThisGiveUp}
+use Rattle.comm_port.proofs.Dues.{free-none}
+use Rattle.comm_port.proofs.Parts.{each-still, each-went}
 
 -- ---- how many Sends are left
 
@@ -141,6 +148,13 @@ sent-one net n before heard after' holding m =
 few-tries : (net : NetPlan) (h : List RingEntry) (n : ℕ) → IsOnRing net h n → (part net h n).tries ≤ 2
 few-tries net h n on = (legal-follows net h n on).node.part.tries_few
 
+-- others before an entry leave the node's part
+part-between : {Q : Type 0} (side : RingSideIs Q) (alone : Bool) (n : ℕ) (ring : List RingEntry) (e : RingEntry) (ring' : List
+    RingEntry) → IsOwnTurn side ring n → IsLegal side.net ring' → (w : WentOn alone (is_of n) ring (e ∷ []) ring') → part_at side.net n (ring ++ w.between) ≡ part_at side.net n ring
+part-between side alone n ring e ring' t legal w =
+    let parts = legal-parts side.net (ring ++ w.between) (e ∷ []) (subst (IsLegal side.net) w.after_is legal) in
+    (found-at side.net n ring w.between parts.0 w.others t.free).part_is
+
 pub sent-next : {Q : Type 0} (side : RingSideIs Q) (alone : Bool) (n : ℕ) (ring : List RingEntry) (heard : Heard) (ring' : List
     RingEntry) → IsOwnTurn side ring n → Holds side.net ring n → IsLegal side.net ring'
     → WentOn alone (is_of n) ring (Send n heard ∷ []) ring' → SentNext alone side.net n heard ring ring'
@@ -157,6 +171,13 @@ sent-next side alone n ring heard ring' t holds legal w =
       };
       less = subst (λ (c : NodeIs). sends_of c < sends_left side.net ring n) (sym s.part_is)
           (sends-fall (part side.net ring n) s.f.kind s.f.id s.there heard s.f s.fs s.box few);
+      frame = s.f;
+      left = s.fs;
+      there = s.there;
+      first = s.box;
+      part_is = s.part_is;
+      each = each-went alone n (IsThis side.net n (Send n heard) ring) ring (Send n heard) ring' w
+          (refl, part-between side alone n ring (Send n heard) ring' t legal w);
     }
 
 -- nothing to send
@@ -185,9 +206,18 @@ all-sent side alone n ring ring' why t legal w refused is =
         | inl no' ↦ empty-box (ring_node r n).here (r.holder == n) r.holder (ring_node r n).outbox (no' ∙ ap Some is)
         | inr short ↦ let wrong : NothingToSend ≡ NoMemory = sym is ∙ short.0 in absurd cc
       ];
+      part_is = found.part_is;
     }
 
 -- ---- a GiveUp
+
+second-none : (a b : Option RingNo) → or_no a b ≡ None → b ≡ None
+second-none None b e = e
+second-none (Some x) b e = absurd (cc)
+
+second-some : (a b : Option RingNo) (why : RingNo) → a ≡ None → or_no a b ≡ Some why → b ≡ Some why
+second-some None b why none e = e
+second-some (Some x) b why none e = absurd (cc)
 
 pub gave-up : {Q : Type 0} (side : RingSideIs Q) (alone : Bool) (id : CallId) (word : ℕ) (ring ring' : List RingEntry) → IsOwnTurn
     side ring id.node → IsLegal side.net ring'
@@ -203,12 +233,20 @@ gave-up side alone id word ring ring' t legal w =
       less = subst (λ (x : NodeIs). sends_of x ≤ sends_left side.net ring n) (sym wrote.part_is) (sends-no-more id c.outbox
           c.tries (few-tries side.net ring n t.on));
       left = λ gone. ap (λ (x : NodeIs). x.here) wrote.part_is ∙ gone;
+      may = λ v e. subst (λ (x : NodeIs). part_no side.net x id ≡ None) m.found.part_is
+          (second-none (free_no (ring_after side.net m.past) n) (part_no side.net (part_at side.net n m.past) id) m.step.1.0);
+      never = λ e. absurd (let bad : Some word ≡ None = e in cc);
+      part_is = wrote.part_is;
+      each = each-went alone n (IsThisGiveUp side.net id ring) ring (GiveUp id word) ring' w
+          (word, (refl, part-between side alone n ring (GiveUp id word) ring' t legal w));
     }
 
 pub gave-not : {Q : Type 0} (side : RingSideIs Q) (alone : Bool) (id : CallId) (ring ring' : List RingEntry) → IsOwnTurn side ring
     id.node → IsLegal side.net ring'
-    → WentOn alone (is_of id.node) ring [] ring' → GaveUp alone side.net id ring ring' None
-gave-not side alone id ring ring' t legal w =
+    → WentOn alone (is_of id.node) ring [] ring' → (why : RingNo) → (why ≡ NoMemory → ⊥) → (give_up_no side.net (ring_after
+    side.net ring') id ≡ Some why) ⊎ ((why ≡ NoMemory) × (give_up_no side.net (ring_after side.net ring') id ≡ None)) → GaveUp alone
+    side.net id ring ring' None
+gave-not side alone id ring ring' t legal w why other refused =
     let n = id.node in
     let found = unmoved side.net n alone ring ring' (on-ring side ring ring' n t legal) w t.free in
     let same : sends_left side.net ring' n ≡ sends_left side.net ring n = ap sends_of found.part_is in
@@ -217,4 +255,17 @@ gave-not side alone id ring ring' t legal w =
       kept = kept-found side.net n ring ring' found;
       less = omega arith;
       left = λ gone. ap (λ (c : NodeIs). c.here) found.part_is ∙ gone;
+      may = λ v e. absurd (let bad : None ≡ Some v = e in cc);
+      never = λ e. (
+        why,
+        subst (λ (x : NodeIs). part_no side.net x id ≡ Some why) found.part_is
+            (second-some (free_no (ring_after side.net ring') n) (part_no side.net (part_at side.net n ring') id) why
+            (free-none side.net ring' n found.free) said),
+      );
+      part_is = found.part_is;
+      each = each-still alone n (IsThisGiveUp side.net id ring) ring ring' w;
     }
+  where
+    said : give_up_no side.net (ring_after side.net ring') id ≡ Some why
+    said = ⊎_elim (λ (x : give_up_no side.net (ring_after side.net ring') id ≡ Some why). x)
+        (λ (x : (why ≡ NoMemory) × (give_up_no side.net (ring_after side.net ring') id ≡ None)). absurd (other x.0)) refused

@@ -20,7 +20,7 @@ use Rattle.comm_port.specs.Sides.{RingSideIs, RamSideIs}
 use Rattle.comm_port.specs.Reading.{items_of}
 use Rattle.comm_port.specs.Leaving.{last_entry, HandedOn}
 use Rattle.comm_port.specs.Turns.{AreWaiting, Turning, Rested}
-use Rattle.comm_port.specs.Ending.{AsksDone, EndsTurn}
+use Rattle.comm_port.specs.Ending.{AsksDone}
 use Rattle.comm_port.proofs.RingTurns.{on-ring}
 use Rattle.comm_port.proofs.Made.{ram-still}
 use Rattle.comm_port.proofs.Served.{waiting-as}
@@ -89,12 +89,3 @@ pub asked-lead : {P Q : Type 0} (alone : Bool) (n : ℕ) (fixed : Fixed) (done :
 asked-lead alone n fixed done ram ram' known known' side ring w same asked t =
     ram-still alone n [] ram ram' asked.at_end known' side ring w same asked.then_on (ram-still alone n [] ram ram known
     asked.at_end side ring w refl asked.first t)
-
--- the same of sides that are the same
-pub ends-at : {P Q : Type 0} (alone alone' : Bool) (ram ram' : RamSideIs P) (side side' : RingSideIs Q) (n : ℕ) (budget : Bool) (w
-    : List (Option Frame)) (known known' : List Entry) (ring ring' : List RingEntry) (left : Bool) → ram' ≡ ram → side' ≡ side
-    → EndsTurn alone alone' ram'.fixed side'.net n budget w known known' ring ring' left → EndsTurn alone alone' ram.fixed
-    side.net n budget w known known' ring ring' left
-ends-at {P} {Q} alone alone' ram ram' side side' n budget w known known' ring ring' left a b e =
-    subst (λ (s : RamSideIs P). EndsTurn alone alone' s.fixed side.net n budget w known known' ring ring' left) a
-    (subst (λ (s : RingSideIs Q). EndsTurn alone alone' ram'.fixed s.net n budget w known known' ring ring' left) b e)

@@ -1,9 +1,9 @@
 -- What a visit of a node that has left leaves.
-use Rattle.std.proofs.Common.{◌≡◌, ℕ, ◌==◌, ◌&&◌, Bool, true, false, cond, List, [], ◌∷◌, ◌++◌}
-use Rattle.std.proofs.Common.{filter_map, get_or, set, Option, Some, None, refl, sym, ap, ◌∙◌}
+use Rattle.std.proofs.Common.{◌≡◌, ℕ, ◌==◌, Bool, true, false, cond, List, [], ◌∷◌, ◌++◌}
+use Rattle.std.proofs.Common.{filter_map, set, Option, Some, None, refl, sym, ap, ◌∙◌}
 use Rattle.std.proofs.Common.{subst}
 use Rattle.std.proofs.lemmas.Bool.{eqb-true, and_parts, cases_Bool, cond-true, cond-false}
-use Rattle.std.proofs.Common.{⊎_elim, append-nil}
+use Rattle.std.proofs.Common.{⊎_elim}
 use Rattle.mstr_block.specs.declared.call.CallId.{CallId}
 use Rattle.mstr_block.specs.declared.call.MstrResult.TheVariants.{Bad}
 use Rattle.controller_core.specs.declared.entry.Entry.{Entry}
@@ -13,16 +13,16 @@ use Rattle.ring_core.specs.declared.entry.RingEntry.{RingEntry}
 use Rattle.ring_core.specs.Words.{is_same_call}
 use Rattle.ring_core.specs.Legal.{IsLegal}
 use Rattle.tied_lists.specs.Own.{is_of, own, WentOn, Grew}
-use Rattle.tied_lists.specs.Items.{Called, CallSort, OverNet, AtHome, Kind, Ended, Items, Asked}
+use Rattle.tied_lists.specs.Items.{Called, CallSort, OverNet, AtHome, Kind, Ended, Items}
 use Rattle.tied_lists.specs.Items.{Came, net_ask, kind_in, kind_of_sort, asked_by, last_asked}
-use Rattle.tied_lists.specs.Items.{or_some, with_end}
-use Rattle.tied_lists.specs.Calls.{NoEnd, AreNewCalls}
+use Rattle.tied_lists.specs.Items.{or_some}
+use Rattle.tied_lists.specs.Calls.{AreNewCalls}
 use Rattle.tied_lists.specs.Waits.{waiting as waits_on}
 use Rattle.tied_lists.proofs.Asked.{waiting-last, no-end-push, kind-more}
 use Rattle.comm_port.specs.Sides.{RingSideIs, RamSideIs}
 use Rattle.comm_port.specs.Reading.{is_ours, items_of}
 use Rattle.comm_port.specs.Sending.{GaveUp}
-use Rattle.comm_port.specs.Turns.{KeepsInbox, Turning}
+use Rattle.comm_port.specs.Turns.{KeepsInbox}
 use Rattle.comm_port.specs.Making.{Owing}
 use Rattle.comm_port.proofs.Items.{items-one}
 use Rattle.comm_port.proofs.Given.{Waits, given-lead-but, stays-lead}

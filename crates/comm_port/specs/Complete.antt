@@ -8,7 +8,6 @@ use Rattle.plant_types.specs.declared.net.HostAsk.{HostAsk}
 use Rattle.plant_types.specs.declared.net.HostPlan.{HostPlan}
 use Rattle.plant_types.specs.declared.plan.ControllerPlan.{ControllerPlan}
 use Rattle.plant_types.specs.declared.plan.Plant.{Plant}
-use Rattle.ring_core.specs.declared.frame.FrameKind.{FrameKind}
 use Rattle.ring_core.specs.declared.frame.FrameKind.TheVariants.{Request, Reply}
 use Rattle.ring_core.specs.declared.frame.Frame.{Frame}
 use Rattle.ring_core.specs.declared.entry.RingEntry.{RingEntry}

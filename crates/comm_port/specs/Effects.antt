@@ -1,5 +1,5 @@
 -- How often a call took effect. This project's own.
-use Rattle.std.specs.Prelude.{ℕ, ◌+◌, Bool, false, List}
+use Rattle.std.specs.Prelude.{ℕ, ◌+◌, Bool, false}
 use Rattle.std.specs.List.{count_by, sum_by}
 use Rattle.mstr_block.specs.Call.{is_same_call}
 use Rattle.mstr_block.specs.declared.call.CallId.{CallId}

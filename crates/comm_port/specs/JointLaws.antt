@@ -1,12 +1,10 @@
 -- What a joint history is: legal lists of a plant's stations and of its ring, which keep the laws
 -- between them. This project's own.
-use Rattle.std.specs.Prelude.{◌≡◌, ℕ, List, map}
+use Rattle.std.specs.Prelude.{◌≡◌, ℕ, List}
 use Rattle.std.specs.List.{All, AllZip}
-use Rattle.plant_types.specs.declared.net.NetPlan.{NetPlan}
 use Rattle.plant_types.specs.declared.net.HostPlan.{HostPlan}
 use Rattle.plant_types.specs.declared.plan.ControllerPlan.{ControllerPlan}
 use Rattle.plant_types.specs.declared.plan.Plant.{Plant}
-use Rattle.plant_types.specs.Plans.{controller_nodes, host_nodes}
 use Rattle.ring_core.specs.declared.entry.RingEntry.{RingEntry}
 use Rattle.ring_core.specs.Legal.{IsLegal as IsLegalRing}
 use Rattle.tied_lists.specs.Own.{own}

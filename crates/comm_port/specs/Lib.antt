@@ -13,3 +13,9 @@ pub mod Effects
 pub mod JointLaws
 pub mod Complete
 pub mod Order
+pub mod Parts
+pub mod HoldTurn
+pub mod Serving
+pub mod Calling
+pub mod Giving
+pub mod Visiting

@@ -9,6 +9,7 @@ use Rattle.ring_core.specs.declared.entry.RingEntry.{RingEntry}
 use Rattle.tied_lists.specs.Own.{own}
 use Rattle.tied_lists.specs.Items.{AController}
 use Rattle.tied_lists.specs.Tied.{Tied}
+use Rattle.comm_port.specs.Giving.{IsAtRest}
 use Rattle.comm_port.specs.Sides.{RingSideIs, RamSideIs, Serves}
 use Rattle.comm_port.specs.Reading.{items_of}
 use Rattle.comm_port.specs.Turns.{AreWaiting}
@@ -21,13 +22,16 @@ pub record WorkerIs : Type 0 where
   pub budget : Bool
   pub waiting : List (Option Frame)
 
--- The node is one of the net's members, whose addresses are those of a ring.
+-- The node is one of the net's members, whose addresses are those of a ring; a call waits for its
+-- answer for one Pass at least.
 pub record IsMemberWorker (net : NetPlan) (n : ℕ) : Type 0 where
   pub members : All (λ m. m < addresses) net.members
   pub member : IsMember net n
+  pub answer : 0 < net.answer
 
 -- A worker stands between two turns: its node is that of the controller, its net that of the ring,
--- the lists of both are tied, and its Requests are those of its node's own list.
+-- the lists of both are tied, its Requests are those of its node's own list, and nothing of the node
+-- is to be sent or has failed.
 pub record Standing {P Q : Type 0} (w : WorkerIs) (ram : RamSideIs P) (known : List Entry)
     (side : RingSideIs Q) (ring : List RingEntry) : Type 0 where
   pub node : ram.fixed.plan.node ≡ w.node
@@ -36,3 +40,4 @@ pub record Standing {P Q : Type 0} (w : WorkerIs) (ram : RamSideIs P) (known : L
   pub legal : IsLegal side.net ring
   pub tied : Tied AController (items_of known) (own w.node ring)
   pub waits : AreWaiting w.node (items_of known) (own w.node ring) w.waiting
+  pub rest : IsAtRest side.net w.node ring

@@ -6,7 +6,10 @@ ghost use Rattle.ring_core.specs.declared.frame.FrameKind.TheVariants.{Request};
 ghost use Rattle.ring_core.specs.declared.entry.RingEntry.TheVariants.{Post};
 ghost use Rattle.tied_lists.specs.Calls.{IsOut};
 ghost use Rattle.tied_lists.specs.Own.{is_of, Grew, Adds};
+ghost use Rattle.comm_port.specs.Calling.{IsDueAt};
+ghost use Rattle.comm_port.specs.HoldTurn.{IsMade, Collects};
 ghost use Rattle.comm_port.specs.Order.{IsCalling, IsMaking, IsFinish};
+ghost use Rattle.comm_port.specs.Parts.{PartOf};
 ghost use Rattle.comm_port.specs.Reading.{items_of, is_ours};
 ghost use Rattle.comm_port.specs.Turns.{IsOwnTurn, KeepsInbox, Turning};
 ghost use Rattle.comm_port.specs.Making.{request_frame, Does, Owing, calls_from};
@@ -108,6 +111,9 @@ pub(crate) fn make_call<M: RamSide, R: RingSide>(
         (R.known ring.old) (R.known ring.new)) }
     ensures ram_adds { OnOk result (Adds M.alone is_ours IsFinish
         (M.known ram.old) (M.known ram.new)) }
+    ensures made { OnOk result (PartOf M.alone R.alone is_ours node
+        (IsDueAt (IsMade node) calls.now at)
+        (M.known ram.old) (M.known ram.new) (R.known ring.old) (R.known ring.new)) }
 {
     let call = &calls[at];
     match &call.kind {
@@ -140,6 +146,8 @@ pub(crate) fn make_calls<M: RamSide, R: RingSide>(
         (R.known ring.old) (R.known ring.new)) }
     ensures ram_adds { OnOk result (Adds M.alone is_ours IsMaking
         (M.known ram.old) (M.known ram.new)) }
+    ensures made { OnOk result (Collects M.alone R.alone (M.side ram.old).fixed node (IsMade node)
+        (M.known ram.old) (M.known ram.new) (R.known ring.old) (R.known ring.new)) }
 {
     if !ram.has_started() {
         return Ok(());

@@ -2,7 +2,9 @@
 ghost use Rattle.std.specs.Prelude.{◌≡◌, [], true, OnOk, IfOk};
 ghost use Rattle.tied_lists.specs.Waits.{Holds};
 ghost use Rattle.comm_port.specs.Turns.{Turning, Rested};
-ghost use Rattle.comm_port.specs.Ending.{AsksDone, EndsTurn};
+ghost use Rattle.comm_port.specs.Ending.{AsksDone};
+ghost use Rattle.comm_port.specs.Giving.{IsAtRest};
+ghost use Rattle.comm_port.specs.HoldTurn.{inbox_of, Ends};
 
 use crate::giving::give_up_where;
 use crate::leaving::hand_on;
@@ -39,10 +41,13 @@ pub(crate) fn end_turn<M: RamSide, R: RingSide>(
     requires turning { Turning node [] (M.side ram.old) (M.known ram.old) (R.side ring.old)
         (R.known ring.old) waiting.old }
     requires holds { Holds (R.side ring.old).net (R.known ring.old) node }
+    requires rest { IsAtRest (R.side ring.old).net node (R.known ring.old) }
+    requires empty { inbox_of (R.side ring.old).net node (R.known ring.old) ≡ [] }
     ensures rested { OnOk result (Rested node (M.side ram.new) (M.known ram.new) (R.side ring.new)
         (R.known ring.new) waiting.new) }
-    ensures ends { IfOk result (EndsTurn M.alone R.alone (M.side ram.old).fixed
-        (R.side ring.old).net node budget waiting.old (M.known ram.old) (M.known ram.new)
+    ensures rest { OnOk result (IsAtRest (R.side ring.old).net node (R.known ring.new)) }
+    ensures ends { IfOk result (Ends M.alone R.alone (M.side ram.old).fixed
+        (R.side ring.old).net node budget (M.known ram.old) (M.known ram.new)
         (R.known ring.old) (R.known ring.new)) }
     ensures ram_same { M.side ram.new ≡ M.side ram.old }
     ensures ring_same { R.side ring.new ≡ R.side ring.old }

@@ -1,8 +1,12 @@
 //! Calls of a controller that are given up, and what is sent before.
-ghost use Rattle.std.specs.Prelude.{◌≡◌, ◌≤◌, [], OnOk};
+ghost use Rattle.std.specs.Prelude.{◌≡◌, ◌<◌, ◌≤◌, [], ◌∷◌, OnOk};
 ghost use Rattle.ring_core.specs.Legal.{IsPath};
 ghost use Rattle.tied_lists.specs.Waits.{Holds};
 ghost use Rattle.tied_lists.specs.Own.{is_of, Adds};
+ghost use Rattle.comm_port.specs.Giving.{due_calls, chosen_paths, GivesOnPath, GivesWhere};
+ghost use Rattle.comm_port.specs.Giving.{part_at, MaySend};
+ghost use Rattle.comm_port.specs.HoldTurn.{IsGivenUp, SendsAll};
+ghost use Rattle.comm_port.specs.Parts.{InOrder, PartOf};
 ghost use Rattle.comm_port.specs.Order.{IsSending, IsGivingUp, IsFinish};
 ghost use Rattle.comm_port.specs.Reading.{is_ours};
 ghost use Rattle.comm_port.specs.Turns.{KeepsInbox, Turning};
@@ -39,6 +43,11 @@ pub(crate) fn give_up_path<M: RamSide, R: RingSide>(
         (R.known ring.old) (R.known ring.new)) }
     ensures ram_adds { OnOk result (Adds M.alone is_ours IsFinish
         (M.known ram.old) (M.known ram.new)) }
+    ensures given { OnOk result (PartOf M.alone R.alone is_ours node
+        (InOrder IsGivenUp (due_calls (R.side ring.old).net node (R.known ring.old) (path ∷ [])))
+        (M.known ram.old) (M.known ram.new) (R.known ring.old) (R.known ring.new)) }
+    ensures part { OnOk result
+        (GivesOnPath (R.side ring.old).net node path (R.known ring.old) (R.known ring.new)) }
 {
     let Some(id) = waiting.id_on(path) else {
         return Ok(());
@@ -73,6 +82,11 @@ pub(crate) fn give_up_where<M: RamSide, R: RingSide>(
         (R.known ring.old) (R.known ring.new)) }
     ensures ram_adds { OnOk result (Adds M.alone is_ours IsFinish
         (M.known ram.old) (M.known ram.new)) }
+    ensures given { OnOk result (PartOf M.alone R.alone is_ours node (InOrder IsGivenUp
+        (due_calls (R.side ring.old).net node (R.known ring.old) (chosen_paths chosen.now)))
+        (M.known ram.old) (M.known ram.new) (R.known ring.old) (R.known ring.new)) }
+    ensures part { OnOk result
+        (GivesWhere (R.side ring.old).net node chosen.now 5 (R.known ring.old) (R.known ring.new)) }
 {
     for path in 1..5 {
         if !chosen[path as usize] {
@@ -95,6 +109,9 @@ pub(crate) fn send_all<M: RamSide, R: RingSide>(
     requires turning { Turning node [] (M.side ram.old) (M.known ram.old) (R.side ring.old)
         (R.known ring.old) waiting.old }
     requires holds { Holds (R.side ring.old).net (R.known ring.old) node }
+    requires wait { 0 < (R.side ring.old).net.answer }
+    requires may { MaySend (R.side ring.old).net node posted.now
+        (part_at (R.side ring.old).net node (R.known ring.old)) }
     ensures turning { OnOk result (Turning node [] (M.side ram.new) (M.known ram.new)
         (R.side ring.new) (R.known ring.new) waiting.new) }
     ensures kept { OnOk result
@@ -105,6 +122,8 @@ pub(crate) fn send_all<M: RamSide, R: RingSide>(
         (R.known ring.old) (R.known ring.new)) }
     ensures ram_adds { OnOk result (Adds M.alone is_ours IsFinish
         (M.known ram.old) (M.known ram.new)) }
+    ensures sent { OnOk result (SendsAll M.alone R.alone (R.side ring.old).net node
+        (M.known ram.old) (M.known ram.new) (R.known ring.old) (R.known ring.new)) }
 {
     while let Some(heard) = send_next(node, ring)? {
         if heard == Heard::Acked {

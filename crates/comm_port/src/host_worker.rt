@@ -13,15 +13,16 @@ ghost use Rattle.comm_port.specs.Leaving.{IsHere};
 ghost use Rattle.comm_port.specs.Sending.{sends_left};
 ghost use Rattle.comm_port.specs.HostTurns.{after_turn, AreNew, AskedAll, AskedNext, chosen};
 ghost use Rattle.comm_port.specs.HostTurns.{chosen_paths, CountsPasses, EndsHostTurn, EndsWithPass};
-ghost use Rattle.comm_port.specs.HostTurns.{GivesUpDue, hold_of, HoldsHostTurn, HostTaking, looked_at};
-ghost use Rattle.comm_port.specs.HostTurns.{HostTies, HostTurning, outbox_of, Sends, SendsOut};
-ghost use Rattle.comm_port.specs.HostTurns.{ServesInbox, ServesTaken, wanted_path};
+ghost use Rattle.comm_port.specs.HostTurns.{GivesUpDue, hold_of, HoldsHostTurn, HostTaking};
+ghost use Rattle.comm_port.specs.HostTurns.{HostTies, HostTurning, looked_at, outbox_of, Sends};
+ghost use Rattle.comm_port.specs.HostTurns.{SendsOut, ServesInbox, ServesTaken, wanted_path};
 
 use crate::leaving::hand_on;
 use crate::replies::{post_reply, tell_statistics};
 use crate::ring_side::RingSide;
 use crate::sending::{give_up_on, send_next};
 use crate::short::Short;
+use crate::taking::take_next;
 use host_port::{Host, HostResult};
 use mstr_block::CallId;
 use plant_types::NetPlan;
@@ -145,7 +146,7 @@ fn serve_inbox<R: RingSide>(
     ensures plan { host.new.plan ≡ host.old.plan }
     ensures same { R.side ring.new ≡ R.side ring.old }
 {
-    while let Some(frame) = ring.take(node)? {
+    while let Some(frame) = take_next(node, ring)? {
         serve(alloc, node, frame, host, ring)?;
     }
     Ok(())
@@ -174,8 +175,10 @@ fn ask_next<R: RingSide>(
         return Ok(None);
     };
     let path = frame.id.path;
-    ring.post(node, frame)?;
-    Ok(Some(path))
+    match ring.post(node, frame) {
+        Ok(()) => Ok(Some(path)),
+        Err(why) => Err(Short::of(why)),
+    }
 }
 
 /// Makes all requests that are due by a hold, as long as a path is free; on which paths.

@@ -14,6 +14,7 @@ mod ring_side;
 mod sending;
 mod serving;
 mod short;
+mod taking;
 mod visiting;
 mod waiting;
 mod worker;

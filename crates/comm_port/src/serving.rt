@@ -3,8 +3,11 @@ ghost use Rattle.std.specs.Prelude.{◌≡◌, [], true, false, OnOk};
 ghost use Rattle.ring_core.specs.Statistics.{is_stats};
 ghost use Rattle.tied_lists.specs.Waits.{Holds};
 ghost use Rattle.tied_lists.specs.Own.{is_of, Adds};
+ghost use Rattle.comm_port.specs.HoldTurn.{inbox_of, IsServed};
 ghost use Rattle.comm_port.specs.Order.{IsServing, IsAnswering};
+ghost use Rattle.comm_port.specs.Parts.{InOrder, PartOf};
 ghost use Rattle.comm_port.specs.Reading.{is_ours};
+ghost use Rattle.comm_port.specs.Serving.{IsAnswered};
 ghost use Rattle.comm_port.specs.Turns.{Turning, Taking, KeepsInbox};
 
 use crate::ram_side::RamSide;
@@ -32,6 +35,8 @@ fn end_call<M: RamSide, R: RingSide>(
     ensures same { M.side ram.new ≡ M.side ram.old }
     ensures ram_adds { OnOk result (Adds M.alone is_ours IsAnswering
         (M.known ram.old) (M.known ram.new)) }
+    ensures served { OnOk result (PartOf M.alone R.alone is_ours node (IsAnswered node reply.now)
+        (M.known ram.old) (M.known ram.new) (R.known ring.now) (R.known ring.now)) }
 {
     let ask = waiting.end(reply.id.path).unwrap();
     ram.finish(reply.id, result_of(&ask.pdu, &reply.pdu))?;
@@ -60,6 +65,8 @@ fn answer_request<M: RamSide, R: RingSide>(
         (R.known ring.old) (R.known ring.new)) }
     ensures ram_adds { OnOk result (Adds M.alone is_ours IsAnswering
         (M.known ram.old) (M.known ram.new)) }
+    ensures served { OnOk result (PartOf M.alone R.alone is_ours node (IsAnswered node request.now)
+        (M.known ram.old) (M.known ram.new) (R.known ring.old) (R.known ring.new)) }
 {
     let reply = ram.peer(request.id, &request.pdu)?;
     post_reply(node, request.id, reply, ring)?;
@@ -86,6 +93,8 @@ fn answer_port<M: RamSide, R: RingSide>(
     ensures same { R.side ring.new ≡ R.side ring.old }
     ensures ring_adds { OnOk result (Adds R.alone (is_of node) (IsServing node)
         (R.known ring.old) (R.known ring.new)) }
+    ensures served { OnOk result (PartOf M.alone R.alone is_ours node (IsAnswered node request.now)
+        (M.known ram.now) (M.known ram.now) (R.known ring.old) (R.known ring.new)) }
 {
     tell_statistics(alloc, node, request, ring)?;
     Ok(())
@@ -113,6 +122,8 @@ fn serve<M: RamSide, R: RingSide>(
         (R.known ring.old) (R.known ring.new)) }
     ensures ram_adds { OnOk result (Adds M.alone is_ours IsAnswering
         (M.known ram.old) (M.known ram.new)) }
+    ensures served { OnOk result (PartOf M.alone R.alone is_ours node (IsAnswered node frame.now)
+        (M.known ram.old) (M.known ram.new) (R.known ring.old) (R.known ring.new)) }
 {
     match frame.kind {
         FrameKind::Reply => end_call(node, waiting, frame, ram, ring)?,
@@ -147,6 +158,11 @@ pub(crate) fn serve_inbox<M: RamSide, R: RingSide>(
         (R.known ring.old) (R.known ring.new)) }
     ensures ram_adds { OnOk result (Adds M.alone is_ours IsAnswering
         (M.known ram.old) (M.known ram.new)) }
+    ensures served { OnOk result (PartOf M.alone R.alone is_ours node
+        (InOrder (IsServed node) (inbox_of (R.side ring.old).net node (R.known ring.old)))
+        (M.known ram.old) (M.known ram.new) (R.known ring.old) (R.known ring.new)) }
+    ensures empty { OnOk result
+        (inbox_of (R.side ring.old).net node (R.known ring.new) ≡ []) }
 {
     while let Some(frame) = ring.take(node)? {
         serve(alloc, node, waiting, &frame, ram, ring)?;

@@ -1,10 +1,22 @@
 //! Want of memory within a turn.
+ghost use Rattle.std.specs.Prelude.{◌≡◌};
+
 use ring_core::RingNo;
 use std::alloc::AllocError;
 
 /// Memory is short. A turn's calls on the ring are refused for nothing else.
 #[derive(Debug, Drop)]
 pub(crate) struct Short;
+
+impl Short {
+    /// A call on the ring was refused, for want of memory alone.
+    pub(crate) fn of(why: RingNo) -> Short
+        requires { why ≡ RingNo.NoMemory }
+    {
+        let _ = why;
+        Short
+    }
+}
 
 impl From<AllocError> for Short {
     ghost from_gives = { λ _ _. Unit {0} };

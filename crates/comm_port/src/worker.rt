@@ -4,7 +4,8 @@ ghost use Rattle.ring_core.specs.Machine.{addresses, path_places};
 ghost use Rattle.ring_core.specs.Legal.{IsMember};
 ghost use Rattle.tied_lists.specs.Waits.{Holds, HasLeft};
 ghost use Rattle.comm_port.specs.Turns.{Turning, Rested};
-ghost use Rattle.comm_port.specs.Ending.{HoldsTurn};
+ghost use Rattle.comm_port.specs.Giving.{IsAtRest};
+ghost use Rattle.comm_port.specs.HoldTurn.{HoldsTurn, VisitsEnd};
 ghost use Rattle.comm_port.specs.Worker.{Standing};
 
 use crate::calling::make_calls;
@@ -63,8 +64,11 @@ fn turn<M: RamSide, R: RingSide>(
     requires turning { Turning node [] (M.side ram.old) (M.known ram.old) (R.side ring.old)
         (R.known ring.old) waiting.old }
     requires holds { Holds (R.side ring.old).net (R.known ring.old) node }
+    requires wait { 0 < (R.side ring.old).net.answer }
+    requires rest { IsAtRest (R.side ring.old).net node (R.known ring.old) }
     ensures rested { OnOk result (Rested node (M.side ram.new) (M.known ram.new) (R.side ring.new)
         (R.known ring.new) waiting.new) }
+    ensures rest { OnOk result (IsAtRest (R.side ring.old).net node (R.known ring.new)) }
     ensures held { IfOk result (HoldsTurn M.alone R.alone (M.side ram.old).fixed
         (R.side ring.old).net node budget (M.known ram.old) (M.known ram.new) (R.known ring.old)
         (R.known ring.new)) }
@@ -91,6 +95,7 @@ impl CommWorker {
     ) -> Result<CommWorker, AllocError>
         requires members { All (λ m. m < addresses) net.now.members }
         requires member { IsMember net.now node }
+        requires answer { 0 < net.now.answer }
         ensures { IfOk result (λ worker. worker ≡ record {
           node = node;
           net = net.now;
@@ -147,6 +152,9 @@ impl CommWorker {
         requires left { HasLeft (R.side ring.old).net (R.known ring.old) self.old.node }
         ensures standing { OnOk result (Standing self.new (M.side ram.new) (M.known ram.new)
             (R.side ring.new) (R.known ring.new)) }
+        ensures visited { OnOk result (VisitsEnd M.alone R.alone (M.side ram.old).fixed
+            (R.side ring.old).net self.old.node (M.known ram.old) (M.known ram.new)
+            (R.known ring.old) (R.known ring.new)) }
         ensures worker { self.new ≡ record self.old { waiting = self.new.waiting } }
         ensures ram_same { M.side ram.new ≡ M.side ram.old }
         ensures ring_same { R.side ring.new ≡ R.side ring.old }

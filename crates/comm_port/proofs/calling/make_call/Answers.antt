@@ -1,3 +1,6 @@
+use Rattle.comm_port.proofs.Collecting.{made-net, made-local}
+use Rattle.comm_port.proofs.Parts.{grew-none}
+use Rattle.tied_lists.proofs.Growth.{grew-one}
 use Rattle.std.proofs.Common.{refl}
 use Rattle.controller_core.specs.declared.entry.Entry.TheVariants.{Finish}
 use Rattle.ring_core.specs.declared.entry.RingEntry.TheVariants.{Local}
@@ -86,3 +89,34 @@ pub returns-in_ok-do_call-in-Local-clause-ram_adds : goal.returns-in_ok-do_call-
 returns-in_ok-do_call-in-Local-clause-ram_adds g c =
     let did = c.in_ok-do_call-in-Local.ensures.did in
     adds-went g.M.RamSide.alone is_ours IsFinish _ (Finish c.index-calls-at.result.id did.outcome ∷ []) _ (tt, tt) refl did.went
+
+pub returns-in_ok-post_call-in-Net-clause-made : goal.returns-in_ok-post_call-in-Net-clause-made
+returns-in_ok-post_call-in-Net-clause-made g c =
+    let n = c.args.node in
+    let call = c.index-calls-at.result in
+    let frame_is = c.request_frame-frame.ensures ∙ ap (request_frame call.id c.in-Net.to) c.in_ok-copied-in-Net.ensures in
+    let g' = request_frame call.id c.in-Net.to c.in-Net.pdu in
+    record {
+      noted = [];
+      done = Post n g' ∷ [];
+      due = (call, c.index-calls-at.is, made-net n call c.in-Net.to c.in-Net.pdu c.in-Net.is);
+      station = grew-none g.M.RamSide.alone is_ours _;
+      node = subst (λ (x : Frame). Grew g.R.RingSide.alone (is_of n) (g.R.RingSide.known c.args.ring.now) (Post n x ∷ [])
+          (g.R.RingSide.known c.post_call.new.ring)) frame_is c.in_ok-post_call-in-Net.ensures.grew;
+    }
+
+pub returns-in_ok-do_call-in-Local-clause-made : goal.returns-in_ok-do_call-in-Local-clause-made
+returns-in_ok-do_call-in-Local-clause-made g c =
+    let n = c.args.node in
+    let call = c.index-calls-at.result in
+    let d = c.in_ok-do_call-in-Local.ensures in
+    let did = subst (λ (op : LocalOp). Does g.M.RamSide.alone g.R.RingSide.alone n call.id op (g.M.RamSide.known c.args.ram.now)
+    (g.M.RamSide.known c.do_call.new.ram) (g.R.RingSide.known c.args.ring.now) (g.R.RingSide.known c.do_call.new.ring))
+    c.in_ok-copied-in-Local.ensures d.did in
+    record {
+      noted = Finish call.id did.outcome ∷ [];
+      done = Local n call.id c.in-Local.op did.outcome ∷ [];
+      due = (call, c.index-calls-at.is, made-local n call c.in-Local.op did.outcome c.in-Local.is);
+      station = grew-one g.M.RamSide.alone is_ours _ (Finish call.id did.outcome ∷ []) _ refl did.went;
+      node = did.grew;
+    }

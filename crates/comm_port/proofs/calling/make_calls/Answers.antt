@@ -1,3 +1,6 @@
+use Rattle.comm_port.specs.HoldTurn.{IsMade}
+use Rattle.comm_port.proofs.Parts.{part-none}
+use Rattle.comm_port.proofs.Collecting.{due-next, collects-none, collects-all}
 use Rattle.std.proofs.Common.{◌∷◌, ◌∙◌}
 use Rattle.comm_port.proofs.RingTurns.{kept-both, kept-same}
 use Rattle.controller_core.specs.declared.entry.Entry.{Entry}
@@ -31,6 +34,7 @@ loop-at-init g c =
       kept = kept-none (g.R.RingSide.side c.args.ring.now) _ c.args.node c.requires.turning.own_turn;
       ring_adds = adds_none g.R.RingSide.alone (is_of c.args.node) (IsCalling c.args.node) _;
       ram_adds = adds_none g.M.RamSide.alone is_ours IsFinish _;
+      made = part-none g.M.RamSide.alone g.R.RingSide.alone is_ours c.args.node _ _ _ (refl, refl);
       ram_same = refl;
       ring_same = refl;
     }
@@ -68,6 +72,18 @@ loop-at-preserved g c =
       kept = kept-both (g.R.RingSide.side c.args.ring.now).net n _ _ _ i.kept (kept-same _ _ n _ _ (sym i.ring_same) e.kept);
       ring_adds = adds-both g.R.RingSide.alone (is_of n) (IsCalling n) _ _ _ i.ring_adds e.ring_adds;
       ram_adds = adds-both g.M.RamSide.alone is_ours IsFinish _ _ _ i.ram_adds e.ram_adds;
+      made = due-next (IsMade n) g.M.RamSide.alone g.R.RingSide.alone n _ c.loop-at.at _ _ _ _ _ _ c.loop-at-test.true i.made e.made;
       ram_same = e.ram_same ∙ i.ram_same;
       ring_same = e.ring_same ∙ i.ring_same;
     }
+
+pub returns-then-not-has_started-clause-made : goal.returns-then-not-has_started-clause-made
+returns-then-not-has_started-clause-made g c =
+    let o = c.if-not-has_started.ensures in
+    collects-none (IsMade c.args.node) g.M.RamSide.alone g.R.RingSide.alone _ c.args.node _ _ _ o.went (sym o.answer)
+
+pub returns-clause-made : goal.returns-clause-made
+returns-clause-made g c =
+    let o = c.if-not-has_started.ensures in
+    collects-all (IsMade c.args.node) g.M.RamSide.alone g.R.RingSide.alone _ c.args.node _ _ c.loop-at.at _ _ _ _ _ _ o.went (sym o.answer)
+    c.in_ok-calls.ensures.went c.as_slice-calls.ensures c.loop-at-test.false c.loop-at.invariant.made

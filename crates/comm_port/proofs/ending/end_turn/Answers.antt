@@ -1,8 +1,26 @@
-use Rattle.std.proofs.Common.{refl, Bool}
+use Rattle.std.proofs.Common.{refl, Bool, true, false, ◌≡◌, ℕ, List, [], Option, subst}
+use Rattle.plant_types.specs.declared.net.NetPlan.{NetPlan}
+use Rattle.mstr_block.specs.declared.call.CallId.{CallId}
+use Rattle.controller_core.specs.declared.entry.Entry.{Entry}
+use Rattle.ring_core.specs.declared.frame.Frame.{Frame}
+use Rattle.ring_core.specs.declared.entry.LeaveCause.{LeaveCause}
+use Rattle.ring_core.specs.declared.entry.RingEntry.{RingEntry}
+use Rattle.ring_core.specs.Legal.{IsLegal}
 use Rattle.tied_lists.specs.Own.{is_of}
-use Rattle.tied_lists.proofs.Growth.{adds_none}
+use Rattle.tied_lists.specs.Waits.{HasLeft}
+use Rattle.tied_lists.proofs.Growth.{adds-both, adds-weaker}
+use Rattle.comm_port.specs.Giving.{due_calls}
+use Rattle.comm_port.specs.HoldTurn.{IsGivenUp}
+use Rattle.comm_port.specs.Leaving.{HandedOn}
+use Rattle.comm_port.specs.Parts.{InOrder, PartOf, four_paths, calls_waiting}
+use Rattle.comm_port.specs.Sides.{RingSideIs, RamSideIs}
+use Rattle.comm_port.specs.Turns.{Turning}
 use Rattle.comm_port.specs.Reading.{is_ours}
-use Rattle.comm_port.specs.Order.{IsGivingUp, IsFinish}
+use Rattle.comm_port.specs.Order.{IsGivingUp}
+use Rattle.comm_port.proofs.Parts.{net-as, part-none}
+use Rattle.comm_port.proofs.Leaves.{asks-so, due-waits, none-left, waiting-handed, handed-ends}
+use Rattle.comm_port.proofs.Leaves.{ending-too, all-paths, all-on, turn-side}
+use Rattle.comm_port.proofs.Through.{IsEnding, rest-through}
 use Rattle.std.proofs.Common.{sym, ◌∙◌}
 use Rattle.comm_port.proofs.TurnsEnded.{handed-lead, left-lead, left-at, asked-lead, some-of}
 use Rattle.comm_port.proofs.ending.end_turn.Goals as goal
@@ -31,28 +49,68 @@ returns-clause-rested g c =
 pub returns-clause-ends : goal.returns-clause-ends
 returns-clause-ends g c =
     let o = c.in_ok-left.ensures in
+    let n = c.args.node in
     record {
       done = c.is_done-done.result;
       asked_known = g.M.RamSide.known c.is_done-done.new.ram;
-      asked = c.is_done-done.ensures.asked;
+      asked = asks-so g.M.RamSide.alone _ n _ (g.R.RingSide.known c.args.ring.now) c.args.waiting.now _ _ _ c.requires.turning.waits
+          c.is_done-done.ensures.asked;
       left_is = sym c.if-left.false ∙ o.left;
       handed_ring = g.R.RingSide.known c.hand_on.new.ring;
       handed = o.handed;
-      gives_up = adds_none g.R.RingSide.alone (is_of c.args.node) IsGivingUp _;
-      ends_calls = adds_none g.M.RamSide.alone is_ours IsFinish _;
+      gives_up = part-none g.M.RamSide.alone g.R.RingSide.alone is_ours n (InOrder IsGivenUp []) _ _ (refl, refl);
+      none_waits = λ e. absurd (let bad : false ≡ true = e in cc);
     }
+
+-- the Leave, and the calls that are given up then
+left-part : {P Q : Type 0} (alone alone' : Bool) (n : ℕ) (done : Bool) (words : List ℕ) (cause : Option LeaveCause) (ram : RamSideIs P) (known known' : List
+    Entry) (side side' : RingSideIs Q) (ring0 ring ring' : List RingEntry) (w : List (Option Frame)) → side' ≡ side → HandedOn alone' side.net n done words cause ring0
+    ring → HasLeft side'.net ring n → Turning n [] ram known side' ring w
+    → PartOf alone alone' is_ours n (InOrder IsGivenUp (due_calls side'.net n ring four_paths)) known known' ring ring'
+    → PartOf alone alone' is_ours n (InOrder IsGivenUp (calls_waiting n ring0)) known known' ring ring'
+left-part alone alone' n done words cause ram known known' side side' ring0 ring ring' w same h gone t p =
+    let is : due_calls side'.net n ring four_paths ≡ calls_waiting n ring0 = due-waits n [] ram known side' ring w gone t
+    ∙ waiting-handed alone' side.net n done words cause ring0 ring h in
+    subst (λ (l : List CallId). PartOf alone alone' is_ours n (InOrder IsGivenUp l) known known' ring ring') is p
 
 pub returns-then-left-clause-ends : goal.returns-then-left-clause-ends
 returns-then-left-clause-ends g c =
     let o = c.in_ok-left.ensures in
     let e = c.in_ok-give_up_where.ensures in
+    let n = c.args.node in
+    let t0 = asked-lead g.M.RamSide.alone n (g.M.RamSide.side c.args.ram.now).fixed c.is_done-done.result _ _ _ _ _ _
+    c.args.waiting.now c.is_done-done.ensures.same c.is_done-done.ensures.asked c.requires.turning in
+    let r = handed-lead g.R.RingSide.alone n c.is_done-done.result _ _ _ _ _ _ _ _ c.args.waiting.now o.same o.legal o.handed t0 in
+    let why = some-of _ (sym o.left ∙ c.if-left.true) in
+    let gone = left-at (g.R.RingSide.side c.args.ring.now) (g.R.RingSide.side c.hand_on.new.ring) (g.R.RingSide.known c.hand_on.new.ring)
+    n o.same (o.handed.gone why.0 why.1) in
+    let t = left-lead n _ _ _ _ c.args.waiting.now gone r in
     record {
       done = c.is_done-done.result;
       asked_known = g.M.RamSide.known c.is_done-done.new.ram;
-      asked = c.is_done-done.ensures.asked;
+      asked = asks-so g.M.RamSide.alone _ n _ (g.R.RingSide.known c.args.ring.now) c.args.waiting.now _ _ _ c.requires.turning.waits
+          c.is_done-done.ensures.asked;
       left_is = sym c.if-left.true ∙ o.left;
       handed_ring = g.R.RingSide.known c.hand_on.new.ring;
       handed = o.handed;
-      gives_up = e.ring_adds;
-      ends_calls = e.ram_adds;
+      gives_up = left-part g.M.RamSide.alone g.R.RingSide.alone n c.is_done-done.result _ _ _ _ _ (g.R.RingSide.side c.args.ring.now) _ _ _ _
+          c.args.waiting.now o.same o.handed gone t e.given;
+      none_waits = λ _. none-left n [] all-paths _ _ (g.R.RingSide.side c.hand_on.new.ring) (g.R.RingSide.known c.hand_on.new.ring) _ _ all-on gone
+          e.part (turn-side n _ _ _ _ _ _ e.ring_same e.turning);
     }
+
+pub returns-clause-rest : goal.returns-clause-rest
+returns-clause-rest g c =
+    let o = c.in_ok-left.ensures in
+    let n = c.args.node in
+    rest-through g.R.RingSide.alone _ n _ _ c.requires.turning.own_turn.on o.legal (handed-ends g.R.RingSide.alone _ n _ _ _ _ _ o.handed) c.requires.rest
+
+pub returns-then-left-clause-rest : goal.returns-then-left-clause-rest
+returns-then-left-clause-rest g c =
+    let o = c.in_ok-left.ensures in
+    let e = c.in_ok-give_up_where.ensures in
+    let n = c.args.node in
+    let now = net-as (λ (m : NetPlan). IsLegal m (g.R.RingSide.known c.give_up_where.new.ring)) _ _ (e.ring_same ∙ o.same) e.turning.own_turn.on.legal in
+    rest-through g.R.RingSide.alone _ n _ _ c.requires.turning.own_turn.on now
+    (adds-both g.R.RingSide.alone (is_of n) IsEnding _ _ _ (handed-ends g.R.RingSide.alone _ n _ _ _ _ _ o.handed)
+    (adds-weaker g.R.RingSide.alone (is_of n) IsGivingUp IsEnding _ _ ending-too e.ring_adds)) c.requires.rest

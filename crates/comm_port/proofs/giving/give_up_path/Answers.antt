@@ -1,8 +1,11 @@
+use Rattle.comm_port.proofs.Parts.{grew-none}
+use Rattle.comm_port.proofs.GivesUp.{nothing-on, judged-on, no-no, may-yes, path-none, path-given}
+use Rattle.comm_port.proofs.GivesUp.{on-none, on-not, on-given}
 use Rattle.std.proofs.Common.{refl, ◌∷◌}
 use Rattle.mstr_block.specs.declared.call.MstrResult.TheVariants.{Bad}
 use Rattle.controller_core.specs.declared.entry.Entry.TheVariants.{Finish}
 use Rattle.ring_core.specs.declared.entry.RingEntry.TheVariants.{GiveUp}
-use Rattle.tied_lists.specs.Own.{is_of, Adds}
+use Rattle.tied_lists.specs.Own.{is_of, Grew, Adds}
 use Rattle.tied_lists.proofs.Growth.{adds_none, adds-went, adds-grew}
 use Rattle.comm_port.specs.Reading.{is_ours}
 use Rattle.comm_port.specs.Order.{IsGivingUp, IsFinish}
@@ -91,3 +94,63 @@ returns-clause-ring_adds g c =
 pub returns-clause-ram_adds : goal.returns-clause-ram_adds
 returns-clause-ram_adds g c = adds-went g.M.RamSide.alone is_ours IsFinish _ (Finish c.in-Some.id (Bad c.in-Some-2.word) ∷ []) _
     (tt, tt) refl c.in_ok-finish.ensures.went
+
+pub returns-in_default-clause-given : goal.returns-in_default-clause-given
+returns-in_default-clause-given g c =
+    let none = nothing-on c.args.node c.args.path [] _ _ _ _ c.args.waiting.now (sym c.id_on.ensures ∙ c.in_default.is) c.requires.turning in
+    path-none g.M.RamSide.alone g.R.RingSide.alone (g.R.RingSide.side c.args.ring.now).net c.args.node c.args.path _ (g.R.RingSide.known c.args.ring.now) _ _ none (grew-none g.R.RingSide.alone (is_of c.args.node) _)
+
+pub returns-in_default-clause-part : goal.returns-in_default-clause-part
+returns-in_default-clause-part g c =
+    let none = nothing-on c.args.node c.args.path [] _ _ _ _ c.args.waiting.now (sym c.id_on.ensures ∙ c.in_default.is) c.requires.turning in
+    on-none _ c.args.node c.args.path _ none
+
+pub returns-in_default-2-clause-given : goal.returns-in_default-2-clause-given
+returns-in_default-2-clause-given g c =
+    let o = c.in_ok-word.ensures in
+    let n = c.args.node in
+    let p = c.args.path in
+    let id = c.in-Some.id in
+    let k = waits-at n p id _ _ _ _ c.args.waiting.now (sym c.id_on.ensures ∙ c.in-Some.is) c.requires.turning in
+    let j = judged-on n p id [] _ _ _ _ c.args.waiting.now k c.requires.turning in
+    let gave = subst (λ (w : Option ℕ). GaveUp g.R.RingSide.alone (g.R.RingSide.side c.args.ring.now).net id (g.R.RingSide.known
+    c.args.ring.now) (g.R.RingSide.known c.give_up_on.new.ring) w) c.in_default-2.is o.given in
+    path-none g.M.RamSide.alone g.R.RingSide.alone (g.R.RingSide.side c.args.ring.now).net n p _ (g.R.RingSide.known c.args.ring.now) _ _ (no-no g.R.RingSide.alone _ n p id _ _ k.own_is j gave)
+    (subst (λ (m : ℕ). Grew g.R.RingSide.alone (is_of m) (g.R.RingSide.known c.args.ring.now) [] (g.R.RingSide.known
+    c.give_up_on.new.ring)) k.own_is gave.grew)
+
+pub returns-in_default-2-clause-part : goal.returns-in_default-2-clause-part
+returns-in_default-2-clause-part g c =
+    let o = c.in_ok-word.ensures in
+    let n = c.args.node in
+    let p = c.args.path in
+    let id = c.in-Some.id in
+    let k = waits-at n p id _ _ _ _ c.args.waiting.now (sym c.id_on.ensures ∙ c.in-Some.is) c.requires.turning in
+    let j = judged-on n p id [] _ _ _ _ c.args.waiting.now k c.requires.turning in
+    on-not g.R.RingSide.alone _ n p id _ _ k.own_is j _ c.in_default-2.is o.given
+
+pub returns-clause-given : goal.returns-clause-given
+returns-clause-given g c =
+    let o = c.in_ok-word.ensures in
+    let n = c.args.node in
+    let p = c.args.path in
+    let id = c.in-Some.id in
+    let word = c.in-Some-2.word in
+    let k = waits-at n p id _ _ _ _ c.args.waiting.now (sym c.id_on.ensures ∙ c.in-Some.is) c.requires.turning in
+    let j = judged-on n p id [] _ _ _ _ c.args.waiting.now k c.requires.turning in
+    let gave = subst (λ (w : Option ℕ). GaveUp g.R.RingSide.alone (g.R.RingSide.side c.args.ring.now).net id (g.R.RingSide.known
+    c.args.ring.now) (g.R.RingSide.known c.give_up_on.new.ring) w) c.in-Some-2.is o.given in
+    path-given g.M.RamSide.alone g.R.RingSide.alone (g.R.RingSide.side c.args.ring.now).net n p id word _ _ (g.R.RingSide.known c.args.ring.now) _ _ (may-yes g.R.RingSide.alone _ n p id word _ _ k.own_is j gave)
+    c.in_ok-finish.ensures.went
+    (subst (λ (m : ℕ). Grew g.R.RingSide.alone (is_of m) (g.R.RingSide.known c.args.ring.now) (GiveUp id word ∷ [])
+    (g.R.RingSide.known c.give_up_on.new.ring)) k.own_is gave.grew)
+
+pub returns-clause-part : goal.returns-clause-part
+returns-clause-part g c =
+    let o = c.in_ok-word.ensures in
+    let n = c.args.node in
+    let p = c.args.path in
+    let id = c.in-Some.id in
+    let k = waits-at n p id _ _ _ _ c.args.waiting.now (sym c.id_on.ensures ∙ c.in-Some.is) c.requires.turning in
+    let j = judged-on n p id [] _ _ _ _ c.args.waiting.now k c.requires.turning in
+    on-given g.R.RingSide.alone _ n p id c.in-Some-2.word _ _ k.own_is k.path_is j _ c.in-Some-2.is o.given

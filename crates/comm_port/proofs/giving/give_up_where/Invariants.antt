@@ -1,3 +1,6 @@
+use Rattle.comm_port.specs.Giving.{due_calls, chosen_below, GivesWhere}
+use Rattle.comm_port.specs.HoldTurn.{IsGivenUp}
+use Rattle.comm_port.specs.Parts.{InOrder, PartOf}
 use Rattle.tied_lists.specs.Own.{is_of, Adds}
 use Rattle.comm_port.specs.Reading.{is_ours}
 use Rattle.comm_port.specs.Order.{IsGivingUp, IsFinish}
@@ -14,6 +17,10 @@ invariant-loop-path g l = record {
       l.initial.ring).net (g.R.RingSide.known l.initial.ring) l.node;
   ring_adds : Adds g.R.RingSide.alone (is_of l.node) IsGivingUp (g.R.RingSide.known l.initial.ring) (g.R.RingSide.known l.ring);
   ram_adds : Adds g.M.RamSide.alone is_ours IsFinish (g.M.RamSide.known l.initial.ram) (g.M.RamSide.known l.ram);
+  given : PartOf g.M.RamSide.alone g.R.RingSide.alone is_ours l.node (InOrder IsGivenUp (due_calls (g.R.RingSide.side
+      l.initial.ring).net l.node (g.R.RingSide.known l.initial.ring) (chosen_below l.chosen l.path))) (g.M.RamSide.known
+      l.initial.ram) (g.M.RamSide.known l.ram) (g.R.RingSide.known l.initial.ring) (g.R.RingSide.known l.ring);
+  part : GivesWhere (g.R.RingSide.side l.initial.ring).net l.node l.chosen l.path (g.R.RingSide.known l.initial.ring) (g.R.RingSide.known l.ring);
   ram_same : g.M.RamSide.side l.ram ≡ g.M.RamSide.side l.initial.ram;
   ring_same : g.R.RingSide.side l.ring ≡ g.R.RingSide.side l.initial.ring;
 }

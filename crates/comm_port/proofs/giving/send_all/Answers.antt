@@ -1,4 +1,19 @@
-use Rattle.std.proofs.Common.{◌≡◌, sym, ◌∙◌, subst, List, [], ◌∷◌, Option, Some, None}
+use Rattle.std.proofs.Common.{rules}
+use Rattle.std.proofs.Common.{Bool, ℕ}
+use Rattle.ring_core.specs.declared.entry.RingEntry.{RingEntry}
+use Rattle.comm_port.specs.Sides.{RingSideIs}
+use Rattle.tied_lists.specs.Waits.{Holds}
+use Rattle.plant_types.specs.declared.net.NetPlan.{NetPlan}
+use Rattle.std.proofs.Common.{refl}
+use Rattle.tied_lists.specs.Waits.{IsOnRing}
+use Rattle.tied_lists.proofs.Growth.{adds_none}
+use Rattle.comm_port.specs.Giving.{GivesWhere}
+use Rattle.comm_port.specs.Sending.{SentNext, AllSent}
+use Rattle.comm_port.proofs.Made.{kept-none}
+use Rattle.comm_port.proofs.Parts.{net-as, part-none, part-both, each-none, each-both}
+use Rattle.comm_port.proofs.SendsAll.{Finished, has-sent, may-go-on, may-again, send-each}
+use Rattle.comm_port.proofs.SendsAll.{given-each, finished-both, send-part, given-part, sent-all}
+use Rattle.std.proofs.Common.{◌≡◌, sym, ◌∙◌, subst, List, [], ◌∷◌}
 use Rattle.ring_core.specs.declared.entry.Heard.{Heard}
 use Rattle.ring_core.specs.declared.entry.RingEntry.TheVariants.{Send}
 use Rattle.tied_lists.specs.Own.{is_of}
@@ -10,6 +25,29 @@ use Rattle.comm_port.proofs.RingTurns.{kept-both, kept-same}
 use Rattle.comm_port.proofs.Served.{holds-kept}
 use Rattle.comm_port.proofs.Given.{sent-lead, stays-lead, holds-at, sending-too}
 use Rattle.comm_port.proofs.giving.send_all.Goals as goal
+
+sent-here : {Q : Type 0} (alone : Bool) (n : ℕ) (heard : Heard) (side side' : RingSideIs Q) (ring ring' : List RingEntry) → side' ≡ side →
+    SentNext alone side'.net n heard ring ring' → SentNext alone side.net n heard ring ring'
+sent-here {Q} alone n heard side side' ring ring' same s = subst (λ (x : RingSideIs Q). SentNext alone x.net n heard ring ring') same s
+
+all-here : {Q : Type 0} (alone : Bool) (n : ℕ) (side side' : RingSideIs Q) (ring ring' : List RingEntry) → side' ≡ side →
+    AllSent alone side'.net n ring ring' → AllSent alone side.net n ring ring'
+all-here {Q} alone n side side' ring ring' same s = subst (λ (x : RingSideIs Q). AllSent alone x.net n ring ring') same s
+
+pub loop-heard-init : goal.loop-heard-init
+loop-heard-init g c = record {
+  turning = c.requires.turning;
+  holds = c.requires.holds;
+  kept = kept-none (g.R.RingSide.side c.args.ring.now) _ c.args.node c.requires.turning.own_turn;
+  ring_adds = adds_none g.R.RingSide.alone (is_of c.args.node) IsSending _;
+  ram_adds = adds_none g.M.RamSide.alone is_ours IsFinish _;
+  wait = c.requires.wait;
+  may = c.requires.may;
+  finished = part-none g.M.RamSide.alone g.R.RingSide.alone is_ours c.args.node Finished _ _ refl;
+  each = each-none c.args.node _ _;
+  ram_same = refl;
+  ring_same = refl;
+}
 
 pub give_up_where-requires : goal.give_up_where-requires
 give_up_where-requires g c =
@@ -33,6 +71,12 @@ loop-heard-preserved-then-eq g c =
       ring_adds = adds-both g.R.RingSide.alone (is_of n) IsSending _ _ _ i.ring_adds (adds-grew g.R.RingSide.alone (is_of n)
           IsSending _ (Send n c.in-Some.heard ∷ []) _ (tt, tt) sent.grew);
       ram_adds = i.ram_adds;
+      wait = i.wait;
+      may = may-go-on g.R.RingSide.alone (g.R.RingSide.side c.args.ring.now).net n _ c.in-Some.heard _ _ (search rules) (sent-here g.R.RingSide.alone n c.in-Some.heard _ _ _ _ i.ring_same sent) i.may;
+      finished = part-both g.M.RamSide.alone g.R.RingSide.alone is_ours n Finished Finished Finished _ _ _ _ _ _ finished-both i.finished
+          (send-part g.M.RamSide.alone g.R.RingSide.alone n c.in-Some.heard _ _ _ sent.grew);
+      each = each-both n _ _ _ _ i.each (send-each g.R.RingSide.alone (g.R.RingSide.side c.args.ring.now).net n _ c.in-Some.heard _ _
+          (sent-here g.R.RingSide.alone n c.in-Some.heard _ _ _ _ i.ring_same sent) i.may);
       ram_same = i.ram_same;
       ring_same = o.same ∙ i.ring_same;
     }
@@ -45,6 +89,12 @@ loop-heard-preserved g c =
     let e = c.in_ok-give_up_where.ensures in
     let sent = subst (SentOrAll g.R.RingSide.alone (g.R.RingSide.side c.loop-heard.ring).net n (g.R.RingSide.known
     c.loop-heard.ring) (g.R.RingSide.known c.send_next.new.ring)) c.in-Some.is o.sent in
+    let sent-now = sent-here g.R.RingSide.alone n c.in-Some.heard _ _ _ _ i.ring_same sent in
+    let on = net-as (λ (m : NetPlan). IsOnRing m (g.R.RingSide.known c.loop-heard.ring) n) _ _ i.ring_same i.turning.own_turn.on in
+    let gone-by = has-sent g.R.RingSide.alone (g.R.RingSide.side c.args.ring.now).net n _ c.in-Some.heard _ _ i.wait on sent-now i.may in
+    let given = net-as (λ (m : NetPlan). GivesWhere m n c.args.posted.now 5 (g.R.RingSide.known c.send_next.new.ring) (g.R.RingSide.known c.give_up_where.new.ring)) _ _
+    (o.same ∙ i.ring_same) e.part in
+    let here = (sent-now.kept.holds (net-as (λ (m : NetPlan). Holds m (g.R.RingSide.known c.loop-heard.ring) n) _ _ i.ring_same i.holds)).here in
     let first = kept-both (g.R.RingSide.side c.args.ring.now).net n _ _ _ i.kept (kept-same _ _ n _ _ (sym i.ring_same) sent.kept) in
     record {
       turning = e.turning;
@@ -55,6 +105,14 @@ loop-heard-preserved g c =
           c.in-Some.heard ∷ []) _ (tt, tt) sent.grew)
           (adds-weaker g.R.RingSide.alone (is_of n) IsGivingUp IsSending _ _ sending-too e.ring_adds));
       ram_adds = adds-both g.M.RamSide.alone is_ours IsFinish _ _ _ i.ram_adds e.ram_adds;
+      wait = i.wait;
+      may = may-again (g.R.RingSide.side c.args.ring.now).net n _ _ _ i.wait gone-by given;
+      finished = part-both g.M.RamSide.alone g.R.RingSide.alone is_ours n Finished Finished Finished _ _ _ _ _ _ finished-both i.finished
+          (part-both g.M.RamSide.alone g.R.RingSide.alone is_ours n Finished Finished Finished _ _ _ _ _ _ finished-both
+          (send-part g.M.RamSide.alone g.R.RingSide.alone n c.in-Some.heard _ _ _ sent.grew)
+          (given-part g.M.RamSide.alone g.R.RingSide.alone n _ _ _ _ _ e.given));
+      each = each-both n _ _ _ _ i.each (each-both n _ _ _ _ (send-each g.R.RingSide.alone (g.R.RingSide.side c.args.ring.now).net n _ c.in-Some.heard _ _
+          sent-now i.may) (given-each (g.R.RingSide.side c.args.ring.now).net n _ _ _ here gone-by given));
       ram_same = e.ram_same ∙ i.ram_same;
       ring_same = e.ring_same ∙ (o.same ∙ i.ring_same);
     }
@@ -75,3 +133,13 @@ returns-clause-ring_adds g c =
     c.loop-heard.ring) (g.R.RingSide.known c.send_next.new.ring)) c.in_default.is o.sent in
     adds-both g.R.RingSide.alone (is_of n) IsSending _ _ _ c.loop-heard.invariant.ring_adds (adds-grew g.R.RingSide.alone (is_of
     n) IsSending _ [] _ tt sent.grew)
+
+pub returns-clause-sent : goal.returns-clause-sent
+returns-clause-sent g c =
+    let o = c.in_ok-heard.ensures in
+    let i = c.loop-heard.invariant in
+    let n = c.args.node in
+    let sent = subst (SentOrAll g.R.RingSide.alone (g.R.RingSide.side c.loop-heard.ring).net n (g.R.RingSide.known
+    c.loop-heard.ring) (g.R.RingSide.known c.send_next.new.ring)) c.in_default.is o.sent in
+    sent-all g.M.RamSide.alone g.R.RingSide.alone (g.R.RingSide.side c.args.ring.now).net n _ _ _ _ _ _
+    (all-here g.R.RingSide.alone n _ _ _ _ i.ring_same sent) i.may i.finished i.each

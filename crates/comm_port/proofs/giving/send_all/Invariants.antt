@@ -1,3 +1,8 @@
+use Rattle.std.proofs.Common.{◌<◌}
+use Rattle.comm_port.specs.Giving.{part_at, MaySend}
+use Rattle.comm_port.specs.HoldTurn.{IsNextSending}
+use Rattle.comm_port.specs.Parts.{PartOf, EachNext}
+use Rattle.comm_port.proofs.SendsAll.{Finished}
 use Rattle.tied_lists.specs.Own.{is_of, Adds}
 use Rattle.comm_port.specs.Reading.{is_ours}
 use Rattle.comm_port.specs.Order.{IsSending, IsFinish}
@@ -14,6 +19,11 @@ invariant-loop-heard g l = record {
   kept : KeepsInbox (g.R.RingSide.side l.initial.ring).net l.node (g.R.RingSide.known l.initial.ring) (g.R.RingSide.known l.ring);
   ring_adds : Adds g.R.RingSide.alone (is_of l.node) IsSending (g.R.RingSide.known l.initial.ring) (g.R.RingSide.known l.ring);
   ram_adds : Adds g.M.RamSide.alone is_ours IsFinish (g.M.RamSide.known l.initial.ram) (g.M.RamSide.known l.ram);
+  wait : 0 < (g.R.RingSide.side l.initial.ring).net.answer;
+  may : MaySend (g.R.RingSide.side l.initial.ring).net l.node l.posted (part_at (g.R.RingSide.side l.initial.ring).net l.node (g.R.RingSide.known l.ring));
+  finished : PartOf g.M.RamSide.alone g.R.RingSide.alone is_ours l.node Finished (g.M.RamSide.known l.initial.ram) (g.M.RamSide.known l.ram)
+      (g.R.RingSide.known l.initial.ring) (g.R.RingSide.known l.ring);
+  each : EachNext l.node (IsNextSending (g.R.RingSide.side l.initial.ring).net l.node) (g.R.RingSide.known l.initial.ring) (g.R.RingSide.known l.ring);
   ram_same : g.M.RamSide.side l.ram ≡ g.M.RamSide.side l.initial.ram;
   ring_same : g.R.RingSide.side l.ring ≡ g.R.RingSide.side l.initial.ring;
 }

@@ -5,6 +5,7 @@ use Rattle.tied_lists.proofs.Growth.{grew-one}
 use Rattle.comm_port.proofs.HostAsks.{ask-next, due-kind, fewer-asks, from-some, turning-asked}
 use Rattle.comm_port.proofs.HostAsks.{went-some}
 use Rattle.comm_port.proofs.HostAsked.{path-out}
+use Rattle.comm_port.proofs.HostRefusals.{post-short}
 use Rattle.comm_port.proofs.RingTurns.{mine}
 use Rattle.comm_port.proofs.host_worker.ask_next.Goals as goal
 
@@ -15,29 +16,29 @@ post-requires-clause-next g c =
     ask-next c.args.node f _ _ _ _ c.requires.turning (due-kind c.args.host.now c.args.hold f (sym c.in-Some.is ∙ o.request))
     (went-some c.in_ok-frame.field-0 f c.args.host.now c.ask.new.self c.in-Some.is o.went_on)
 
-pub returns-clause-turning : goal.returns-clause-turning
-returns-clause-turning g c =
+pub returns-in-Ok-clause-turning : goal.returns-in-Ok-clause-turning
+returns-in-Ok-clause-turning g c =
     let o = c.in_ok-frame.ensures in
     let f = c.in-Some.frame in
-    let p = c.in_ok-post.ensures in
+    let p = c.in-Ok.ensures in
     (turning-asked g.R.RingSide.alone c.args.node f _ _ _ _ _ c.requires.turning (due-kind c.args.host.now c.args.hold f (sym
     c.in-Some.is ∙ o.request)) (went-some c.in_ok-frame.field-0 f c.args.host.now c.ask.new.self c.in-Some.is o.went_on)
     p.went p.legal).0
 
-pub returns-clause-kept : goal.returns-clause-kept
-returns-clause-kept g c =
+pub returns-in-Ok-clause-kept : goal.returns-in-Ok-clause-kept
+returns-in-Ok-clause-kept g c =
     let o = c.in_ok-frame.ensures in
     let f = c.in-Some.frame in
-    let p = c.in_ok-post.ensures in
+    let p = c.in-Ok.ensures in
     (turning-asked g.R.RingSide.alone c.args.node f _ _ _ _ _ c.requires.turning (due-kind c.args.host.now c.args.hold f (sym
     c.in-Some.is ∙ o.request)) (went-some c.in_ok-frame.field-0 f c.args.host.now c.ask.new.self c.in-Some.is o.went_on)
     p.went p.legal).1
 
-pub returns-clause-asked : goal.returns-clause-asked
-returns-clause-asked g c =
+pub returns-in-Ok-clause-asked : goal.returns-in-Ok-clause-asked
+returns-in-Ok-clause-asked g c =
     let o = c.in_ok-frame.ensures in
     let f = c.in-Some.frame in
-    let p = c.in_ok-post.ensures in
+    let p = c.in-Ok.ensures in
     let due = sym c.in-Some.is ∙ o.request in
     let kind = due-kind c.args.host.now c.args.hold f due in
     let went = went-some c.in_ok-frame.field-0 f c.args.host.now c.ask.new.self c.in-Some.is o.went_on in
@@ -54,3 +55,11 @@ returns-clause-asked g c =
       others = out.others;
       fewer = fewer-asks c.args.host.now c.ask.new.self f c.args.hold due went;
     }
+
+pub of-requires : goal.of-requires
+of-requires g c =
+    let o = c.in_ok-frame.ensures in
+    let f = c.in-Some.frame in
+    let e = c.in-Err.ensures in
+    post-short g.R.RingSide.alone c.args.node f _ _ _ _ _ c.in-Err.why c.requires.turning (due-kind c.args.host.now c.args.hold f (sym c.in-Some.is ∙ o.request))
+    (went-some c.in_ok-frame.field-0 f c.args.host.now c.ask.new.self c.in-Some.is o.went_on) e.legal e.went e.refused

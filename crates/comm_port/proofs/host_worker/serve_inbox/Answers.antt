@@ -33,8 +33,8 @@ loop-frame-smaller g c =
     let t = c.loop-frame.invariant.turning in
     let side = g.R.RingSide.side in
     let known = g.R.RingSide.known in
-    less-kept (side c.loop-frame.ring) (side c.take.new.self) (side c.serve.new.ring) c.args.node (known c.loop-frame.ring) (known
-    c.take.new.self) (known c.serve.new.ring) o.same c.in_ok-serve.ensures.same c.in_ok-serve.ensures.kept (take-less
+    less-kept (side c.loop-frame.ring) (side c.take_next.new.ring) (side c.serve.new.ring) c.args.node (known c.loop-frame.ring) (known
+    c.take_next.new.ring) (known c.serve.new.ring) o.same c.in_ok-serve.ensures.same c.in_ok-serve.ensures.kept (take-less
     g.R.RingSide.alone c.args.node f _ _ _ o.legal went t.own_turn)
 
 pub loop-frame-preserved : goal.loop-frame-preserved
@@ -51,7 +51,7 @@ loop-frame-preserved g c =
       same = s.same ∙ (o.same ∙ i.same);
       served = so-far-at g.R.RingSide.alone c.args.node (g.R.RingSide.side c.loop-frame.ring) _ _ _ _ _ (s.same ∙ o.same)
           (so-far-next g.R.RingSide.alone c.args.node f _ _ _ _ _ _ _ _ i.turning.own_turn i.served o.legal went
-          (kept-same (g.R.RingSide.side c.loop-frame.ring) (g.R.RingSide.side c.take.new.self) c.args.node _ _ (sym o.same) s.kept) s.served);
+          (kept-same (g.R.RingSide.side c.loop-frame.ring) (g.R.RingSide.side c.take_next.new.ring) c.args.node _ _ (sym o.same) s.kept) s.served);
     }
 
 pub returns-clause-turning : goal.returns-clause-turning
@@ -84,3 +84,8 @@ loop-frame-init g c = record {
   same = refl;
   served = so-far-start g.R.RingSide.alone _ c.args.node _ _;
 }
+
+pub take_next-requires : goal.take_next-requires
+take_next-requires g c =
+    let i = c.loop-frame.invariant in
+    record { turn = i.turning.own_turn; holds = i.holds }

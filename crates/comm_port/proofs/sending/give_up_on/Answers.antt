@@ -10,7 +10,8 @@ returns-in-Ok-clause-given g c =
 pub returns-else-wants_memory-clause-given : goal.returns-else-wants_memory-clause-given
 returns-else-wants_memory-clause-given g c =
     let o = c.in-Err.ensures in
-    gave-not _ g.R.RingSide.alone c.args.id _ _ c.requires.turn o.legal o.went
+    gave-not _ g.R.RingSide.alone c.args.id _ _ c.requires.turn o.legal o.went c.in-Err.why
+    (not-true-is _ _ c.wants_memory.ensures c.if-wants_memory.false) o.refused
 
 pub returns-else-wants_memory-clause-not_due : goal.returns-else-wants_memory-clause-not_due
 returns-else-wants_memory-clause-not_due g c = λ e. not-due _ c.in-Err.why c.in-Err.ensures.refused (not-true-is _ _ c.wants_memory.ensures c.if-wants_memory.false)

@@ -1,3 +1,6 @@
+use Rattle.comm_port.specs.Reading.{is_ours}
+use Rattle.comm_port.proofs.Parts.{grew-none}
+use Rattle.comm_port.proofs.Serves.{port-due}
 use Rattle.std.proofs.Common.{refl, [], ◌∷◌}
 use Rattle.ring_core.specs.declared.entry.RingEntry.TheVariants.{Post, Local}
 use Rattle.tied_lists.specs.Own.{is_of}
@@ -21,3 +24,15 @@ returns-clause-ring_adds g c =
     let id = c.args.request.now.id in
     adds-grew g.R.RingSide.alone (is_of n) (IsServing n) _ (Local n id told.op told.result ∷ Post n (reply_frame id (reply_of told.result)) ∷ []) _
     (c.requires.taking.request c.requires.kind, (refl, tt)) told.grew
+
+pub returns-clause-served : goal.returns-clause-served
+returns-clause-served g c =
+    let told = c.in_ok-tell_statistics.ensures.told in
+    let f = c.args.request.now in
+    record {
+      noted = [];
+      done = Local c.args.node f.id told.op told.result ∷ Post c.args.node (reply_frame f.id (reply_of told.result)) ∷ [];
+      due = port-due g.R.RingSide.alone c.args.node f _ _ c.requires.kind c.requires.stats told;
+      station = grew-none g.M.RamSide.alone is_ours _;
+      node = told.grew;
+    }

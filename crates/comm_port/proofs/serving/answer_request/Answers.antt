@@ -1,3 +1,5 @@
+use Rattle.tied_lists.proofs.Growth.{grew-one}
+use Rattle.comm_port.proofs.Serves.{request-due}
 use Rattle.std.proofs.Common.{refl, [], ◌∷◌}
 use Rattle.controller_core.specs.declared.entry.Entry.TheVariants.{Peer}
 use Rattle.ring_core.specs.declared.entry.RingEntry.TheVariants.{Post}
@@ -25,3 +27,15 @@ pub returns-clause-ram_adds : goal.returns-clause-ram_adds
 returns-clause-ram_adds g c =
     adds-went g.M.RamSide.alone is_ours IsAnswering _ (Peer c.args.request.now.id c.args.request.now.pdu c.in_ok-reply.reply ∷ [])
     _ (tt, tt) refl c.in_ok-reply.ensures.went
+
+pub returns-clause-served : goal.returns-clause-served
+returns-clause-served g c =
+    let f = c.args.request.now in
+    let reply = c.in_ok-reply.reply in
+    record {
+      noted = Peer f.id f.pdu reply ∷ [];
+      done = Post c.args.node (reply_frame f.id reply) ∷ [];
+      due = request-due c.args.node f reply c.requires.kind c.requires.plain;
+      station = grew-one g.M.RamSide.alone is_ours _ (Peer f.id f.pdu reply ∷ []) _ refl c.in_ok-reply.ensures.went;
+      node = c.in_ok-post_reply.ensures.grew;
+    }

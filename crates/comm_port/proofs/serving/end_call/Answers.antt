@@ -1,3 +1,7 @@
+use Rattle.tied_lists.specs.Own.{is_of}
+use Rattle.comm_port.proofs.Parts.{grew-none}
+use Rattle.comm_port.proofs.Serves.{reply-due}
+use Rattle.tied_lists.proofs.Growth.{grew-one}
 use Rattle.std.proofs.Common.{refl}
 use Rattle.tied_lists.proofs.Growth.{adds-went}
 use Rattle.comm_port.specs.Order.{IsAnswering}
@@ -31,3 +35,12 @@ returns-clause-turning g c =
 pub returns-clause-ram_adds : goal.returns-clause-ram_adds
 returns-clause-ram_adds g c =
     adds-went g.M.RamSide.alone is_ours IsAnswering _ (Finish c.args.reply.now.id c.result_of.result ∷ []) _ (tt, tt) refl c.in_ok-finish.ensures.went
+
+pub returns-clause-served : goal.returns-clause-served
+returns-clause-served g c = record {
+  noted = Finish c.args.reply.now.id c.result_of.result ∷ [];
+  done = [];
+  due = reply-due c.args.node c.args.reply.now c.result_of.result c.requires.kind;
+  station = grew-one g.M.RamSide.alone is_ours _ (Finish c.args.reply.now.id c.result_of.result ∷ []) _ refl c.in_ok-finish.ensures.went;
+  node = grew-none g.R.RingSide.alone (is_of c.args.node) _;
+}

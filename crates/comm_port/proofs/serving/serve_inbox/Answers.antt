@@ -1,6 +1,12 @@
+use Rattle.comm_port.specs.HoldTurn.{inbox_of}
+use Rattle.comm_port.specs.Turns.{KeepsInbox}
+use Rattle.ring_core.specs.Legal.{IsLegal}
+use Rattle.plant_types.specs.declared.net.NetPlan.{NetPlan}
+use Rattle.comm_port.proofs.Parts.{part-none, net-as, turn-as}
+use Rattle.comm_port.proofs.Serves.{serves-more, all-served}
 use Rattle.ring_core.specs.declared.entry.RingEntry.TheVariants.{Take}
 use Rattle.std.proofs.Common.{refl}
-use Rattle.tied_lists.proofs.Growth.{adds-both, adds-went}
+use Rattle.tied_lists.proofs.Growth.{adds_none, adds-both, adds-went}
 use Rattle.comm_port.specs.Reading.{is_ours}
 use Rattle.comm_port.specs.Order.{IsServing, IsAnswering}
 use Rattle.comm_port.proofs.RingTurns.{mine}
@@ -60,6 +66,11 @@ loop-frame-preserved g c =
           c.args.node) (IsServing c.args.node) _ (Take c.args.node f ∷ []) _ (tt, tt) (mine c.args.node (Take c.args.node f)
           refl) went) s.ring_adds);
       ram_adds = adds-both g.M.RamSide.alone is_ours IsAnswering _ _ _ i.ram_adds s.ram_adds;
+      served = serves-more g.M.RamSide.alone g.R.RingSide.alone c.args.node f _ (g.R.RingSide.side c.args.ring.now) _ _ _ _ _ _ _
+          (net-as (λ (m : NetPlan). IsLegal m (g.R.RingSide.known c.take.new.self)) _ _ i.ring_same o.legal) went
+          (turn-as _ _ (g.R.RingSide.known c.loop-frame.ring) c.args.node i.ring_same i.turning.own_turn)
+          (net-as (λ (m : NetPlan). KeepsInbox m c.args.node (g.R.RingSide.known c.take.new.self)
+          (g.R.RingSide.known c.serve.new.ring)) _ _ (o.same ∙ i.ring_same) s.kept) i.served s.served;
       ram_same = s.ram_same ∙ i.ram_same;
       ring_same = s.ring_same ∙ (o.same ∙ i.ring_same);
     }
@@ -82,3 +93,31 @@ returns-clause-ring_adds g c =
     let n = c.args.node in
     adds-both g.R.RingSide.alone (is_of n) (IsServing n) _ _ _ c.loop-frame.invariant.ring_adds
     (adds-went g.R.RingSide.alone (is_of n) (IsServing n) _ [] _ tt refl (took g.R.RingSide.alone n _ _ _ None c.in_default.is o.went))
+
+pub loop-frame-init : goal.loop-frame-init
+loop-frame-init g c = record {
+  turning = c.requires.turning;
+  holds = c.requires.holds;
+  ram_same = refl;
+  ring_adds = adds_none g.R.RingSide.alone (is_of c.args.node) (IsServing c.args.node) _;
+  ram_adds = adds_none g.M.RamSide.alone is_ours IsAnswering _;
+  served = part-none g.M.RamSide.alone g.R.RingSide.alone is_ours c.args.node _ _ _ ([], refl, (refl, refl));
+  ring_same = refl;
+}
+
+pub returns-clause-served : goal.returns-clause-served
+returns-clause-served g c =
+    let o = c.in_ok-frame.ensures in
+    let i = c.loop-frame.invariant in
+    let n = c.args.node in
+    all-served g.M.RamSide.alone g.R.RingSide.alone n _ (g.R.RingSide.side c.args.ring.now) _ _ _ _ _
+    (net-as (λ (m : NetPlan). IsLegal m (g.R.RingSide.known c.take.new.self)) _ _ i.ring_same o.legal)
+    (took g.R.RingSide.alone n _ _ _ None c.in_default.is o.went)
+    (turn-as _ _ (g.R.RingSide.known c.loop-frame.ring) n i.ring_same i.turning.own_turn)
+    (net-as (λ (m : NetPlan). inbox_of m n (g.R.RingSide.known c.take.new.self) ≡ []) _ _ i.ring_same (o.empty c.in_default.is)) i.served
+
+pub returns-clause-empty : goal.returns-clause-empty
+returns-clause-empty g c =
+    let o = c.in_ok-frame.ensures in
+    let i = c.loop-frame.invariant in
+    net-as (λ (m : NetPlan). inbox_of m c.args.node (g.R.RingSide.known c.take.new.self) ≡ []) _ _ i.ring_same (o.empty c.in_default.is)

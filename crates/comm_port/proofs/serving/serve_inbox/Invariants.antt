@@ -5,6 +5,9 @@ use Rattle.std.proofs.Common.{◌≡◌, length, []}
 use Rattle.ring_core.specs.Machine.{ring_node, ring_after}
 use Rattle.tied_lists.specs.Waits.{Holds}
 use Rattle.comm_port.specs.Turns.{Turning}
+use Rattle.comm_port.specs.HoldTurn.{inbox_of}
+use Rattle.comm_port.specs.Parts.{PartOf}
+use Rattle.comm_port.specs.Serving.{ServesOn}
 use Rattle.comm_port.proofs.serving.serve_inbox.Given as goal
 
 abbrev pub invariant-loop-frame : goal.invariant-loop-frame
@@ -14,6 +17,10 @@ invariant-loop-frame g l = record {
   ram_same : g.M.RamSide.side l.ram ≡ g.M.RamSide.side l.initial.ram;
   ring_adds : Adds g.R.RingSide.alone (is_of l.node) (IsServing l.node) (g.R.RingSide.known l.initial.ring) (g.R.RingSide.known l.ring);
   ram_adds : Adds g.M.RamSide.alone is_ours IsAnswering (g.M.RamSide.known l.initial.ram) (g.M.RamSide.known l.ram);
+  served : PartOf g.M.RamSide.alone g.R.RingSide.alone is_ours l.node
+      (ServesOn l.node (inbox_of (g.R.RingSide.side l.initial.ring).net l.node (g.R.RingSide.known l.initial.ring))
+      (inbox_of (g.R.RingSide.side l.initial.ring).net l.node (g.R.RingSide.known l.ring)))
+      (g.M.RamSide.known l.initial.ram) (g.M.RamSide.known l.ram) (g.R.RingSide.known l.initial.ring) (g.R.RingSide.known l.ring);
   ring_same : g.R.RingSide.side l.ring ≡ g.R.RingSide.side l.initial.ring;
 }
 

@@ -1,45 +1,81 @@
-use Rattle.std.proofs.Common.{ℕ, sym, ◌∙◌, subst, List, [], Option}
+use Rattle.std.proofs.Common.{◌≡◌, ℕ, refl, sym, ap, ◌∙◌, subst, List, [], ◌∷◌, Option, Some}
+use Rattle.mstr_block.specs.declared.call.MstrResult.TheVariants.{Bad}
+use Rattle.controller_core.specs.declared.entry.Entry.TheVariants.{Finish}
 use Rattle.ring_core.specs.declared.frame.Frame.{Frame}
+use Rattle.ring_core.specs.declared.entry.RingEntry.TheVariants.{GiveUp}
 use Rattle.tied_lists.specs.Own.{is_of, Grew}
 use Rattle.tied_lists.specs.Items.{NetCall}
-use Rattle.comm_port.specs.Sending.{GaveUp}
-use Rattle.comm_port.specs.Turns.{KeepsInbox}
+use Rattle.tied_lists.proofs.Growth.{grew-one}
+use Rattle.ring_core.specs.Machine.{gave_up}
+use Rattle.comm_port.specs.Giving.{part_at}
 use Rattle.comm_port.specs.Making.{Owing, calls_from}
-use Rattle.comm_port.proofs.Given.{waits-at-but}
-use Rattle.comm_port.proofs.Visited.{owing-given, owing-still}
+use Rattle.comm_port.specs.Reading.{is_ours}
+use Rattle.comm_port.specs.Waiting.{id_of}
+use Rattle.comm_port.proofs.Given.{waits-at-but, turn-at}
+use Rattle.comm_port.proofs.Sends.{gave-up}
+use Rattle.comm_port.proofs.Visited.{owing-given}
 use Rattle.comm_port.proofs.visiting.give_up_between.Goals as goal
 
-pub returns-in_default-2-clause-owing : goal.returns-in_default-2-clause-owing
-returns-in_default-2-clause-owing g c =
-    let o = c.in_ok-word.ensures in
-    let n = c.args.node in
-    let id = c.in-Some.id in
-    let k = waits-at-but _ n c.args.path id _ _ _ _ c.args.waiting.now (sym c.id_on.ensures ∙ c.in-Some.is) c.requires.owing.turning in
-    let gave = subst (λ (w : Option ℕ). GaveUp g.R.RingSide.alone (g.R.RingSide.side c.args.ring.now).net id (g.R.RingSide.known
-    c.args.ring.now) (g.R.RingSide.known c.give_up_on.new.ring) w) c.in_default-2.is o.given in
-    owing-still g.R.RingSide.alone n _ _ _ _ _ _ _ c.args.waiting.now o.same o.legal
-    (subst (λ (m : ℕ). KeepsInbox (g.R.RingSide.side c.args.ring.now).net m (g.R.RingSide.known c.args.ring.now)
-    (g.R.RingSide.known c.give_up_on.new.ring)) k.own_is gave.kept)
-    (subst (λ (m : ℕ). Grew g.R.RingSide.alone (is_of m) (g.R.RingSide.known c.args.ring.now) [] (g.R.RingSide.known
-    c.give_up_on.new.ring)) k.own_is gave.grew) c.requires.owing
+pub give_up-requires : goal.give_up-requires
+give_up-requires g c =
+    let t = c.requires.owing.turning in
+    let id = c.args.id in
+    let w = c.requires.waits in
+    let k = waits-at-but _ c.args.node id.path id _ _ _ _ c.args.waiting.now (ap id_of (t.waits.waits id.path ∙ w.1) ∙ ap Some w.2) t in
+    let turn = turn-at _ _ c.args.node id.node k.own_is t.own_turn in
+    record { serves = turn.serves; member = turn.on.member; path = k.is_path }
 
 pub finish-requires : goal.finish-requires
 finish-requires g c =
-    let k = waits-at-but _ c.args.node c.args.path c.in-Some.id _ _ _ _ c.args.waiting.now (sym c.id_on.ensures ∙ c.in-Some.is) c.requires.owing.turning in
+    let t = c.requires.owing.turning in
+    let id = c.args.id in
+    let w = c.requires.waits in
+    let k = waits-at-but _ c.args.node id.path id _ _ _ _ c.args.waiting.now (ap id_of (t.waits.waits id.path ∙ w.1) ∙ ap Some w.2) t in
     (NetCall, k.out)
 
 pub returns-clause-owing : goal.returns-clause-owing
 returns-clause-owing g c =
+    let t = c.requires.owing.turning in
+    let id = c.args.id in
+    let n = c.args.node in
+    let w = c.requires.waits in
+    let k = waits-at-but _ n id.path id _ _ _ _ c.args.waiting.now (ap id_of (t.waits.waits id.path ∙ w.1) ∙ ap Some w.2) t in
     let o = c.in_ok-word.ensures in
     let f = c.in_ok-finish.ensures in
-    let n = c.args.node in
-    let id = c.in-Some.id in
-    let word = c.in-Some-2.word in
-    let k = waits-at-but _ n c.args.path id _ _ _ _ c.args.waiting.now (sym c.id_on.ensures ∙ c.in-Some.is) c.requires.owing.turning in
-    let gave = subst (λ (w : Option ℕ). GaveUp g.R.RingSide.alone (g.R.RingSide.side c.args.ring.now).net id (g.R.RingSide.known
-    c.args.ring.now) (g.R.RingSide.known c.give_up_on.new.ring) w) c.in-Some-2.is o.given in
-    subst (λ (w : List (Option Frame)). Owing n (calls_from c.args.calls.now c.args.next) (g.M.RamSide.side c.finish.new.self)
-    (g.M.RamSide.known c.finish.new.self) (g.R.RingSide.side c.give_up_on.new.ring) (g.R.RingSide.known c.give_up_on.new.ring)
-    w) (sym c.end.ensures.new)
-    (owing-given _ g.M.RamSide.alone g.R.RingSide.alone n c.args.path id word _ _ _ _ _ _ _ _ c.args.waiting.now f.same o.same
+    let gave = gave-up _ g.R.RingSide.alone id c.in_ok-word.word _ _ (turn-at _ _ n id.node k.own_is t.own_turn) o.legal o.went in
+    subst (λ (x : List (Option Frame)). Owing n (calls_from c.args.calls.now c.args.next) (g.M.RamSide.side c.finish.new.self)
+    (g.M.RamSide.known c.finish.new.self) (g.R.RingSide.side c.give_up.new.self) (g.R.RingSide.known c.give_up.new.self) x)
+    (sym c.end.ensures.new)
+    (owing-given _ g.M.RamSide.alone g.R.RingSide.alone n id.path id c.in_ok-word.word _ _ _ _ _ _ _ _ c.args.waiting.now f.same o.same
     o.legal k gave f.went c.requires.owing)
+
+pub returns-clause-given : goal.returns-clause-given
+returns-clause-given g c =
+    let t = c.requires.owing.turning in
+    let id = c.args.id in
+    let n = c.args.node in
+    let w = c.requires.waits in
+    let k = waits-at-but _ n id.path id _ _ _ _ c.args.waiting.now (ap id_of (t.waits.waits id.path ∙ w.1) ∙ ap Some w.2) t in
+    let o = c.in_ok-word.ensures in
+    let word = c.in_ok-word.word in
+    let gave = gave-up _ g.R.RingSide.alone id word _ _ (turn-at _ _ n id.node k.own_is t.own_turn) o.legal o.went in
+    record {
+      noted = Finish id (Bad word) ∷ [];
+      done = GiveUp id word ∷ [];
+      due = (word, refl, refl);
+      station = grew-one g.M.RamSide.alone is_ours _ (Finish id (Bad word) ∷ []) _ refl c.in_ok-finish.ensures.went;
+      node = subst (λ (m : ℕ). Grew g.R.RingSide.alone (is_of m) (g.R.RingSide.known c.args.ring.now) (GiveUp id word ∷ [])
+          (g.R.RingSide.known c.give_up.new.self)) k.own_is gave.grew;
+    }
+
+pub returns-clause-part : goal.returns-clause-part
+returns-clause-part g c =
+    let t = c.requires.owing.turning in
+    let id = c.args.id in
+    let n = c.args.node in
+    let w = c.requires.waits in
+    let k = waits-at-but _ n id.path id _ _ _ _ c.args.waiting.now (ap id_of (t.waits.waits id.path ∙ w.1) ∙ ap Some w.2) t in
+    let o = c.in_ok-word.ensures in
+    let gave = gave-up _ g.R.RingSide.alone id c.in_ok-word.word _ _ (turn-at _ _ n id.node k.own_is t.own_turn) o.legal o.went in
+    subst (λ (m : ℕ). part_at (g.R.RingSide.side c.args.ring.now).net m (g.R.RingSide.known c.give_up.new.self) ≡ gave_up (part_at
+    (g.R.RingSide.side c.args.ring.now).net m (g.R.RingSide.known c.args.ring.now)) id) k.own_is gave.part_is

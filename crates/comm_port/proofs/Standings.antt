@@ -1,0 +1,129 @@
+-- A worker that stands between two turns: at the start, and while others go on.
+use Rattle.std.proofs.Common.{◌≡◌, ◌⊎◌, ℕ, zero, suc, ◌<◌, ◌≤◌, Bool, true, false, List, [], ◌∷◌}
+use Rattle.std.proofs.Common.{◌++◌, filter, get_or, set, replicate, Option, Some, None}
+use Rattle.std.proofs.Common.{refl, sym, ap, ◌∙◌, subst, append-nil}
+use Rattle.std.proofs.lemmas.List.{length-replicate}
+use Rattle.plant_types.specs.declared.net.NetPlan.{NetPlan}
+use Rattle.controller_core.specs.declared.entry.Entry.{Entry}
+use Rattle.ring_core.specs.declared.frame.Frame.{Frame}
+use Rattle.ring_core.specs.declared.path.Await.TheVariants.{Failed}
+use Rattle.ring_core.specs.declared.path.Path.{Path}
+use Rattle.ring_core.specs.declared.entry.RingEntry.{RingEntry}
+use Rattle.ring_core.specs.Machine.{NodeIs, addresses, path_places, no_path, fresh, part_of}
+use Rattle.ring_core.specs.Machine.{path_of, with_members}
+use Rattle.ring_core.specs.Legal.{IsLegal}
+use Rattle.tied_lists.specs.Own.{is_of, own, WentOn, Adds}
+use Rattle.tied_lists.specs.Items.{AController, Items, no_items}
+use Rattle.tied_lists.specs.Tied.{Tied}
+use Rattle.tied_lists.specs.Waits.{IsOnRing}
+use Rattle.tied_lists.proofs.Turns.{own-found}
+use Rattle.comm_port.specs.Giving.{IsAtRest}
+use Rattle.comm_port.specs.Reading.{is_ours, items_of}
+use Rattle.comm_port.specs.Sides.{RingSideIs, RamSideIs, Serves}
+use Rattle.comm_port.specs.Turns.{AreWaiting}
+use Rattle.comm_port.specs.Worker.{WorkerIs, Standing}
+use Rattle.comm_port.proofs.Items.{items-same}
+use Rattle.comm_port.proofs.Through.{RestsIn, NotFailed, nothing-not-failed, IsEnding, rest-through}
+
+-- ---- at the start
+
+each-same : {X : Type 0} (P : X → Type 0) (k p : ℕ) (x : X) → P x → P (get_or (replicate k x) p x)
+each-same P zero p x it = it
+each-same P (suc k) zero x it = it
+each-same P (suc k) (suc p) x it = each-same P k p x it
+
+fresh-path : (p : ℕ) → NotFailed (get_or (replicate path_places no_path) p no_path).awaits
+fresh-path p = each-same (λ (x : Path). NotFailed x.awaits) path_places p no_path nothing-not-failed
+
+fresh-rests : (here : Bool) → RestsIn (fresh here)
+fresh-rests here = (refl, fresh-path)
+
+put-each : (P : NodeIs → Type 0) (nodes : List NodeIs) (m k : ℕ) (c : NodeIs) → P c → P (part_of nodes k) → P (part_of (set nodes m c) k)
+put-each P [] m k c new old = old
+put-each P (x ∷ nodes) zero zero c new old = new
+put-each P (x ∷ nodes) zero (suc k) c new old = old
+put-each P (x ∷ nodes) (suc m) zero c new old = old
+put-each P (x ∷ nodes) (suc m) (suc k) c new old = put-each P nodes m k c new old
+
+opening-rests : (nodes : List NodeIs) (members : List ℕ) (k : ℕ) → RestsIn (part_of nodes k) → RestsIn (part_of (with_members nodes members) k)
+opening-rests nodes [] k it = it
+opening-rests nodes (m ∷ ms) k it = opening-rests (set nodes m (fresh true)) ms k (put-each RestsIn nodes m k (fresh true) (fresh-rests true) it)
+
+pub start-rests : (net : NetPlan) (n : ℕ) → IsAtRest net n []
+start-rests net n =
+    let k = opening-rests (replicate addresses (fresh false)) net.members n (each-same RestsIn addresses n (fresh false) (fresh-rests false)) in
+    record { all_sent = k.0; none_failed = k.1 }
+
+scans : (known more : List Entry) → filter is_ours more ≡ [] → items_of (known ++ more) ≡ items_of known
+scans known more none = items-same false known (known ++ more)
+    (record { between = more; others = none; none_alone = λ e. absurd (let bad : false ≡ true = e in cc); after_is = sym (append-nil (known ++ more)) })
+
+abbrev no-ask : Option Frame
+no-ask = None
+
+no-slot : (p : ℕ) → get_or (replicate path_places no-ask) p no-ask ≡ no-ask
+no-slot p = each-same (λ (x : Option Frame). x ≡ no-ask) path_places p no-ask refl
+
+none-waits : (n : ℕ) → AreWaiting n no_items [] (replicate path_places None)
+none-waits n = record {
+  size = length-replicate path_places no-ask;
+  waits = no-slot;
+  asks = λ p f is. absurd (let bad : None ≡ Some f = sym (no-slot p) ∙ is in cc);
+  outs = λ p f is. absurd (let bad : None ≡ Some f = sym (no-slot p) ∙ is in cc);
+}
+
+nothing-tied : Tied AController no_items []
+nothing-tied = record { asks = refl; peers = refl; port = refl; replies = refl; ends = refl }
+
+-- a new worker, a controller that has scanned at most, and a ring on which nothing has happened
+pub standing-new : {P Q : Type 0} (n : ℕ) (net : NetPlan) (budget : Bool) (ram : RamSideIs P) (known : List Entry) (side : RingSideIs Q) → ram.fixed.plan.node ≡ n
+    → side.net ≡ net → Serves side.writer n → filter is_ours known ≡ []
+    → Standing (record { node = n; net = net; budget = budget; waiting = replicate path_places None }) ram known side []
+standing-new n net budget ram known side node same serves none =
+    let is : items_of known ≡ no_items = scans [] known none in
+    record {
+      node = node;
+      net = same;
+      serves = serves;
+      legal = tt;
+      tied = subst (λ (a : Items). Tied AController a []) (sym is) nothing-tied;
+      waits = subst (λ (a : Items). AreWaiting n a [] (replicate path_places None)) (sym is) (none-waits n);
+      rest = start-rests side.net n;
+    }
+
+-- ---- while others go on
+
+-- the controller scanned
+pub standing-scans : {P Q : Type 0} (w : WorkerIs) (ram : RamSideIs P) (known more : List Entry) (side : RingSideIs Q) (ring : List RingEntry) → filter is_ours more ≡ []
+    → Standing w ram known side ring → Standing w ram (known ++ more) side ring
+standing-scans w ram known more side ring none s =
+    let is = scans known more none in
+    record {
+      node = s.node;
+      net = s.net;
+      serves = s.serves;
+      legal = s.legal;
+      tied = subst (λ (a : Items). Tied AController a (own w.node ring)) (sym is) s.tied;
+      waits = subst (λ (a : Items). AreWaiting w.node a (own w.node ring) w.waiting) (sym is) s.waits;
+      rest = s.rest;
+    }
+
+-- other nodes went on
+pub standing-others : {P Q : Type 0} (w : WorkerIs) (ram : RamSideIs P) (known : List Entry) (side : RingSideIs Q) (ring more : List RingEntry) → IsOnRing side.net (ring ++ more)
+    w.node → own w.node more ≡ [] → Standing w ram known side ring → Standing w ram known side (ring ++ more)
+standing-others w ram known side ring more on none s =
+    let is : own w.node (ring ++ more) ≡ own w.node ring = own-found w.node ring more none in
+    let adds : Adds false (is_of w.node) IsEnding ring (ring ++ more) = record {
+      added = [];
+      sort = tt;
+      grew = record { more = more; after_is = refl; ours_are = none; all_alone = λ e. absurd (let bad : false ≡ true = e in cc) };
+    } in
+    record {
+      node = s.node;
+      net = s.net;
+      serves = s.serves;
+      legal = on.legal;
+      tied = subst (Tied AController (items_of known)) (sym is) s.tied;
+      waits = subst (λ (b : List RingEntry). AreWaiting w.node (items_of known) b w.waiting) (sym is) s.waits;
+      rest = rest-through false side.net w.node ring (ring ++ more) (record { members = on.members; legal = s.legal; member = on.member }) on.legal adds s.rest;
+    }
