@@ -44,7 +44,8 @@ use Rattle.controller_core.specs.Controller.{EachFits, Fits, IsLegal, is_out}
 use Rattle.controller_core.specs.Controller.{uncollected}
 use Rattle.controller_core.specs.Replay.{State, apply, control_is_on, read_in, replay}
 use Rattle.controller_core.specs.Replay.{segment_solved, solved, start, table_of}
-use Rattle.tied_lists.specs.Calls.{AreNewCalls, FitsSort, IsAbove, IsNewCall, IsOut, NoEnd}
+use Rattle.ring_core.specs.Legal.{IsPath}
+use Rattle.tied_lists.specs.Calls.{AreNewCalls, FitsSort, IsAbove, IsNewCall, IsOut, IsOutOn, NoEnd}
 use Rattle.tied_lists.specs.Items.{Called, Ended, Items, Kind, OverNet, kind_in}
 use Rattle.tied_lists.specs.Items.{kind_of_sort, no_items}
 use Rattle.comm_port.specs.Reading.{called_of, controller_at, item_next, items_after, items_of}
@@ -658,9 +659,92 @@ record NewFrom (n : ℕ) (T : BlockTable) (ends : List Ended) : Type 0 where
   node : T.node ≡ n
   unended : (place : ℕ) (r : Running) → RunsAt T place r → is_some r.ask ≡ true → NoEnd r.id ends
 
+-- a call that was made and has not ended has its block, which is taken or stands before
+record Held (T : BlockTable) (k : ℕ) (id : CallId) : Type 0 where
+  place : ℕ
+  running : Running
+  there : RunsAt T place running
+  name : is_same_call running.id id ≡ true
+  gone : (is_none running.ask ≡ true) ⊎ (place < k)
+
+abbrev AreHeld : BlockTable → ℕ → List Called → List Ended → Type 0
+AreHeld T k earlier ends = (id : CallId) (kind : Kind) → kind_in earlier id ≡ Some kind → NoEnd id ends → Held T k id
+
+held-start : (n : ℕ) (T : BlockTable) (a : Items) → Follows n T a → AreHeld T 0 a.calls a.ends
+held-start n T a f id kind made unended =
+    let there = named-kind id a.calls kind made in
+    let not-over = end-none id a.ends unended in
+    let w = out-awaits T id (f.out id ∙ (λ i. there i && not (not-over i))) in
+    record { place = w.place; running = w.running; there = w.there; name = w.name; gone = inl w.asked }
+
+held-next : (T : BlockTable) (k : ℕ) (earlier : List Called) (ends : List Ended) → AreHeld T k earlier ends → AreHeld T (suc k) earlier ends
+held-next T k earlier ends held id kind made unended =
+    let h = held id kind made unended in
+    record {
+      place = h.place;
+      running = h.running;
+      there = h.there;
+      name = h.name;
+      gone = elim h.gone [ inl asked ↦ inl asked | inr below ↦ inr (omega (arith, below)) ];
+    }
+
+kind-last : (earlier : List Called) (c : Called) (id : CallId) (kind : Kind) → kind_in (earlier ++ c ∷ []) id ≡ Some kind
+    → ((k : Kind) × (kind_in earlier id ≡ Some k)) ⊎ (is_same_call c.id id ≡ true)
+kind-last [] c id kind made = at (is_same_call c.id id) refl made
+  where
+    at : (b : Bool) → is_same_call c.id id ≡ b → (if b then Some (kind_of_sort c.sort) else None) ≡ Some kind
+        → ((k : Kind) × (kind_in [] id ≡ Some k)) ⊎ (is_same_call c.id id ≡ true)
+    at true same found = inr same
+    at false same found = absurd cc
+kind-last (x ∷ xs) c id kind made = at (is_same_call x.id id) refl made (kind-last xs c id kind)
+  where
+    at : (b : Bool) → is_same_call x.id id ≡ b → (if b then Some (kind_of_sort x.sort) else kind_in (xs ++ c ∷ []) id) ≡ Some kind
+        → (kind_in (xs ++ c ∷ []) id ≡ Some kind → ((k : Kind) × (kind_in xs id ≡ Some k)) ⊎ (is_same_call c.id id ≡ true))
+        → ((k : Kind) × (kind_in (x ∷ xs) id ≡ Some k)) ⊎ (is_same_call c.id id ≡ true)
+    at true same found rest = inl (kind_of_sort x.sort, ap (λ b. if b then Some (kind_of_sort x.sort) else kind_in xs id) same)
+    at false same found rest = elim (rest found) [
+      | inl more ↦ inl (more.0, ap (λ b. if b then Some (kind_of_sort x.sort) else kind_in xs id) same ∙ more.1)
+      | inr last ↦ inr last
+    ]
+
+held-more : (T : BlockTable) (k : ℕ) (earlier : List Called) (ends : List Ended) (q : Running) (c : Called) → RunsAt T k q → c.id ≡ q.id
+    → AreHeld T k earlier ends → AreHeld T (suc k) (earlier ++ c ∷ []) ends
+held-more T k earlier ends q c here same held id kind made unended = elim (kind-last earlier c id kind made) [
+  | inl before ↦ held-next T k earlier ends held id before.0 before.1 unended
+  | inr last ↦ record {
+    place = k;
+    running = q;
+    there = here;
+    name = ap (λ (y : CallId). is_same_call y id) (sym same) ∙ last;
+    gone = inr (omega arith);
+  }
+]
+
+not-both : {X : Type 0} (o : Option X) → is_none o ≡ true → is_some o ≡ true → ⊥
+not-both None none some = absurd cc
+not-both (Some x) none some = absurd cc
+
+alone-by : (T : BlockTable) (ends : List Ended) (earlier : List Called) (k : ℕ) (r : Running) → IsTable T → RunsAt T k r → is_some r.ask ≡ true
+    → AreHeld T k earlier ends → IsPath r.id.path → (id : CallId) → IsOutOn r.id.path earlier ends id → ⊥
+alone-by T ends earlier k r table there some held net id o =
+    let h = held id o.kind o.made o.unended in
+    let path : h.running.id.path ≡ r.id.path = ap (λ (x : CallId). x.path) (same-equal h.running.id id h.name) ∙ o.path_is in
+    let two = table.apart h.place k h.running r (differ h) h.there there path in
+    let home = two.0 in
+    let away = net.0 in
+    omega (arith, home, path, away)
+  where
+    differ : (h : Held T k id) → h.place ≡ k → ⊥
+    differ h same =
+        let here : h.running ≡ r = some-same (sym h.there ∙ (ap (λ m. running_in (get_or T.blocks m Idle)) same ∙ there)) in
+        elim h.gone [
+          | inl asked ↦ not-both r.ask (ap (λ (x : Running). is_none x.ask) (sym here) ∙ asked) some
+          | inr below ↦ omega (arith, below, same)
+        ]
+
 one-new : (n : ℕ) (T : BlockTable) (ends : List Ended) (earlier : List Called) (k : ℕ) (r : Running) (ask : MstrAsk) → NewFrom n T ends
-    → RunsAt T k r → r.ask ≡ Some ask → AreFresh T k earlier → IsNewCall n earlier ends (record { id = r.id; sort = sort_of (kind_of ask) })
-one-new n T ends earlier k r ask from there asked fresh =
+    → RunsAt T k r → r.ask ≡ Some ask → AreFresh T k earlier → AreHeld T k earlier ends → IsNewCall n earlier ends (record { id = r.id; sort = sort_of (kind_of ask) })
+one-new n T ends earlier k r ask from there asked fresh held =
     let is = running-is T.node T.numbers (get_or T.blocks k Idle) r (from.table.states k) there in
     let some = is-some r.ask ask asked in
     let all = fresh k r (omega arith) there some in
@@ -677,6 +761,7 @@ one-new n T ends earlier k r ask from there asked fresh =
       first = unnamed-kind r.id earlier (fresh-unnamed r earlier all);
       unended = from.unended k r there some;
       fits = fits-ask n T.node earlier r name ask asks.0 asks.1;
+      alone = alone-by T ends earlier k r from.table there some held;
     }
 
 fresh-more : (n : ℕ) (T : BlockTable) (ends : List Ended) (earlier : List Called) (k : ℕ) (q : Running) (c : Called) → NewFrom n T ends
@@ -694,11 +779,11 @@ fresh-next : (T : BlockTable) (k : ℕ) (earlier : List Called) → AreFresh T k
 fresh-next T k earlier fresh place r behind there some = fresh place r (omega arith) there some
 
 new-calls : (n : ℕ) (T : BlockTable) (ends : List Ended) (earlier : List Called) (k : ℕ) (bs : List BlockState) → NewFrom n T ends
-    → ((i : ℕ) → get_or bs i Idle ≡ get_or T.blocks (k + i) Idle) → AreFresh T k earlier
+    → ((i : ℕ) → get_or bs i Idle ≡ get_or T.blocks (k + i) Idle) → AreFresh T k earlier → AreHeld T k earlier ends
     → AreNewCalls n earlier ends (map called_of (map call_of (filter_map untaken bs)))
-new-calls n T ends earlier k [] from here fresh = tt
-new-calls n T ends earlier k (b ∷ bs) from here fresh =
-    at (untaken b) refl (λ l all. new-calls n T ends l (suc k) bs from next all)
+new-calls n T ends earlier k [] from here fresh held = tt
+new-calls n T ends earlier k (b ∷ bs) from here fresh held =
+    at (untaken b) refl (λ l all more. new-calls n T ends l (suc k) bs from next all more)
   where
     next : (i : ℕ) → get_or bs i Idle ≡ get_or T.blocks (suc k + i) Idle
     next i = here (suc i) ∙ (let e : k + suc i ≡ suc k + i = omega arith in ap (λ m. get_or T.blocks m Idle) e)
@@ -707,17 +792,20 @@ new-calls n T ends earlier k (b ∷ bs) from here fresh =
     is-here = here 0 ∙ (let e : k + 0 ≡ k = omega arith in ap (λ m. get_or T.blocks m Idle) e)
 
     at : (o : Option MstrCall) → untaken b ≡ o
-        → ((l : List Called) → AreFresh T (suc k) l → AreNewCalls n l ends (map called_of (map call_of (filter_map untaken bs))))
+        → ((l : List Called) → AreFresh T (suc k) l → AreHeld T (suc k) l ends → AreNewCalls n l ends (map called_of (map call_of (filter_map untaken bs))))
         → AreNewCalls n earlier ends (map called_of (map call_of (cons_option o (filter_map untaken bs))))
-    at None is rest = rest earlier (fresh-next T k earlier fresh)
+    at None is rest = rest earlier (fresh-next T k earlier fresh) (held-next T k earlier ends held)
     at (Some call) is rest =
         let w = started-of b call is in
         let there : RunsAt T k w.running = sym (ap running_in is-here) ∙ w.there in
         let c = called_of (call_of call) in
-        let new = one-new n T ends earlier k w.running call.ask from there w.ask_is fresh in
+        let new = one-new n T ends earlier k w.running call.ask from there w.ask_is fresh held in
         let same : record { id = w.running.id; sort = sort_of (kind_of call.ask) } ≡ c =
-        λ i. record { id = w.id_is i; sort = sort_of (kind_of call.ask) } in
-        (subst (IsNewCall n earlier ends) same new, rest (earlier ++ c ∷ []) (fresh-more n T ends earlier k w.running c from there (sym w.id_is) fresh))
+        λ i. record { id = w.id_is i; sort = sort_of (kind_of call.ask) } in (
+          subst (IsNewCall n earlier ends) same new,
+          rest (earlier ++ c ∷ []) (fresh-more n T ends earlier k w.running c from there (sym w.id_is) fresh)
+              (held-more T k earlier ends w.running c there (sym w.id_is) held),
+        )
 
 -- the calls that a controller collects are new
 pub collected-new : CallLaws → (fixed : Fixed) (h : List Entry) → IsLegal fixed h
@@ -734,4 +822,4 @@ collected-new laws fixed h legal =
           no-end r.id a.ends (no-true (over r.id a.ends) (λ ended. clash (f.made r.id ended) none));
     } in
     new-calls fixed.plan.node T a.ends a.calls 0 T.blocks from (λ i. let e : i ≡ 0 + i = omega arith in ap (λ m. get_or T.blocks m Idle) e)
-    (λ place r behind there some. above-fresh r a.calls (f.above place r there some))
+    (λ place r behind there some. above-fresh r a.calls (f.above place r there some)) (held-start fixed.plan.node T a f)

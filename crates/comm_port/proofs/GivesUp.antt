@@ -12,10 +12,12 @@ use Rattle.ring_core.specs.declared.refusal.RingNo.{RingNo}
 use Rattle.ring_core.specs.declared.entry.RingEntry.{RingEntry}
 use Rattle.ring_core.specs.declared.entry.RingEntry.TheVariants.{Post, Send, Take, Local, GiveUp}
 use Rattle.ring_core.specs.declared.entry.RingEntry.TheVariants.{Pass, Leave}
+use Rattle.ring_core.specs.declared.path.Await.{Await}
+use Rattle.ring_core.specs.declared.path.Await.TheVariants.{Nothing, Out, Arrived, Failed}
 use Rattle.ring_core.specs.Machine.{NodeIs, path_of}
-use Rattle.tied_lists.specs.Own.{is_of, WentOn, Grew}
+use Rattle.tied_lists.specs.Own.{is_of, own, WentOn, Grew}
 use Rattle.tied_lists.specs.Items.{Called}
-use Rattle.tied_lists.specs.Waits.{AwaitsThis}
+use Rattle.tied_lists.specs.Waits.{waiting as waits_on, AwaitsThis, HasLeft}
 use Rattle.tied_lists.proofs.Growth.{grew-one}
 use Rattle.tied_lists.proofs.Histories.{legal-follows}
 use Rattle.comm_port.specs.Sides.{RingSideIs, RamSideIs}
@@ -192,3 +194,32 @@ given-more alone alone' net n chosen p known known' known'' ring ring' ring'' fr
     (part-both alone alone' is_ours n (InOrder IsGivenUp (due_calls net n ring paths)) (InOrder IsGivenUp (due_calls net n ring' (p ∷ [])))
     (InOrder IsGivenUp (due_calls net n ring paths ++ due_calls net n ring' (p ∷ []))) known known' known'' ring ring' ring''
     (λ noted noted' done done' x y. in-order-both IsGivenUp (due_calls net n ring paths) (due_calls net n ring' (p ∷ [])) noted noted' done done' x y) a b)
+
+-- ---- of a node that has left each call that waits may be given up
+
+gone-some : (answer n p : ℕ) (a : Await) (f : Frame) → AwaitsThis a (Some f) → due_by answer false n p a ≡ None → ⊥
+gone-some answer n p Nothing f w e = w
+gone-some answer n p (Out seq to passes) f w e = let bad : Some (record { node = n; path = p; seq = seq }) ≡ None = e in cc
+gone-some answer n p (Arrived seq) f w e = let bad : Some (record { node = n; path = p; seq = seq }) ≡ None = e in cc
+gone-some answer n p (Failed seq word) f w e = let bad : Some (record { node = n; path = p; seq = seq }) ≡ None = e in cc
+
+never-no : (due : Option CallId) (no' : Option RingNo) (id : CallId) → Judged due no' id → (due ≡ None → ⊥) → no' ≡ None
+never-no due None id j some = refl
+never-no due (Some why) id j some = absurd (some (j.never why refl))
+
+pub gone-may : {P Q : Type 0} (rest : List Called) (n : ℕ) (id : CallId) (ram : RamSideIs P) (known : List Entry) (side : RingSideIs Q) (ring : List RingEntry) (w : List
+    (Option Frame)) → HasLeft side.net ring n → (k : Waits n id.path id ram known side ring w) → Turning n rest ram known side ring w → part_no side.net (part_at side.net id.node
+    ring) id ≡ None
+gone-may rest n id ram known side ring w gone k t =
+    let p = id.path in
+    let c = part_at side.net n ring in
+    let some : due_on side.net n c p ≡ None → ⊥ = λ e. gone-some side.net.answer n p (path_of c p).awaits k.ask (awaits-own n p rest ram known side ring w (Some k.ask) k.slot t)
+    (ap (λ (b : Bool). due_by side.net.answer b n p (path_of c p).awaits) (sym gone) ∙ e) in
+    subst (λ (m : ℕ). part_no side.net (part_at side.net m ring) id ≡ None) (sym k.own_is)
+    (never-no (due_on side.net n c p) (part_no side.net c id) id (judged-on n p id rest ram known side ring w k t) some)
+
+-- a path that waits for nothing awaits nothing
+pub waits-nothing : {P Q : Type 0} (n p : ℕ) (rest : List Called) (ram : RamSideIs P) (known : List Entry) (side : RingSideIs Q) (ring : List RingEntry) (w : List (Option
+    Frame)) → waits_on p (own n ring) ≡ None → Turning n rest ram known side ring w → (path_of (part_at side.net n ring) p).awaits ≡ Nothing
+waits-nothing n p rest ram known side ring w none t =
+    nothing-waits _ (subst (AwaitsThis (path_of (part_at side.net n ring) p).awaits) none ((legal-follows side.net ring n t.own_turn.on).node.part.paths p))

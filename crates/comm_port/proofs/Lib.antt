@@ -15,6 +15,7 @@ pub mod HostSends
 pub mod HostHolds
 pub mod HostTurnLaws
 pub mod HostRefusals
+pub mod HostStandings
 pub mod HostLists
 pub mod HostTurning
 pub mod HostAsks
@@ -33,3 +34,5 @@ pub mod Turned
 pub mod Visits
 pub mod TurnLaws
 pub mod Standings
+pub mod Allowed
+pub mod HostBoxes

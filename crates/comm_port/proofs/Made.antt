@@ -5,7 +5,7 @@ use Rattle.std.proofs.Common.{Option, Some, None, refl, sym, ap, ◌∙◌, subs
 use Rattle.std.proofs.Common.{append_assoc, get_or-set_same, get_or-set_other, eq-eqb}
 use Rattle.std.proofs.Common.{ne_eqb, length-append, drop-cons, add-one}
 use Rattle.std.specs.List.{cons_option, AllByRecursion as Each}
-use Rattle.std.proofs.lemmas.Bool.{cases_eq, cond-true, cond-false}
+use Rattle.std.proofs.lemmas.Bool.{cases_eq, cases_Bool, cond-true, cond-false}
 use Rattle.std.proofs.lemmas.List.{length-set}
 use Rattle.std.proofs.lemmas.List.Elements.{filter_map-append}
 use Rattle.plant_types.specs.declared.net.NetPlan.{NetPlan}
@@ -28,13 +28,15 @@ use Rattle.tied_lists.specs.Own.{is_of, own, WentOn, Grew}
 use Rattle.tied_lists.specs.Items.{AController, Items, Called, CallSort, OverNet, AtHome, Kind}
 use Rattle.tied_lists.specs.Items.{NetCall, LocalCall, Ended, Asked, Came, net_ask, kind_in}
 use Rattle.tied_lists.specs.Items.{kind_of_sort, asked_in, asked_by, with_calls, with_end}
+use Rattle.tied_lists.specs.Items.{last_asked}
+use Rattle.tied_lists.specs.Items.{or_some}
 use Rattle.tied_lists.specs.Tied.{TiedBut}
-use Rattle.tied_lists.specs.Calls.{IsOutAs, IsAbove, FitsSort, AreNewCalls}
+use Rattle.tied_lists.specs.Calls.{IsOutAs, IsOutOn, IsAbove, FitsSort, AreNewCalls, NoEnd}
 use Rattle.tied_lists.specs.Waits.{waiting as waits_on, waits_posted, number_posted}
 use Rattle.tied_lists.specs.Waits.{number_after, IsAsk}
 use Rattle.tied_lists.proofs.Paths.{waiting-push}
 use Rattle.tied_lists.proofs.Histories.{legal-follows}
-use Rattle.tied_lists.proofs.Asked.{other-path, no-end-push, kind-more, kind-new}
+use Rattle.tied_lists.proofs.Asked.{other-path, no-end-push, kind-more, kind-new, waiting-last}
 use Rattle.tied_lists.proofs.Growth.{grew-ours}
 use Rattle.tied_lists.proofs.Steps.{tied-all, tied-called, tied-posted, tied-done}
 use Rattle.tied_lists.proofs.Turns.{part}
@@ -100,12 +102,54 @@ asked-before n rest ram known side ring w o =
     front (asked_by (own n ring)) (filter_map net_ask o.earlier) (filter_map net_ask rest)
     (o.turning.tied.asks ∙ (ap (filter_map net_ask) o.calls_are ∙ filter_map-append net_ask o.earlier rest))
 
+later-or : (o : Option (List ℕ)) (b : Bool) (pdu x : List ℕ) → b ≡ false → or_some o (cond b (Some pdu) None) ≡ Some x → o ≡ Some x
+later-or (Some y) b pdu x no' e = e
+later-or None true pdu x no' e = absurd (cc)
+later-or None false pdu x no' e = absurd (let bad : None ≡ Some x = e in cc)
+
+later-sort : (c : Called) (cs : List Called) (id : CallId) (x : List ℕ) (k : CallSort) → c.sort ≡ k → is_same_call c.id id ≡ false
+    → last_asked id (filter_map net_ask (c ∷ cs)) ≡ Some x → last_asked id (filter_map net_ask cs) ≡ Some x
+later-sort c cs id x (OverNet to pdu) is no' e =
+    later-or (last_asked id (filter_map net_ask cs)) (is_same_call c.id id) pdu x no'
+    (subst (λ (k : CallSort). last_asked id (filter_map net_ask (record { id = c.id; sort = k } ∷ cs)) ≡ Some x) is e)
+later-sort c cs id x (AtHome op) is no' e = subst (λ (k : CallSort). last_asked id (filter_map net_ask (record { id = c.id; sort = k } ∷ cs)) ≡ Some x) is e
+
+later : (c : Called) (cs : List Called) (id : CallId) (x : List ℕ) → is_same_call c.id id ≡ false → last_asked id (filter_map
+    net_ask (c ∷ cs)) ≡ Some x → last_asked id (filter_map net_ask cs) ≡ Some x
+later c cs id x no' e = later-sort c cs id x c.sort refl no' e
+
+-- what was asked is a call that was made
+pub known-net : (calls : List Called) (id : CallId) (x : List ℕ) → last_asked id (filter_map net_ask calls) ≡ Some x → (k : Kind) × (kind_in calls id ≡ Some k)
+known-net [] id x e = absurd (let no' : None ≡ Some x = e in cc)
+known-net (c ∷ cs) id x e = ⊎_elim
+    (λ (y : is_same_call c.id id ≡ true). (kind_of_sort c.sort, cond-true (is_same_call c.id id) _ _ y))
+    (λ (no' : is_same_call c.id id ≡ false).
+    let rest = known-net cs id x (later c cs id x no' e) in
+    (rest.0, cond-false (is_same_call c.id id) _ _ no' ∙ rest.1))
+    (cases_Bool (is_same_call c.id id))
+
+-- a path by the network waits for nothing where a new call takes it
+free-path : {P Q : Type 0} (n : ℕ) (c : Called) (rest : List Called) (ram : RamSideIs P) (known : List Entry) (side : RingSideIs Q) (ring : List RingEntry) (w : List
+    (Option Frame)) → IsPath c.id.path → Owing n (c ∷ rest) ram known side ring w → (o : Option Frame) → waits_on c.id.path (own n ring) ≡ o → waits_on c.id.path (own n
+    ring) ≡ None
+free-path n c rest ram known side ring w net o None is = is
+free-path n c rest ram known side ring w net o (Some f) is =
+    let t = o.turning in
+    let p = c.id.path in
+    let slot : get_or w p None ≡ Some f = t.waits.waits p ∙ is in
+    let ask = t.waits.asks p f slot in
+    let out = t.waits.outs p f slot in
+    let last : last_asked f.id (asked_by (own n ring)) ≡ Some f.pdu = waiting-last p f (own n ring) ask.path is in
+    let made = known-net o.earlier f.id f.pdu (ap (last_asked f.id) (sym (asked-before n (c ∷ rest) ram known side ring w o)) ∙ last) in
+    absurd (o.fresh.0.alone net f.id (record { path_is = ask.path; kind = made.0; made = made.1; unended = out.unended }))
+
 -- a network call may be posted
 pub record MayPost (net : NetPlan) (n : ℕ) (ring : List RingEntry) (id : CallId) (to : ℕ) : Type 0 where
   pub own_is : id.node ≡ n
   pub other : to ≢ n
   pub path : IsPath id.path
   pub next : (path_of (part net ring n) id.path).posted < id.seq
+  pub free : waits_on id.path (own n ring) ≡ None
 
 fits-net : (n : ℕ) (earlier : List Called) (id : CallId) (k : CallSort) (to : ℕ) (pdu : List ℕ) → k ≡ OverNet to pdu → FitsSort n
     earlier id k → FitsSort n earlier id (OverNet to pdu)
@@ -126,6 +170,7 @@ may-post n c rest to pdu ram known side ring w is o =
       other = f.0;
       path = f.1;
       next = subst (λ (m : ℕ). m < c.id.seq) (sym (follows.numbers c.id.path low)) (number-below c.id.path c.id.seq 0 (own n ring) f.2 all);
+      free = free-path n c rest ram known side ring w f.1 o (waits_on c.id.path (own n ring)) refl;
     }
 
 -- the call was posted
@@ -210,13 +255,27 @@ kind-hit (x ∷ xs) ys c id none = kind-hit xs ys c id (second (is_same_call x.i
     second true x y e = absurd (let no' : Some x ≡ None = e in cc)
     second false x y e = e
 
+-- what is out after an end was out before it
+no-end-front : (id : CallId) (ends : List Ended) (e : Ended) → NoEnd id (ends ++ e ∷ []) → NoEnd id ends
+no-end-front id [] e none = tt
+no-end-front id (x ∷ ends) e none = (none.0, no-end-front id ends e none.1)
+
+pub out-before : (path : ℕ) (calls : List Called) (ends : List Ended) (e : Ended) (id : CallId) → IsOutOn path calls (ends ++ e ∷ []) id → IsOutOn path calls ends id
+out-before path calls ends e id o = record { path_is = o.path_is; kind = o.kind; made = o.made; unended = no-end-front id ends e o.unended }
+
 new-ends : (n : ℕ) (pre post : List Called) (c : Called) (ends : List Ended) (rest : List Called) (e : Ended) → e.id ≡ c.id →
     AreNewCalls n (pre ++ c ∷ post) ends rest → AreNewCalls n (pre ++ c ∷ post) (ends ++ e ∷ []) rest
 new-ends n pre post c ends [] e is all = tt
 new-ends n pre post c ends (r ∷ rest) e is all =
     let one = all.0 in
     let other : is_same_call e.id r.id ≡ false = ap (λ (i : CallId). is_same_call i r.id) is ∙ kind-hit pre post c r.id one.first in (
-      record { own = one.own; first = one.first; unended = no-end-push r.id ends e other one.unended; fits = one.fits },
+      record {
+        own = one.own;
+        first = one.first;
+        unended = no-end-push r.id ends e other one.unended;
+        fits = one.fits;
+        alone = λ net id o. one.alone net id (out-before r.id.path (pre ++ c ∷ post) ends e id o);
+      },
       subst (λ (l : List Called). AreNewCalls n l (ends ++ e ∷ []) rest) (sym (append_assoc pre (c ∷ post) (r ∷ [])))
           (new-ends n pre (post ++ r ∷ []) c ends rest e is (subst (λ (l : List Called). AreNewCalls n l ends rest) (append_assoc
           pre (c ∷ post) (r ∷ [])) all.1)),

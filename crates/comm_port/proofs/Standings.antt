@@ -1,18 +1,16 @@
 -- A worker that stands between two turns: at the start, and while others go on.
-use Rattle.std.proofs.Common.{◌≡◌, ◌⊎◌, ℕ, zero, suc, ◌<◌, ◌≤◌, Bool, true, false, List, [], ◌∷◌}
+use Rattle.std.proofs.Common.{◌≡◌, ℕ, zero, suc, Bool, true, false, List, [], ◌∷◌}
 use Rattle.std.proofs.Common.{◌++◌, filter, get_or, set, replicate, Option, Some, None}
-use Rattle.std.proofs.Common.{refl, sym, ap, ◌∙◌, subst, append-nil}
+use Rattle.std.proofs.Common.{refl, sym, ◌∙◌, subst, append-nil}
 use Rattle.std.proofs.lemmas.List.{length-replicate}
 use Rattle.plant_types.specs.declared.net.NetPlan.{NetPlan}
 use Rattle.controller_core.specs.declared.entry.Entry.{Entry}
 use Rattle.ring_core.specs.declared.frame.Frame.{Frame}
-use Rattle.ring_core.specs.declared.path.Await.TheVariants.{Failed}
 use Rattle.ring_core.specs.declared.path.Path.{Path}
 use Rattle.ring_core.specs.declared.entry.RingEntry.{RingEntry}
 use Rattle.ring_core.specs.Machine.{NodeIs, addresses, path_places, no_path, fresh, part_of}
-use Rattle.ring_core.specs.Machine.{path_of, with_members}
-use Rattle.ring_core.specs.Legal.{IsLegal}
-use Rattle.tied_lists.specs.Own.{is_of, own, WentOn, Adds}
+use Rattle.ring_core.specs.Machine.{with_members}
+use Rattle.tied_lists.specs.Own.{is_of, own, Adds}
 use Rattle.tied_lists.specs.Items.{AController, Items, no_items}
 use Rattle.tied_lists.specs.Tied.{Tied}
 use Rattle.tied_lists.specs.Waits.{IsOnRing}

@@ -1,5 +1,5 @@
 -- What a controller's turn tells those above: both lists went on by its own entries.
-use Rattle.std.proofs.Common.{◌≡◌, ℕ, Bool, List, [], ◌∷◌, ◌++◌, refl}
+use Rattle.std.proofs.Common.{ℕ, Bool, List, [], ◌∷◌, ◌++◌, refl}
 use Rattle.std.specs.List.{AllByRecursion as Each}
 use Rattle.plant_types.specs.declared.net.NetPlan.{NetPlan}
 use Rattle.controller_core.specs.declared.fixed.Fixed.{Fixed}
@@ -9,7 +9,6 @@ use Rattle.ring_core.specs.declared.entry.RingEntry.{RingEntry}
 use Rattle.tied_lists.specs.Own.{is_of, WentOn, Grew, Adds}
 use Rattle.tied_lists.proofs.Growth.{grew-one, grew-more}
 use Rattle.comm_port.specs.HoldTurn.{Collects, Ends, HoldsTurn, VisitsEnd}
-use Rattle.comm_port.specs.Parts.{PartOf}
 use Rattle.comm_port.specs.Reading.{is_ours}
 
 -- a list went on by these own entries

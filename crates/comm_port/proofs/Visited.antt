@@ -1,8 +1,8 @@
 -- What a visit of a node that has left leaves.
-use Rattle.std.proofs.Common.{◌≡◌, ℕ, ◌==◌, Bool, true, false, cond, List, [], ◌∷◌, ◌++◌}
-use Rattle.std.proofs.Common.{filter_map, set, Option, Some, None, refl, sym, ap, ◌∙◌}
+use Rattle.std.proofs.Common.{◌≡◌, ℕ, ◌==◌, Bool, true, false, List, [], ◌∷◌, ◌++◌}
+use Rattle.std.proofs.Common.{set, Option, Some, None, sym, ap, ◌∙◌}
 use Rattle.std.proofs.Common.{subst}
-use Rattle.std.proofs.lemmas.Bool.{eqb-true, and_parts, cases_Bool, cond-true, cond-false}
+use Rattle.std.proofs.lemmas.Bool.{eqb-true, and_parts, cases_Bool}
 use Rattle.std.proofs.Common.{⊎_elim}
 use Rattle.mstr_block.specs.declared.call.CallId.{CallId}
 use Rattle.mstr_block.specs.declared.call.MstrResult.TheVariants.{Bad}
@@ -13,9 +13,8 @@ use Rattle.ring_core.specs.declared.entry.RingEntry.{RingEntry}
 use Rattle.ring_core.specs.Words.{is_same_call}
 use Rattle.ring_core.specs.Legal.{IsLegal}
 use Rattle.tied_lists.specs.Own.{is_of, own, WentOn, Grew}
-use Rattle.tied_lists.specs.Items.{Called, CallSort, OverNet, AtHome, Kind, Ended, Items}
-use Rattle.tied_lists.specs.Items.{Came, net_ask, kind_in, kind_of_sort, asked_by, last_asked}
-use Rattle.tied_lists.specs.Items.{or_some}
+use Rattle.tied_lists.specs.Items.{Called, Kind, Ended, Items}
+use Rattle.tied_lists.specs.Items.{Came, kind_in, asked_by, last_asked}
 use Rattle.tied_lists.specs.Calls.{AreNewCalls}
 use Rattle.tied_lists.specs.Waits.{waiting as waits_on}
 use Rattle.tied_lists.proofs.Asked.{waiting-last, no-end-push, kind-more}
@@ -26,7 +25,7 @@ use Rattle.comm_port.specs.Turns.{KeepsInbox}
 use Rattle.comm_port.specs.Making.{Owing}
 use Rattle.comm_port.proofs.Items.{items-one}
 use Rattle.comm_port.proofs.Given.{Waits, given-lead-but, stays-lead}
-use Rattle.comm_port.proofs.Made.{asked-before}
+use Rattle.comm_port.proofs.Made.{asked-before, known-net, out-before}
 
 same-eq : (a b : CallId) → is_same_call a b ≡ true → a ≡ b
 same-eq a b e =
@@ -34,32 +33,6 @@ same-eq a b e =
     let two = and_parts (a.path == b.path) (a.seq == b.seq) first.1 in
     let n = eqb-true a.node b.node first.0 in let p = eqb-true a.path b.path two.0 in let k = eqb-true a.seq b.seq two.1 in
     (λ i. record { node = n i; path = p i; seq = k i })
-
-later-or : (o : Option (List ℕ)) (b : Bool) (pdu x : List ℕ) → b ≡ false → or_some o (cond b (Some pdu) None) ≡ Some x → o ≡ Some x
-later-or (Some y) b pdu x no' e = e
-later-or None true pdu x no' e = absurd (cc)
-later-or None false pdu x no' e = absurd (let bad : None ≡ Some x = e in cc)
-
-later-sort : (c : Called) (cs : List Called) (id : CallId) (x : List ℕ) (k : CallSort) → c.sort ≡ k → is_same_call c.id id ≡ false
-    → last_asked id (filter_map net_ask (c ∷ cs)) ≡ Some x → last_asked id (filter_map net_ask cs) ≡ Some x
-later-sort c cs id x (OverNet to pdu) is no' e =
-    later-or (last_asked id (filter_map net_ask cs)) (is_same_call c.id id) pdu x no'
-    (subst (λ (k : CallSort). last_asked id (filter_map net_ask (record { id = c.id; sort = k } ∷ cs)) ≡ Some x) is e)
-later-sort c cs id x (AtHome op) is no' e = subst (λ (k : CallSort). last_asked id (filter_map net_ask (record { id = c.id; sort = k } ∷ cs)) ≡ Some x) is e
-
-later : (c : Called) (cs : List Called) (id : CallId) (x : List ℕ) → is_same_call c.id id ≡ false → last_asked id (filter_map
-    net_ask (c ∷ cs)) ≡ Some x → last_asked id (filter_map net_ask cs) ≡ Some x
-later c cs id x no' e = later-sort c cs id x c.sort refl no' e
-
--- what was asked is a call that was made
-known-net : (calls : List Called) (id : CallId) (x : List ℕ) → last_asked id (filter_map net_ask calls) ≡ Some x → (k : Kind) × (kind_in calls id ≡ Some k)
-known-net [] id x e = absurd (let no' : None ≡ Some x = e in cc)
-known-net (c ∷ cs) id x e = ⊎_elim
-    (λ (y : is_same_call c.id id ≡ true). (kind_of_sort c.sort, cond-true (is_same_call c.id id) _ _ y))
-    (λ (no' : is_same_call c.id id ≡ false).
-    let rest = known-net cs id x (later c cs id x no' e) in
-    (rest.0, cond-false (is_same_call c.id id) _ _ no' ∙ rest.1))
-    (cases_Bool (is_same_call c.id id))
 
 -- a call that was made is not one of the new ones
 ends-of-known : (n : ℕ) (earlier : List Called) (ends : List Ended) (rest : List Called) (e : Ended) (k : Kind) → kind_in earlier
@@ -70,7 +43,13 @@ ends-of-known n earlier ends (r ∷ rest) e k known all =
     let other : is_same_call e.id r.id ≡ false = ⊎_elim
     (λ (y : is_same_call e.id r.id ≡ true). absurd (let no' : None ≡ Some k = sym one.first ∙ (ap (kind_in earlier) (sym (same-eq e.id r.id y)) ∙ known) in cc))
     (λ (no' : is_same_call e.id r.id ≡ false). no') (cases_Bool (is_same_call e.id r.id)) in (
-      record { own = one.own; first = one.first; unended = no-end-push r.id ends e other one.unended; fits = one.fits },
+      record {
+        own = one.own;
+        first = one.first;
+        unended = no-end-push r.id ends e other one.unended;
+        fits = one.fits;
+        alone = λ net id o. one.alone net id (out-before r.id.path earlier ends e id o);
+      },
       ends-of-known n (earlier ++ r ∷ []) ends rest e k (kind-more earlier (r ∷ []) e.id k known) all.1,
     )
 

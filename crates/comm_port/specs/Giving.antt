@@ -101,6 +101,10 @@ IsDueNext net n On old past _ = ⊥
 abbrev pub NonePathFailed : NodeIs → Type 0
 NonePathFailed c = (path seq word : ℕ) → (path_of c path).awaits ≡ Failed seq word → ⊥
 
+-- Nothing is to be sent, and nothing to be taken.
+abbrev pub BoxesEmpty : NodeIs → Type 0
+BoxesEmpty c = (c.outbox ≡ []) × (c.inbox ≡ [])
+
 -- Nothing of a node is to be sent, and none of its calls has failed.
 pub record IsAtRest (net : NetPlan) (n : ℕ) (ring : List RingEntry) : Type 0 where
   pub all_sent : (part_at net n ring).outbox ≡ []

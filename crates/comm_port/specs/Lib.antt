@@ -9,6 +9,7 @@ pub mod Sending
 pub mod Ending
 pub mod Worker
 pub mod HostTurns
+pub mod HostStands
 pub mod Effects
 pub mod JointLaws
 pub mod Complete

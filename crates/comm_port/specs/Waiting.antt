@@ -3,6 +3,7 @@ use Rattle.std.specs.Prelude.{◌≡◌, ℕ, Bool, List, [], ◌∷◌, get_or,
 use Rattle.mstr_block.specs.declared.call.CallId.{CallId}
 use Rattle.ring_core.specs.declared.frame.Frame.{Frame}
 
+-- The name of the call that a Request asks for.
 abbrev pub id_of : Option Frame → Option CallId
 id_of None = None
 id_of (Some f) = Some f.id

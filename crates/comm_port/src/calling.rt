@@ -1,6 +1,7 @@
 //! The second part of a controller's turn: the calls that it started are made.
 ghost use Rattle.std.specs.Prelude.{◌≡◌, ◌≢◌, ◌<◌, ◌+◌, ◌∷◌, [], true, length, OnOk, set, Some};
-ghost use Rattle.ring_core.specs.Machine.{ring_node, ring_after};
+ghost use Rattle.ring_core.specs.Machine.{ring_node, ring_after, path_of};
+ghost use Rattle.ring_core.specs.declared.path.Await.TheVariants.{Nothing};
 ghost use Rattle.ring_core.specs.Legal.{IsLegal, IsPath, IsNextNumber, HasRoom};
 ghost use Rattle.ring_core.specs.declared.frame.FrameKind.TheVariants.{Request};
 ghost use Rattle.ring_core.specs.declared.entry.RingEntry.TheVariants.{Post};
@@ -14,6 +15,7 @@ ghost use Rattle.comm_port.specs.Reading.{items_of, is_ours};
 ghost use Rattle.comm_port.specs.Turns.{IsOwnTurn, KeepsInbox, Turning};
 ghost use Rattle.comm_port.specs.Making.{request_frame, Does, Owing, calls_from};
 
+use crate::asking::{do_local, post_frame};
 use crate::ram_side::RamSide;
 use crate::ring_side::RingSide;
 use crate::short::Short;
@@ -50,6 +52,8 @@ pub(crate) fn post_call<R: RingSide>(
     requires path { IsPath frame.id.path }
     requires next { IsNextNumber (ring_node (ring_after (R.side ring.old).net (R.known ring.old))
         node) Request frame.id }
+    requires free { (path_of (ring_node (ring_after (R.side ring.old).net (R.known ring.old)) node)
+        frame.id.path).awaits ≡ Nothing }
     ensures grew { OnOk result (Grew R.alone (is_of node) (R.known ring.old)
         (Post node frame ∷ []) (R.known ring.new)) }
     ensures kept { OnOk result
@@ -59,7 +63,7 @@ pub(crate) fn post_call<R: RingSide>(
     ensures same { R.side ring.new ≡ R.side ring.old }
 {
     let kept = frame.copied(alloc)?;
-    ring.post(node, frame)?;
+    post_frame(node, frame, ring)?;
     waiting.keep(kept);
     Ok(())
 }
@@ -83,7 +87,7 @@ fn do_call<M: RamSide, R: RingSide>(
     ensures ram_same { M.side ram.new ≡ M.side ram.old }
     ensures ring_same { R.side ring.new ≡ R.side ring.old }
 {
-    let outcome = ring.local(node, id, op)?;
+    let outcome = do_local(node, id, op, ring)?;
     ram.finish(id, outcome)?;
     Ok(())
 }

@@ -10,6 +10,7 @@ ghost use Rattle.tied_lists.specs.Own.{own};
 ghost use Rattle.tied_lists.specs.Waits.{HasLeft, Holds};
 ghost use Rattle.comm_port.specs.Turns.{KeepsInbox};
 ghost use Rattle.comm_port.specs.Leaving.{IsHere};
+ghost use Rattle.comm_port.specs.Giving.{part_at, BoxesEmpty};
 ghost use Rattle.comm_port.specs.Sending.{sends_left};
 ghost use Rattle.comm_port.specs.HostTurns.{after_turn, AreNew, AskedAll, AskedNext, chosen};
 ghost use Rattle.comm_port.specs.HostTurns.{chosen_paths, CountsPasses, EndsHostTurn, EndsWithPass};
@@ -374,6 +375,7 @@ fn end_turn<R: RingSide>(
 ) -> Result<bool, Short>
     requires turning { HostTurning node host.old (R.side ring.old) (R.known ring.old) }
     requires holds { Holds (R.side ring.old).net (R.known ring.old) node }
+    requires boxes { BoxesEmpty (part_at (R.side ring.old).net node (R.known ring.old)) }
     ensures ties { OnOk result (HostTies node host.new (R.side ring.old) (R.known ring.new)) }
     ensures passed { IfOk result (λ left. left ≡ false
         → EndsWithPass node (host_is_done host.new) (own node (R.known ring.new))) }

@@ -1,12 +1,13 @@
 //! The end of a turn: the node leaves where that is due, else it passes the token on.
-ghost use Rattle.std.specs.Prelude.{◌≡◌, ◌&&◌, is_some, OnOk, IfOk};
+ghost use Rattle.std.specs.Prelude.{◌≡◌, ◌&&◌, [], is_some, OnOk, IfOk};
 ghost use Rattle.ring_core.specs.Legal.{IsLegal};
-ghost use Rattle.ring_core.specs.Machine.{ring_after};
+ghost use Rattle.ring_core.specs.Machine.{ring_after, ring_node};
 ghost use Rattle.ring_core.specs.Scratch.{words_put};
 ghost use Rattle.tied_lists.specs.Waits.{Holds};
 ghost use Rattle.comm_port.specs.Turns.{IsOwnTurn};
 ghost use Rattle.comm_port.specs.Leaving.{cause_due, is_due, HandedOn, LeftOrStood};
 
+use crate::asking::pass_on;
 use crate::ring_side::RingSide;
 use crate::short::Short;
 use ring_core::{LeaveCause, RingNo};
@@ -15,6 +16,10 @@ use ring_core::{LeaveCause, RingNo};
 fn leave_if_due<R: RingSide>(node: u8, cause: LeaveCause, ring: &mut R) -> Result<bool, Short>
     requires turn { IsOwnTurn (R.side ring.old) (R.known ring.old) node }
     requires holds { Holds (R.side ring.old).net (R.known ring.old) node }
+    requires sent { (ring_node (ring_after (R.side ring.old).net (R.known ring.old)) node).outbox
+        ≡ [] }
+    requires taken { (ring_node (ring_after (R.side ring.old).net (R.known ring.old)) node).inbox
+        ≡ [] }
     ensures due { IfOk result (λ left. left
         ≡ is_due (R.side ring.old).net (ring_after (R.side ring.old).net (R.known ring.old)) node cause) }
     ensures did { IfOk result (LeftOrStood R.alone (R.side ring.old).net node cause
@@ -24,8 +29,10 @@ fn leave_if_due<R: RingSide>(node: u8, cause: LeaveCause, ring: &mut R) -> Resul
 {
     match ring.leave(node, cause) {
         Ok(()) => Ok(true),
-        Err(RingNo::NotDue { .. }) => Ok(false),
-        Err(_) => Err(Short),
+        Err(why) => match why {
+            RingNo::NotDue { .. } => Ok(false),
+            _ => Err(Short::of(why)),
+        },
     }
 }
 
@@ -38,6 +45,10 @@ fn leave_if<R: RingSide>(
 ) -> Result<bool, Short>
     requires turn { IsOwnTurn (R.side ring.old) (R.known ring.old) node }
     requires holds { Holds (R.side ring.old).net (R.known ring.old) node }
+    requires sent { (ring_node (ring_after (R.side ring.old).net (R.known ring.old)) node).outbox
+        ≡ [] }
+    requires taken { (ring_node (ring_after (R.side ring.old).net (R.known ring.old)) node).inbox
+        ≡ [] }
     ensures due { IfOk result (λ left. left ≡ (wants
         && is_due (R.side ring.old).net (ring_after (R.side ring.old).net (R.known ring.old)) node cause)) }
     ensures did { IfOk result (LeftOrStood R.alone (R.side ring.old).net node cause
@@ -62,6 +73,10 @@ pub(crate) fn hand_on<R: RingSide>(
 ) -> Result<bool, Short>
     requires turn { IsOwnTurn (R.side ring.old) (R.known ring.old) node }
     requires holds { Holds (R.side ring.old).net (R.known ring.old) node }
+    requires sent { (ring_node (ring_after (R.side ring.old).net (R.known ring.old)) node).outbox
+        ≡ [] }
+    requires taken { (ring_node (ring_after (R.side ring.old).net (R.known ring.old)) node).inbox
+        ≡ [] }
     ensures left { IfOk result (λ left. left ≡ is_some (cause_due (R.side ring.old).net
         (ring_after (R.side ring.old).net (R.known ring.old)) node done budget)) }
     ensures handed { OnOk result (HandedOn R.alone (R.side ring.old).net node done
@@ -80,6 +95,6 @@ pub(crate) fn hand_on<R: RingSide>(
     if ended {
         return Ok(true);
     }
-    ring.pass(node, done)?;
+    pass_on(node, done, ring)?;
     Ok(false)
 }

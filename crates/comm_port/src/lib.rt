@@ -1,6 +1,7 @@
 //! Hold turns: what a station does with the token, over the two sides that it works between.
 #![tactic(auto)]
 
+mod asking;
 mod calling;
 mod controller_side;
 mod ending;
@@ -25,3 +26,6 @@ pub use ram_side::RamSide;
 pub use ring_side::RingSide;
 pub use tied_lists::result_of;
 pub use worker::CommWorker;
+
+#[cfg(test)]
+mod host_tests;

@@ -10,6 +10,7 @@ ghost use Rattle.tied_lists.specs.Items.{request_of, words_told};
 ghost use Rattle.comm_port.specs.Turns.{IsOwnTurn, KeepsInbox};
 ghost use Rattle.comm_port.specs.Replies.{reply_frame, Tells};
 
+use crate::asking::{do_local, post_frame};
 use crate::ring_side::RingSide;
 use crate::short::Short;
 use modbus_pdu::{Reply, encode_reply};
@@ -45,7 +46,7 @@ pub(crate) fn post_reply<R: RingSide>(
     ensures legal { IsLegal (R.side ring.old).net (R.known ring.new) }
     ensures same { R.side ring.new ≡ R.side ring.old }
 {
-    ring.post(node, reply_frame(id, pdu))?;
+    post_frame(node, reply_frame(id, pdu), ring)?;
     Ok(())
 }
 
@@ -98,7 +99,7 @@ pub(crate) fn tell_statistics<R: RingSide>(
     ensures same { R.side ring.new ≡ R.side ring.old }
 {
     let op = operation_for(&request.pdu);
-    let result = ring.local(node, request.id, op)?;
+    let result = do_local(node, request.id, op, ring)?;
     let pdu = statistics_reply(alloc, words_told(&result))?;
     post_reply(node, request.id, pdu, ring)?;
     Ok(())

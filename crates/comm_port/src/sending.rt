@@ -23,8 +23,10 @@ pub(crate) fn send_next<R: RingSide>(node: u8, ring: &mut R) -> Result<Option<He
 {
     match ring.send(node) {
         Ok(heard) => Ok(Some(heard)),
-        Err(RingNo::NothingToSend) => Ok(None),
-        Err(_) => Err(Short),
+        Err(why) => match why {
+            RingNo::NothingToSend => Ok(None),
+            _ => Err(Short::of(why)),
+        },
     }
 }
 

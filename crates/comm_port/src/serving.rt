@@ -14,6 +14,7 @@ use crate::ram_side::RamSide;
 use crate::replies::{post_reply, tell_statistics};
 use crate::ring_side::RingSide;
 use crate::short::Short;
+use crate::taking::take_next;
 use crate::waiting::Waiting;
 use ring_core::{Frame, FrameKind, is_stats};
 use std::alloc::Global;
@@ -164,7 +165,7 @@ pub(crate) fn serve_inbox<M: RamSide, R: RingSide>(
     ensures empty { OnOk result
         (inbox_of (R.side ring.old).net node (R.known ring.new) ≡ []) }
 {
-    while let Some(frame) = ring.take(node)? {
+    while let Some(frame) = take_next(node, ring)? {
         serve(alloc, node, waiting, &frame, ram, ring)?;
     }
     Ok(())

@@ -25,11 +25,3 @@ impl From<AllocError> for Short {
         Short
     }
 }
-
-impl From<RingNo> for Short {
-    ghost from_gives = { λ _ _. Unit {0} };
-
-    fn from(_: RingNo) -> Short {
-        Short
-    }
-}

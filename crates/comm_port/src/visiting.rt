@@ -10,6 +10,7 @@ ghost use Rattle.comm_port.specs.Reading.{is_ours};
 ghost use Rattle.comm_port.specs.Turns.{Turning};
 ghost use Rattle.comm_port.specs.Visiting.{WaitsFor, GivesCall};
 
+use crate::asking::give_up_now;
 use crate::calling::make_call;
 use crate::ram_side::RamSide;
 use crate::ring_side::RingSide;
@@ -44,7 +45,7 @@ fn give_up_between<M: RamSide, R: RingSide>(
 {
     let _ = calls;
     let _ = next;
-    let word = ring.give_up(id)?;
+    let word = give_up_now(id, ring)?;
     let _ = waiting.end(id.path);
     ram.finish(id, MstrResult::Bad(word))?;
     Ok(())

@@ -1,5 +1,5 @@
 //! Which joint histories have a journal.
-ghost use Rattle.journal_text.specs.Laws.{LegalIsPlain};
+ghost use Rattle.journal_text.specs.Laws.{LegalIsPlain, OneHistoryOfAText};
 
 use mstr_block::calls_are_taken_in_order;
 use ring_laws::{only_its_target, reply_to_its_caller};
@@ -12,3 +12,8 @@ pub fn legal_is_plain()
     only_its_target();
     reply_to_its_caller();
 }
+
+/// A journal is that of one joint history.
+pub fn one_history_of_a_text()
+    ensures { OneHistoryOfAText }
+{}

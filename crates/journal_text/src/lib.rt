@@ -1,17 +1,29 @@
 //! The journal: a joint history as a text that a stranger can check. This project's own.
 #![tactic(auto)]
 
+mod calls_read;
 mod controllers;
+mod cutting;
+mod draft;
+mod fault;
 mod fields;
 mod hosts;
 mod laws;
 mod plain;
+mod reading;
+mod ring_read;
 mod rings;
+mod stations_read;
+mod words_read;
 mod writing;
 
-pub use laws::legal_is_plain;
+pub use fault::JournalFault;
+pub use laws::{legal_is_plain, one_history_of_a_text};
 pub use plain::is_plain;
+pub use reading::read_journal;
 pub use writing::journal_text;
 
+#[cfg(test)]
+mod read_tests;
 #[cfg(test)]
 mod tests;

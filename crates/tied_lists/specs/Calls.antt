@@ -30,13 +30,22 @@ FitsSort n earlier id (OverNet to pdu) =
     (to ≢ n) × IsPath id.path × (0 < id.seq) × IsAbove id earlier
 FitsSort n earlier id (AtHome op) = HasRoom op × (id.path ≡ 0)
 
--- A call of a node is new after these calls and these ends.
+-- A call on the same path was made, and has not ended.
+pub record IsOutOn (path : ℕ) (calls : List Called) (ends : List Ended) (id : CallId)
+    : Type 0 where
+  pub path_is : id.path ≡ path
+  pub kind : Kind
+  pub made : kind_in calls id ≡ Some kind
+  pub unended : NoEnd id ends
+
+-- A call of a node is new after these calls and these ends, and alone on its path by the network.
 pub record IsNewCall (n : ℕ) (earlier : List Called) (ends : List Ended) (c : Called)
     : Type 0 where
   pub own : c.id.node ≡ n
   pub first : kind_in earlier c.id ≡ None
   pub unended : NoEnd c.id ends
   pub fits : FitsSort n earlier c.id c.sort
+  pub alone : IsPath c.id.path → (id : CallId) → IsOutOn c.id.path earlier ends id → ⊥
 
 -- Calls of a node are new one after another.
 abbrev pub AreNewCalls : ℕ → List Called → List Ended → List Called → Type 0

@@ -17,6 +17,8 @@ use Rattle.tied_lists.specs.Own.{is_of, Grew}
 use Rattle.tied_lists.specs.Items.{LocalCall}
 use Rattle.comm_port.specs.Reading.{sort_of, called_of}
 use Rattle.comm_port.specs.Making.{request_frame, Does, Owing, calls_from}
+use Rattle.ring_core.specs.declared.path.Await.TheVariants.{Nothing}
+use Rattle.comm_port.proofs.GivesUp.{waits-nothing}
 use Rattle.comm_port.proofs.Made.{owing-next, may-post, may-do, posted-lead, done-lead}
 use Rattle.comm_port.proofs.calling.make_call.Goals as goal
 
@@ -120,3 +122,13 @@ returns-in_ok-do_call-in-Local-clause-made g c =
       station = grew-one g.M.RamSide.alone is_ours _ (Finish call.id did.outcome ∷ []) _ refl did.went;
       node = did.grew;
     }
+
+pub post_call-requires-clause-free : goal.post_call-requires-clause-free
+post_call-requires-clause-free g c =
+    let call = c.index-calls-at.result in
+    let n = c.args.node in
+    let o = owing-next n c.args.calls.now c.args.at call _ _ _ _ c.args.waiting.now c.requires.within c.index-calls-at.is c.requires.owing in
+    let m = may-post n (called_of call) _ c.in-Net.to c.in-Net.pdu _ _ _ _ c.args.waiting.now (ap sort_of c.in-Net.is) o in
+    subst (λ (f : Frame). (path_of (ring_node (ring_after (g.R.RingSide.side c.args.ring.now).net (g.R.RingSide.known
+    c.args.ring.now)) n) f.id.path).awaits ≡ Nothing) (sym c.request_frame-frame.ensures)
+    (waits-nothing n call.id.path _ _ _ _ _ c.args.waiting.now m.free o.turning)

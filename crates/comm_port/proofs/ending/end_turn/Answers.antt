@@ -25,6 +25,12 @@ use Rattle.std.proofs.Common.{sym, ◌∙◌}
 use Rattle.comm_port.proofs.TurnsEnded.{handed-lead, left-lead, left-at, asked-lead, some-of}
 use Rattle.comm_port.proofs.ending.end_turn.Goals as goal
 
+pub hand_on-requires-clause-sent : goal.hand_on-requires-clause-sent
+hand_on-requires-clause-sent g c = c.requires.rest.all_sent
+
+pub hand_on-requires-clause-taken : goal.hand_on-requires-clause-taken
+hand_on-requires-clause-taken g c = c.requires.empty
+
 pub give_up_where-requires : goal.give_up_where-requires
 give_up_where-requires g c =
     let o = c.in_ok-left.ensures in

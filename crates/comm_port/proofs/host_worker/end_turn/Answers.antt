@@ -9,6 +9,12 @@ use Rattle.comm_port.proofs.HostGives.{gives-at}
 use Rattle.comm_port.proofs.HostHolds.{ends-host, leaves-host, none-unanswered}
 use Rattle.comm_port.proofs.host_worker.end_turn.Goals as goal
 
+pub hand_on-requires-clause-sent : goal.hand_on-requires-clause-sent
+hand_on-requires-clause-sent g c = c.requires.boxes.0
+
+pub hand_on-requires-clause-taken : goal.hand_on-requires-clause-taken
+hand_on-requires-clause-taken g c = c.requires.boxes.1
+
 pub give_up_where-requires : goal.give_up_where-requires
 give_up_where-requires g c =
     let o = c.in_ok-left.ensures in

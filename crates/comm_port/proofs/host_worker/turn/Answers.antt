@@ -1,3 +1,9 @@
+use Rattle.plant_types.specs.declared.net.NetPlan.{NetPlan}
+use Rattle.ring_core.specs.Legal.{IsLegal}
+use Rattle.tied_lists.specs.Waits.{Holds}
+use Rattle.comm_port.specs.Giving.{part_at, BoxesEmpty}
+use Rattle.comm_port.proofs.HostBoxes.{boxes-empty}
+use Rattle.comm_port.proofs.Parts.{net-as}
 use Rattle.std.proofs.Common.{sym, ◌∙◌}
 use Rattle.mstr_block.specs.Table.{network_paths}
 use Rattle.comm_port.specs.HostTurns.{EndsHostTurn, HoldsHostTurn}
@@ -51,3 +57,31 @@ returns-clause-held g c =
       gives_up = gives-at alone n network_paths _ _ _ _ (side c.send_all.new.ring) before (sym same3) gives.gives_up;
       ends = ends-at alone n plan c.give_up_where.new.host.plan c.args.budget _ _ _ _ left before (side c.give_up_where.new.ring) same4 plan4 ends;
     }) c.end_turn.ensures.ends
+
+pub end_turn-requires-clause-boxes : goal.end_turn-requires-clause-boxes
+end_turn-requires-clause-boxes g c =
+    let alone = g.R.RingSide.alone in
+    let n = c.args.node in
+    let side = g.R.RingSide.side in
+    let before = side c.args.ring.now in
+    let a = c.in_ok-serve_inbox.ensures in
+    let b = c.in_ok-fresh.ensures in
+    let d = c.in_ok-send_all.ensures in
+    let e = c.in_ok-give_up_where.ensures in
+    let served = g.R.RingSide.known c.serve_inbox.new.ring in
+    let asked = g.R.RingSide.known c.ask_all.new.ring in
+    let sent = g.R.RingSide.known c.send_all.new.ring in
+    let given = g.R.RingSide.known c.give_up_where.new.ring in
+    let same2 = b.same ∙ a.same in
+    let same3 = d.same ∙ same2 in
+    let same4 = e.same ∙ same3 in
+    let t = c.requires.turning.own_turn.on in
+    let all = asked-all-at alone n _ c.args.hold _ _ _ _ _ (side c.serve_inbox.new.ring) before (sym a.same) b.asked in
+    let out = sends-out-at alone n _ _ _ _ _ (side c.ask_all.new.ring) before (sym same2) d.sends in
+    let gives = gives-at alone n network_paths _ _ _ _ (side c.send_all.new.ring) before (sym same3) e.gives_up in
+    net-as (λ (m : NetPlan). BoxesEmpty (part_at m n given)) _ _ (sym same4)
+    (boxes-empty alone before.net n _ c.args.hold all.asks _ network_paths _ _ _ _ served asked sent given
+    (record { members = t.members; legal = a.legal; member = t.member }) a.holds
+    (net-as (λ (m : NetPlan). IsLegal m asked) _ _ a.same b.legal) (net-as (λ (m : NetPlan). Holds m asked n) _ _ a.same b.holds)
+    (net-as (λ (m : NetPlan). IsLegal m sent) _ _ same2 d.legal) (net-as (λ (m : NetPlan). Holds m sent n) _ _ same2 d.holds)
+    (net-as (λ (m : NetPlan). IsLegal m given) _ _ same3 e.legal) a.served.empty all.all out gives)

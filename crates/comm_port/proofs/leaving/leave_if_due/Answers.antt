@@ -1,3 +1,4 @@
+use Rattle.comm_port.proofs.Allowed.{leave-short}
 use Rattle.comm_port.proofs.TurnEnds.{did-leave, did-not}
 use Rattle.comm_port.proofs.leaving.leave_if_due.Goals as goal
 
@@ -11,14 +12,22 @@ returns-in-Ok-clause-did g c =
     let o = c.in-Ok.ensures in
     (did-leave _ c.args.node c.args.cause g.R.RingSide.alone _ _ c.requires.turn.on o.legal c.requires.holds o.went).1
 
-pub returns-in-Err-NotDue-clause-due : goal.returns-in-Err-NotDue-clause-due
-returns-in-Err-NotDue-clause-due g c =
-    let e = c.in-Err-NotDue in
-    (did-not _ c.args.node c.args.cause g.R.RingSide.alone _ _ e.field-0 e.field-0-0 e.field-0-1 e.ensures.legal c.requires.holds
-    e.ensures.went e.ensures.refused e.field-0-is).0
+pub returns-in-NotDue-clause-due : goal.returns-in-NotDue-clause-due
+returns-in-NotDue-clause-due g c =
+    let e = c.in-Err.ensures in
+    let d = c.in-NotDue in
+    (did-not _ c.args.node c.args.cause g.R.RingSide.alone _ _ c.in-Err.why d.held d.needed e.legal c.requires.holds
+    e.went e.refused d.is).0
 
-pub returns-in-Err-NotDue-clause-did : goal.returns-in-Err-NotDue-clause-did
-returns-in-Err-NotDue-clause-did g c =
-    let e = c.in-Err-NotDue in
-    (did-not _ c.args.node c.args.cause g.R.RingSide.alone _ _ e.field-0 e.field-0-0 e.field-0-1 e.ensures.legal c.requires.holds
-    e.ensures.went e.ensures.refused e.field-0-is).1
+pub returns-in-NotDue-clause-did : goal.returns-in-NotDue-clause-did
+returns-in-NotDue-clause-did g c =
+    let e = c.in-Err.ensures in
+    let d = c.in-NotDue in
+    (did-not _ c.args.node c.args.cause g.R.RingSide.alone _ _ c.in-Err.why d.held d.needed e.legal c.requires.holds
+    e.went e.refused d.is).1
+
+pub of-requires : goal.of-requires
+of-requires g c =
+    let e = c.in-Err.ensures in
+    leave-short g.R.RingSide.alone c.args.node c.args.cause _ _ _ c.in-Err.why e.legal e.went c.requires.turn c.requires.holds c.requires.sent c.requires.taken
+    c.in_default.not-NotDue e.refused

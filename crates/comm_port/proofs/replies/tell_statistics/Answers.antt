@@ -42,7 +42,7 @@ returns-clause-told g c =
       answers = c.operation_for-op.ensures.asked;
       grew = grew-more g.R.RingSide.alone (is_of n) _ _ _ (e ∷ []) (Post n (reply_frame id (reply_of result)) ∷ []) first
           (subst (λ (p : List ℕ). Rattle.tied_lists.specs.Own.Grew g.R.RingSide.alone (is_of n) (g.R.RingSide.known
-          c.local.new.self) (Post n (reply_frame id p) ∷ []) (g.R.RingSide.known c.post_reply.new.ring)) pdu_is
+          c.do_local.new.ring) (Post n (reply_frame id p) ∷ []) (g.R.RingSide.known c.post_reply.new.ring)) pdu_is
           c.in_ok-post_reply.ensures.grew);
     }
 

@@ -1,3 +1,4 @@
+use Rattle.comm_port.proofs.Allowed.{send-short}
 use Rattle.comm_port.proofs.Sends.{all-sent, sent-next}
 use Rattle.comm_port.proofs.sending.send_next.Goals as goal
 
@@ -6,7 +7,12 @@ returns-in-Ok-clause-sent g c =
     let o = c.in-Ok.ensures in
     sent-next _ g.R.RingSide.alone c.args.node _ c.in-Ok.heard _ c.requires.turn c.requires.holds o.legal o.went
 
-pub returns-in-Err-NothingToSend-clause-sent : goal.returns-in-Err-NothingToSend-clause-sent
-returns-in-Err-NothingToSend-clause-sent g c =
-    let e = c.in-Err-NothingToSend in
-    all-sent _ g.R.RingSide.alone c.args.node _ _ e.field-0 c.requires.turn e.ensures.legal e.ensures.went e.ensures.refused e.field-0-is
+pub returns-in-NothingToSend-clause-sent : goal.returns-in-NothingToSend-clause-sent
+returns-in-NothingToSend-clause-sent g c =
+    let e = c.in-Err.ensures in
+    all-sent _ g.R.RingSide.alone c.args.node _ _ c.in-Err.why c.requires.turn e.legal e.went e.refused c.in-NothingToSend.is
+
+pub of-requires : goal.of-requires
+of-requires g c =
+    let e = c.in-Err.ensures in
+    send-short g.R.RingSide.alone c.args.node _ _ _ c.in-Err.why e.legal e.went c.requires.turn c.requires.holds c.in_default.not-NothingToSend e.refused

@@ -46,8 +46,8 @@ loop-frame-smaller g c =
     let t = c.loop-frame.invariant.turning in
     let side = g.R.RingSide.side in
     let known = g.R.RingSide.known in
-    less-kept (side c.loop-frame.ring) (side c.take.new.self) (side c.serve.new.ring) c.args.node (known c.loop-frame.ring) (known
-    c.take.new.self) (known c.serve.new.ring) o.same c.in_ok-serve.ensures.ring_same c.in_ok-serve.ensures.kept (take-less
+    less-kept (side c.loop-frame.ring) (side c.take_next.new.ring) (side c.serve.new.ring) c.args.node (known c.loop-frame.ring) (known
+    c.take_next.new.ring) (known c.serve.new.ring) o.same c.in_ok-serve.ensures.ring_same c.in_ok-serve.ensures.kept (take-less
     g.R.RingSide.alone c.args.node f _ _ _ o.legal went t.own_turn)
 
 pub loop-frame-preserved : goal.loop-frame-preserved
@@ -67,9 +67,9 @@ loop-frame-preserved g c =
           refl) went) s.ring_adds);
       ram_adds = adds-both g.M.RamSide.alone is_ours IsAnswering _ _ _ i.ram_adds s.ram_adds;
       served = serves-more g.M.RamSide.alone g.R.RingSide.alone c.args.node f _ (g.R.RingSide.side c.args.ring.now) _ _ _ _ _ _ _
-          (net-as (λ (m : NetPlan). IsLegal m (g.R.RingSide.known c.take.new.self)) _ _ i.ring_same o.legal) went
+          (net-as (λ (m : NetPlan). IsLegal m (g.R.RingSide.known c.take_next.new.ring)) _ _ i.ring_same o.legal) went
           (turn-as _ _ (g.R.RingSide.known c.loop-frame.ring) c.args.node i.ring_same i.turning.own_turn)
-          (net-as (λ (m : NetPlan). KeepsInbox m c.args.node (g.R.RingSide.known c.take.new.self)
+          (net-as (λ (m : NetPlan). KeepsInbox m c.args.node (g.R.RingSide.known c.take_next.new.ring)
           (g.R.RingSide.known c.serve.new.ring)) _ _ (o.same ∙ i.ring_same) s.kept) i.served s.served;
       ram_same = s.ram_same ∙ i.ram_same;
       ring_same = s.ring_same ∙ (o.same ∙ i.ring_same);
@@ -111,13 +111,13 @@ returns-clause-served g c =
     let i = c.loop-frame.invariant in
     let n = c.args.node in
     all-served g.M.RamSide.alone g.R.RingSide.alone n _ (g.R.RingSide.side c.args.ring.now) _ _ _ _ _
-    (net-as (λ (m : NetPlan). IsLegal m (g.R.RingSide.known c.take.new.self)) _ _ i.ring_same o.legal)
+    (net-as (λ (m : NetPlan). IsLegal m (g.R.RingSide.known c.take_next.new.ring)) _ _ i.ring_same o.legal)
     (took g.R.RingSide.alone n _ _ _ None c.in_default.is o.went)
     (turn-as _ _ (g.R.RingSide.known c.loop-frame.ring) n i.ring_same i.turning.own_turn)
-    (net-as (λ (m : NetPlan). inbox_of m n (g.R.RingSide.known c.take.new.self) ≡ []) _ _ i.ring_same (o.empty c.in_default.is)) i.served
+    (net-as (λ (m : NetPlan). inbox_of m n (g.R.RingSide.known c.take_next.new.ring) ≡ []) _ _ i.ring_same (o.empty c.in_default.is)) i.served
 
 pub returns-clause-empty : goal.returns-clause-empty
 returns-clause-empty g c =
     let o = c.in_ok-frame.ensures in
     let i = c.loop-frame.invariant in
-    net-as (λ (m : NetPlan). inbox_of m c.args.node (g.R.RingSide.known c.take.new.self) ≡ []) _ _ i.ring_same (o.empty c.in_default.is)
+    net-as (λ (m : NetPlan). inbox_of m c.args.node (g.R.RingSide.known c.take_next.new.ring) ≡ []) _ _ i.ring_same (o.empty c.in_default.is)

@@ -1,3 +1,4 @@
+use Rattle.comm_port.proofs.GivesUp.{gone-may}
 use Rattle.std.proofs.Common.{◌≡◌, ℕ, refl, sym, ap, ◌∙◌, subst, List, [], ◌∷◌, Option, Some}
 use Rattle.mstr_block.specs.declared.call.MstrResult.TheVariants.{Bad}
 use Rattle.controller_core.specs.declared.entry.Entry.TheVariants.{Finish}
@@ -16,14 +17,17 @@ use Rattle.comm_port.proofs.Sends.{gave-up}
 use Rattle.comm_port.proofs.Visited.{owing-given}
 use Rattle.comm_port.proofs.visiting.give_up_between.Goals as goal
 
-pub give_up-requires : goal.give_up-requires
-give_up-requires g c =
+pub give_up_now-requires : goal.give_up_now-requires
+give_up_now-requires g c =
     let t = c.requires.owing.turning in
     let id = c.args.id in
     let w = c.requires.waits in
     let k = waits-at-but _ c.args.node id.path id _ _ _ _ c.args.waiting.now (ap id_of (t.waits.waits id.path ∙ w.1) ∙ ap Some w.2) t in
-    let turn = turn-at _ _ c.args.node id.node k.own_is t.own_turn in
-    record { serves = turn.serves; member = turn.on.member; path = k.is_path }
+    record {
+      turn = turn-at _ _ c.args.node id.node k.own_is t.own_turn;
+      path = k.is_path;
+      may = gone-may _ c.args.node id _ _ _ _ c.args.waiting.now c.requires.gone k t;
+    }
 
 pub finish-requires : goal.finish-requires
 finish-requires g c =
@@ -44,7 +48,7 @@ returns-clause-owing g c =
     let f = c.in_ok-finish.ensures in
     let gave = gave-up _ g.R.RingSide.alone id c.in_ok-word.word _ _ (turn-at _ _ n id.node k.own_is t.own_turn) o.legal o.went in
     subst (λ (x : List (Option Frame)). Owing n (calls_from c.args.calls.now c.args.next) (g.M.RamSide.side c.finish.new.self)
-    (g.M.RamSide.known c.finish.new.self) (g.R.RingSide.side c.give_up.new.self) (g.R.RingSide.known c.give_up.new.self) x)
+    (g.M.RamSide.known c.finish.new.self) (g.R.RingSide.side c.give_up_now.new.ring) (g.R.RingSide.known c.give_up_now.new.ring) x)
     (sym c.end.ensures.new)
     (owing-given _ g.M.RamSide.alone g.R.RingSide.alone n id.path id c.in_ok-word.word _ _ _ _ _ _ _ _ c.args.waiting.now f.same o.same
     o.legal k gave f.went c.requires.owing)
@@ -65,7 +69,7 @@ returns-clause-given g c =
       due = (word, refl, refl);
       station = grew-one g.M.RamSide.alone is_ours _ (Finish id (Bad word) ∷ []) _ refl c.in_ok-finish.ensures.went;
       node = subst (λ (m : ℕ). Grew g.R.RingSide.alone (is_of m) (g.R.RingSide.known c.args.ring.now) (GiveUp id word ∷ [])
-          (g.R.RingSide.known c.give_up.new.self)) k.own_is gave.grew;
+          (g.R.RingSide.known c.give_up_now.new.ring)) k.own_is gave.grew;
     }
 
 pub returns-clause-part : goal.returns-clause-part
@@ -77,5 +81,5 @@ returns-clause-part g c =
     let k = waits-at-but _ n id.path id _ _ _ _ c.args.waiting.now (ap id_of (t.waits.waits id.path ∙ w.1) ∙ ap Some w.2) t in
     let o = c.in_ok-word.ensures in
     let gave = gave-up _ g.R.RingSide.alone id c.in_ok-word.word _ _ (turn-at _ _ n id.node k.own_is t.own_turn) o.legal o.went in
-    subst (λ (m : ℕ). part_at (g.R.RingSide.side c.args.ring.now).net m (g.R.RingSide.known c.give_up.new.self) ≡ gave_up (part_at
+    subst (λ (m : ℕ). part_at (g.R.RingSide.side c.args.ring.now).net m (g.R.RingSide.known c.give_up_now.new.ring) ≡ gave_up (part_at
     (g.R.RingSide.side c.args.ring.now).net m (g.R.RingSide.known c.args.ring.now)) id) k.own_is gave.part_is

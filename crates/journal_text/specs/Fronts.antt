@@ -1,0 +1,67 @@
+-- Which bytes are a journal, which begin one, and which line is the first wrong one. This project's
+-- own.
+use Rattle.std.specs.Prelude.{◌≡◌, ◌≢◌, ℕ, ◌+◌, ◌-◌, ◌^◌, min, List, [], ◌∷◌, ◌++◌, length}
+use Rattle.std.specs.Prelude.{Result, Ok, Err}
+use Rattle.std.specs.List.{All, flat_map}
+use Rattle.comm_port.specs.declared.joint.Joint.{Joint}
+use Rattle.journal_text.specs.declared.fault.JournalFault.{JournalFault}
+use Rattle.journal_text.specs.declared.fault.JournalFault.TheVariants.{Text, NoMemory}
+use Rattle.journal_text.specs.Journal.{IsPlain, journal}
+use Rattle.journal_text.specs.Sizes.{FitsJoint}
+
+-- The bytes are the journal of this plain joint history.
+pub record IsJournalOf (joint : Joint) (bytes : List ℕ) : Type 0 where
+  pub plain : IsPlain joint
+  pub fits : FitsJoint joint
+  pub text : bytes ≡ journal joint
+
+-- They are the journal of some plain joint history; and some journal begins with them.
+abbrev pub IsJournal : List ℕ → Type 0
+IsJournal bytes = (joint : Joint) × IsJournalOf joint bytes
+
+abbrev pub IsFront : List ℕ → Type 0
+IsFront bytes = (rest : List ℕ) × IsJournal (bytes ++ rest)
+
+-- A line has no line feed but the one behind it.
+abbrev pub line_feed : ℕ
+line_feed = 10
+
+abbrev pub IsLine : List ℕ → Type 0
+IsLine line = All (λ byte. byte ≢ line_feed) line
+
+abbrev pub ended : List ℕ → List ℕ
+ended line = line ++ line_feed ∷ []
+
+-- The first wrong line of bytes, counted from 1: a journal begins with the lines before it, and
+-- with them and it begins none. A line that no line feed ends, where the bytes end, is answered
+-- for itself.
+pub record IsWrongLine (bytes : List ℕ) (number : ℕ) : Type 0 where
+  pub lines : List (List ℕ)
+  pub rest : List ℕ
+  pub each : All IsLine lines
+  pub parts : bytes ≡ flat_map ended lines ++ rest
+  pub count : number ≡ length lines + 1
+  pub begins : IsFront (flat_map ended lines)
+  pub wrong : (line behind : List ℕ) → IsLine line → rest ≡ ended line ++ behind
+      → IsFront (flat_map ended lines ++ ended line) → ⊥
+
+-- Why bytes are no journal: by the number of the first wrong line, or the greatest number there is
+-- where it is greater.
+pub record IsText (bytes : List ℕ) (number : ℕ) : Type 0 where
+  pub line : ℕ
+  pub first : IsWrongLine bytes line
+  pub told : number ≡ min line (2 ^ 32 - 1)
+  pub none : IsJournal bytes → ⊥
+
+abbrev pub IsFault : List ℕ → JournalFault → Type 0
+IsFault bytes (Text number) = IsText bytes number
+IsFault bytes NoMemory = Unit {0}
+
+-- A journal gives its joint history, unless memory is wanting.
+abbrev pub IsWant : JournalFault → Type 0
+IsWant (Text number) = ⊥
+IsWant NoMemory = Unit {0}
+
+abbrev pub Gives : Joint → Result Joint JournalFault → Type 0
+Gives joint (Ok read) = read ≡ joint
+Gives joint (Err fault) = IsWant fault

@@ -1,0 +1,114 @@
+-- What numbers and lists a joint history can have: those of its types. This project's own.
+use Rattle.std.specs.Prelude.{ℕ, ◌^◌, ◌<◌, List}
+use Rattle.std.specs.List.{All}
+use Rattle.plant_types.specs.Words.{IsPduLength, FitsBlock}
+use Rattle.mstr_block.specs.declared.call.CallId.{CallId}
+use Rattle.mstr_block.specs.declared.call.MstrResult.{MstrResult}
+use Rattle.mstr_block.specs.declared.call.MstrResult.TheVariants.{Good, Bad}
+use Rattle.ring_core.specs.declared.frame.Frame.{Frame}
+use Rattle.ring_core.specs.declared.entry.LocalOp.{LocalOp}
+use Rattle.ring_core.specs.declared.entry.LocalOp.TheVariants.{PutGlobal, GetGlobal}
+use Rattle.ring_core.specs.declared.entry.RingEntry.{RingEntry}
+use Rattle.ring_core.specs.declared.entry.RingEntry.TheVariants as ring
+use Rattle.controller_core.specs.declared.call.Call.{Call}
+use Rattle.controller_core.specs.declared.call.CallKind.{CallKind}
+use Rattle.controller_core.specs.declared.call.CallKind.TheVariants.{Net, Local}
+use Rattle.controller_core.specs.declared.entry.Entry.{Entry}
+use Rattle.controller_core.specs.declared.entry.Entry.TheVariants as entries
+use Rattle.host_port.specs.declared.entry.HostResult.{HostResult}
+use Rattle.host_port.specs.declared.entry.HostResult.TheVariants as host_results
+use Rattle.host_port.specs.declared.entry.HostEntry.{HostEntry}
+use Rattle.host_port.specs.declared.entry.HostEntry.TheVariants as host_entries
+use Rattle.comm_port.specs.declared.joint.ControllerLog.{ControllerLog}
+use Rattle.comm_port.specs.declared.joint.HostLog.{HostLog}
+use Rattle.comm_port.specs.declared.joint.Joint.{Joint}
+
+-- A node, a path or a byte; a row, a length or a word; the number of a call.
+abbrev pub IsSmall : ℕ → Type 0
+IsSmall number = number < 2 ^ 8
+
+abbrev pub IsWord : ℕ → Type 0
+IsWord number = number < 2 ^ 16
+
+abbrev pub IsLong : ℕ → Type 0
+IsLong number = number < 2 ^ 32
+
+-- A PDU has 1 to 253 bytes, and a block at most 100 words.
+pub record IsPdu (bytes : List ℕ) : Type 0 where
+  pub count : IsPduLength bytes
+  pub each : All IsSmall bytes
+
+abbrev pub AreWords : List ℕ → Type 0
+AreWords words = All IsWord words
+
+pub record IsBlock (words : List ℕ) : Type 0 where
+  pub count : FitsBlock words
+  pub each : AreWords words
+
+-- The name of a call.
+pub record IsId (id : CallId) : Type 0 where
+  pub node : IsSmall id.node
+  pub path : IsSmall id.path
+  pub seq : IsLong id.seq
+
+-- What is asked of a port, and what came of a call.
+abbrev pub FitsOp : LocalOp → Type 0
+FitsOp (PutGlobal words) = AreWords words
+FitsOp (GetGlobal node count) = IsSmall node × IsWord count
+FitsOp _ = Unit {0}
+
+abbrev pub FitsResult : MstrResult → Type 0
+FitsResult (Good words) = IsBlock words
+FitsResult (Bad word) = IsWord word
+
+-- A call that a controller hands on.
+abbrev pub FitsKind : CallKind → Type 0
+FitsKind (Net to pdu) = IsSmall to × IsPdu pdu
+FitsKind (Local op) = FitsOp op
+
+abbrev pub FitsCall : Call → Type 0
+FitsCall call = IsId call.id × FitsKind call.kind
+
+-- An entry of a controller, of a host and of the ring.
+abbrev pub FitsEntry : Entry → Type 0
+FitsEntry (entries.Input row) = IsWord row
+FitsEntry (entries.Solve row) = IsWord row
+FitsEntry (entries.Output row words) = IsWord row × IsBlock words
+FitsEntry (entries.Collect calls) = All FitsCall calls
+FitsEntry (entries.Peer id request reply) = IsId id × IsPdu request × IsPdu reply
+FitsEntry (entries.Finish id result) = IsId id × FitsResult result
+FitsEntry _ = Unit {0}
+
+abbrev pub FitsAnswer : HostResult → Type 0
+FitsAnswer (host_results.Reply pdu) = IsPdu pdu
+FitsAnswer (host_results.Bad word) = IsWord word
+
+abbrev pub FitsHostEntry : HostEntry → Type 0
+FitsHostEntry (host_entries.Ask id to pdu) = IsId id × IsSmall to × IsPdu pdu
+FitsHostEntry (host_entries.Answer id result) = IsId id × FitsAnswer result
+FitsHostEntry (host_entries.Served id request reply) = IsId id × IsPdu request × IsPdu reply
+
+abbrev pub FitsFrame : Frame → Type 0
+FitsFrame frame = IsSmall frame.to × IsId frame.id × IsPdu frame.pdu
+
+abbrev pub FitsRingEntry : RingEntry → Type 0
+FitsRingEntry (ring.Post node frame) = IsSmall node × FitsFrame frame
+FitsRingEntry (ring.Send node heard) = IsSmall node
+FitsRingEntry (ring.Take node frame) = IsSmall node × FitsFrame frame
+FitsRingEntry (ring.Local node id op result) =
+    IsSmall node × IsId id × FitsOp op × FitsResult result
+FitsRingEntry (ring.GiveUp id word) = IsId id × IsWord word
+FitsRingEntry (ring.Pass node done words) = IsSmall node × AreWords words
+FitsRingEntry (ring.Leave node cause) = IsSmall node
+
+-- A joint history with numbers and lists of its types.
+abbrev pub FitsLog : ControllerLog → Type 0
+FitsLog log = IsSmall log.node × All FitsEntry log.entries
+
+abbrev pub FitsHostLog : HostLog → Type 0
+FitsHostLog log = IsSmall log.node × All FitsHostEntry log.entries
+
+pub record FitsJoint (joint : Joint) : Type 0 where
+  pub controllers : All FitsLog joint.controllers
+  pub hosts : All FitsHostLog joint.hosts
+  pub ring : All FitsRingEntry joint.ring

@@ -1,0 +1,169 @@
+-- A read of two registers, as its journal tells it, is complete: both nodes left, each replied
+-- before it passed the token on and went on saying that it was done, and the call ended once.
+use Rattle.std.proofs.Common.{◌≡◌, ℕ, zero, suc, true, false, List, [], ◌∷◌, ◌++◌, length, inl}
+use Rattle.std.proofs.Common.{inr, refl, arith}
+use Rattle.mstr_block.specs.declared.call.CallId.{CallId}
+use Rattle.mstr_block.specs.declared.call.MstrResult.TheVariants.{Good}
+use Rattle.plant_types.specs.declared.net.Fate.TheVariants.{D}
+use Rattle.plant_types.specs.declared.net.NetPlan.{NetPlan}
+use Rattle.plant_types.specs.declared.plan.ControllerPlan.{ControllerPlan}
+use Rattle.plant_types.specs.declared.plan.Plant.{Plant}
+use Rattle.ring_core.specs.declared.entry.RingEntry.{RingEntry}
+use Rattle.ring_core.specs.declared.entry.RingEntry.TheVariants.{Post, Send, Take, Pass, Leave}
+use Rattle.ring_core.specs.declared.entry.Heard.TheVariants.{Acked}
+use Rattle.ring_core.specs.declared.entry.LeaveCause.TheVariants.{Ended}
+use Rattle.ring_core.specs.declared.frame.FrameKind.{FrameKind}
+use Rattle.ring_core.specs.declared.frame.FrameKind.TheVariants.{Request, Reply}
+use Rattle.ring_core.specs.declared.frame.Frame.{Frame}
+use Rattle.controller_core.specs.declared.call.CallKind.TheVariants.{Net}
+use Rattle.controller_core.specs.declared.entry.Entry.{Entry}
+use Rattle.controller_core.specs.declared.entry.Entry.TheVariants.{Begin, Solve, End, Collect, Peer}
+use Rattle.controller_core.specs.declared.entry.Entry.TheVariants.{Finish}
+use Rattle.tied_lists.specs.Items.{replied_by, taken_by}
+use Rattle.tied_lists.specs.Own.{own}
+use Rattle.comm_port.specs.declared.joint.ControllerLog.{ControllerLog}
+use Rattle.comm_port.specs.Complete.{EndsEachCall, IsComplete, RepliesBeforePasses, StaysDone}
+use Rattle.comm_port.specs.Complete.{NodeIsComplete, is_pass}
+use Rattle.comm_port.specs.Reading.{items_of}
+use Rattle.turn_laws.specs.KeepsOn.{SaidDone}
+use Rattle.turn_laws.proofs.Passes.{none-said, replies-push, said-push, stays-push}
+use Rattle.turn_laws.proofs.Others.{no-replies, no-stays}
+
+-- ---- the journal
+
+abbrev id : CallId
+id = record { node = 2; path = 1; seq = 1 }
+
+abbrev reads : List ℕ
+reads = 3 ∷ 0 ∷ 0 ∷ 0 ∷ 2 ∷ []
+
+abbrev tells : List ℕ
+tells = 3 ∷ 4 ∷ 0 ∷ 42 ∷ 0 ∷ 43 ∷ []
+
+abbrev frame : FrameKind → ℕ → List ℕ → Frame
+frame kind to pdu = record { kind = kind; to = to; id = id; pdu = pdu }
+
+abbrev reader : List Entry
+reader =
+    Begin ∷ Solve 1 ∷ End ∷ Collect (record { id = id; kind = Net 5 reads } ∷ []) ∷ Finish id (Good (42 ∷ 43 ∷ []))
+    ∷ Begin ∷ Solve 1 ∷ End ∷ []
+
+abbrev target : List Entry
+target = Begin ∷ Solve 1 ∷ End ∷ Peer id reads tells ∷ Begin ∷ Solve 1 ∷ End ∷ []
+
+abbrev ring : List RingEntry
+ring =
+    Post 2 (frame Request 5 reads) ∷ Send 2 Acked ∷ Pass 2 false [] ∷ Take 5 (frame Request 5 reads)
+    ∷ Post 5 (frame Reply 2 tells) ∷ Send 5 Acked ∷ Pass 5 false [] ∷ Take 2 (frame Reply 2 tells)
+    ∷ Pass 2 false [] ∷ Pass 5 false [] ∷ Pass 2 true [] ∷ Pass 5 true [] ∷ Leave 2 Ended ∷ Leave 5 Ended ∷ []
+
+abbrev both : List ControllerLog
+both = record { node = 2; entries = reader } ∷ record { node = 5; entries = target } ∷ []
+
+-- ---- own lists
+
+record Front (b : List RingEntry) : Type 0 where
+  replied : RepliesBeforePasses b
+  stays : StaysDone b
+  none : SaidDone b → ⊥
+
+first : Front []
+first = record { replied = no-replies; stays = no-stays; none = none-said }
+
+next : (b : List RingEntry) (e : RingEntry) → (is_pass e ≡ true → length (replied_by b) ≡ length (taken_by b))
+    → ((n : ℕ) (words : List ℕ) → e ≡ Pass n true words → ⊥) → Front b → Front (b ++ e ∷ [])
+next b e replies other f = record {
+  replied = replies-push b e f.replied replies;
+  stays = stays-push b e f.stays (λ s. absurd (f.none s));
+  none = λ s. elim (said-push b e s) [
+    | inl before ↦ f.none before
+    | inr now ↦ other now.0 now.1 now.2
+  ];
+}
+
+-- a front with a Pass that says done, and a Leave
+record Whole (b : List RingEntry) : Type 0 where
+  replied : RepliesBeforePasses b
+  stays : StaysDone b
+
+whole : (n : ℕ) (b : List RingEntry) → length (replied_by b) ≡ length (taken_by b) → Front b
+    → Whole ((b ++ Pass n true [] ∷ []) ++ Leave n Ended ∷ [])
+whole n b same f = record {
+  replied = replies-push (b ++ Pass n true [] ∷ []) (Leave n Ended) (replies-push b (Pass n true []) f.replied (λ is. same))
+      (λ is. absurd (let no' : false ≡ true = is in cc));
+  stays = stays-push (b ++ Pass n true [] ∷ []) (Leave n Ended) (stays-push b (Pass n true []) f.stays (λ s. refl)) (λ s. tt);
+}
+
+abbrev asks : RingEntry
+asks = Post 2 (frame Request 5 reads)
+
+abbrev comes : RingEntry
+comes = Take 2 (frame Reply 2 tells)
+
+two : Whole (own 2 ring)
+two =
+    whole 2 (asks ∷ Send 2 Acked ∷ Pass 2 false [] ∷ comes ∷ Pass 2 false [] ∷ []) refl
+    (next (asks ∷ Send 2 Acked ∷ Pass 2 false [] ∷ comes ∷ []) (Pass 2 false []) (λ is. refl) (λ n words is. cc)
+    (next (asks ∷ Send 2 Acked ∷ Pass 2 false [] ∷ []) comes (λ is. refl) (λ n words is. cc)
+    (next (asks ∷ Send 2 Acked ∷ []) (Pass 2 false []) (λ is. refl) (λ n words is. cc)
+    (next (asks ∷ []) (Send 2 Acked) (λ is. refl) (λ n words is. cc)
+    (next [] asks (λ is. refl) (λ n words is. cc) first)))))
+
+abbrev taken : RingEntry
+taken = Take 5 (frame Request 5 reads)
+
+abbrev answers : RingEntry
+answers = Post 5 (frame Reply 2 tells)
+
+five : Whole (own 5 ring)
+five =
+    whole 5 (taken ∷ answers ∷ Send 5 Acked ∷ Pass 5 false [] ∷ Pass 5 false [] ∷ []) refl
+    (next (taken ∷ answers ∷ Send 5 Acked ∷ Pass 5 false [] ∷ []) (Pass 5 false []) (λ is. refl) (λ n words is. cc)
+    (next (taken ∷ answers ∷ Send 5 Acked ∷ []) (Pass 5 false []) (λ is. refl) (λ n words is. cc)
+    (next (taken ∷ answers ∷ []) (Send 5 Acked) (λ is. refl) (λ n words is. cc)
+    (next (taken ∷ []) answers (λ is. absurd (let no' : false ≡ true = is in cc)) (λ n words is. cc)
+    (next [] taken (λ is. refl) (λ n words is. cc) first)))))
+
+-- ---- the run
+
+-- plans whose blocks start nothing that was not collected
+abbrev plan : ℕ → ControllerPlan
+plan node = record {
+  node = node;
+  coils = 0;
+  inputs = 0;
+  input_registers = 0;
+  registers = 0;
+  panel = [];
+  orders = [];
+  drops = [];
+  segments = [];
+}
+
+abbrev net : NetPlan
+net = record { members = 2 ∷ 5 ∷ []; fates = D ∷ []; answer = 4; rotations = 1; rounds = 1; holds = 100 }
+
+abbrev plant : Plant
+plant = record { scan_time = 1; watchdog = 100; net = net; controllers = plan 2 ∷ plan 5 ∷ []; hosts = [] }
+
+reader-ended : EndsEachCall (items_of reader)
+reader-ended zero d within = refl
+reader-ended (suc k) d within = absurd (omega (arith, within))
+
+target-ended : EndsEachCall (items_of target)
+target-ended k d within = absurd (omega (arith, within))
+
+two-complete : NodeIsComplete net ring 2
+two-complete = record { left = refl; replied = two.replied; done = two.stays }
+
+five-complete : NodeIsComplete net ring 5
+five-complete = record { left = refl; replied = five.replied; done = five.stays }
+
+run-complete : IsComplete plant 2 (record { controllers = both; hosts = []; ring = ring })
+run-complete = record {
+  controllers = (
+    (record { scans = inl refl; collected = refl; finished = reader-ended }, two-complete),
+    ((record { scans = inl refl; collected = refl; finished = target-ended }, five-complete), tt),
+  );
+  hosts = tt;
+}

@@ -1,0 +1,88 @@
+-- Workers that stand between two turns stand tied.
+use Rattle.std.proofs.Common.{◌≡◌, ℕ, List, [], ◌++◌, filter, refl, sym, ap, subst, ◌∙◌}
+use Rattle.std.proofs.Common.{Some, None}
+use Rattle.plant_types.specs.declared.net.HostPlan.{HostPlan}
+use Rattle.plant_types.specs.declared.net.NetPlan.{NetPlan}
+use Rattle.ring_core.specs.declared.entry.RingEntry.{RingEntry}
+use Rattle.ring_core.specs.Legal.{IsLegal as IsLegalRing}
+use Rattle.controller_core.specs.declared.entry.Entry.{Entry}
+use Rattle.controller_core.specs.declared.fixed.Fixed.{Fixed}
+use Rattle.controller_core.specs.Controller.{EachFits, IsLegal}
+use Rattle.controller_core.specs.Replay.{start}
+use Rattle.controller_core.specs.Scans.{all_due}
+use Rattle.host_port.specs.declared.entry.HostEntry.{HostEntry}
+use Rattle.host_port.specs.Host.{HostIs}
+use Rattle.tied_lists.specs.Calls.{IsOut}
+use Rattle.tied_lists.specs.Items.{AController, AHost, NetCall, no_items}
+use Rattle.tied_lists.specs.Own.{own}
+use Rattle.tied_lists.specs.Tied.{Tied}
+use Rattle.tied_lists.specs.Waits.{IsOnRing, waiting}
+use Rattle.tied_lists.proofs.Turns.{own-found}
+use Rattle.comm_port.specs.Sides.{RamSideIs, RingSideIs}
+use Rattle.comm_port.specs.Reading.{host_items_of, is_ours, items_of}
+use Rattle.comm_port.specs.Worker.{IsMemberWorker, Standing, WorkerIs}
+use Rattle.comm_port.specs.HostTurns.{HostTies}
+use Rattle.turn_laws.specs.KeepsOn.{HostStandsTied, StandsTied}
+use Rattle.turn_laws.proofs.Went.{items-grew}
+
+pub stands-of : {P Q : Type 0} (w : WorkerIs) (ram : RamSideIs P) (known : List Entry) (side : RingSideIs Q) (ring : List RingEntry)
+    → IsMemberWorker side.net w.node → IsLegal ram.fixed known → Standing w ram known side ring → StandsTied ram.fixed side.net w.node known ring
+stands-of w ram known side ring member legal s = record {
+  legal = legal;
+  on = record { members = member.members; legal = s.legal; member = member.member };
+  tied = s.tied;
+  waits = λ path f is. (NetCall, s.waits.outs path f (s.waits.waits path ∙ is));
+}
+
+pub host-stands-of : {Q : Type 0} (n : ℕ) (host : HostIs) (side : RingSideIs Q) (ring : List RingEntry) → HostTies n host side ring
+    → HostStandsTied host.plan side.net host.history ring
+host-stands-of n host side ring t = record {
+  legal = t.legal;
+  on = subst (IsOnRing side.net ring) (sym t.node) t.on;
+  tied = subst (λ k. Tied AHost (host_items_of host.history) (own k ring)) (sym t.node) t.tied;
+}
+
+-- a controller and its node at the start
+first-fits : (fixed : Fixed) → EachFits fixed (start fixed.plan) []
+unfolding EachFits
+first-fits fixed = tt
+
+pub stands-start : (fixed : Fixed) (net : NetPlan) (n : ℕ) (ring : List RingEntry) → IsOnRing net ring n → own n ring ≡ []
+    → StandsTied fixed net n [] ring
+stands-start fixed net n ring on none = record {
+  legal = record { each = first-fits fixed; due = (all_due fixed, refl) };
+  on = on;
+  tied = subst (Tied AController no_items) (sym none) (record { asks = refl; peers = refl; port = refl; replies = refl; ends = refl });
+  waits = λ path f is. absurd (let no' : None ≡ Some f = sym (ap (waiting path) none) ∙ is in cc);
+}
+
+-- events of the scan, and entries of other nodes
+pub stands-scans : (fixed : Fixed) (net : NetPlan) (n : ℕ) (entries more : List Entry) (ring : List RingEntry) → IsLegal fixed (entries ++ more)
+    → filter is_ours more ≡ [] → StandsTied fixed net n entries ring → StandsTied fixed net n (entries ++ more) ring
+stands-scans fixed net n entries more ring legal none s =
+    let same : items_of (entries ++ more) ≡ items_of entries = items-grew entries more [] none in
+    record {
+      legal = legal;
+      on = s.on;
+      tied = subst (λ a. Tied AController a (own n ring)) (sym same) s.tied;
+      waits = λ path f is. subst (λ a. IsOut a f.id) (sym same) (s.waits path f is);
+    }
+
+pub stands-others : (fixed : Fixed) (net : NetPlan) (n : ℕ) (entries : List Entry) (ring more : List RingEntry) → IsLegalRing net (ring ++ more)
+    → own n more ≡ [] → StandsTied fixed net n entries ring → StandsTied fixed net n entries (ring ++ more)
+stands-others fixed net n entries ring more legal none s =
+    let same = own-found n ring more none in
+    record {
+      legal = s.legal;
+      on = record { members = s.on.members; legal = legal; member = s.on.member };
+      tied = subst (Tied AController (items_of entries)) (sym same) s.tied;
+      waits = λ path f is. s.waits path f (sym (ap (waiting path) same) ∙ is);
+    }
+
+pub host-stands-others : (plan : HostPlan) (net : NetPlan) (list : List HostEntry) (ring more : List RingEntry) → IsLegalRing net (ring ++ more)
+    → own plan.node more ≡ [] → HostStandsTied plan net list ring → HostStandsTied plan net list (ring ++ more)
+host-stands-others plan net list ring more legal none s = record {
+  legal = s.legal;
+  on = record { members = s.on.members; legal = legal; member = s.on.member };
+  tied = subst (Tied AHost (host_items_of list)) (sym (own-found plan.node ring more none)) s.tied;
+}

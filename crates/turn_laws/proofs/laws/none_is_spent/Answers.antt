@@ -1,0 +1,14 @@
+use Rattle.turn_laws.proofs.Spent.{hosts-spend, nobody-spends, turns-spend, visits-spend}
+use Rattle.turn_laws.proofs.laws.none_is_spent.Goals as goal
+
+pub returns-clause-turns : goal.returns-clause-turns
+returns-clause-turns c = turns-spend
+
+pub returns-clause-hosts : goal.returns-clause-hosts
+returns-clause-hosts c = hosts-spend
+
+pub returns-clause-visits : goal.returns-clause-visits
+returns-clause-visits c = visits-spend
+
+pub returns-clause-all : goal.returns-clause-all
+returns-clause-all c = nobody-spends

@@ -1,0 +1,2 @@
+pub mod KeepsOn
+pub mod Laws

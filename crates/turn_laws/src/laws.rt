@@ -1,0 +1,98 @@
+//! Laws of turns, whoever else writes between their entries. This project's own.
+ghost use Rattle.turn_laws.specs.Laws.{StartsKeep, TurnsKeepOn, VisitsKeepOn, ScansKeepOn};
+ghost use Rattle.turn_laws.specs.Laws.{OthersKeepOn, ControllersComplete, HostStartsKeep};
+ghost use Rattle.turn_laws.specs.Laws.{HostTurnsKeepOn, HostOthersKeepOn, HostsComplete};
+ghost use Rattle.turn_laws.specs.Laws.{RunsComplete, LeavesWhenEnded, TurnsSpendNothing};
+ghost use Rattle.turn_laws.specs.Laws.{HostTurnsSpendNothing, VisitsSpendNothing, NobodySpends};
+
+use ladder_solver::segments_keep_calls;
+use mstr_block::{calls_are_taken_in_order, finishes_end_one_call, stays_table};
+
+/// A controller and its node begin so.
+pub fn starts_keep()
+    ensures { StartsKeep }
+{}
+
+/// A hold of the token keeps what a controller's list and its node's own list keep.
+pub fn turns_keep_on()
+    ensures { TurnsKeepOn }
+{
+    segments_keep_calls();
+    calls_are_taken_in_order();
+    finishes_end_one_call();
+    stays_table();
+}
+
+/// So does a visit of a controller whose node has left.
+pub fn visits_keep_on()
+    ensures { VisitsKeepOn }
+{
+    segments_keep_calls();
+    calls_are_taken_in_order();
+    finishes_end_one_call();
+    stays_table();
+}
+
+/// So do events of the scan: none comes once a Pass said done.
+pub fn scans_keep_on()
+    ensures { ScansKeepOn }
+{}
+
+/// So do entries of other nodes.
+pub fn others_keep_on()
+    ensures { OthersKeepOn }
+{}
+
+/// A controller whose node is gone, whose scans have ended and whose calls were all collected, is
+/// complete.
+pub fn controllers_complete()
+    ensures { ControllersComplete }
+{
+    segments_keep_calls();
+    calls_are_taken_in_order();
+    finishes_end_one_call();
+    stays_table();
+}
+
+/// A host and its node begin so.
+pub fn host_starts_keep()
+    ensures { HostStartsKeep }
+{}
+
+/// A hold of the token keeps what a host's list and its node's own list keep.
+pub fn host_turns_keep_on()
+    ensures { HostTurnsKeepOn }
+{}
+
+/// So do entries of other nodes.
+pub fn host_others_keep_on()
+    ensures { HostOthersKeepOn }
+{}
+
+/// A host whose node is gone is complete.
+pub fn hosts_complete()
+    ensures { HostsComplete }
+{}
+
+/// A run all of whose stations have finished is complete.
+pub fn runs_complete()
+    ensures { RunsComplete }
+{
+    controllers_complete();
+    hosts_complete();
+}
+
+/// A worker without a budget leaves only once its controller's scans have ended and its calls were
+/// all collected.
+pub fn leaves_when_ended()
+    ensures { LeavesWhenEnded }
+{}
+
+/// In its holds of the token, in those of a host's worker, and in its visits, no node leaves
+/// because its Passes are spent.
+pub fn none_is_spent()
+    ensures turns { TurnsSpendNothing }
+    ensures hosts { HostTurnsSpendNothing }
+    ensures visits { VisitsSpendNothing }
+    ensures all { NobodySpends }
+{}

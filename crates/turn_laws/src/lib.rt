@@ -1,0 +1,10 @@
+//! What the turns of a plant's stations keep, so that a run of them is complete in the end.
+#![tactic(auto)]
+
+mod laws;
+
+pub use laws::{
+    controllers_complete, host_others_keep_on, host_starts_keep, host_turns_keep_on,
+    hosts_complete, leaves_when_ended, none_is_spent, others_keep_on, runs_complete, scans_keep_on,
+    starts_keep, turns_keep_on, visits_keep_on,
+};
