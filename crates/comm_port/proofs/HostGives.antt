@@ -5,7 +5,7 @@ use Rattle.std.proofs.Common.{[], ◌∷◌, ◌++◌, map, take, get_or, Option
 use Rattle.std.proofs.Common.{◌∙◌}
 use Rattle.std.proofs.Common.{subst, arith, append_assoc, append-nil, eq-eqb}
 use Rattle.std.specs.Prelude.{is_none}
-use Rattle.std.specs.List.{filter, list_any, AllByRecursion as Each}
+use Rattle.std.specs.List.{cons_option, filter, list_any, AllByRecursion as Each}
 use Rattle.std.proofs.lemmas.List.{map-append}
 use Rattle.std.proofs.lemmas.List.Elements.{filter-append}
 use Rattle.plant_types.specs.declared.net.NetPlan.{NetPlan}
@@ -31,10 +31,12 @@ use Rattle.tied_lists.proofs.Histories.{legal-follows}
 use Rattle.tied_lists.proofs.Turns.{Found, part, unmoved}
 use Rattle.comm_port.specs.Sides.{RingSideIs}
 use Rattle.comm_port.specs.Sending.{GaveUp, sends_left}
-use Rattle.comm_port.specs.HostTurns.{bad_answer_of, call_on_path, chosen, due_calls, GivenUp}
-use Rattle.comm_port.specs.HostTurns.{GivesUpDue, give_up_of, HostTurning, may_go, wanted_path}
+use Rattle.comm_port.specs.Giving.{due_calls, due_on, part_at}
+use Rattle.comm_port.specs.HostTurns.{bad_answer_of, chosen, GivenUp}
+use Rattle.comm_port.specs.HostTurns.{GivesUpDue, give_up_of, HostTurning, wanted_path}
 use Rattle.comm_port.proofs.HostRuns.{all-let, due-both, due-nothing, due-one, due-same, ends_on}
 use Rattle.comm_port.proofs.HostRuns.{kept_for, kept-why, left-grew, still-none}
+use Rattle.comm_port.proofs.Dues.{named-by}
 use Rattle.comm_port.proofs.HostServes.{grew_not}
 use Rattle.comm_port.proofs.RingTurns.{on-ring}
 
@@ -42,7 +44,7 @@ use Rattle.comm_port.proofs.RingTurns.{on-ring}
 
 -- nothing was given up, as nothing goes
 gives-none : (alone : Bool) (net : NetPlan) (n p : ℕ) (list : List HostEntry) (a b : List RingEntry) → IsOnRing net b n → IsFree net a n
-    → Grew alone (is_of n) a [] b → due_calls net a n (p ∷ []) ≡ [] → GivesUpDue alone net n (p ∷ []) list list a b
+    → Grew alone (is_of n) a [] b → due_calls net n a (p ∷ []) ≡ [] → GivesUpDue alone net n (p ∷ []) list list a b
 gives-none alone net n p list a b on free grew none = record {
   ends = [];
   calls = sym none;
@@ -81,7 +83,7 @@ gives-zero alone n p seq host side list a b t legal went is zero' =
     let awaits = (path_of (part side.net b n) p).awaits in
     let none : awaits ≡ Nothing = nothing-of awaits (waiting p (own n b)) (sym is ∙ zero') (follows.paths p) (λ f w. (follows.asks p f w).number) in
     let before : (path_of (part side.net a n) p).awaits ≡ Nothing = ap (λ (c : NodeIs). (path_of c p).awaits) (sym l.found.part_is) ∙ none in
-    gives-none alone side.net n p list a b l.on t.own_turn.free (grew-one alone (is_of n) a [] b refl went) (due-nothing side.net a n p t.own_turn.free before)
+    gives-none alone side.net n p list a b l.on t.own_turn.free (grew-one alone (is_of n) a [] b refl went) (due-nothing side.net a n p before)
 
 -- the ring does not let it go
 pub gives-kept : {Q : Type 0} (alone : Bool) (n p seq : ℕ) (host : HostIs) (side : RingSideIs Q) (list : List HostEntry) (a b c : List RingEntry)
@@ -105,9 +107,9 @@ gives-kept alone n p seq host side list a b c t legal went is gave legal' kept =
     let awaits = (path_of (part net c n) p).awaits in
     let no'' : is_none (kept_for net.answer here awaits (awaited_number awaits)) ≡ false =
     ap (λ (k : ℕ). is_none (kept_for net.answer here awaits k)) (sym number) ∙ no' in
-    let none : due_calls net c n (p ∷ []) ≡ [] = due-one net c n p left.free
+    let none : due_calls net n c (p ∷ []) ≡ [] = due-one net c n p
     ∙ ap (λ (g : Bool). cond g (record { node = n; path = p; seq = awaited_number awaits } ∷ []) []) no'' in
-    gives-none alone net n p list a c on t.own_turn.free grew (sym (due-same net a c n p t.own_turn.free left.free left.here path) ∙ none)
+    gives-none alone net n p list a c on t.own_turn.free grew (sym (due-same net a c n p left.here path) ∙ none)
 
 -- it does
 pub gives-word : {Q : Type 0} (alone : Bool) (n p seq word : ℕ) (host : HostIs) (side : RingSideIs Q) (list new : List HostEntry) (a b c : List RingEntry)
@@ -132,7 +134,7 @@ gives-word alone n p seq word host side list new a b c t legal went is gave lega
     let lets : kept_for net.answer here awaits seq ≡ None = all-let alone net n end a c on free grew refl in
     let lets' : is_none (kept_for net.answer here awaits (awaited_number awaits)) ≡ true =
     ap (λ (k : ℕ). is_none (kept_for net.answer here awaits k)) (sym number) ∙ ap is_none lets in
-    let due : due_calls net a n (p ∷ []) ≡ id ∷ [] = due-one net a n p free
+    let due : due_calls net n a (p ∷ []) ≡ id ∷ [] = due-one net a n p
     ∙ ap (λ (g : Bool). cond g (record { node = n; path = p; seq = awaited_number awaits } ∷ []) []) lets'
     ∙ ap (λ (k : ℕ). record { node = n; path = p; seq = k } ∷ []) (sym number) in
     record {
@@ -140,7 +142,7 @@ gives-word alone n p seq word host side list new a b c t legal went is gave lega
       calls = sym due;
       grew = grew;
       answers = new_is;
-      none_left = due-nothing net c n p left.free (left.ended p (itself p));
+      none_left = due-nothing net c n p (left.ended p (itself p));
     }
   where
     itself : (p : ℕ) → ((p == p) || false) ≡ true
@@ -157,13 +159,20 @@ any-of-ids q [] = refl
 any-of-ids q (g ∷ ends) = ap (λ (b : Bool). (g.id.path == q) || b) (any-of-ids q ends)
 
 none-of-due : (net : NetPlan) (ring : List RingEntry) (n q : ℕ) (ps : List ℕ) → Each (λ p. (p == q) ≡ false) ps
-    → list_any (λ (id : CallId). id.path == q) (due_calls net ring n ps) ≡ false
+    → list_any (λ (id : CallId). id.path == q) (due_calls net n ring ps) ≡ false
 none-of-due net ring n q [] each = refl
-none-of-due net ring n q (p ∷ ps) each = elim (may_go net ring (call_on_path net ring n p)) as
-    (λ (b : Bool). list_any (λ (id : CallId). id.path == q) (cond b (call_on_path net ring n p ∷ due_calls net ring n ps) (due_calls net ring n ps)) ≡ false) [
-      | true ↦ ap (λ (b : Bool). b || list_any (λ (id : CallId). id.path == q) (due_calls net ring n ps)) each.0 ∙ none-of-due net ring n q ps each.1
-      | false ↦ none-of-due net ring n q ps each.1
-    ]
+none-of-due net ring n q (p ∷ ps) each = by (due_on net n (part_at net n ring) p) refl (none-of-due net ring n q ps each.1)
+  where
+    rest : List CallId
+    rest = due_calls net n ring ps
+
+    by : (o : Option CallId) → due_on net n (part_at net n ring) p ≡ o → list_any (λ (id : CallId). id.path == q) rest ≡ false
+        → list_any (λ (id : CallId). id.path == q) (cons_option o rest) ≡ false
+    by None is none = none
+    by (Some id) is none =
+        let path = (named-by net n p (part_at net n ring) id is).path in
+        ap (λ (k : ℕ). (k == q) || list_any (λ (x : CallId). x.path == q) rest) path
+        ∙ ap (λ (b : Bool). b || list_any (λ (x : CallId). x.path == q) rest) each.0 ∙ none
 
 pub gives-both : (alone : Bool) (net : NetPlan) (n q : ℕ) (ps : List ℕ) (l l' l'' : List HostEntry) (a b c : List RingEntry) → IsOnRing net b n
     → IsOnRing net c n → IsFree net a n → Each (λ p. (p == q) ≡ false) ps → GivesUpDue alone net n ps l l' a b
@@ -174,7 +183,7 @@ gives-both alone net n q ps l l' l'' a b c on on' free apart x y =
     let left' = left-grew alone net n y.ends b c on' left.free y.grew in
     let not_on : list_any (ends_on q) x.ends ≡ false = any-of-ids q x.ends
     ∙ ap (list_any (λ (id : CallId). id.path == q)) x.calls ∙ none-of-due net a n q ps apart in
-    let same : due_calls net b n (q ∷ []) ≡ due_calls net a n (q ∷ []) = due-same net a b n q free left.free left.here (left.others q not_on) in
+    let same : due_calls net n b (q ∷ []) ≡ due_calls net n a (q ∷ []) = due-same net a b n q left.here (left.others q not_on) in
     record {
       ends = x.ends ++ y.ends;
       calls = map-append id_of x.ends y.ends ∙ (λ i. x.calls i ++ (y.calls ∙ same) i) ∙ sym (due-both net a n ps (q ∷ []));

@@ -48,9 +48,10 @@ use Rattle.tied_lists.proofs.Turns.{part}
 use Rattle.comm_port.specs.Complete.{is_pass}
 use Rattle.comm_port.specs.Sides.{RingSideIs}
 use Rattle.comm_port.specs.Leaving.{cause_due, HandedOn, last_entry}
+use Rattle.comm_port.specs.Giving.{due_calls}
 use Rattle.comm_port.specs.HostTurns.{ask_of}
 use Rattle.comm_port.specs.HostTurns.{AskedAll, AsksAllDue, chosen}
-use Rattle.comm_port.specs.HostTurns.{due_calls, EachSends, EndsHostTurn, GivenUp, GivesUpDue}
+use Rattle.comm_port.specs.HostTurns.{EachSends, EndsHostTurn, GivenUp, GivesUpDue}
 use Rattle.comm_port.specs.HostTurns.{give_up_of, hold_of, HoldsHostTurn, host_at, HostTurning}
 use Rattle.comm_port.specs.HostTurns.{IsSendingStep, SendsOut, ServesFrame}
 use Rattle.comm_port.specs.HostTurns.{ServesKind, ServesRequest, went_on}
@@ -92,16 +93,16 @@ none-open plan h (f ∷ fs) legal is none =
     absurd (let wrong : Some f ≡ None = sym here ∙ none p last.is_path in cc)
 
 pub none-unanswered : {Q : Type 0} (n : ℕ) (host : HostIs) (side : RingSideIs Q) (ring : List RingEntry) → HostTurning n host side ring
-    → HasLeft side.net ring n → due_calls side.net ring n network_paths ≡ [] → unanswered_in host.history ≡ []
+    → HasLeft side.net ring n → due_calls side.net n ring network_paths ≡ [] → unanswered_in host.history ≡ []
 none-unanswered n host side ring t gone' none =
     let net = side.net in
     let each = none-due net ring n network_paths none in
     let follows = (legal-follows net ring n t.own_turn.on).node.part in
-    let at : (p : ℕ) → IsPath p → due_calls net ring n (p ∷ []) ≡ [] =
-    λ p is_path. at_path (λ (q : ℕ). due_calls net ring n (q ∷ []) ≡ []) p is_path each.0 each.1.0 each.1.1.0 each.1.1.1.0 in
+    let at : (p : ℕ) → IsPath p → due_calls net n ring (p ∷ []) ≡ [] =
+    λ p is_path. at_path (λ (q : ℕ). due_calls net n ring (q ∷ []) ≡ []) p is_path each.0 each.1.0 each.1.1.0 each.1.1.1.0 in
     none-open host.plan host.history (unanswered_in host.history) t.legal refl (λ p is_path.
     let a = (path_of (part net ring n) p).awaits in
-    let left : goes_by net.answer false n p a ≡ [] = ap (λ (b : Bool). goes_by net.answer b n p a) (sym gone') ∙ sym (due-one net ring n p t.own_turn.free) ∙ at p is_path in
+    let left : goes_by net.answer false n p a ≡ [] = ap (λ (b : Bool). goes_by net.answer b n p a) (sym gone') ∙ sym (due-one net ring n p) ∙ at p is_path in
     sym (t.paths.waits p) ∙ nothing-waits a (waiting p (own n ring)) (nothing-left net.answer n p a left) (follows.paths p))
 
 -- ---- the end

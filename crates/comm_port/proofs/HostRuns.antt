@@ -1,15 +1,16 @@
 -- What a node's own give-ups leave of its part, wherever others' entries stand between them.
-use Rattle.std.proofs.Common.{◌≡◌, ◌≢◌, ◌⊎◌, ℕ, ◌<◌, ◌==◌, ◌||◌, Bool, true, false, cond, List, []}
+use Rattle.std.proofs.Common.{◌≡◌, ◌≢◌, ◌⊎◌, ℕ, ◌<◌, ◌==◌, ◌||◌, nat_le, Bool, true, false, cond}
+use Rattle.std.proofs.Common.{List, []}
 use Rattle.std.proofs.Common.{length, ◌∷◌, ◌++◌, map, get_or, set, Option, Some, None, refl, sym}
 use Rattle.std.proofs.Common.{ap, ◌∙◌}
 use Rattle.std.proofs.Common.{subst, inl, inr, ⊎_elim, arith, append_assoc, append-nil}
 use Rattle.std.proofs.Common.{get_or-set_same, get_or-set_other, eq-eqb}
 use Rattle.std.specs.Prelude.{if◌then◌else◌, is_none, ◌↔◌}
-use Rattle.std.specs.List.{filter, list_any, AllByRecursion as Each}
-use Rattle.std.proofs.lemmas.Bool.{cases_Bool, cases_eq, eqb-true, lt-ltb}
-use Rattle.std.proofs.lemmas.List.{map-append}
+use Rattle.std.specs.List.{cons_option, list_any, AllByRecursion as Each}
+use Rattle.std.proofs.lemmas.Bool.{cases_Bool, cases_eq, eqb-true, leb-false, leb-true, le-ltb}
+use Rattle.std.proofs.lemmas.Bool.{lt-ltb}
 use Rattle.std.proofs.lemmas.List.Folds.{list_any-append}
-use Rattle.std.proofs.lemmas.List.Elements.{filter-append}
+use Rattle.std.proofs.lemmas.List.Elements.{filter_map-append}
 use Rattle.plant_types.specs.declared.net.NetPlan.{NetPlan}
 use Rattle.mstr_block.specs.declared.call.CallId.{CallId}
 use Rattle.ring_core.specs.Words.{maker}
@@ -20,7 +21,7 @@ use Rattle.ring_core.specs.Refusals.{answer_after, awaited_no, due_no, free_no, 
 use Rattle.ring_core.specs.Refusals.{other_no}
 use Rattle.ring_core.specs.declared.refusal.RingNo.{RingNo}
 use Rattle.ring_core.specs.declared.refusal.RingNo.TheVariants.{Untaken, NotHolder}
-use Rattle.ring_core.specs.declared.refusal.RingNo.TheVariants.{NoMemory, NotDue}
+use Rattle.ring_core.specs.declared.refusal.RingNo.TheVariants.{NoMemory, NotAwaited, NotDue}
 use Rattle.ring_core.specs.declared.path.Path.{Path}
 use Rattle.ring_core.specs.declared.path.Await.{Await}
 use Rattle.ring_core.specs.declared.path.Await.TheVariants.{Nothing, Out, Arrived, Failed}
@@ -30,9 +31,10 @@ use Rattle.tied_lists.specs.Waits.{HasLeft, Holds, IsFree, IsOnRing}
 use Rattle.tied_lists.proofs.Histories.{legal-follows}
 use Rattle.tied_lists.proofs.Turns.{after-give_up, Found, found-at, legal-parts, Moved, moved, part}
 use Rattle.comm_port.specs.Sides.{RingSideIs}
-use Rattle.comm_port.specs.HostTurns.{call_on_path, due_calls, EachSends, GivenUp, give_up_of}
+use Rattle.comm_port.specs.Giving.{due_by, due_calls, due_on, part_at}
+use Rattle.comm_port.specs.HostTurns.{EachSends, GivenUp, give_up_of}
 use Rattle.comm_port.specs.HostTurns.{IsFailed}
-use Rattle.comm_port.specs.HostTurns.{IsSendingStep, may_go}
+use Rattle.comm_port.specs.HostTurns.{IsSendingStep}
 
 -- ---- one entry behind a history
 
@@ -272,56 +274,85 @@ goes_by answer here n p a =
     let seq = awaited_number a in
     cond (is_none (kept_for answer here a seq)) (record { node = n; path = p; seq = seq } ∷ []) []
 
-pub due-one : (net : NetPlan) (ring : List RingEntry) (n p : ℕ) → IsFree net ring n
-    → due_calls net ring n (p ∷ []) ≡ goes_by net.answer (part net ring n).here n p (path_of (part net ring n) p).awaits
-due-one net ring n p free =
-    let a = (path_of (part net ring n) p).awaits in
-    ap (λ (o : Option RingNo). cond (is_none o) (record { node = n; path = p; seq = awaited_number a } ∷ []) []) (kept-why net ring n p (awaited_number a) free)
+other-none : (seq : ℕ) → other_no seq seq ≡ None
+other-none seq = ap (λ (b : Bool). if b then None else Some (NotAwaited seq)) (eq-eqb seq seq refl)
+
+-- what is due is what nothing keeps
+waited : (n p answer seq passes : ℕ) → cons_option {X = CallId} (if nat_le answer passes then Some (record { node = n; path = p; seq = seq }) else None) []
+    ≡ cond (is_none (due_no passes answer)) (record { node = n; path = p; seq = seq } ∷ []) []
+waited n p answer seq passes = elim (cases_Bool (nat_le answer passes)) [
+  | inl long ↦
+      let id : CallId = record { node = n; path = p; seq = seq } in
+      let far = le-ltb passes answer (leb-true answer passes long) in
+      ap (λ (b : Bool). cons_option {X = CallId} (if b then Some id else None) []) long
+      ∙ sym (ap (λ (b : Bool). cond (is_none (if b then Some (NotDue passes answer) else None)) (id ∷ []) []) far)
+  | inr short ↦
+      let id : CallId = record { node = n; path = p; seq = seq } in
+      let near = lt-ltb passes answer (leb-false answer passes short) in
+      ap (λ (b : Bool). cons_option {X = CallId} (if b then Some id else None) []) short
+      ∙ sym (ap (λ (b : Bool). cond (is_none (if b then Some (NotDue passes answer) else None)) (id ∷ []) []) near)
+]
+
+goes-due : (answer : ℕ) (here : Bool) (n p : ℕ) (a : Await) → cons_option (due_by answer here n p a) [] ≡ goes_by answer here n p a
+goes-due answer here n p Nothing = refl
+goes-due answer true n p (Out s to passes) = waited n p answer s passes
+    ∙ sym (ap (λ (o : Option RingNo). cond (is_none (or_no o (due_no passes answer))) (record { node = n; path = p; seq = s } ∷ []) []) (other-none s))
+goes-due answer false n p (Out s to passes) =
+    sym (ap (λ (o : Option RingNo). cond (is_none (or_no o None)) (record { node = n; path = p; seq = s } ∷ []) []) (other-none s))
+goes-due answer true n p (Arrived s) =
+    sym (ap (λ (o : Option RingNo). cond (is_none (or_no o (Some (Untaken 1)))) (record { node = n; path = p; seq = s } ∷ []) []) (other-none s))
+goes-due answer false n p (Arrived s) =
+    sym (ap (λ (o : Option RingNo). cond (is_none (or_no o None)) (record { node = n; path = p; seq = s } ∷ []) []) (other-none s))
+goes-due answer true n p (Failed s word) =
+    sym (ap (λ (o : Option RingNo). cond (is_none (or_no o None)) (record { node = n; path = p; seq = s } ∷ []) []) (other-none s))
+goes-due answer false n p (Failed s word) =
+    sym (ap (λ (o : Option RingNo). cond (is_none (or_no o None)) (record { node = n; path = p; seq = s } ∷ []) []) (other-none s))
+
+pub due-one : (net : NetPlan) (ring : List RingEntry) (n p : ℕ)
+    → due_calls net n ring (p ∷ []) ≡ goes_by net.answer (part net ring n).here n p (path_of (part net ring n) p).awaits
+due-one net ring n p = goes-due net.answer (part net ring n).here n p (path_of (part net ring n) p).awaits
 
 pub due-both : (net : NetPlan) (ring : List RingEntry) (n : ℕ) (ps qs : List ℕ)
-    → due_calls net ring n (ps ++ qs) ≡ due_calls net ring n ps ++ due_calls net ring n qs
-due-both net ring n ps qs =
-    ap (filter (may_go net ring)) (map-append (call_on_path net ring n) ps qs)
-    ∙ filter-append (may_go net ring) (map (call_on_path net ring n) ps) (map (call_on_path net ring n) qs)
+    → due_calls net n ring (ps ++ qs) ≡ due_calls net n ring ps ++ due_calls net n ring qs
+due-both net ring n ps qs = filter_map-append (due_on net n (part_at net n ring)) ps qs
 
-pub due-same : (net : NetPlan) (a b : List RingEntry) (n p : ℕ) → IsFree net a n → IsFree net b n
-    → (part net b n).here ≡ (part net a n).here → path_of (part net b n) p ≡ path_of (part net a n) p
-    → due_calls net b n (p ∷ []) ≡ due_calls net a n (p ∷ [])
-due-same net a b n p free free' here path =
-    due-one net b n p free' ∙ (λ i. goes_by net.answer (here i) n p (path i).awaits) ∙ sym (due-one net a n p free)
+pub due-same : (net : NetPlan) (a b : List RingEntry) (n p : ℕ) → (part net b n).here ≡ (part net a n).here → path_of (part net b n) p ≡ path_of (part net a n) p
+    → due_calls net n b (p ∷ []) ≡ due_calls net n a (p ∷ [])
+due-same net a b n p here path =
+    due-one net b n p ∙ (λ i. goes_by net.answer (here i) n p (path i).awaits) ∙ sym (due-one net a n p)
 
-pub due-nothing : (net : NetPlan) (b : List RingEntry) (n p : ℕ) → IsFree net b n → (path_of (part net b n) p).awaits ≡ Nothing
-    → due_calls net b n (p ∷ []) ≡ []
-due-nothing net b n p free is = due-one net b n p free ∙ ap (goes_by net.answer (part net b n).here n p) is
+pub due-nothing : (net : NetPlan) (b : List RingEntry) (n p : ℕ) → (path_of (part net b n) p).awaits ≡ Nothing
+    → due_calls net n b (p ∷ []) ≡ []
+due-nothing net b n p is = due-one net b n p ∙ ap (goes_by net.answer (part net b n).here n p) is
 
 no-more : (xs ys : List CallId) → xs ++ ys ≡ [] → (xs ≡ []) × (ys ≡ [])
 no-more [] ys is = (refl, is)
 no-more (x ∷ xs) ys is = absurd (cc)
 
 -- each of these paths has no call that goes
-pub none-due : (net : NetPlan) (ring : List RingEntry) (n : ℕ) (ps : List ℕ) → due_calls net ring n ps ≡ []
-    → Each (λ p. due_calls net ring n (p ∷ []) ≡ []) ps
+pub none-due : (net : NetPlan) (ring : List RingEntry) (n : ℕ) (ps : List ℕ) → due_calls net n ring ps ≡ []
+    → Each (λ p. due_calls net n ring (p ∷ []) ≡ []) ps
 none-due net ring n [] none = tt
 none-due net ring n (p ∷ ps) none =
-    let k = no-more (due_calls net ring n (p ∷ [])) (due_calls net ring n ps) (sym (due-both net ring n (p ∷ []) ps) ∙ none) in
+    let k = no-more (due_calls net n ring (p ∷ [])) (due_calls net n ring ps) (sym (due-both net ring n (p ∷ []) ps) ∙ none) in
     (k.0, none-due net ring n ps k.1)
 
-pub all-due-none : (net : NetPlan) (ring : List RingEntry) (n : ℕ) (ps : List ℕ) → Each (λ p. due_calls net ring n (p ∷ []) ≡ []) ps
-    → due_calls net ring n ps ≡ []
+pub all-due-none : (net : NetPlan) (ring : List RingEntry) (n : ℕ) (ps : List ℕ) → Each (λ p. due_calls net n ring (p ∷ []) ≡ []) ps
+    → due_calls net n ring ps ≡ []
 all-due-none net ring n [] each = refl
 all-due-none net ring n (p ∷ ps) each =
     due-both net ring n (p ∷ []) ps ∙ (λ i. each.0 i ++ all-due-none net ring n ps each.1 i)
 
 -- where none went, none does behind give-ups
 pub still-none : (net : NetPlan) (n : ℕ) (ends : List GivenUp) (a b : List RingEntry) (ps : List ℕ) → IsFree net a n → LeftBy net n ends a b
-    → due_calls net a n ps ≡ [] → due_calls net b n ps ≡ []
+    → due_calls net n a ps ≡ [] → due_calls net n b ps ≡ []
 still-none net n ends a b ps free l none = all-due-none net b n ps (each ps (none-due net a n ps none))
   where
-    each : (ps : List ℕ) → Each (λ p. due_calls net a n (p ∷ []) ≡ []) ps → Each (λ p. due_calls net b n (p ∷ []) ≡ []) ps
+    each : (ps : List ℕ) → Each (λ p. due_calls net n a (p ∷ []) ≡ []) ps → Each (λ p. due_calls net n b (p ∷ []) ≡ []) ps
     each [] e = tt
     each (p ∷ ps) e = (
-      ⊎_elim (λ (s : path_of (part net b n) p ≡ path_of (part net a n) p). due-same net a b n p free l.free l.here s ∙ e.0)
-          (λ (s : (path_of (part net b n) p).awaits ≡ Nothing). due-nothing net b n p l.free s) (l.paths p),
+      ⊎_elim (λ (s : path_of (part net b n) p ≡ path_of (part net a n) p). due-same net a b n p l.here s ∙ e.0)
+          (λ (s : (path_of (part net b n) p).awaits ≡ Nothing). due-nothing net b n p s) (l.paths p),
       each ps e.1,
     )
 

@@ -4,7 +4,7 @@ use Rattle.std.proofs.Common.{length, ◌∷◌, ◌++◌, map, get_or, set, rep
 use Rattle.std.proofs.Common.{refl, sym, ap, ◌∙◌, subst, inl, inr, ⊎_elim, arith, append_assoc}
 use Rattle.std.proofs.Common.{append-nil, get_or-set_same, get_or-set_other, eq-eqb}
 use Rattle.std.specs.Prelude.{filter_map, if◌then◌else◌, is_none}
-use Rattle.std.specs.List.{filter, AllByRecursion as Each}
+use Rattle.std.specs.List.{cons_option, filter, AllByRecursion as Each}
 use Rattle.std.proofs.lemmas.Bool.{cases_Bool, cases_eq}
 use Rattle.std.proofs.lemmas.List.Elements.{filter-append, filter_map-append}
 use Rattle.plant_types.specs.declared.net.NetPlan.{NetPlan}
@@ -34,11 +34,12 @@ use Rattle.tied_lists.specs.Waits.{Holds, IsFree, IsOnRing}
 use Rattle.tied_lists.proofs.Histories.{legal-follows}
 use Rattle.tied_lists.proofs.Turns.{Found, found-at, part}
 use Rattle.comm_port.specs.Sides.{RingSideIs}
-use Rattle.comm_port.specs.HostTurns.{AreNew, bad_answer_of, bad_answer_to, call_on_path, chosen}
-use Rattle.comm_port.specs.HostTurns.{chosen_paths, due_calls, EachSends, GivenUp, GivesUpDue}
-use Rattle.comm_port.specs.HostTurns.{give_up_of, IsFailed, IsNew, IsSendingStep, may_go}
-use Rattle.comm_port.specs.HostTurns.{NoneFailed}
+use Rattle.comm_port.specs.Giving.{due_calls, due_on, part_at}
+use Rattle.comm_port.specs.HostTurns.{AreNew, bad_answer_of, bad_answer_to, chosen}
+use Rattle.comm_port.specs.HostTurns.{chosen_paths, EachSends, GivenUp, GivesUpDue}
+use Rattle.comm_port.specs.HostTurns.{give_up_of, IsFailed, IsNew, IsSendingStep, NoneFailed}
 use Rattle.comm_port.specs.HostTurns.{looked_at, outbox_of, Sends, SendsOut}
+use Rattle.comm_port.proofs.Dues.{named-by}
 use Rattle.comm_port.proofs.HostGives.{none-ids}
 use Rattle.comm_port.proofs.HostRuns.{AreYoung, due-one, each-gone, goes_by, kept_for, left-grew}
 use Rattle.comm_port.proofs.HostRuns.{LeftBy}
@@ -282,26 +283,33 @@ filter-each P test (x ∷ xs) each = elim (cases_Bool (test x)) [
       (λ k. absurd (let wrong : true ≡ false = sym k ∙ miss in cc), filter-each P test xs e)
 ]
 
-pub none-at : (net : NetPlan) (ring : List RingEntry) (n : ℕ) (which : List Bool) → due_calls net ring n (chosen_paths which) ≡ [] → (p : ℕ) → IsPath p
-    → chosen which p ≡ true → due_calls net ring n (p ∷ []) ≡ []
+pub none-at : (net : NetPlan) (ring : List RingEntry) (n : ℕ) (which : List Bool) → due_calls net n ring (chosen_paths which) ≡ [] → (p : ℕ) → IsPath p
+    → chosen which p ≡ true → due_calls net n ring (p ∷ []) ≡ []
 none-at net ring n which none p is_path =
-    let each = filter-each (λ (q : ℕ). due_calls net ring n (q ∷ []) ≡ []) (chosen which) network_paths (none-due net ring n (chosen_paths which) none) in
-    at_path (λ (q : ℕ). chosen which q ≡ true → due_calls net ring n (q ∷ []) ≡ []) p is_path each.0 each.1.0 each.1.1.0 each.1.1.1.0
+    let each = filter-each (λ (q : ℕ). due_calls net n ring (q ∷ []) ≡ []) (chosen which) network_paths (none-due net ring n (chosen_paths which) none) in
+    at_path (λ (q : ℕ). chosen which q ≡ true → due_calls net n ring (q ∷ []) ≡ []) p is_path each.0 each.1.0 each.1.1.0 each.1.1.1.0
 
 -- the calls that went are on the paths chosen
-on-chosen : (net : NetPlan) (ring : List RingEntry) (n : ℕ) (test : ℕ → Bool) (ps : List ℕ)
-    → Each (λ (id : CallId). test id.path ≡ true) (due_calls net ring n (filter test ps))
-on-chosen net ring n test [] = tt
-on-chosen net ring n test (p ∷ ps) = elim (cases_Bool (test p)) [
-  | inl hit ↦ subst (λ (l : List ℕ). Each (λ (id : CallId). test id.path ≡ true) (due_calls net ring n l))
-      (sym (ap (λ (b : Bool). cond b (p ∷ filter test ps) (filter test ps)) hit))
-      (elim (may_go net ring (call_on_path net ring n p)) as (λ (b : Bool). Each (λ (id : CallId). test id.path ≡ true)
-      (cond b (call_on_path net ring n p ∷ due_calls net ring n (filter test ps)) (due_calls net ring n (filter test ps)))) [
-        | true ↦ (hit, on-chosen net ring n test ps)
-        | false ↦ on-chosen net ring n test ps
-      ])
-  | inr miss ↦ subst (λ (l : List ℕ). Each (λ (id : CallId). test id.path ≡ true) (due_calls net ring n l))
-      (sym (ap (λ (b : Bool). cond b (p ∷ filter test ps) (filter test ps)) miss)) (on-chosen net ring n test ps)
+on-chosen : (net : NetPlan) (ring : List RingEntry) (n : ℕ) (test : ℕ → Bool) (ps : List ℕ) → Each (λ p. test p ≡ true) ps
+    → Each (λ (id : CallId). test id.path ≡ true) (due_calls net n ring ps)
+on-chosen net ring n test [] each = tt
+on-chosen net ring n test (p ∷ ps) each = by (due_on net n (part_at net n ring) p) refl (on-chosen net ring n test ps each.1)
+  where
+    rest : List CallId
+    rest = due_calls net n ring ps
+
+    by : (o : Option CallId) → due_on net n (part_at net n ring) p ≡ o → Each (λ (id : CallId). test id.path ≡ true) rest
+        → Each (λ (id : CallId). test id.path ≡ true) (cons_option o rest)
+    by None is all = all
+    by (Some id) is all = (ap test (named-by net n p (part_at net n ring) id is).path ∙ each.0, all)
+
+chosen-pass : (test : ℕ → Bool) (ps : List ℕ) → Each (λ p. test p ≡ true) (filter test ps)
+chosen-pass test [] = tt
+chosen-pass test (p ∷ ps) = elim (cases_Bool (test p)) [
+  | inl hit ↦ subst (λ (l : List ℕ). Each (λ q. test q ≡ true) l) (sym (ap (λ (b : Bool). cond b (p ∷ filter test ps) (filter test ps)) hit))
+      (hit, chosen-pass test ps)
+  | inr miss ↦ subst (λ (l : List ℕ). Each (λ q. test q ≡ true) l) (sym (ap (λ (b : Bool). cond b (p ∷ filter test ps) (filter test ps)) miss))
+      (chosen-pass test ps)
 ]
 
 each-ids : (P : CallId → Type 0) (ends : List GivenUp) → Each P (map (λ (g : GivenUp). g.id) ends) → Each (λ (g : GivenUp). P g.id) ends
@@ -367,12 +375,12 @@ step-failed alone net n heard fresh l l' a b c ring g each s new x =
     let left = left-grew alone net n x.ends b c ring (inl s.holds) x.grew in
     let young' = still-young net n x.ends on b c left young in
     let all = each-ids (λ (id : CallId). on id.path ≡ true) x.ends (subst (λ (k : List CallId). Each (λ (id : CallId). on id.path ≡ true) k) (sym x.calls)
-    (on-chosen net b n on network_paths)) in
+    (on-chosen net b n on (filter on network_paths) (chosen-pass on network_paths))) in
     record {
       sends = step-sends alone net n on heard fresh l l' a b c g each s young ring x all;
       new_calls = λ p is_path chosen'. is-new (path_of (part net c n) p).awaits (young' p is_path chosen')
           (λ is. failed-goes net.answer (part net c n).here n p (path_of (part net c n) p).awaits is
-          (sym (due-one net c n p left.free) ∙ none-at net c n fresh x.none_left p is_path chosen'));
+          (sym (due-one net c n p) ∙ none-at net c n fresh x.none_left p is_path chosen'));
     }
 
 pub sent-step : (alone : Bool) (net : NetPlan) (n : ℕ) (heard : Heard) (fresh which : List Bool) (l l' : List HostEntry) (a b c : List RingEntry)

@@ -1,9 +1,8 @@
 -- Hosts that stand on one ring, while each has its turns.
-use Rattle.std.proofs.Common.{◌≡◌, ◌≢◌, ℕ, ◌+◌, ◌<◌, ◌≤◌, ◌==◌, Bool, true, false, cond, List, []}
-use Rattle.std.proofs.Common.{◌∷◌, ◌++◌}
+use Rattle.std.proofs.Common.{◌≡◌, ◌≢◌, ℕ, ◌<◌, ◌≤◌, Bool, true, false, cond, List, [], ◌∷◌, ◌++◌}
 use Rattle.std.proofs.Common.{zero, suc, inl, inr, length, get_or, All, Contains, refl, sym, ap}
-use Rattle.std.proofs.Common.{◌∙◌, subst, arith, eq-eqb, ne_eqb}
-use Rattle.std.specs.List.{filter, AllByRecursion as Each}
+use Rattle.std.proofs.Common.{◌∙◌, subst, arith, ne_eqb}
+use Rattle.std.specs.List.{AllByRecursion as Each}
 use Rattle.std.proofs.lemmas.Bool.{cases_Bool, eqb-true}
 use Rattle.plant_types.specs.declared.net.NetPlan.{NetPlan}
 use Rattle.plant_types.specs.declared.net.HostPlan.{HostPlan}
@@ -18,7 +17,6 @@ use Rattle.ring_core.proofs.Stability.{member-stays}
 use Rattle.host_port.specs.declared.entry.HostEntry.{HostEntry}
 use Rattle.host_port.specs.Host.{HostIs}
 use Rattle.tied_lists.specs.Own.{own, is_of}
-use Rattle.tied_lists.specs.Waits.{Holds}
 use Rattle.comm_port.specs.Leaving.{IsHere}
 use Rattle.comm_port.specs.HostStands.{own_side, StandsHost}
 use Rattle.comm_port.specs.HostTurns.{after_turn, CountsPasses, HoldsHostTurn, HostTies}

@@ -1,7 +1,7 @@
 -- What a host's worker stands on at each part of a turn. This project's own.
 use Rattle.std.specs.Prelude.{◌≡◌, ◌≢◌, ◌<◌, ◌-◌, ℕ, ◌+◌, min, Bool, true, false, List, [], ◌∷◌}
 use Rattle.std.specs.Prelude.{◌++◌, length, map, filter, filter_map, flat_map, count_by, Option}
-use Rattle.std.specs.Prelude.{Some, None, is_some, is_none, get_or, replicate}
+use Rattle.std.specs.Prelude.{Some, None, is_some, get_or, replicate}
 use Rattle.std.specs.List.{AllZip, list_any}
 use Rattle.plant_types.specs.declared.net.NetPlan.{NetPlan}
 use Rattle.plant_types.specs.declared.net.HostPlan.{HostPlan}
@@ -9,9 +9,8 @@ use Rattle.mstr_block.specs.Table.{network_paths}
 use Rattle.mstr_block.specs.declared.call.CallId.{CallId}
 use Rattle.mstr_block.specs.declared.call.MstrResult.{MstrResult}
 use Rattle.ring_core.specs.Words.{maker}
-use Rattle.ring_core.specs.Machine.{NodeIs, awaited_number, path_of, path_places, ring_after}
+use Rattle.ring_core.specs.Machine.{NodeIs, path_of, path_places, ring_after}
 use Rattle.ring_core.specs.Machine.{ring_node}
-use Rattle.ring_core.specs.Refusals.{give_up_no}
 use Rattle.ring_core.specs.Scratch.{words_put}
 use Rattle.ring_core.specs.Statistics.{is_stats}
 use Rattle.ring_core.specs.declared.frame.FrameKind.{FrameKind}
@@ -42,6 +41,7 @@ use Rattle.comm_port.specs.Sides.{RingSideIs, Serves}
 use Rattle.comm_port.specs.Reading.{host_items_of}
 use Rattle.comm_port.specs.Turns.{IsOwnTurn}
 use Rattle.comm_port.specs.Leaving.{cause_due, HandedOn}
+use Rattle.comm_port.specs.Giving.{due_calls}
 use Rattle.comm_port.specs.Replies.{reply_frame}
 use Rattle.comm_port.specs.Complete.{is_pass}
 
@@ -217,31 +217,15 @@ give_up_of end = GiveUp end.id end.word
 abbrev pub bad_answer_of : GivenUp → HostEntry
 bad_answer_of end = Answer end.id (results.Bad end.word)
 
--- The call that a path awaits; its number is 0 where it awaits none.
-abbrev pub call_on_path : NetPlan → List RingEntry → ℕ → ℕ → CallId
-call_on_path net ring n path = record {
-  node = n;
-  path = path;
-  seq = awaited_number (path_of (ring_node (ring_after net ring) n) path).awaits;
-}
-
--- The ring lets a call be given up: it failed, or has waited for long enough, or its node has left.
-abbrev pub may_go : NetPlan → List RingEntry → CallId → Bool
-may_go net ring id = is_none (give_up_no net (ring_after net ring) id)
-
--- The calls of these paths that the ring lets be given up, in the order of the paths.
-abbrev pub due_calls : NetPlan → List RingEntry → ℕ → List ℕ → List CallId
-due_calls net ring n paths = filter (may_go net ring) (map (call_on_path net ring n) paths)
-
--- By these paths, in their order, each call that the ring lets go was given up and answered with
--- its word; afterwards there is none.
+-- By these paths, in their order, each call that may be given up was given up and answered with its
+-- word; afterwards there is none.
 pub record GivesUpDue (alone : Bool) (net : NetPlan) (n : ℕ) (paths : List ℕ)
     (list new_list : List HostEntry) (ring new_ring : List RingEntry) : Type 0 where
   pub ends : List GivenUp
-  pub calls : map (λ (end : GivenUp). end.id) ends ≡ due_calls net ring n paths
+  pub calls : map (λ (end : GivenUp). end.id) ends ≡ due_calls net n ring paths
   pub grew : Grew alone (is_of n) ring (map give_up_of ends) new_ring
   pub answers : new_list ≡ list ++ map bad_answer_of ends
-  pub none_left : due_calls net new_ring n paths ≡ []
+  pub none_left : due_calls net n new_ring paths ≡ []
 
 -- ---- Third: frames are sent.
 

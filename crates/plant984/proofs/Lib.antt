@@ -1,4 +1,8 @@
-pub mod Positionals
-pub mod OneNumber
-pub mod RunLemmas
-pub mod DueLemmas
+mod CutLemmas
+mod DueLemmas
+mod MoreScans
+mod OneNumber
+mod Positionals
+mod Runs
+mod Spelled
+mod TwoNumbers

@@ -1,20 +1,17 @@
 -- What `clap` makes of the words behind a command word.
-use Rattle.std.proofs.Common.{◌≡◌, ◌∙◌, ℕ, ◌+◌, ◌-◌, ◌^◌, ◌≤◌, ◌<◌, ◌%◌, true, ◌↔◌}
-use Rattle.std.proofs.Common.{refl, ap, sym, arith, List, [], ◌∷◌, ◌++◌, length, take, drop, get_or}
-use Rattle.std.proofs.Common.{Option, Some, None}
-use Rattle.std.specs.Prelude.{codes, option_map}
+use Rattle.std.proofs.Common.{◌≡◌, ◌∙◌, ℕ, ◌+◌, ◌^◌, ◌≤◌, ◌<◌, ◌%◌, true, ◌↔◌}
+use Rattle.std.proofs.Common.{refl, ap, sym, arith, List, [], ◌∷◌, ◌++◌}
+use Rattle.std.proofs.Common.{Option, Some}
+use Rattle.std.specs.Prelude.{codes}
 use Rattle.std.specs.Fmt.{decimal}
 use Rattle.std.specs.List.{list_all}
 use Rattle.std.proofs.lemmas.Bool.Decides.{nat_tests}
-use Rattle.std.proofs.lemmas.List.{take_all}
 use Rattle.std.proofs.lemmas.Fmt.{decimal_by_steps}
 use Rattle.clap.specs.Walk.{Rule, Text, first_of}
 use Rattle.clap.specs.Simple.{App, matches_of, new_app, new_rule, on_top, with_rule}
 use Rattle.clap.specs.Faults.{fault_of}
 use Rattle.clap.proofs.OnLiterals.{clap_on_literals}
-use Rattle.plant984.specs.Words.{IsNumberOfScans, SpellsCommand, without_dashes}
-use Rattle.plant984.specs.declared.words.Command.{Command}
-use Rattle.plant984.specs.declared.words.Command.TheVariants.{Run}
+use Rattle.plant984.specs.Words.{without_dashes}
 use Rattle.plant984.proofs.Positionals.{IsPositional, fault_after_dashes, is_plain, matches_after}
 use Rattle.plant984.proofs.Positionals.{passes_after}
 
@@ -33,7 +30,7 @@ longer_is_plain : (n : ℕ) (ds : List ℕ) → 10 ≤ n → is_plain ds ≡ tru
 longer_is_plain n [] h plain = grind (arith, nat_tests)
 longer_is_plain n (d ∷ ds) h plain = plain
 
-decimal_is_plain : (n : ℕ) → n < 2 ^ 64 → is_plain (decimal n) ≡ true
+pub decimal_is_plain : (n : ℕ) → n < 2 ^ 64 → is_plain (decimal n) ≡ true
 decimal_is_plain = decimal_by_steps (λ n ds. is_plain ds ≡ true) digit_is_plain longer_is_plain
 
 -- ---- one number
@@ -83,32 +80,3 @@ unfolding clap_on_literals
 scans_pass words scans small same =
     let clear : list_all is_plain (without_dashes words) ≡ true = rw (same, decimal_is_plain scans small) refl in
     fault_after_dashes scans_app words scans_positional clear ∙ ap (λ left. fault_of scans_app (codes "--" ∷ left)) same
-
--- words that name a run, with the number of scans that was read behind its name
-pub Spells-run : (words behind : List Text) (read : Option ℕ) (made : Option Command)
-    → words ≡ codes "run" ∷ behind → made ≡ option_map Run read
-    → ((scans : ℕ) → (read ≡ Some scans) ↔ ((without_dashes behind ≡ decimal scans ∷ []) × IsNumberOfScans scans))
-    → (command : Command) → (made ≡ Some command) ↔ SpellsCommand words command
-Spells-run words behind None made named is reads (Run scans) = (
-  λ e. absurd (cc),
-  λ spells.
-      let same : behind ≡ spells.behind = cc (named, spells.named) in
-      let none = (reads scans).1 (ap without_dashes same ∙ spells.numbers, spells.in_range) in
-      absurd (cc),
-)
-Spells-run words behind (Some read) made named is reads (Run scans) = (
-  λ e.
-      let same : read ≡ scans = cc in
-      let asked = (reads scans).0 (ap (λ n. Some n) same) in
-      record { behind = behind; named = named; numbers = asked.0; in_range = asked.1 },
-  λ spells.
-      let same : behind ≡ spells.behind = cc (named, spells.named) in
-      let some = (reads scans).1 (ap without_dashes same ∙ spells.numbers, spells.in_range) in
-      is ∙ ap (option_map Run) some,
-)
-
--- a list that is not empty is its first item and the rest
-pub first-rest : {A : Type 0} (xs : List A) (a : A) → 1 ≤ length xs → a ≡ get_or xs 0 a → xs ≡ a ∷ take (length xs - 1) (drop 1 xs)
-first-rest [] a some is = absurd (omega arith)
-first-rest (x ∷ xs) a some is =
-    ap (λ b. b ∷ xs) (sym is) ∙ ap (λ rest. a ∷ rest) (sym (take_all (length (x ∷ xs) - 1) xs (omega arith)))

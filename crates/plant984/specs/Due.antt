@@ -1,125 +1,145 @@
--- What is due for a command and an input, and what a call may have read and written: this
--- project's own.
-use Rattle.std.specs.Prelude.{◌≡◌, ◌≢◌, ℕ, ◌*◌, ◌^◌, ◌≤◌, ◌<◌, ◌+◌, ◌↔◌, codes, List, length, ◌++◌}
-use Rattle.std.specs.Prelude.{Option, Some, Result, Ok, Err, ◌⊎◌}
+-- What is due for a command and an input: a status, and the text that goes with it. This project's
+-- own.
+use Rattle.std.specs.Prelude.{◌≡◌, ℕ, codes, Bool, true, false, ◌⊎◌, List, []}
+use Rattle.std.specs.Prelude.{◌++◌, Result, Ok, Err, string_bytes}
 use Rattle.plant_types.specs.declared.fault.PlantFault.{PlantFault}
 use Rattle.plant_types.specs.declared.fault.Place.{Place}
 use Rattle.plant_types.specs.declared.plan.Plant.{Plant}
 use Rattle.plant_types.specs.Fault.{fault_text, place_text}
-use Rattle.plant_io.specs.Causes.{Rose}
-use Rattle.plant_io.specs.Streams.{GaveFront, IsTooLong, IsWhole, Took, TookFront}
 use Rattle.plant_loader.specs.Refusals.{Refusal}
 use Rattle.plant_loader.specs.Plant.{plant_of}
+use Rattle.plant_gen.specs.Text.{plant_text}
+use Rattle.comm_port.specs.declared.joint.Joint.{Joint}
+use Rattle.effect_laws.specs.Effects.{EffectsAreRight}
+use Rattle.serial_run.specs.Serial.{IsSerial}
+use Rattle.comm_port.specs.JointLaws.{IsJoint, IsLegalJoint}
+use Rattle.journal_text.specs.Journal.{journal}
+use Rattle.panel_text.specs.Panel.{panel}
+use Rattle.summary_text.specs.Summary.{summary}
+use Rattle.plant984.specs.declared.answering.Answer.{Answer}
+use Rattle.plant984.specs.declared.judging.Judged.{Judged}
+use Rattle.plant984.specs.declared.judging.Judged.TheVariants.{Whole, Illegal}
 use Rattle.plant984.specs.declared.status.Status.{Status}
 use Rattle.plant984.specs.declared.status.Status.TheVariants as ends
 use Rattle.plant984.specs.declared.words.Command.{Command}
-use Rattle.plant984.specs.declared.words.Command.TheVariants.{Run}
-use Rattle.plant984.specs.Words.{IsCommand, SpellsCommand}
-use Rattle.plant984.specs.Run.{run_panel}
+use Rattle.plant984.specs.declared.words.Command.TheVariants.{Do, Gen}
+use Rattle.plant984.specs.declared.words.Task.{Task}
+use Rattle.plant984.specs.declared.words.Task.TheVariants.{Run, Trace, Check, Replay}
+use Rattle.plant984.specs.Cut.{IsCut}
+use Rattle.plant984.specs.Judged.{IsIllegalAt, IsRunRead}
 
 -- A status and the text that goes with it.
 pub record Due : Type 0 where
   pub status : Status
   pub text : List ℕ
 
+-- What an answer tells.
+abbrev pub told : Answer → Due
+told answer = record { status = answer.status; text = answer.text.items }
+
 -- The line that names a fault and its place.
 abbrev pub refusal_text : PlantFault → Place → List ℕ
 refusal_text fault place =
     codes "refused " ++ (fault_text fault ++ (codes " " ++ (place_text place ++ codes "\n")))
 
--- A plant that is accepted is run; one that has a fault is refused.
-abbrev pub due_of : Command → Result Plant Refusal → Due
-due_of (Run scans) (Ok plant) = record { status = ends.Ok; text = run_panel plant scans }
-due_of (Run scans) (Err fault) =
-    record { status = ends.Refused; text = refusal_text fault.0 fault.1 }
+-- The line that names a spot of a journal.
+abbrev pub illegal_text : List ℕ → List ℕ
+illegal_text spot = codes "illegal " ++ spot
 
--- What is due for a command and an input.
-abbrev pub due_for : Command → List ℕ → Due
-due_for command input = due_of command (plant_of input)
+-- A command reads the input, or nothing.
+abbrev pub reads_input : Command → Bool
+reads_input (Do task scans) = true
+reads_input (Gen number scans) = false
 
--- The most bytes of input that are taken, 64 MiB.
-abbrev pub input_limit : ℕ
-input_limit = 64 * 2 ^ 20
+-- A task takes the joint history of a journal behind the plant file, or that of a run.
+abbrev pub judges : Task → Bool
+judges Run = false
+judges Trace = false
+judges Check = true
+judges Replay = true
 
--- What was asked: the command that the words spell, over the whole input, which is within the
--- limit.
-pub record Asked (words : List (List ℕ)) (left rest : Option (List ℕ)) : Type 0 where
-  pub command : Command
-  pub spelled : SpellsCommand words command
-  pub input : List ℕ
-  pub whole : IsWhole left rest input
-  pub within : length input ≤ input_limit
+abbrev pub reads_journal : Command → Bool
+reads_journal (Do task scans) = judges task
+reads_journal (Gen number scans) = false
 
--- This status was due for what was asked, and the text that was due with it was written.
-abbrev pub WroteDue :
-    Status → List (List ℕ) → Option (List ℕ) → Option (List ℕ) → Option (List ℕ)
-    → Option (List ℕ) → Type 0
-WroteDue status words left rest had has =
-    (asked : Asked words left rest)
-    × ((due_for asked.command asked.input).status ≡ status)
-    × Took had has (due_for asked.command asked.input).text
+abbrev pub scans_of : Command → ℕ
+scans_of (Do task scans) = scans
+scans_of (Gen number scans) = scans
 
--- Of the text that was due for what was asked a front was written, but not all of it.
-abbrev pub WroteFrontOfDue :
-    List (List ℕ) → Option (List ℕ) → Option (List ℕ) → Option (List ℕ) → Option (List ℕ)
-    → Type 0
-WroteFrontOfDue words left rest had has =
-    (asked : Asked words left rest)
-    × TookFront had has (due_for asked.command asked.input).text
+-- The plant file of a command and the journal: parts of the input where a journal is read, and
+-- else the whole input, or the text that a number stands for, and no journal.
+abbrev pub IsTaskFile : Bool → List ℕ → List ℕ → List ℕ → Type 0
+IsTaskFile true input file journal = IsCut input file journal
+IsTaskFile false input file journal = (file ≡ input) × (journal ≡ [])
 
--- The status is what was due, and the text that was due was written; or memory ran out.
-abbrev pub EndsAsDue : Due → Status → Option (List ℕ) → Option (List ℕ) → Type 0
-EndsAsDue what status had has =
-    ((status ≡ what.status) × Took had has what.text) ⊎ (status ≡ ends.NoMemory)
+abbrev pub IsFile : Command → List ℕ → List ℕ → List ℕ → Type 0
+IsFile (Do task scans) input file journal = IsTaskFile (judges task) input file journal
+IsFile (Gen number scans) input file journal = (file ≡ plant_text number) × (journal ≡ [])
 
--- The statuses that come before anything is written.
-abbrev pub WritesNothing : Status → Type 0
-WritesNothing ends.NoMemory = Unit {0}
-WritesNothing ends.Usage = Unit {0}
-WritesNothing ends.ReadFault = Unit {0}
-WritesNothing ends.TooLong = Unit {0}
-WritesNothing ends.Ok = ⊥
-WritesNothing ends.Refused = ⊥
-WritesNothing ends.WriteFault = ⊥
+-- The joint history of a plant's serial run: it is legal, and it keeps the laws between its lists.
+pub record IsRun (plant : Plant) (scans : ℕ) (joint : Joint) : Type 0 where
+  pub serial : IsSerial plant scans joint
+  pub legal : IsLegalJoint plant scans joint
+  pub tied : IsJoint joint
 
--- The bytes that a source has left or that a sink has taken, where it tells them, and its count
--- of faults.
-pub record Side : Type 0 where
-  pub bytes : Option (List ℕ)
-  pub faults : ℕ
+-- The joint history that a command is about: that of the journal, or of the serial run.
+abbrev pub IsHistory : Bool → Plant → ℕ → List ℕ → Joint → Type 0
+IsHistory true plant scans journal joint = IsRunRead plant scans journal joint
+IsHistory false plant scans journal joint = IsRun plant scans joint
 
-abbrev pub side : Option (List ℕ) → ℕ → Side
-side bytes faults = record { bytes = bytes; faults = faults }
+-- What was found of the joint history that a command is about.
+abbrev pub IsFound : Command → Plant → List ℕ → Judged → Type 0
+IsFound command plant behind (Whole joint) =
+    IsHistory (reads_journal command) plant (scans_of command) behind joint
+IsFound command plant behind (Illegal spot) =
+    (reads_journal command ≡ true)
+    × IsIllegalAt plant (scans_of command) behind (string_bytes spot)
 
--- A read or a write failed between.
-abbrev pub Failed : Side → Side → Type 0
-Failed before after = Rose before.faults after.faults
+-- What a task writes of a joint history: the panel, before it the journal, or a word alone.
+abbrev pub task_text : Task → Plant → Joint → List ℕ
+task_text Run plant joint = panel plant joint
+task_text Trace plant joint = journal joint ++ panel plant joint
+task_text Check plant joint = codes "legal\n"
+task_text Replay plant joint = panel plant joint
 
--- What a call promises by the status that it ends with: what it read and wrote, and the cause of
--- each fault; and with which status it ends where the outside does not fail, unless memory runs
--- out.
-pub record Promised
-    (status : Status) (words : List (List ℕ)) (source source_now sink sink_now : Side)
+abbrev pub text_of : Command → Plant → Joint → List ℕ
+text_of (Do task scans) plant joint = task_text task plant joint
+text_of (Gen number scans) plant joint = summary plant joint
+
+-- With a plant that is accepted the text of such a joint history is due, in which each call takes
+-- effect at most once, and once if it reports success.
+pub record IsShown (command : Command) (plant : Plant) (behind : List ℕ) (what : Due)
     : Type 0 where
-  pub ok : status ≡ ends.Ok
-      → WroteDue ends.Ok words source.bytes source_now.bytes sink.bytes sink_now.bytes
-  pub refused : status ≡ ends.Refused
-      → WroteDue ends.Refused words source.bytes source_now.bytes sink.bytes sink_now.bytes
-  pub usage : status ≢ ends.NoMemory → (status ≡ ends.Usage) ↔ (¬ IsCommand words)
-  pub read_fault : status ≡ ends.ReadFault
-      → Failed source source_now × GaveFront source.bytes source_now.bytes input_limit
-  pub too_long : status ≡ ends.TooLong → IsTooLong source.bytes source_now.bytes input_limit
-  pub no_memory : status ≡ ends.NoMemory
-      → GaveFront source.bytes source_now.bytes (input_limit + 1)
-  pub write_fault : status ≡ ends.WriteFault
-      → Failed sink sink_now
-      × WroteFrontOfDue words source.bytes source_now.bytes sink.bytes sink_now.bytes
-  pub later_source : source.faults ≤ source_now.faults
-  pub later_sink : sink.faults ≤ sink_now.faults
-  pub complete : (command : Command) (input : List ℕ) → SpellsCommand words command
-      → source.bytes ≡ Some input → length input ≤ input_limit
-      → ¬ (Failed source source_now) → ¬ (Failed sink sink_now)
-      → EndsAsDue (due_for command input) status sink.bytes sink_now.bytes
-  pub long : (input : List ℕ) → IsCommand words
-      → source.bytes ≡ Some input → input_limit < length input → ¬ (Failed source source_now)
-      → (status ≡ ends.TooLong) ⊎ (status ≡ ends.NoMemory)
+  pub joint : Joint
+  pub history : IsHistory (reads_journal command) plant (scans_of command) behind joint
+  pub effects : EffectsAreRight joint
+  pub status : what.status ≡ ends.Ok
+  pub text : what.text ≡ text_of command plant joint
+
+-- Or the line of the spot at which the journal is none of a whole run.
+pub record IsIllegal (command : Command) (plant : Plant) (behind : List ℕ) (what : Due)
+    : Type 0 where
+  pub reads : reads_journal command ≡ true
+  pub spot : List ℕ
+  pub breaks : IsIllegalAt plant (scans_of command) behind spot
+  pub status : what.status ≡ ends.Illegal
+  pub text : what.text ≡ illegal_text spot
+
+abbrev pub IsDueWith : Command → Plant → List ℕ → Due → Type 0
+IsDueWith command plant behind what =
+    IsShown command plant behind what ⊎ IsIllegal command plant behind what
+
+-- With a plant that has a fault its refusal is.
+abbrev pub refused : Refusal → Due
+refused fault = record { status = ends.Refused; text = refusal_text fault.0 fault.1 }
+
+abbrev pub IsDueOf : Command → List ℕ → Result Plant Refusal → Due → Type 0
+IsDueOf command behind (Ok plant) what = IsDueWith command plant behind what
+IsDueOf command behind (Err fault) what = what ≡ refused fault
+
+-- This is due for a command and an input.
+pub record IsDue (command : Command) (input : List ℕ) (what : Due) : Type 0 where
+  pub file : List ℕ
+  pub behind : List ℕ
+  pub parts : IsFile command input file behind
+  pub due : IsDueOf command behind (plant_of file) what

@@ -1,4 +1,6 @@
 pub mod Status
 pub mod Words
-pub mod Run
+pub mod Cut
+pub mod Judged
 pub mod Due
+pub mod Promise

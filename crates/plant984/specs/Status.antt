@@ -12,3 +12,4 @@ exit_number ends.ReadFault = 3
 exit_number ends.WriteFault = 4
 exit_number ends.Refused = 5
 exit_number ends.TooLong = 6
+exit_number ends.Illegal = 7

@@ -1,20 +1,34 @@
 // What is due for a command and an input.
-ghost use Rattle.std.specs.Prelude.{◌≡◌, ◌≤◌, IfOk, string_bytes};
-ghost use Rattle.plant984.specs.Words.{IsCommandInRange};
-ghost use Rattle.plant984.specs.Due.{due_for, refusal_text};
+ghost use Rattle.std.specs.Prelude.{◌≡◌, IfOk, string_bytes};
+ghost use Rattle.plant_loader.specs.Plant.{plant_of};
+ghost use Rattle.comm_port.specs.JointLaws.{IsLegalJoint};
+ghost use Rattle.panel_text.specs.Panel.{most_scans};
+ghost use Rattle.serial_run.specs.Stations.{CanRunPlant};
+ghost use Rattle.plant984.specs.Words.{IsCommandInRange, IsNumberOfScans};
+ghost use Rattle.plant984.specs.Due.{IsDue, IsDueOf, IsDueWith, IsFound, illegal_text, judges};
+ghost use Rattle.plant984.specs.Due.{reads_journal, refusal_text, refused, scans_of, task_text};
+ghost use Rattle.plant984.specs.Due.{text_of, told};
 
-use crate::run::panel_of;
+use crate::cutting::cut;
+use crate::judging::{Judged, judge_journal};
 use crate::status::Status;
-use crate::words::Command;
+use crate::words::{Command, Task};
+use comm_port::Joint;
+use effect_laws::effects_are_right;
+use journal_text::{journal_text, legal_is_plain};
+use panel_text::panel_text;
+use plant_gen::plant_from;
 use plant_loader::{LoadEnd, load};
-use plant_types::{Place, PlantFault};
+use plant_types::{Place, Plant, PlantFault};
+use serial_run::run;
 use std::alloc::{AllocError, Global};
+use summary_text::summary_text;
 
 /// A status, and the text that goes with it.
 #[derive(Drop)]
 pub struct Answer {
     pub status: Status,
-    pub text: String,
+    pub text: Vec<u8>,
 }
 
 fn refusal_text(alloc: Global, fault: PlantFault, place: Place) -> Result<String, AllocError>
@@ -23,38 +37,184 @@ fn refusal_text(alloc: Global, fault: PlantFault, place: Place) -> Result<String
     format!(in alloc; "refused {fault} {place}\n")
 }
 
-fn answer_to_run(alloc: Global, scans: u32, input: &[u8]) -> Result<Answer, AllocError>
-    requires { scans ≤ 2000 }
-    ensures { IfOk result (λ answer. due_for (Command.Run scans) input.now
-        ≡ record { status = answer.status; text = string_bytes answer.text }) }
+fn refused(alloc: Global, fault: PlantFault, place: Place) -> Result<Answer, AllocError>
+    ensures { IfOk result (λ answer. told answer ≡ refused (fault, place)) }
 {
-    match load(alloc, input) {
-        Ok(plant) => {
-            let controller = &plant.controllers.as_slice()[0];
-            let text = panel_of(alloc, controller, plant.scan_time, plant.watchdog, scans)?;
+    let text = refusal_text(alloc, fault, place)?;
+    Ok(Answer {
+        status: Status::Refused,
+        text: text.into_bytes(),
+    })
+}
+
+fn illegal(alloc: Global, spot: &str) -> Result<Answer, AllocError>
+    ensures { IfOk result (λ answer. told answer
+        ≡ record { status = Status.Illegal; text = illegal_text spot.now }) }
+{
+    let text = format!(in alloc; "illegal {spot}")?;
+    Ok(Answer {
+        status: Status::Illegal,
+        text: text.into_bytes(),
+    })
+}
+
+/// The journal, and behind it the panel.
+fn trace_text(alloc: Global, plant: &Plant, joint: &Joint) -> Result<Vec<u8>, AllocError>
+    requires plant { CanRunPlant plant.now }
+    requires joint { IsLegalJoint plant.now most_scans joint.now }
+    ensures { IfOk result (λ text. text.items ≡ task_text Task.Trace plant.now joint.now) }
+{
+    legal_is_plain();
+    let mut text = journal_text(alloc, joint)?;
+    let panel = panel_text(alloc, plant, joint)?;
+    text.extend_from_slice(panel.as_slice())?;
+    Ok(text)
+}
+
+/// What a task writes of a joint history.
+fn task_text(alloc: Global, task: Task, plant: &Plant, joint: &Joint) -> Result<Vec<u8>, AllocError>
+    requires plant { CanRunPlant plant.now }
+    requires joint { IsLegalJoint plant.now most_scans joint.now }
+    ensures { IfOk result (λ text. text.items ≡ task_text task plant.now joint.now) }
+{
+    match task {
+        Task::Run => panel_text(alloc, plant, joint),
+        Task::Trace => trace_text(alloc, plant, joint),
+        Task::Check => Vec::from_slice(alloc, b"legal\n"),
+        Task::Replay => panel_text(alloc, plant, joint),
+    }
+}
+
+/// What a command writes of the joint history of its run.
+fn text_of(
+    alloc: Global,
+    command: Command,
+    plant: &Plant,
+    joint: &Joint,
+) -> Result<Vec<u8>, AllocError>
+    requires plant { CanRunPlant plant.now }
+    requires joint { IsLegalJoint plant.now most_scans joint.now }
+    ensures { IfOk result (λ text. text.items ≡ text_of command plant.now joint.now) }
+{
+    match command {
+        Command::Do { task, .. } => task_text(alloc, task, plant, joint),
+        Command::Gen { .. } => summary_text(alloc, plant, joint),
+    }
+}
+
+fn scans_of(command: Command) -> u32
+    ensures { result ≡ scans_of command }
+{
+    match command {
+        Command::Do { scans, .. } | Command::Gen { scans, .. } => scans,
+    }
+}
+
+/// Whether a task takes the joint history of a journal.
+fn judges(task: Task) -> bool
+    ensures { result ≡ judges task }
+{
+    match task {
+        Task::Run | Task::Trace => false,
+        Task::Check | Task::Replay => true,
+    }
+}
+
+fn reads_journal(command: Command) -> bool
+    ensures { result ≡ reads_journal command }
+{
+    match command {
+        Command::Do { task, .. } => judges(task),
+        Command::Gen { .. } => false,
+    }
+}
+
+/// The joint history that a command is about: that of the journal, or of a run.
+fn history_of(
+    alloc: Global,
+    command: Command,
+    plant: &Plant,
+    behind: &[u8],
+) -> Result<Judged, AllocError>
+    requires command { IsCommandInRange command }
+    requires plant { CanRunPlant plant.now }
+    ensures { IfOk result (IsFound command plant.now behind.now) }
+{
+    let scans = scans_of(command);
+    if reads_journal(command) {
+        judge_journal(alloc, plant, scans, behind)
+    } else {
+        Ok(Judged::Whole(run(alloc, plant, scans)?))
+    }
+}
+
+/// The answer to a command with a plant that is accepted, by what its joint history came to.
+fn answer_with(
+    alloc: Global,
+    command: Command,
+    plant: &Plant,
+    behind: &[u8],
+) -> Result<Answer, AllocError>
+    requires command { IsCommandInRange command }
+    requires plant { CanRunPlant plant.now }
+    ensures { IfOk result (λ answer. IsDueWith command plant.now behind.now (told answer)) }
+{
+    effects_are_right();
+    match history_of(alloc, command, plant, behind)? {
+        Judged::Whole(joint) => {
+            let text = text_of(alloc, command, plant, &joint)?;
             Ok(Answer {
                 status: Status::Ok,
                 text,
             })
         }
-        Err(LoadEnd::Refused(fault, place)) => {
-            let text = refusal_text(alloc, fault, place)?;
-            Ok(Answer {
-                status: Status::Refused,
-                text,
-            })
-        }
+        Judged::Illegal(spot) => illegal(alloc, spot.as_str()),
+    }
+}
+
+/// The answer to a command with the plant of a file.
+fn answer_over(
+    alloc: Global,
+    command: Command,
+    file: &[u8],
+    behind: &[u8],
+) -> Result<Answer, AllocError>
+    requires { IsCommandInRange command }
+    ensures { IfOk result (λ answer.
+        IsDueOf command behind.now (plant_of file.now) (told answer)) }
+{
+    match load(alloc, file) {
+        Ok(plant) => answer_with(alloc, command, &plant, behind),
+        Err(LoadEnd::Refused(fault, place)) => refused(alloc, fault, place),
         Err(LoadEnd::NoMemory) => Err(AllocError),
+    }
+}
+
+/// The answer to a task over an input.
+fn answer_to_task(alloc: Global, task: Task, scans: u32, input: &[u8]) -> Result<Answer, AllocError>
+    requires { IsNumberOfScans scans }
+    ensures { IfOk result (λ answer.
+        IsDue (Command.Do task scans) input.now (told answer)) }
+{
+    let command = Command::Do { task, scans };
+    if judges(task) {
+        let (file, journal) = cut(input);
+        answer_over(alloc, command, file, journal)
+    } else {
+        answer_over(alloc, command, input, &[])
     }
 }
 
 /// The answer to a command over an input.
 pub fn answer_to(alloc: Global, command: Command, input: &[u8]) -> Result<Answer, AllocError>
     requires { IsCommandInRange command }
-    ensures { IfOk result (λ answer. due_for command input.now
-        ≡ record { status = answer.status; text = string_bytes answer.text }) }
+    ensures { IfOk result (λ answer. IsDue command input.now (told answer)) }
 {
     match command {
-        Command::Run(scans) => answer_to_run(alloc, scans, input),
+        Command::Do { task, scans } => answer_to_task(alloc, task, scans, input),
+        Command::Gen { number, .. } => {
+            let file = plant_from(alloc, number)?;
+            answer_over(alloc, command, file.as_slice(), &[])
+        }
     }
 }

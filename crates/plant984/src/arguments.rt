@@ -1,9 +1,11 @@
 // The words behind the command word, which `clap` reads as the values of positional arguments.
 ghost use Rattle.std.specs.Prelude.{◌≡◌, ◌↔◌, ◌≤◌, ◌<◌, ◌^◌, ℕ, [], ◌∷◌, true, IfOk, IfSome};
-ghost use Rattle.std.specs.Prelude.{IsSome, IsTrue, map, string_bytes};
+ghost use Rattle.std.specs.Prelude.{IsSome, IsTrue, codes, map, string_bytes};
 ghost use Rattle.std.specs.Fmt.{decimal};
 ghost use Rattle.clap.specs.Words.{app_of, fault_of, first_value, found_of, is_simple_and_free};
 ghost use Rattle.clap.specs.Words.{matches_of, rows_of};
+ghost use Rattle.plant_types.specs.Plans.{IsFromTo};
+ghost use Rattle.plant_gen.specs.Text.{IsPlantNumber};
 ghost use Rattle.plant984.specs.Words.{IsNumberOfScans, without_dashes};
 
 use clap::error::ErrorKind;
@@ -13,6 +15,9 @@ use std::alloc::{AllocError, Global};
 
 /// The most scans of a run.
 const SCAN_LIMIT: u32 = 2000;
+
+/// The largest number that stands for a plant.
+const PLANT_LIMIT: u32 = 9999;
 
 fn is_decimal(word: &str, number: u32) -> bool
     ensures { IsTrue result ↔ (word.now ≡ decimal number) }
@@ -31,13 +36,13 @@ fn number_of(word: &str) -> Option<u32>
     }
 }
 
-/// A number of scans, 1 to 2000.
-fn scans_in(word: &str) -> Option<u32>
-    ensures { (scans : ℕ) → (result ≡ Some scans)
-        ↔ ((word.now ≡ decimal scans) × IsNumberOfScans scans) }
+/// A number from 1 to a largest.
+fn number_in(word: &str, most: u32) -> Option<u32>
+    ensures { (number : ℕ) → (result ≡ Some number)
+        ↔ ((word.now ≡ decimal number) × IsFromTo 1 most number) }
 {
     match number_of(word) {
-        Some(scans) if 1 <= scans && scans <= SCAN_LIMIT => Some(scans),
+        Some(number) if 1 <= number && number <= most => Some(number),
         _ => None,
     }
 }
@@ -62,13 +67,13 @@ fn matches_of<'a>(
     }
 }
 
-/// A number of scans, 1 to 2000, as the value of an argument.
-fn scans_among(matches: &ArgMatches, id: &str) -> Option<u32>
-    ensures { (scans : ℕ) → (result ≡ Some scans)
-        ↔ ((first_value (found_of matches.now) id.now ≡ Some (decimal scans))
-        × IsNumberOfScans scans) }
+/// A number from 1 to a largest, as the value of an argument.
+fn number_among(matches: &ArgMatches, id: &str, most: u32) -> Option<u32>
+    ensures { (number : ℕ) → (result ≡ Some number)
+        ↔ ((first_value (found_of matches.now) id.now ≡ Some (decimal number))
+        × IsFromTo 1 most number) }
 {
-    scans_in(matches.get_str(id)?)
+    number_in(matches.get_str(id)?, most)
 }
 
 /// How many scans the words ask for.
@@ -84,5 +89,42 @@ pub fn scans_of(alloc: Global, words: &[String]) -> Result<Option<u32>, AllocErr
     let Some(matches) = matches_of(command, words)? else {
         return Ok(None);
     };
-    Ok(scans_among(&matches, "N"))
+    Ok(number_among(&matches, "N", SCAN_LIMIT))
+}
+
+/// The number of a plant and a number of scans, as the values of two arguments.
+fn both_among(matches: &ArgMatches) -> Option<(u32, u32)>
+    ensures { (number scans : ℕ) → (result ≡ Some (number, scans))
+        ↔ ((first_value (found_of matches.now) (codes "K") ≡ Some (decimal number))
+        × IsFromTo 1 PLANT_LIMIT number
+        × (first_value (found_of matches.now) (codes "N") ≡ Some (decimal scans))
+        × IsFromTo 1 SCAN_LIMIT scans) }
+{
+    match number_among(matches, "K", PLANT_LIMIT) {
+        Some(number) => match number_among(matches, "N", SCAN_LIMIT) {
+            Some(scans) => Some((number, scans)),
+            None => None,
+        },
+        None => None,
+    }
+}
+
+/// Which plant the words ask for, and how many scans.
+pub fn number_and_scans_of(
+    alloc: Global,
+    words: &[String],
+) -> Result<Option<(u32, u32)>, AllocError>
+    ensures { IfOk result (λ read. (number scans : ℕ) → (read ≡ Some (number, scans))
+        ↔ ((without_dashes (map string_bytes words.now) ≡ decimal number ∷ decimal scans ∷ [])
+        × IsPlantNumber number × IsNumberOfScans scans)) }
+{
+    let command = Command::new(alloc, "gen")
+        .no_binary_name(true)
+        .disable_help_flag(true)
+        .arg(Arg::new(alloc, "K").required(true))?
+        .arg(Arg::new(alloc, "N").required(true))?;
+    let Some(matches) = matches_of(command, words)? else {
+        return Ok(None);
+    };
+    Ok(both_among(&matches))
 }

@@ -3,9 +3,12 @@
 
 mod answering;
 mod arguments;
+mod cutting;
+mod judging;
+#[cfg(test)]
+mod nets;
 #[cfg(test)]
 mod rows;
-mod run;
 mod serial;
 mod status;
 #[cfg(test)]

@@ -1,16 +1,40 @@
 // The serial top call: the whole input is read, and then the whole text is written.
-ghost use Rattle.std.specs.Prelude.{◌≡◌, map, string_bytes};
-ghost use Rattle.plant984.specs.Words.{IsCommand};
-ghost use Rattle.plant984.specs.Due.{Promised, side, WritesNothing};
+ghost use Rattle.std.specs.Prelude.{◌≡◌, ◌≤◌, map, string_bytes};
+ghost use Rattle.plant984.specs.Words.{IsCommandInRange};
+ghost use Rattle.plant984.specs.Due.{reads_input};
+ghost use Rattle.plant984.specs.Promise.{Answers, AsksInput, Promised, side, WritesNothing};
 
 use crate::answering::{Answer, answer_to};
 use crate::status::Status;
-use crate::words::command_of;
+use crate::words::{Command, command_of};
 use plant_io::{ReadEnd, Sink, Source, read_all, write_all};
 use std::alloc::Global;
 
 /// The most bytes of input that are taken.
 pub const INPUT_LIMIT: usize = 67_108_864;
+
+fn reads_input(command: Command) -> bool
+    ensures { result ≡ reads_input command }
+{
+    matches!(command, Command::Do { .. })
+}
+
+/// Answers a command over an input, and writes the answer.
+fn write_answer<K: Sink>(alloc: Global, command: Command, input: &[u8], sink: &mut K) -> Status
+    requires { IsCommandInRange command }
+    ensures answers { Answers command input.now (side (K.taken sink.old) (K.faults sink.old))
+        (side (K.taken sink.new) (K.faults sink.new)) result }
+    ensures later { K.faults sink.old ≤ K.faults sink.new }
+    ensures nothing_written { WritesNothing result → sink.new ≡ sink.old }
+{
+    match answer_to(alloc, command, input) {
+        Err(_) => Status::NoMemory,
+        Ok(Answer { status, text }) => match write_all(sink, text.as_slice()) {
+            Ok(()) => status,
+            Err(_) => Status::WriteFault,
+        },
+    }
+}
 
 /// Does what the words say, without threads. It reads the whole input before it writes, and makes
 /// the whole text before it writes any of it.
@@ -25,7 +49,8 @@ pub fn plant_serial<S: Source, K: Sink>(
         (side (S.left source.new) (S.faults source.new))
         (side (K.taken sink.old) (K.faults sink.old))
         (side (K.taken sink.new) (K.faults sink.new)) }
-    ensures reads_nothing { ¬ IsCommand (map string_bytes words.now) → source.new ≡ source.old }
+    ensures reads_nothing { ¬ AsksInput (map string_bytes words.now)
+        → source.new ≡ source.old }
     ensures nothing_written { WritesNothing result → sink.new ≡ sink.old }
 {
     let Ok(asked) = command_of(alloc, words) else {
@@ -34,16 +59,13 @@ pub fn plant_serial<S: Source, K: Sink>(
     let Some(command) = asked else {
         return Status::Usage;
     };
+    if !reads_input(command) {
+        return write_answer(alloc, command, &[], sink);
+    }
     match read_all(alloc, source, INPUT_LIMIT) {
         Err(ReadEnd::Fault) => Status::ReadFault,
         Err(ReadEnd::TooLong) => Status::TooLong,
         Err(ReadEnd::NoMemory) => Status::NoMemory,
-        Ok(input) => match answer_to(alloc, command, &input) {
-            Err(_) => Status::NoMemory,
-            Ok(Answer { status, text }) => match write_all(sink, text.as_bytes()) {
-                Ok(()) => status,
-                Err(_) => Status::WriteFault,
-            },
-        },
+        Ok(input) => write_answer(alloc, command, input.as_slice(), sink),
     }
 }

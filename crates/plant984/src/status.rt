@@ -18,6 +18,8 @@ pub enum Status {
     Refused,
     /// The input is longer than the limit.
     TooLong,
+    /// The journal is not that of a whole run of the plant.
+    Illegal,
 }
 
 impl From<Status> for ExitCode {
@@ -32,6 +34,7 @@ impl From<Status> for ExitCode {
             Status::WriteFault => 4,
             Status::Refused => 5,
             Status::TooLong => 6,
+            Status::Illegal => 7,
         })
     }
 }

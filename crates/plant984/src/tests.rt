@@ -113,6 +113,16 @@ pub fn outcome_of(
     Ok(Outcome { status, written })
 }
 
+// The same over this input, where nothing fails.
+pub fn outcome_over(alloc: Global, line: &str, input: &str) -> Result<Outcome, AllocError> {
+    outcome_of(
+        alloc,
+        line,
+        source_of(alloc, input, &[])?,
+        sink_of(alloc, &[])?,
+    )
+}
+
 // Whether the case ends as it is to, over a source and a sink that take 7 bytes at a time.
 fn holds(alloc: Global, case: &Case) -> Result<bool, AllocError> {
     let sink = sink_of(alloc, case.failing_writes)?;
@@ -161,6 +171,7 @@ fn each_status_has_its_number(rt: HostRuntime) {
         (Status::WriteFault, 4),
         (Status::Refused, 5),
         (Status::TooLong, 6),
+        (Status::Illegal, 7),
     ] {
         assert_eq!(rt; ExitCode::from(status), ExitCode::from(number));
     }

@@ -2,9 +2,8 @@
 ghost use Rattle.std.specs.Prelude.{◌≡◌, map, string_bytes};
 ghost use Rattle.std.specs.Process.{exit_status};
 ghost use Rattle.plant984.specs.Status.{exit_number};
-ghost use Rattle.plant984.specs.Words.{IsCommand};
 ghost use Rattle.plant984.specs.declared.status.Status.{Status as AnyStatus};
-ghost use Rattle.plant984.specs.Due.{Promised, side, WritesNothing};
+ghost use Rattle.plant984.specs.Promise.{AsksInput, Promised, side, WritesNothing};
 
 use crate::serial::plant_serial;
 use crate::status::Status;
@@ -24,7 +23,8 @@ pub fn plant_top<S: Source, K: Sink>(
         (side (S.left source.new) (S.faults source.new))
         (side (K.taken sink.old) (K.faults sink.old))
         (side (K.taken sink.new) (K.faults sink.new)) }
-    ensures reads_nothing { ¬ IsCommand (map string_bytes words.now) → source.new ≡ source.old }
+    ensures reads_nothing { ¬ AsksInput (map string_bytes words.now)
+        → source.new ≡ source.old }
     ensures nothing_written { WritesNothing result → sink.new ≡ sink.old }
 {
     plant_serial(alloc, words, source, sink)

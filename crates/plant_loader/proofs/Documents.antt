@@ -1,17 +1,17 @@
--- Bytes that are text or not, tables with known keys, and arrays of few items.
-use Rattle.std.proofs.Common.{◌≡◌, ℕ, Bool, true, false, List, [], ◌∷◌, length, map, suc}
-use Rattle.std.proofs.Common.{le-leb, arith, Bor, Option, None, refl, String, Global, string_bytes}
-use Rattle.std.specs.Prelude.{bytes_eq, nat_lt, if◌then◌else◌}
+-- Bytes that are text or not, and tables with known keys.
+use Rattle.std.proofs.Common.{◌≡◌, ℕ, Bool, true, false, List, [], ◌∷◌, map}
+use Rattle.std.proofs.Common.{Bor, Option, None, refl, String, Global, string_bytes}
+use Rattle.std.specs.Prelude.{bytes_eq, if◌then◌else◌}
 use Rattle.std.specs.List.{list_any, list_all}
 use Rattle.std.specs.Map.{keys_of}
 use Rattle.std.specs.Str.{is_utf8, IsUtf8}
 use Rattle.std.proofs.lemmas.Str.{IsUtf8-from_is_utf8, is_utf8-from_IsUtf8}
 use Rattle.toml.specs.Data.{Members}
 use Rattle.toml.specs.Parse.{parse_document}
-use Rattle.toml.specs.View.{members_view, items_view}
+use Rattle.toml.specs.View.{members_view}
 use Rattle.toml.specs.declared.value.Value.{Value}
 use Rattle.plant_loader.specs.Keys.{has_only}
-use Rattle.plant_loader.specs.Plant.{document_of, has_more_items}
+use Rattle.plant_loader.specs.Plant.{document_of}
 
 -- a test that fails gives no document
 not_text : (b : Bool) (r : Option Members) → (b ≡ true → ⊥) → (if b then r else None) ≡ None
@@ -36,9 +36,3 @@ pub has_only-keys : (known : List (Bor (List ℕ))) (es : List (String Global ×
     → list_all (λ key. list_any (λ k. bytes_eq k.now (string_bytes key)) known) (keys_of es) ≡ has_only (map (λ k. k.now) known) (members_view es)
 has_only-keys known [] = refl
 has_only-keys known (e ∷ es) = rw (any_of_views known (string_bytes e.0), has_only-keys known es) refl
-
--- an array has more than one item where its values are more than one
-pub has_more_items_view : (vs : List Value) → has_more_items (items_view vs) ≡ nat_lt 1 (length vs)
-has_more_items_view [] = refl
-has_more_items_view (v ∷ []) = refl
-has_more_items_view (v ∷ w ∷ vs) = rw (le-leb 2 (suc (suc (length vs))) (omega arith)) refl

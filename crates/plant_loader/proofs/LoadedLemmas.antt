@@ -3,7 +3,7 @@ use Rattle.std.proofs.Common.{◌≡◌, ◌≢◌, ℕ, ◌≤◌, ◌==◌, Bo
 use Rattle.std.proofs.Common.{[], ◌∷◌, ◌++◌, length, map, Option, Some, None, Result, Ok, Err}
 use Rattle.std.proofs.Common.{true≢false, eq-eqb, refl, sym, ap₂, ◌∙◌, length-append}
 use Rattle.std.proofs.Common.{arith}
-use Rattle.std.specs.Prelude.{codes, nat_le, nat_eq, is_some, if◌then◌else◌}
+use Rattle.std.specs.Prelude.{codes, nat_le, nat_eq, if◌then◌else◌}
 use Rattle.std.specs.List.{list_any, All, AllByRecursion, IsDistinct}
 use Rattle.std.specs.List.Sorted.{IsPermutation, IsStrictlyIncreasing}
 use Rattle.std.specs.Result.{IfOk}
@@ -14,14 +14,14 @@ use Rattle.std.proofs.lemmas.List.Folds.{list_any-append}
 use Rattle.std.proofs.lemmas.List.Sorted.{All-permutation, IsPermutation-map, IsPermutation-append}
 use Rattle.std.proofs.lemmas.List.Sorted.{IsPermutation-sym, IsPermutation-trans}
 use Rattle.std.proofs.lemmas.List.Sorted.{length_permutation}
-use Rattle.toml.specs.Data.{Data, array, Items, no_items, item, Members, as_array, as_str, as_table}
+use Rattle.toml.specs.Data.{Data, Members, as_str}
 use Rattle.toml.specs.Data.{get_member}
 use Rattle.plant_types.specs.declared.net.Fate.{Fate}
 use Rattle.plant_types.specs.declared.net.HostAsk.{HostAsk}
 use Rattle.plant_types.specs.declared.net.HostPlan.{HostPlan}
 use Rattle.plant_types.specs.declared.plan.ControllerPlan.{ControllerPlan}
 use Rattle.plant_types.specs.declared.plan.Plant.{Plant}
-use Rattle.plant_types.specs.declared.fault.PlantFault.TheVariants.{BadValue, BadNode, TooLarge}
+use Rattle.plant_types.specs.declared.fault.PlantFault.TheVariants.{BadValue, BadNode}
 use Rattle.plant_types.specs.declared.fault.Place.{Place}
 use Rattle.plant_types.specs.Plans.{IsFromTo, IsNode, IsNetPlan, IsAskOf, IsHostPlan, PassesTests}
 use Rattle.plant_types.specs.Plans.{IsPlant}
@@ -32,11 +32,11 @@ use Rattle.cell_text.proofs.StepLemmas.{step-ok, or_fault-ok, or_fault-some, unl
 use Rattle.cell_text.proofs.StepLemmas.{some-guard}
 use Rattle.plant_loader.specs.declared.refusal.LoadEnd.{LoadEnd}
 use Rattle.plant_loader.specs.declared.net.NetRules.{NetRules}
-use Rattle.plant_loader.specs.Refusals.{Refusal, Gives, plant_place, net_place, host_place}
-use Rattle.plant_loader.specs.Refusals.{request_place, bad_toml, not_built}
+use Rattle.plant_loader.specs.Refusals.{Gives, plant_place, net_place, host_place}
+use Rattle.plant_loader.specs.Refusals.{request_place, bad_toml}
 use Rattle.plant_loader.specs.InOrder.{numbered_from}
-use Rattle.plant_loader.specs.Keys.{keys_pass, address_at, number_at_or, data_of, up_to, items_as}
-use Rattle.plant_loader.specs.Keys.{list_or_none, texts_at, table_at, tables_at}
+use Rattle.plant_loader.specs.Keys.{keys_pass, address_at, number_at_or}
+use Rattle.plant_loader.specs.Keys.{texts_at, table_at, tables_at}
 use Rattle.plant_loader.specs.Requests.{is_numeral, is_numeral_within, numeral_within}
 use Rattle.plant_loader.specs.Requests.{request_words, pdu_in, another, target_in, ask_from}
 use Rattle.plant_loader.specs.Requests.{request_of, numbered_request, requests_of}
@@ -46,10 +46,9 @@ use Rattle.plant_loader.specs.Hosts.{host_behind, hosts_of}
 use Rattle.plant_loader.specs.Rising.{by_node}
 use Rattle.plant_loader.specs.Net.{net_keys, fates_in, has_letters, fates_or, rules_from, rules_in}
 use Rattle.plant_loader.specs.Net.{rules_of, nodes_of, members_of, net_from, plant_from}
-use Rattle.plant_loader.specs.Plant.{document_of, version_passes, has_more_items, has_more}
-use Rattle.plant_loader.specs.Plant.{has_controllers, has_later_form, plant_keys, plant_required}
+use Rattle.plant_loader.specs.Plant.{document_of, version_passes, plant_keys, plant_required}
 use Rattle.plant_loader.specs.Plant.{controller_limit, host_limit, some_tables_at, plant_in}
-use Rattle.plant_loader.specs.Plant.{built_in, plant_of}
+use Rattle.plant_loader.specs.Plant.{plant_at, plant_of}
 use Rattle.plant_loader.specs.Accepted.{IsSolvable, PassesDropTests}
 use Rattle.plant_loader.proofs.Common.{ok_value, some_value}
 use Rattle.plant_loader.proofs.KeyLemmas.{address_at-within, number_or-within, texts_at-few}
@@ -336,16 +335,10 @@ some-tables place most key ms tables h =
     let is : 1 ≤ length read.0 = grind (arith, nat_tests, some.0) in
     rw (← same) (read.1.0, is)
 
--- what is read of a plant
-record ReadsPlant (top : Members) (plant : Plant) : Type 0 where
-  loaded : IsLoaded plant
-  tables : List Members
-  tables_read : tables_at plant_place controller_limit (codes "controller") top ≡ Ok tables
-  count : length plant.controllers ≡ length tables
-
-plant_in-reads : (top : Members) (plant : Plant) → plant_in top ≡ Ok plant → ReadsPlant top plant
+-- what is read of a document of version 1
+plant_in-loaded : (top : Members) (plant : Plant) → plant_in top ≡ Ok plant → IsLoaded plant
 unfolding plant_in
-plant_in-reads top plant h =
+plant_in-loaded top plant h =
     let keys = step-ok (keys_pass plant_place plant_keys plant_required top) _ plant h in
     let scan_time = step-ok (number_at_or plant_place (codes "scan_time") 10 1 1000 top) _ plant keys.1.1 in
     let watchdog = step-ok (number_at_or plant_place (codes "watchdog") 500 1 10000 top) _ plant scan_time.1.1 in
@@ -364,90 +357,36 @@ plant_in-reads top plant h =
     let count = with_positions-count _ tables.0 controllers.0 controllers.1.0 in
     let host_count = with_positions-count _ host_tables.0 hosts.0 hosts.1.0 in
     let stations = stations-are tables.0 host_tables.0 controllers.0 hosts.0 controllers.1.0 hosts.1.0 in
-    let moved = by_node-moved (λ (plan : ControllerPlan). plan.node) controllers.0 stations.controller_nodes_all in
-    let counted = length_permutation controllers.0 (by_node (λ (plan : ControllerPlan). plan.node) controllers.0) moved in
-    let reads : ReadsPlant top whole = record {
-      loaded = plant_from-loaded scan_time.0 watchdog.0 rules.0 controllers.0 hosts.0
-          (number-is plant_place (codes "scan_time") 10 1 1000 top scan_time.0 (omega arith) (omega arith) scan_time.1.0)
-          (number-is plant_place (codes "watchdog") 500 1 10000 top watchdog.0 (omega arith) (omega arith) watchdog.1.0)
-          (rules_of-are net.0 rules.0 rules.1.0) stations
-          (record { from = omega (arith, count, found.1); to = omega (arith, count, few) }) (omega (arith, host_count, host_few));
-      tables = tables.0;
-      tables_read = found.0;
-      count = counted ∙ count;
-    } in
-    rw (← same) reads
+    let loaded : IsLoaded whole = plant_from-loaded scan_time.0 watchdog.0 rules.0 controllers.0 hosts.0
+    (number-is plant_place (codes "scan_time") 10 1 1000 top scan_time.0 (omega arith) (omega arith) scan_time.1.0)
+    (number-is plant_place (codes "watchdog") 500 1 10000 top watchdog.0 (omega arith) (omega arith) watchdog.1.0)
+    (rules_of-are net.0 rules.0 rules.1.0) stations
+    (record { from = omega (arith, count, found.1); to = omega (arith, count, few) }) (omega (arith, host_count, host_few)) in
+    rw (← same) loaded
 
--- ---- what is built: one controller alone
-
-data-few : (ds : Items) → has_more_items ds ≡ false → length (data_of ds) ≤ 1
-data-few no_items h = omega arith
-data-few (item d no_items) h = omega arith
-data-few (item d (item e more)) h = absurd (cc)
-
-array-few : (d : Data) (ds : Items) → as_array d ≡ Some ds → has_more d ≡ false → has_more_items ds ≡ false
-array-few (array es) ds a h = rw (← some_value es ds a) h
-array-few _ ds a h = absurd (cc)
-
--- what is taken of few is few
-up_to-one : (xs ys : List Members) (refused : Refusal) (b : Bool) → length xs ≤ 1 → (if b then Ok xs else Err refused) ≡ Ok ys → length ys ≤ 1
-up_to-one xs ys refused true few h = rw (← ok_value xs ys h) few
-up_to-one xs ys refused false few h = absurd (cc)
-
-tables-few : (value : Option Data) (tables : List Members) → has_controllers value ≡ false
-    → list_or_none as_table plant_place controller_limit value ≡ Ok tables → length tables ≤ 1
-tables-few None tables one h = let same : [] ≡ tables = ok_value [] tables h in rw (← same) (omega arith)
-tables-few (Some d) tables one h =
-    let ds = step-ok (or_fault (BadValue, plant_place) (as_array d)) _ tables h in
-    let xs = step-ok (items_as as_table plant_place ds.0) (up_to plant_place controller_limit) tables ds.1.1 in
-    let is_array = or_fault-some (BadValue, plant_place) (as_array d) ds.0 ds.1.0 in
-    let few = data-few ds.0 (array-few d ds.0 is_array one) in
-    let count = each_of-length _ (data_of ds.0) xs.0 xs.1.0 in
-    up_to-one xs.0 tables (TooLarge, plant_place) (nat_le (length xs.0) controller_limit) (omega (arith, count, few)) xs.1.1
-
-later-one : (net host : Bool) (more : Bool) → not (net || (host || more)) ≡ true → more ≡ false
-later-one net host false h = refl
-later-one true host true h = absurd (cc)
-later-one false true true h = absurd (cc)
-later-one false false true h = absurd (cc)
-
--- what is read of a document that is built
-record IsBuilt (plant : Plant) : Type 0 where
-  loaded : IsLoaded plant
-  one : length plant.controllers ≡ 1
-
-built_in-built : (top : Members) (plant : Plant) → built_in top ≡ Ok plant → IsBuilt plant
-unfolding built_in
-built_in-built top plant h =
+plant_at-loaded : (top : Members) (plant : Plant) → plant_at top ≡ Ok plant → IsLoaded plant
+unfolding plant_at
+plant_at-loaded top plant h =
     let version = step-ok (version_passes top) _ plant h in
-    let built = unless-ok (not (has_later_form top)) not_built _ plant version.1.1 in
-    let reads = plant_in-reads top plant built.1 in
-    let more = later-one (is_some (get_member (codes "net") top)) (is_some (get_member (codes "host") top))
-    (has_controllers (get_member (codes "controller") top)) built.0 in
-    let few = tables-few (get_member (codes "controller") top) reads.tables more reads.tables_read in
-    record { loaded = reads.loaded; one = omega (arith, reads.count, few, reads.loaded.checked.count.from) }
+    plant_in-loaded top plant version.1.1
 
 -- the plant of bytes
-plant_of-built : (bytes : List ℕ) (plant : Plant) → plant_of bytes ≡ Ok plant → IsBuilt plant
+plant_of-loaded : (bytes : List ℕ) (plant : Plant) → plant_of bytes ≡ Ok plant → IsLoaded plant
 unfolding plant_of
-plant_of-built bytes plant h =
-    let top = or_fault-ok bad_toml (document_of bytes) built_in plant h in
-    built_in-built top.0 plant top.1.1
+plant_of-loaded bytes plant h =
+    let top = or_fault-ok bad_toml (document_of bytes) plant_at plant h in
+    plant_at-loaded top.0 plant top.1.1
 
 -- what is read of a document is what is read of its bytes
 pub plant_of-document : (bytes : List ℕ) (top : Members) (r : Result Plant LoadEnd) → or_fault bad_toml (document_of bytes) ≡ Ok top
-    → Gives (λ plant. plant) r (built_in top) → Gives (λ plant. plant) r (plant_of bytes)
+    → Gives (λ plant. plant) r (plant_at top) → Gives (λ plant. plant) r (plant_of bytes)
 unfolding plant_of
 plant_of-document bytes top r e g = rw e g
 
 -- so it is with what a call answered
 pub gives-loaded : (bytes : List ℕ) (r : Result Plant LoadEnd) → Gives (λ plant. plant) r (plant_of bytes) → IfOk r (λ plant. IsLoaded plant)
-gives-loaded bytes (Ok plant) g = (plant_of-built bytes plant g).loaded
+gives-loaded bytes (Ok plant) g = plant_of-loaded bytes plant g
 gives-loaded bytes (Err end) g = tt
-
-pub gives-one : (bytes : List ℕ) (r : Result Plant LoadEnd) → Gives (λ plant. plant) r (plant_of bytes) → IfOk r (λ plant. length plant.controllers ≡ 1)
-gives-one bytes (Ok plant) g = (plant_of-built bytes plant g).one
-gives-one bytes (Err end) g = tt
 
 pub loaded-checked : (r : Result Plant LoadEnd) → IfOk r (λ plant. IsLoaded plant) → IfOk r (λ plant. IsPlant plant)
 loaded-checked (Ok plant) h = h.checked

@@ -1,8 +1,8 @@
 -- Segments that are read pass the tests of a plan.
-use Rattle.std.proofs.Common.{◌≡◌, ℕ, ◌+◌, ◌≤◌, Bool, true, false, List, [], ◌∷◌, ◌++◌}
+use Rattle.std.proofs.Common.{◌≡◌, ℕ, ◌+◌, ◌≤◌, true, List, [], ◌∷◌, ◌++◌}
 use Rattle.std.proofs.Common.{length, Result, Ok, Err, refl, sym, ap, subst}
 use Rattle.std.proofs.Common.{◌∙◌, le-leb, arith}
-use Rattle.std.specs.Prelude.{codes, nat_le, if◌then◌else◌}
+use Rattle.std.specs.Prelude.{codes, nat_le}
 use Rattle.std.specs.List.{filter_map}
 use Rattle.std.proofs.lemmas.List.{append-nil}
 use Rattle.std.proofs.lemmas.List.Elements.{filter_map-append}
@@ -23,13 +23,13 @@ use Rattle.cell_text.specs.declared.piece.Piece.{Piece}
 use Rattle.cell_text.specs.declared.piece.Piece.TheVariants as pieces
 use Rattle.cell_text.specs.declared.piece.CellFault.{CellFault}
 use Rattle.cell_text.specs.Words.{text_words}
-use Rattle.cell_text.specs.Pieces.{piece_of, name_in_piece}
+use Rattle.cell_text.specs.Pieces.{piece_of}
 use Rattle.cell_text.proofs.StepLemmas.{step-ok}
 use Rattle.plant_loader.specs.declared.owner.Owner.{Owner}
 use Rattle.plant_loader.specs.InOrder.{numbered_from, each_behind}
 use Rattle.plant_loader.specs.Keys.{keys_pass}
 use Rattle.plant_loader.specs.Texts.{segment_keys, network_texts}
-use Rattle.plant_loader.specs.Pieces.{cell_in, short_in, network_from, has_later_name}
+use Rattle.plant_loader.specs.Pieces.{cell_in, short_in, network_from}
 use Rattle.plant_loader.specs.Pieces.{cell_behind, short_behind, tested_behind, piece_behind}
 use Rattle.plant_loader.specs.Pieces.{place_of_piece, site_behind, placed_behind, pieces_of}
 use Rattle.plant_loader.specs.Pieces.{network_behind, next_network, segment_behind, segments_of}
@@ -37,11 +37,6 @@ use Rattle.plant_loader.proofs.Common.{ok_value, at_place-ok, both-hold, placed-
 use Rattle.plant_loader.proofs.KeyLemmas.{texts_at-few}
 use Rattle.plant_loader.proofs.TestLemmas.{each_behind-keeps, tests-push}
 use Rattle.plant_loader.proofs.TestLemmas.{each_behind-tests, with_positions-count}
-
--- what went well did so behind the test that refuses
-else-ok : {A E : Type 0} (b : Bool) (r : Result A E) (e : E) (y : A) → (if b then Err e else r) ≡ Ok y → r ≡ Ok y
-else-ok true r e y h = cc
-else-ok false r e y h = h
 
 -- pieces that pass as the cells and shorts of their network
 record Pass (site : Site) (ps : List Piece) : Type 0 where
@@ -107,9 +102,7 @@ piece-passes : (site : Site) (ps : List Piece) (text : List ℕ) (piece : Piece)
     → Pass site ps → Pass site (ps ++ piece ∷ [])
 unfolding piece_behind
 piece-passes site ps text piece h p =
-    let read = piece_of (text_words text) in
-    let built = else-ok (has_later_name (name_in_piece (text_words text))) (tested_behind site (network_from ps) read) faults.NotBuilt piece h in
-    tested-passes site ps piece read built p
+    tested-passes site ps piece (piece_of (text_words text)) h p
 
 placed-passes : (controller : ℕ) (site : Site) (ps : List Piece) (text : ℕ × List ℕ) (piece : Piece) → placed_behind controller site ps text ≡ Ok piece
     → Pass site ps → Pass site (ps ++ piece ∷ [])

@@ -1,5 +1,5 @@
 -- The pieces of the texts of networks, and the segments that they make.
-use Rattle.std.specs.Prelude.{ℕ, ◌+◌, Bool, true, false, not, ◌==◌, if◌then◌else◌, List, [], filter}
+use Rattle.std.specs.Prelude.{ℕ, ◌+◌, Bool, not, ◌==◌, List, [], filter}
 use Rattle.std.specs.Prelude.{length, Option, Some, None, Result, Ok, Err}
 use Rattle.std.specs.List.{slice_split, flat_map, filter_map}
 use Rattle.std.specs.Str.Lines.{lines}
@@ -8,8 +8,6 @@ use Rattle.plant_types.specs.declared.network.Network.{Network}
 use Rattle.plant_types.specs.declared.network.Segment.{Segment}
 use Rattle.plant_types.specs.declared.network.Cell as plain_cells
 use Rattle.plant_types.specs.declared.network.Short as plain_shorts
-use Rattle.plant_types.specs.declared.name.ElementName.{ElementName}
-use Rattle.plant_types.specs.declared.name.ElementName.TheVariants.{Mstr}
 use Rattle.plant_types.specs.declared.fault.PlantFault.{PlantFault}
 use Rattle.plant_types.specs.declared.fault.PlantFault.TheVariants as faults
 use Rattle.plant_types.specs.declared.fault.Place.{Place}
@@ -23,9 +21,7 @@ use Rattle.cell_text.specs.declared.piece.CellFault.{CellFault}
 use Rattle.cell_text.specs.declared.piece.CellFault.TheVariants.{BadCell, BadValue, BadRef}
 use Rattle.cell_text.specs.Steps.{◌>>=◌}
 use Rattle.cell_text.specs.Words.{text_words}
-use Rattle.cell_text.specs.declared.names.PieceName.{PieceName}
-use Rattle.cell_text.specs.declared.names.PieceName.TheVariants as names
-use Rattle.cell_text.specs.Pieces.{piece_of, name_in_piece}
+use Rattle.cell_text.specs.Pieces.{piece_of}
 use Rattle.plant_loader.specs.declared.owner.Owner.{Owner}
 use Rattle.plant_loader.specs.Refusals.{Refusal}
 use Rattle.plant_loader.specs.InOrder.{with_positions, each_behind}
@@ -83,23 +79,9 @@ tested_behind site network (Ok (Cell cell)) = cell_behind site network.cells cel
 tested_behind site network (Ok (Short short)) = short_behind network.shorts short
 tested_behind site network (Err fault) = Err (plant_fault fault)
 
--- The names of the elements that a later version of the program solves. This project's own.
-abbrev pub is_later : ElementName → Bool
-is_later Mstr = true
-is_later _ = false
-
--- A piece has the name of such an element. This project's own.
-abbrev pub has_later_name : Option PieceName → Bool
-has_later_name (Some (names.Element name)) = is_later name
-has_later_name _ = false
-
--- A piece behind those of its network so far; one with the name of a later version is not built,
--- whatever else is wrong with it. This project's own.
+-- A piece behind those of its network so far. This project's own.
 unfoldable pub piece_behind : Site → Network → List ℕ → Result Piece PlantFault
-piece_behind site network text =
-    if has_later_name (name_in_piece (text_words text))
-    then Err faults.NotBuilt
-    else tested_behind site network (piece_of (text_words text))
+piece_behind site network text = tested_behind site network (piece_of (text_words text))
 
 -- Where the next network stands, behind segments of so many and the earlier networks of its own.
 -- This project's own.

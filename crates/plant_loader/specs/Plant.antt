@@ -1,14 +1,14 @@
 -- The plant that the bytes of a plant file stand for, or why they are refused. This project's own.
-use Rattle.std.specs.Prelude.{codes, ℕ, Bool, true, false, ◌||◌, ◌==◌, is_some, not, if◌then◌else◌}
-use Rattle.std.specs.Prelude.{List, [], ◌∷◌, length, Option, Some, None, Result, Ok}
+use Rattle.std.specs.Prelude.{codes, ℕ, ◌==◌, not, if◌then◌else◌, List, [], ◌∷◌, length, Option}
+use Rattle.std.specs.Prelude.{None, Result, Ok}
 use Rattle.std.specs.Str.{is_utf8}
-use Rattle.toml.specs.Data.{Data, array, Items, item, Members, get_member, as_integer}
+use Rattle.toml.specs.Data.{Members, get_member, as_integer}
 use Rattle.toml.specs.Parse.{parse_document}
 use Rattle.plant_types.specs.declared.plan.Plant.{Plant}
 use Rattle.plant_types.specs.declared.fault.PlantFault.TheVariants.{BadKey, BadValue, BadVersion}
 use Rattle.plant_types.specs.declared.fault.Place.{Place}
 use Rattle.cell_text.specs.Steps.{◌>>=◌, or_fault, unless}
-use Rattle.plant_loader.specs.Refusals.{Refusal, plant_place, bad_toml, not_built}
+use Rattle.plant_loader.specs.Refusals.{Refusal, plant_place, bad_toml}
 use Rattle.plant_loader.specs.Keys.{keys_pass, number_from, number_at_or, table_at, tables_at}
 use Rattle.plant_loader.specs.Stations.{controllers_of}
 use Rattle.plant_loader.specs.Hosts.{hosts_of}
@@ -25,26 +25,6 @@ version_passes top = do
   version ← or_fault (BadValue, plant_place) (as_integer d)
   one ← or_fault (BadVersion, plant_place) (number_from 1 1 version)
   Ok tt
-
--- An array has more than one item.
-abbrev pub has_more_items : Items → Bool
-has_more_items (item first (item second more)) = true
-has_more_items _ = false
-
-abbrev pub has_more : Data → Bool
-has_more (array ds) = has_more_items ds
-has_more _ = false
-
-abbrev pub has_controllers : Option Data → Bool
-has_controllers None = false
-has_controllers (Some d) = has_more d
-
--- What the program does not run yet: the keys `net` and `host`, and more than one controller.
-abbrev pub has_later_form : Members → Bool
-has_later_form top =
-    is_some (get_member (codes "net") top)
-    || (is_some (get_member (codes "host") top)
-    || has_controllers (get_member (codes "controller") top))
 
 -- The keys of a plant, and those that it must have.
 abbrev pub plant_keys : List (List ℕ)
@@ -84,13 +64,12 @@ plant_in top = do
   hosts ← hosts_of controllers host_tables
   Ok (plant_from scan_time watchdog rules controllers hosts)
 
--- What is built of a plant: a document of another form is refused behind its version.
-unfoldable pub built_in : Members → Result Plant Refusal
-built_in top = do
+-- The plant of a document, whose version is tested before all else.
+unfoldable pub plant_at : Members → Result Plant Refusal
+plant_at top = do
   version ← version_passes top
-  built ← unless (not (has_later_form top)) not_built
   plant_in top
 
 -- The plant of the bytes of a plant file, or the first fault with its place.
 unfoldable pub plant_of : List ℕ → Result Plant Refusal
-plant_of bytes = or_fault bad_toml (document_of bytes) >>= built_in
+plant_of bytes = or_fault bad_toml (document_of bytes) >>= plant_at

@@ -1,7 +1,7 @@
 -- Where a plant file is refused, and reading that stops there. This project's own.
 use Rattle.std.specs.Prelude.{◌≡◌, ℕ, [], ◌∷◌, Result, Ok, Err}
 use Rattle.plant_types.specs.declared.fault.PlantFault.{PlantFault}
-use Rattle.plant_types.specs.declared.fault.PlantFault.TheVariants.{BadToml, NotBuilt}
+use Rattle.plant_types.specs.declared.fault.PlantFault.TheVariants.{BadToml}
 use Rattle.plant_types.specs.declared.fault.Part.TheVariants as parts
 use Rattle.plant_types.specs.declared.fault.Place.{Place}
 use Rattle.plant_loader.specs.declared.refusal.LoadEnd.{LoadEnd}
@@ -29,10 +29,6 @@ request_place host request =
 -- The bytes are no document.
 abbrev pub bad_toml : Refusal
 bad_toml = (BadToml, plant_place)
-
--- The document is not of a form that is taken.
-abbrev pub not_built : Refusal
-not_built = (NotBuilt, plant_place)
 
 -- What a call answered is the first fault of what it reads, unless memory was refused.
 abbrev pub Stops : {B : Type 0} → LoadEnd → Result B Refusal → Type 0

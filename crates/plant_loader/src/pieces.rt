@@ -3,7 +3,7 @@ ghost use Rattle.std.specs.Prelude.{◌≡◌, ◌+◌, ◌<◌, ◌≤◌, [], 
 ghost use Rattle.plant_loader.specs.Refusals.{Gives};
 ghost use Rattle.plant_types.specs.Fault.{at_place};
 ghost use Rattle.toml.specs.View.{table_view};
-ghost use Rattle.plant_loader.specs.Pieces.{is_later, has_later_name, plant_fault, has_word};
+ghost use Rattle.plant_loader.specs.Pieces.{plant_fault, has_word};
 ghost use Rattle.plant_loader.specs.Pieces.{pieces_of_line, pieces_of, segments_of};
 ghost use Rattle.plant_loader.specs.Program.{place_of_next, with_piece, with_pieces, with_text};
 ghost use Rattle.plant_loader.specs.Program.{with_texts};
@@ -14,8 +14,8 @@ use crate::owner::Owner;
 use crate::program::{NETWORK_LIMIT, Program, SEGMENT_LIMIT};
 use crate::refusal::LoadEnd;
 use crate::texts::network_texts;
-use cell_text::{CellFault, Piece, PieceName, name_in_piece, next_word, read_cell};
-use plant_types::{ElementName, List, Place, PlantFault, Segment, Sizes};
+use cell_text::{CellFault, Piece, next_word, read_cell};
+use plant_types::{List, Place, PlantFault, Segment, Sizes};
 use std::alloc::Global;
 use toml::Table;
 
@@ -35,29 +35,10 @@ fn has_word(piece: &str) -> bool
     next_word(piece.as_bytes()).is_some()
 }
 
-/// The names of the elements that a later version of the program solves.
-fn is_later(name: ElementName) -> bool
-    ensures { result ≡ is_later name }
-{
-    matches!(name, ElementName::Mstr)
-}
-
-fn has_later_name(name: Option<PieceName>) -> bool
-    ensures { result ≡ has_later_name name }
-{
-    match name {
-        Some(PieceName::Element(name)) => is_later(name),
-        _ => false,
-    }
-}
-
 #[tactic(auto, unfolding(crate::specs::Pieces::piece_behind))]
 fn with_piece(program: Program, sizes: Sizes, place: Place, piece: &str) -> Result<Program, LoadEnd>
     ensures { Gives (λ p. p) result (at_place place (with_piece sizes program piece.now)) }
 {
-    if has_later_name(name_in_piece(piece.as_bytes())) {
-        return Err(LoadEnd::Refused(PlantFault::NotBuilt, place));
-    }
     match read_cell(piece) {
         Ok(Piece::Cell(cell)) => program.with_cell(sizes, place, cell),
         Ok(Piece::Short(short)) => program.with_short(place, short),

@@ -1,26 +1,23 @@
 //! The whole file.
 ghost use Rattle.std.specs.Prelude.{◌≡◌, ◌≢◌, ◌≤◌, codes, length, map, IfOk, Err};
 ghost use Rattle.std.specs.List.{All};
-ghost use Rattle.toml.specs.Data.{get_member};
-ghost use Rattle.toml.specs.View.{view, items_view, table_view};
+ghost use Rattle.toml.specs.View.{table_view};
 ghost use Rattle.plant_types.specs.Plans.{IsPlant};
 ghost use Rattle.cell_text.specs.Steps.{or_fault};
 ghost use Rattle.plant_loader.specs.Refusals.{Gives, bad_toml, plant_place};
-ghost use Rattle.plant_loader.specs.Plant.{document_of, version_passes, has_more, has_controllers};
-ghost use Rattle.plant_loader.specs.Plant.{has_later_form};
-ghost use Rattle.plant_loader.specs.Plant.{some_tables_at, controller_limit, plant_in, built_in};
-ghost use Rattle.plant_loader.specs.Plant.{plant_of};
+ghost use Rattle.plant_loader.specs.Plant.{document_of, version_passes, some_tables_at};
+ghost use Rattle.plant_loader.specs.Plant.{controller_limit, plant_at, plant_in, plant_of};
 ghost use Rattle.plant_loader.specs.Accepted.{IsSolvable, PassesDropTests};
 
 use crate::hosts::{HOST_LIMIT, hosts_of};
 use crate::keys::{keys_pass, number_at_or, table_at, tables_at, value_at};
 use crate::net::{plant_from, rules_of};
-use crate::refusal::{LoadEnd, bad_toml, not_built};
+use crate::refusal::{LoadEnd, bad_toml};
 use crate::stations::{CONTROLLER_LIMIT, controllers_of};
 use plant_types::{Place, Plant, PlantFault};
 use std::alloc::Global;
 use std::str;
-use toml::{Table, Value};
+use toml::Table;
 
 /// The keys of a plant.
 const PLANT_KEYS: [&str; 6] = [
@@ -35,7 +32,7 @@ const PLANT_KEYS: [&str; 6] = [
 /// Those that it must have.
 const PLANT_REQUIRED: [&str; 2] = ["version", "controller"];
 
-pub fn document(alloc: Global, bytes: &[u8]) -> Result<Table, LoadEnd>
+fn document(alloc: Global, bytes: &[u8]) -> Result<Table, LoadEnd>
     ensures { Gives table_view result (or_fault bad_toml (document_of bytes.now)) }
 {
     let Ok(text) = str::from_utf8(bytes) else {
@@ -68,32 +65,6 @@ fn version_passes(top: &Table) -> Result<(), LoadEnd>
     }
 }
 
-#[tactic(auto, using(crate::proofs::Documents::has_more_items_view))]
-fn has_more(value: &Value) -> bool
-    ensures { result ≡ has_more (view value.now) }
-{
-    match value.as_array() {
-        Some(items) => items.len() > 1,
-        None => false,
-    }
-}
-
-fn has_controllers(top: &Table) -> bool
-    ensures { result ≡ has_controllers (get_member (codes "controller") (table_view top.now)) }
-{
-    match value_at(top, "controller") {
-        Some(value) => has_more(value),
-        None => false,
-    }
-}
-
-/// What a later version takes: the keys `net` and `host`, and more than one controller.
-fn has_later_form(top: &Table) -> bool
-    ensures { result ≡ has_later_form (table_view top.now) }
-{
-    value_at(top, "net").is_some() || value_at(top, "host").is_some() || has_controllers(top)
-}
-
 /// The tables of the array at `controller`, which must have one at least.
 fn controller_tables(alloc: Global, top: &Table) -> Result<Vec<&Table>, LoadEnd>
     ensures read { Gives (λ tables. map (λ t. table_view t.now) tables.items) result
@@ -109,7 +80,7 @@ fn controller_tables(alloc: Global, top: &Table) -> Result<Vec<&Table>, LoadEnd>
 
 /// The plant of a document of version 1.
 #[tactic(auto, unfolding(crate::specs::Plant::plant_in))]
-pub fn plant_in(alloc: Global, top: &Table) -> Result<Plant, LoadEnd>
+fn plant_in(alloc: Global, top: &Table) -> Result<Plant, LoadEnd>
     ensures { Gives (λ plant. plant) result (plant_in (table_view top.now)) }
 {
     keys_pass(Place::PLANT, &PLANT_KEYS, &PLANT_REQUIRED, top)?;
@@ -124,15 +95,12 @@ pub fn plant_in(alloc: Global, top: &Table) -> Result<Plant, LoadEnd>
     plant_from(alloc, scan_time, watchdog, rules, controllers, hosts)
 }
 
-/// What is built of a plant: a document of another form is refused behind its version.
-#[tactic(auto, unfolding(crate::specs::Plant::built_in))]
-fn built_in(alloc: Global, top: &Table) -> Result<Plant, LoadEnd>
-    ensures { Gives (λ plant. plant) result (built_in (table_view top.now)) }
+/// The plant of a document, whose version is tested before all else.
+#[tactic(auto, unfolding(crate::specs::Plant::plant_at))]
+fn plant_at(alloc: Global, top: &Table) -> Result<Plant, LoadEnd>
+    ensures { Gives (λ plant. plant) result (plant_at (table_view top.now)) }
 {
     version_passes(top)?;
-    if has_later_form(top) {
-        return Err(not_built());
-    }
     plant_in(alloc, top)
 }
 
@@ -145,8 +113,7 @@ pub fn load(alloc: Global, bytes: &[u8]) -> Result<Plant, LoadEnd>
     ensures checked { IfOk result (λ plant. IsPlant plant) }
     ensures drops { IfOk result (λ plant. All PassesDropTests plant.controllers) }
     ensures solvable { IfOk result (λ plant. All IsSolvable plant.controllers) }
-    ensures one { IfOk result (λ plant. length plant.controllers ≡ 1) }
 {
     let top = document(alloc, bytes)?;
-    built_in(alloc, &top)
+    plant_at(alloc, &top)
 }

@@ -33,13 +33,6 @@ pub fn bad_toml() -> LoadEnd
     LoadEnd::Refused(PlantFault::BadToml, Place::PLANT)
 }
 
-/// The document is not of a form that is taken.
-pub fn not_built() -> LoadEnd
-    ensures { result ≡ LoadEnd.Refused PlantFault.NotBuilt plant_place }
-{
-    LoadEnd::Refused(PlantFault::NotBuilt, Place::PLANT)
-}
-
 /// The table of the network.
 pub fn net_place() -> Place
     ensures { result ≡ net_place }

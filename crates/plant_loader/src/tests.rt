@@ -1,7 +1,6 @@
 mod networks;
 mod tables;
 
-use crate::reading::{document, plant_in};
 use crate::{LoadEnd, load};
 use plant_types::{
     Cell, ControllerPlan, Element, Fate, HostAsk, HostPlan, IoDrop, Module, ModuleKind, MoveOp,
@@ -18,12 +17,6 @@ fn answer_text(alloc: Global, read: Result<Plant, LoadEnd>) -> Result<String, Al
         Err(LoadEnd::Refused(fault, place)) => format!(in alloc; "{fault} {place}"),
         Err(LoadEnd::NoMemory) => String::from_str(alloc, "no memory"),
     }
-}
-
-// A plant of version 1 whatever the program runs of it.
-fn whole_plant(alloc: Global, bytes: &[u8]) -> Result<Plant, LoadEnd> {
-    let top = document(alloc, bytes)?;
-    plant_in(alloc, &top)
 }
 
 // A part of a plant file, written in one line.
@@ -69,6 +62,9 @@ const SEGMENTS: &str = "version = 1\n[[controller]]\nnode = 1\ncoils = 16\nsegme
 
 const MANY_NETWORKS: &str = "version = 1\n[[controller]]\nnode = 1\nsegment = [{ networks = [";
 
+const MANY_MESSAGES: &str = "version = 1\n[[controller]]\nnode = 1\nregisters = 10\n\
+    segment = [{ networks = [";
+
 const MANY_REFERENCES: &str = "version = 1\n[[controller]]\nnode = 1\ncoils = 16\npanel = [";
 
 const MANY_CONTROLLERS: &str = "version = 1\ncontroller = [";
@@ -96,18 +92,12 @@ const WORDS_IN: &str = "version = 1\n[[controller]]\nnode = 1\ninputs = 32\n\
 const SCRIPTS: &str = "version = 1\n[[controller]]\nnode = 1\ncoils = 32\ninputs = 32\n\
     input_registers = 20\nregisters = 20\n[[controller.drop]]\nnumber = 1\n";
 
-const TABLES: [Table; 20] = [
+const TABLES: [Table; 19] = [
     Table {
         start: NETWORKS,
         rows: networks::TAKEN,
         end: NETWORKS_END,
         head: "",
-    },
-    Table {
-        start: NETWORKS,
-        rows: networks::NOT_BUILT_PIECES,
-        end: NETWORKS_END,
-        head: "14 NotBuilt controller 1 segment 1 network ",
     },
     Table {
         start: NETWORKS,
@@ -219,44 +209,31 @@ const TABLES: [Table; 20] = [
     },
 ];
 
-// How many of the tables are answered by what the program runs.
-const RUN: usize = 18;
-
-fn answer(alloc: Global, run: bool, bytes: &[u8]) -> Result<String, AllocError> {
-    if run {
-        answer_text(alloc, load(alloc, bytes))
-    } else {
-        answer_text(alloc, whole_plant(alloc, bytes))
-    }
+fn answer(alloc: Global, bytes: &[u8]) -> Result<String, AllocError> {
+    answer_text(alloc, load(alloc, bytes))
 }
 
-fn answers_row(
-    rt: &impl Abort,
-    alloc: Global,
-    run: bool,
-    table: &Table,
-    row: &str,
-) -> Result<(), Fail> {
+fn answers_row(rt: &impl Abort, alloc: Global, table: &Table, row: &str) -> Result<(), Fail> {
     let (part, tail) = row.split_once(" => ").ok_or("an answer")?;
     let middle = unfolded(alloc, part)?;
     let text = format!(in alloc; "{}{middle}{}", table.start, table.end)?;
     let want = format!(in alloc; "{}{tail}", table.head)?;
-    let answer = answer(alloc, run, text.as_bytes())?;
+    let answer = answer(alloc, text.as_bytes())?;
     assert_eq!(rt; answer.as_str(), want.as_str(), "{part}");
     Ok(())
 }
 
-fn answers_table(rt: &impl Abort, alloc: Global, run: bool, table: &Table) -> Result<(), Fail> {
+fn answers_table(rt: &impl Abort, alloc: Global, table: &Table) -> Result<(), Fail> {
     for row in table.rows.lines() {
-        answers_row(rt, alloc, run, table, row)?;
+        answers_row(rt, alloc, table, row)?;
     }
     Ok(())
 }
 
 #[test]
 fn files_are_answered(rt: HostRuntime) -> Result<(), Fail> {
-    for (at, table) in TABLES.iter().enumerate() {
-        answers_table(&rt, rt.alloc(), at < RUN, table)?;
+    for table in &TABLES {
+        answers_table(&rt, rt.alloc(), table)?;
     }
     Ok(())
 }
@@ -429,7 +406,7 @@ fn is_read(plant: &Plant) -> bool {
 
 #[test]
 fn plants_are_read(rt: HostRuntime) -> Result<(), Fail> {
-    let plant = whole_plant(rt.alloc(), READ.as_bytes());
+    let plant = load(rt.alloc(), READ.as_bytes());
     assert!(rt; plant.is_ok_and(|plant| is_read(&plant)));
     let small = load(
         rt.alloc(),
@@ -460,7 +437,7 @@ struct Limit {
     answer: &'static str,
 }
 
-const LIMITS: [Limit; 9] = [
+const LIMITS: [Limit; 11] = [
     Limit {
         start: MANY_NETWORKS,
         item: "\"\",",
@@ -474,6 +451,20 @@ const LIMITS: [Limit; 9] = [
         count: 1001,
         end: "] }]\n",
         answer: "13 TooLarge controller 1 segment 1",
+    },
+    Limit {
+        start: MANY_MESSAGES,
+        item: "\"1,1 MSTR 40001 40010 1\",",
+        count: 64,
+        end: "] }]\n",
+        answer: "taken",
+    },
+    Limit {
+        start: MANY_MESSAGES,
+        item: "\"1,1 MSTR 40001 40010 1\",",
+        count: 65,
+        end: "] }]\n",
+        answer: "13 TooLarge controller 1 segment 1 network 65 cell 1",
     },
     Limit {
         start: MANY_REFERENCES,
@@ -532,7 +523,7 @@ fn limits_are_kept(rt: HostRuntime) -> Result<(), Fail> {
     for limit in &LIMITS {
         let items = many(alloc, limit.item, limit.count)?;
         let text = format!(in alloc; "{}{items}{}", limit.start, limit.end)?;
-        let answer = answer(alloc, false, text.as_bytes())?;
+        let answer = answer(alloc, text.as_bytes())?;
         assert_eq!(rt;
             answer.as_str(),
             limit.answer,
@@ -557,13 +548,13 @@ const NO_DOCUMENTS: [&[u8]; 5] = [
 fn other_bytes_are_no_document(rt: HostRuntime) -> Result<(), Fail> {
     let alloc = rt.alloc();
     for bytes in NO_DOCUMENTS {
-        assert_eq!(rt; answer(alloc, true, bytes)?.as_str(), "1 BadToml plant");
+        assert_eq!(rt; answer(alloc, bytes)?.as_str(), "1 BadToml plant");
     }
     let nested = format!(in alloc; "x = {}", many(alloc, "[", 10_000)?)?;
     assert_eq!(rt;
-        answer(alloc, true, nested.as_bytes())?.as_str(),
+        answer(alloc, nested.as_bytes())?.as_str(),
         "1 BadToml plant"
     );
-    assert_eq!(rt; answer(alloc, true, b"")?.as_str(), "2 BadKey plant");
+    assert_eq!(rt; answer(alloc, b"")?.as_str(), "2 BadKey plant");
     Ok(())
 }

@@ -1,10 +1,6 @@
 // Texts of networks, and where each is refused. The tests of a piece go in the order of these
 // tables.
 
-// A name that a later version takes, whatever else is wrong.
-pub const NOT_BUILT_PIECES: &str = r#"1,1 MSTR 40001 40010 1 => 1 cell 1
-8,1 MSTR x => 1 cell 1"#;
-
 // What does not read: a position, a name, the number of operands, a constant for a reference.
 pub const BAD_CELLS: &str = r#"1,1 => 1 cell 1
 1,1  => 1 cell 1
@@ -39,6 +35,8 @@ pub const BAD_CELLS: &str = r#"1,1 => 1 cell 1
 1,1 BLKM 1 40002 1 => 1 cell 1
 1,1 AND 1 40002 1 => 1 cell 1
 1,1 R>T 40001 40002 01 => 1 cell 1
+8,1 MSTR x => 1 cell 1
+1,1 MSTR 40001 40010 => 1 cell 1
 1,1 H;\r => 1 cell 2
 1,1 H\r;1,2 H => 1 cell 1
 1,1\u00a0H => 1 cell 1
@@ -53,11 +51,14 @@ pub const BAD_VALUES: &str = r#"1,1 R>T 40001 40010 0 => 1 cell 1
 1,1 AND 40001 40010 0 => 1 cell 1
 1,1 AND 40001 40010 101 => 1 cell 1
 1,1 MBIT 1 40001 101 => 1 cell 1
+1,1 MSTR 30001 40010 101 => 1 cell 1
 1,1 R>T 00001 20001 256 => 1 cell 1
 1,1 H; 1,1 BLKM 40001 40010 0 => 1 cell 2"#;
 
 // What is no reference, of a wrong kind, or not wholly in the map.
-pub const BAD_REFS: &str = r#"1,1 H; 1,2 NO 00017; 1,3 RET => 1 cell 2
+pub const BAD_REFS: &str = r#"1,1 MSTR 40093 40010 1 => 1 cell 1
+1,1 MSTR 40092 40010 92 => 1 cell 1
+1,1 H; 1,2 NO 00017; 1,3 RET => 1 cell 2
 1,1 NO 00000 => 1 cell 1
 1,1 NO 00017 => 1 cell 1
 1,1 NO 09985 => 1 cell 1
@@ -137,4 +138,5 @@ pub const TAKEN: &str = r#" => taken
 1,1 SRCH 40001 40099 100 => taken
 1,1 CMPR 40001 40051 49 => taken
 1,1 AND 40001 40001 100 => taken
+1,1 MSTR 40092 40001 100 => taken
 1,1 MBIT 9999 40001 100; 1,2 SENS 30010 30001 10 => taken"#;

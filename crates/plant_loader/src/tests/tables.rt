@@ -1,16 +1,16 @@
 // Parts of plants, and how each is answered; `|` stands for a line end.
 
-// What stands before the orders of plants, in the order of the tests: the version, what a later
-// version takes, the table of the plant.
+// What stands before the orders of plants, in the order of the tests: the version, the table of the
+// plant, its controllers.
 pub const BAD_TABLES: &str = r#"name = 1|[[controller]]|node = 1 => 2 BadKey plant
 version = 0|name = 1|[[controller]]|node = 1 => 4 BadVersion plant
 version = 2|net = 1|[[controller]]|node = 1 => 4 BadVersion plant
 version = -1|[[controller]]|node = 1 => 4 BadVersion plant
 version = "1"|[[controller]]|node = 1 => 3 BadValue plant
 version = 1.0|[[controller]]|node = 1 => 3 BadValue plant
-version = 1|name = 1|net = 1|[[controller]]|node = 1 => 14 NotBuilt plant
-version = 1|host = []|[[controller]]|node = 0 => 14 NotBuilt plant
-version = 1|scan_time = 0|[[controller]]|node = 1|[[controller]]|node = 2 => 14 NotBuilt plant
+version = 1|name = 1|net = 1|[[controller]]|node = 1 => 2 BadKey plant
+version = 1|host = []|[[controller]]|node = 0 => 12 BadNode controller 1
+version = 1|scan_time = 0|[[controller]]|node = 1|[[controller]]|node = 2 => 3 BadValue plant
 version = 1|name = 1|scan_time = 0|[[controller]]|node = 1 => 2 BadKey plant
 version = 1|scan_time = 0|[[controller]]|node = 1 => 3 BadValue plant
 version = 1|scan_time = 1001|[[controller]]|node = 1 => 3 BadValue plant

@@ -17,7 +17,7 @@ returns-in_default c =
     λ scans. (
       λ none. cc,
       λ asked.
-          let passed = ap (λ a. fault_of a words) app_is ∙ scans_pass words scans (omega (arith, asked.1.1)) asked.0 in
+          let passed = ap (λ a. fault_of a words) app_is ∙ scans_pass words scans (omega (arith, asked.1.to)) asked.0 in
           let some = c.in_ok-matches.ensures.taken.1 passed in
           let none : false ≡ true = rw c.in_default.is at some in
           cc,
@@ -36,6 +36,6 @@ returns c =
     let text : first_value (found_of c.in-Some.matches) (codes "N") ≡ first_of (codes "N") (matches_of scans_app words) =
     first_value-rows (found_of c.in-Some.matches) (codes "N") ∙ ap (first_of (codes "N")) (rows ∙ ap (λ a. matches_of a words) app_is) in
     λ scans. (
-      λ e. let got = (c.scans_among.ensures scans).0 e in ((asked_is words passed _ text (decimal scans)).0 got.0, got.1),
-      λ asked. (c.scans_among.ensures scans).1 ((asked_is words passed _ text (decimal scans)).1 asked.0, asked.1),
+      λ e. let got = (c.number_among.ensures scans).0 e in ((asked_is words passed _ text (decimal scans)).0 got.0, got.1),
+      λ asked. (c.number_among.ensures scans).1 ((asked_is words passed _ text (decimal scans)).1 asked.0, asked.1),
     )

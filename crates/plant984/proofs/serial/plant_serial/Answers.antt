@@ -1,83 +1,49 @@
-use Rattle.std.proofs.Common.{ap, sym, ◌∙◌, refl, rules, map, string_bytes}
-use Rattle.plant984.specs.declared.status.Status.TheVariants as ends
-use Rattle.plant984.specs.Due.{Due, due_for}
-use Rattle.plant984.proofs.DueLemmas.{EndsAsDue-found, Found, WroteDue-found, WroteFrontOfDue-found}
-use Rattle.plant984.proofs.DueLemmas.{not-asked}
+use Rattle.std.proofs.Common.{◌≡◌, [], true, false, map, string_bytes, rules, arith}
+use Rattle.plant984.specs.Due.{reads_input}
+use Rattle.plant984.specs.Promise.{side}
+use Rattle.plant984.proofs.DueLemmas.{Found, Promised-found, in_range, nothing_read, one-command}
+use Rattle.plant984.proofs.DueLemmas.{whole_read}
 use Rattle.plant984.proofs.serial.plant_serial.Goals as goal
 
-pub returns-in_default-asked-clause-promised : goal.returns-in_default-asked-clause-promised
-returns-in_default-asked-clause-promised g c =
-    let none = not-asked c.in-Ok.asked c.in-Ok.ensures c.in_default-asked.is in
-    record {
-      ok = search rules;
-      refused = search rules;
-      usage = λ _. (λ _ command. none command, λ _. refl);
-      read_fault = search rules;
-      too_long = search rules;
-      no_memory = search rules;
-      write_fault = search rules;
-      later_source = search rules;
-      later_sink = search rules;
-      complete = λ command input spells left within no_read no_write. absurd (none (command, spells));
-      long = λ input command left long no_read. absurd (none command);
-    }
+pub write_answer-requires : goal.write_answer-requires
+write_answer-requires g c =
+    in_range (map string_bytes c.args.words.now) c.in-Some.command ((c.in-Ok.ensures c.in-Some.command).0 c.in-Some.is)
 
-pub answer_to-requires : goal.answer_to-requires
-answer_to-requires g c = ((c.in-Ok.ensures c.in-Some.command).0 c.in-Some.is).in_range
+pub write_answer-requires-in-Ok-read_all : goal.write_answer-requires-in-Ok-read_all
+write_answer-requires-in-Ok-read_all g c =
+    in_range (map string_bytes c.args.words.now) c.in-Some.command ((c.in-Ok.ensures c.in-Some.command).0 c.in-Some.is)
 
-pub returns-in-Ok-write_all-clause-promised : goal.returns-in-Ok-write_all-clause-promised
-returns-in-Ok-write_all-clause-promised g c =
-    let answer : Due = record { status = c.in-Ok-answer_to.field-0.status; text = string_bytes c.in-Ok-answer_to.field-0.text } in
-    let found : Found (map string_bytes c.args.words.now) (g.S.Source.left c.args.source.now) (g.S.Source.left c.read_all.new.source)
-    c.in-Some.command c.in-Ok-read_all.input.items answer = record {
-      spelled = (c.in-Ok.ensures c.in-Some.command).0 c.in-Some.is;
-      whole = c.in-Ok-read_all.ensures.whole;
-      within = c.in-Ok-read_all.ensures.within;
-      answered = ap (due_for c.in-Some.command) (sym c.deref.ensures.value) ∙ c.in-Ok-answer_to.ensures;
+pub returns-then-not-reads_input-clause-promised : goal.returns-then-not-reads_input-clause-promised
+returns-then-not-reads_input-clause-promised g c =
+    let words = map string_bytes c.args.words.now in
+    let command = c.in-Some.command in
+    let source = side (g.S.Source.left c.args.source.now) (g.S.Source.faults c.args.source.now) in
+    let off : reads_input command ≡ false = search rules in
+    let found : Found words source source command [] = record {
+      spelled = (c.in-Ok.ensures command).0 c.in-Some.is;
+      only = one-command words c.in-Ok.asked command c.in-Ok.ensures c.in-Some.is;
+      read = nothing_read (reads_input command) source.bytes off;
+      later = omega arith;
     } in
-    let had = g.K.Sink.taken c.args.sink.now in
-    let has = g.K.Sink.taken c.write_all.new.sink in
-    let whole = c.in-Ok-write_all.ensures.whole in
-    record {
-      ok = λ ended. WroteDue-found found had has c.as_bytes.result.now ends.Ok c.as_bytes.ensures.value ended whole;
-      refused = λ ended. WroteDue-found found had has c.as_bytes.result.now ends.Refused c.as_bytes.ensures.value ended whole;
-      usage = search rules;
-      read_fault = search rules;
-      too_long = search rules;
-      no_memory = search rules;
-      write_fault = search rules;
-      later_source = search rules;
-      later_sink = search rules;
-      complete = λ command input spells left within no_read no_write.
-          EndsAsDue-found found c.in-Ok.asked c.in-Some.is command ((c.in-Ok.ensures command).1 spells) input left had has
-          c.as_bytes.result.now c.in-Ok-answer_to.field-0.status c.as_bytes.ensures.value refl whole;
-      long = search rules;
-    }
+    Promised-found found (side (g.K.Sink.taken c.args.sink.now) (g.K.Sink.faults c.args.sink.now))
+    (side (g.K.Sink.taken c.write_answer.new.sink) (g.K.Sink.faults c.write_answer.new.sink)) c.write_answer.result
+    c.write_answer.ensures.later c.write_answer.ensures.answers
 
-pub returns-clause-promised : goal.returns-clause-promised
-returns-clause-promised g c =
-    let answer : Due = record { status = c.in-Ok-answer_to.field-0.status; text = string_bytes c.in-Ok-answer_to.field-0.text } in
-    let found : Found (map string_bytes c.args.words.now) (g.S.Source.left c.args.source.now) (g.S.Source.left c.read_all.new.source)
-    c.in-Some.command c.in-Ok-read_all.input.items answer = record {
-      spelled = (c.in-Ok.ensures c.in-Some.command).0 c.in-Some.is;
-      whole = c.in-Ok-read_all.ensures.whole;
-      within = c.in-Ok-read_all.ensures.within;
-      answered = ap (due_for c.in-Some.command) (sym c.deref.ensures.value) ∙ c.in-Ok-answer_to.ensures;
+pub returns-in-Ok-read_all-clause-promised : goal.returns-in-Ok-read_all-clause-promised
+returns-in-Ok-read_all-clause-promised g c =
+    let words = map string_bytes c.args.words.now in
+    let command = c.in-Some.command in
+    let source = side (g.S.Source.left c.args.source.now) (g.S.Source.faults c.args.source.now) in
+    let source_now = side (g.S.Source.left c.read_all.new.source) (g.S.Source.faults c.read_all.new.source) in
+    let on : reads_input command ≡ true = search rules in
+    let input = c.in-Ok-read_all.input.items in
+    let found : Found words source source_now command input = record {
+      spelled = (c.in-Ok.ensures command).0 c.in-Some.is;
+      only = one-command words c.in-Ok.asked command c.in-Ok.ensures c.in-Some.is;
+      read = whole_read (reads_input command) source.bytes source_now.bytes input on c.in-Ok-read_all.ensures.whole
+          c.in-Ok-read_all.ensures.within;
+      later = c.read_all.ensures.later;
     } in
-    record {
-      ok = search rules;
-      refused = search rules;
-      usage = search rules;
-      read_fault = search rules;
-      too_long = search rules;
-      no_memory = search rules;
-      write_fault = λ _. (
-        search rules,
-        WroteFrontOfDue-found found (g.K.Sink.taken c.args.sink.now) (g.K.Sink.taken c.write_all.new.sink)
-            c.as_bytes.result.now c.as_bytes.ensures.value c.in-Err-write_all.ensures.front,
-      );
-      later_source = search rules;
-      later_sink = search rules;
-      complete = search rules;
-      long = search rules;
-    }
+    Promised-found found (side (g.K.Sink.taken c.args.sink.now) (g.K.Sink.faults c.args.sink.now))
+    (side (g.K.Sink.taken c.write_answer-in-Ok-read_all.new.sink) (g.K.Sink.faults c.write_answer-in-Ok-read_all.new.sink))
+    c.write_answer-in-Ok-read_all.result c.write_answer-in-Ok-read_all.ensures.later (search rules)

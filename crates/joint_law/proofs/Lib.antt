@@ -1,0 +1,15 @@
+pub mod Lists
+pub mod Agreeing
+pub mod AnswerSteps
+pub mod CourseEnds
+pub mod CourseSteps
+pub mod EndCounts
+pub mod EndSteps
+pub mod Fitting
+pub mod LawSteps
+pub mod Leaving
+pub mod Progress
+pub mod RingSteps
+pub mod Splitting
+pub mod Verdicts
+pub mod AtNodes

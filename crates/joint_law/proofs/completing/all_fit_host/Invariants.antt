@@ -1,0 +1,11 @@
+use Rattle.std.proofs.Common.{◌≡◌, take}
+use Rattle.joint_law.specs.Completing.{EachAllows, HostAllows, progress_of}
+use Rattle.joint_law.specs.Split.{picked}
+use Rattle.joint_law.proofs.completing.all_fit_host.Given as goal
+
+abbrev pub invariant-loop-place : goal.invariant-loop-place
+invariant-loop-place l =
+    record {
+      progress_is : l.progress ≡ progress_of (picked l.ring (take l.place-index l.places));
+      each : EachAllows (HostAllows l.plan) (picked l.ring (take l.place-index l.places));
+    }

@@ -1,0 +1,8 @@
+use Rattle.std.proofs.Common.{◌≡◌, ℕ, ◌<◌, get_or}
+use Rattle.comm_port.specs.declared.joint.ControllerLog.{ControllerLog}
+use Rattle.joint_law.specs.Bound.{controller_bound, Keeps}
+use Rattle.joint_law.proofs.law_spots.logs_break.Given as goal
+
+abbrev pub invariant-loop-log : goal.invariant-loop-log
+invariant-loop-log l =
+    (k : ℕ) (d : ControllerLog) → k < l.log-index → (get_or l.logs k d).node ≡ l.node → Keeps l.law (controller_bound l.ring (get_or l.logs k d))

@@ -1,0 +1,13 @@
+use Rattle.std.proofs.Common.{arith}
+use Rattle.plant_types.specs.declared.plan.ControllerPlan.{ControllerPlan}
+use Rattle.comm_port.specs.declared.joint.ControllerLog.{ControllerLog}
+use Rattle.joint_law.proofs.CourseSteps.{same-node}
+use Rattle.joint_law.proofs.Lists.{not-true}
+use Rattle.joint_law.proofs.sections.are_of_controllers.Goals as goal
+
+pub returns-then-logs-at : goal.returns-then-logs-at
+returns-then-logs-at c = (
+  λ no'. not-true no',
+  λ same. absurd (c.if-logs-at.true
+      (same-node (λ (plan : ControllerPlan). plan.node) (λ (log : ControllerLog). log.node) c.args.plans.now c.args.logs.now same c.loop-at.at c.index-plans-at.result c.index-logs-at.result (omega arith))),
+)

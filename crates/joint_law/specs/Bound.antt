@@ -1,0 +1,92 @@
+-- The four laws of a station, by the two lists that each compares. This project's own.
+use Rattle.std.specs.Prelude.{ℕ, Bool, true, false, List, [], ◌++◌, map, filter_map}
+use Rattle.ring_core.specs.declared.entry.RingEntry.{RingEntry}
+use Rattle.tied_lists.specs.Own.{own}
+use Rattle.tied_lists.specs.Items.{AController, AHost, Answered, Item, Items, Station, asked_by}
+use Rattle.tied_lists.specs.Items.{due_replies, ended_by, item_of, net_ask, plain_items}
+use Rattle.tied_lists.specs.Items.{port_answers, replied_by, replies_in, stats_items, taken_by}
+use Rattle.tied_lists.specs.Tied.{AsksAreCalls, PeersAreTaken, PortIsTaken, RepliesAreDue}
+use Rattle.tied_lists.specs.Tied.{EndsAreMet}
+use Rattle.comm_port.specs.declared.joint.ControllerLog.{ControllerLog}
+use Rattle.comm_port.specs.declared.joint.HostLog.{HostLog}
+use Rattle.comm_port.specs.declared.joint.Joint.{Joint}
+use Rattle.comm_port.specs.Reading.{items_of, host_items_of}
+use Rattle.joint_law.specs.Differing.{DifferAt}
+use Rattle.joint_law.specs.declared.law.Law.{Law}
+use Rattle.joint_law.specs.declared.law.Law.TheVariants.{Asks, Answers, Replies, Ends}
+
+-- A station with what the laws read: the items of its list, and its node's entries on the ring.
+pub record Bound : Type 0 where
+  pub node : ℕ
+  pub station : Station
+  pub items : Items
+  pub ring : List RingEntry
+
+abbrev pub controller_bound : List RingEntry → ControllerLog → Bound
+controller_bound ring log = record {
+  node = log.node;
+  station = AController;
+  items = items_of log.entries;
+  ring = own log.node ring;
+}
+
+abbrev pub host_bound : List RingEntry → HostLog → Bound
+host_bound ring log = record {
+  node = log.node;
+  station = AHost;
+  items = host_items_of log.entries;
+  ring = own log.node ring;
+}
+
+-- All stations of a joint history.
+abbrev pub bounds_of : Joint → List Bound
+bounds_of joint =
+    map (controller_bound joint.ring) joint.controllers
+    ++ map (host_bound joint.ring) joint.hosts
+
+-- The laws are counted from 1.
+abbrev pub number_of : Law → ℕ
+number_of Asks = 1
+number_of Answers = 2
+number_of Replies = 3
+number_of Ends = 4
+
+-- A request that was answered, and whether it asked for statistics.
+pub record Sorted : Type 0 where
+  pub statistics : Bool
+  pub item : Item
+
+abbrev pub sorted : Bool → Item → Sorted
+sorted statistics item = record { statistics = statistics; item = item }
+
+abbrev pub sorted_answer : Bool → Answered → Sorted
+sorted_answer statistics a = sorted statistics (item_of a)
+
+-- What was answered by a station, and then by its port.
+abbrev pub answered_in_order : List Answered → List RingEntry → List Sorted
+answered_in_order answers ring =
+    map (sorted_answer false) answers ++ map (sorted_answer true) (port_answers ring)
+
+-- What was taken for a station, and then for its port.
+abbrev pub taken_in_order : List RingEntry → List Sorted
+taken_in_order ring =
+    map (sorted false) (plain_items (taken_by ring))
+    ++ map (sorted true) (stats_items (taken_by ring))
+
+-- A station keeps a law.
+abbrev pub Keeps : Law → Bound → Type 0
+Keeps Asks s = AsksAreCalls s.items s.ring
+Keeps Answers s = PeersAreTaken s.items s.ring × PortIsTaken s.ring
+Keeps Replies s = RepliesAreDue s.items s.ring
+Keeps Ends s = EndsAreMet s.station s.items s.ring
+
+-- And breaks it at a place, the first at which the two lists of the law differ.
+abbrev pub Breaks : Law → Bound → ℕ → Type 0
+Breaks Asks s place = DifferAt (asked_by s.ring) (filter_map net_ask s.items.calls) place
+Breaks Answers s place =
+    DifferAt (answered_in_order s.items.answers s.ring) (taken_in_order s.ring) place
+Breaks Replies s place =
+    DifferAt (replied_by s.ring)
+    (due_replies (taken_by s.ring) (replies_in s.items.answers) (replies_in (port_answers s.ring)))
+    place
+Breaks Ends s place = DifferAt s.items.ends (ended_by s.station [] s.ring) place

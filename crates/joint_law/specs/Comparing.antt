@@ -1,0 +1,23 @@
+-- What comes of comparing the two lists of a law. This project's own.
+use Rattle.std.specs.Prelude.{◌≡◌, ℕ, ◌+◌, List, Option, Some, None}
+use Rattle.ring_core.specs.declared.entry.RingEntry.{RingEntry}
+use Rattle.tied_lists.specs.Items.{Items, Station}
+use Rattle.joint_law.specs.Bound.{Bound, Breaks, Keeps}
+use Rattle.joint_law.specs.Differing.{DifferAt}
+use Rattle.joint_law.specs.declared.law.Law.{Law}
+
+-- Two lists are one, or differ first at a place counted from 0.
+abbrev pub Compared : {A : Type 0} → List A → List A → Option ℕ → Type 0
+Compared xs ys None = xs ≡ ys
+Compared xs ys (Some place) = DifferAt xs ys (place + 1)
+
+-- A station, whatever its address.
+abbrev pub any_bound : Station → Items → List RingEntry → Bound
+any_bound station items ring =
+    record { node = 0; station = station; items = items; ring = ring }
+
+-- It keeps a law, or breaks it first at a place counted from 0.
+abbrev pub IsLawEnd : Law → Station → Items → List RingEntry → Option ℕ → Type 0
+IsLawEnd law station items ring None = Keeps law (any_bound station items ring)
+IsLawEnd law station items ring (Some place) =
+    Breaks law (any_bound station items ring) (place + 1)

@@ -1,0 +1,92 @@
+-- What a node has done on the ring so far, and which entries fit that. This project's own.
+use Rattle.std.specs.Prelude.{◌≡◌, ◌+◌, ◌<◌, ◌≤◌, ◌^◌, Bool, true, false, ◌||◌, List}
+use Rattle.std.specs.Prelude.{length, count_by, slice_get, Some}
+use Rattle.std.specs.List.{list_any}
+use Rattle.plant_types.specs.declared.net.HostAsk.{HostAsk}
+use Rattle.plant_types.specs.declared.net.HostPlan.{HostPlan}
+use Rattle.ring_core.specs.declared.frame.FrameKind.{FrameKind}
+use Rattle.ring_core.specs.declared.frame.FrameKind.TheVariants.{Request, Reply}
+use Rattle.ring_core.specs.declared.entry.RingEntry.{RingEntry}
+use Rattle.ring_core.specs.declared.entry.RingEntry.TheVariants.{Leave, Pass, Post, Take}
+use Rattle.tied_lists.specs.Items.{asked_by, replied_by, taken_by}
+use Rattle.comm_port.specs.Complete.{IsOfDone, StandsIn, is_pass}
+use Rattle.joint_law.specs.declared.completing.Progress.{Progress}
+
+-- A Pass that says done.
+abbrev pub says_done : RingEntry → Bool
+says_done (Pass n done words) = done
+says_done _ = false
+
+abbrev pub is_leave : RingEntry → Bool
+is_leave (Leave n cause) = true
+is_leave _ = false
+
+-- What a node has done by these entries.
+abbrev pub progress_of : List RingEntry → Progress
+progress_of b = record {
+  passes = count_by is_pass b;
+  asked = length (asked_by b);
+  replied = length (replied_by b);
+  taken = length (taken_by b);
+  is_done = list_any says_done b;
+}
+
+-- And by one more.
+abbrev pub posted_next : Progress → FrameKind → Progress
+posted_next p Request = record p { asked = p.asked + 1 }
+posted_next p Reply = record p { replied = p.replied + 1 }
+
+abbrev pub taken_next : Progress → FrameKind → Progress
+taken_next p Request = record p { taken = p.taken + 1 }
+taken_next p Reply = p
+
+abbrev pub passed_next : Progress → Bool → Progress
+passed_next p done = record p { passes = p.passes + 1; is_done = p.is_done || done }
+
+abbrev pub progress_next : Progress → RingEntry → Progress
+progress_next p (Post n f) = posted_next p f.kind
+progress_next p (Take n f) = taken_next p f.kind
+progress_next p (Pass n done words) = passed_next p done
+progress_next p _ = p
+
+-- Counts that can go on.
+pub record IsShort (p : Progress) : Type 0 where
+  pub passes : p.passes + 1 < 2 ^ 64
+  pub asked : p.asked + 1 < 2 ^ 64
+  pub replied : p.replied + 1 < 2 ^ 64
+  pub taken : p.taken + 1 < 2 ^ 64
+
+-- A Pass needs that all was replied to, and a node that is done does nothing more.
+abbrev pub HasReplied : Progress → RingEntry → Type 0
+HasReplied p (Pass n done words) = p.replied ≡ p.taken
+HasReplied p _ = Unit {0}
+
+pub record NodeFits (p : Progress) (e : RingEntry) : Type 0 where
+  pub replied : HasReplied p e
+  pub done : p.is_done ≡ true → IsOfDone e
+
+-- A host asks nothing too early, and is done only once it has asked all.
+abbrev pub IsInHold : HostPlan → Progress → Type 0
+IsInHold plan p =
+    (ask : HostAsk) → slice_get plan.requests p.asked ≡ Some ask → ask.hold ≤ 1 + p.passes
+
+abbrev pub AskFits : HostPlan → Progress → FrameKind → Type 0
+AskFits plan p Request = IsInHold plan p
+AskFits plan p Reply = Unit {0}
+
+abbrev pub HostFits : HostPlan → Progress → RingEntry → Type 0
+HostFits plan p (Post n f) = AskFits plan p f.kind
+HostFits plan p (Pass n done words) = done ≡ true → p.asked ≡ length plan.requests
+HostFits plan p _ = Unit {0}
+
+-- The same, by the entries before.
+abbrev pub NodeAllows : List RingEntry → RingEntry → Type 0
+NodeAllows before e = NodeFits (progress_of before) e
+
+abbrev pub HostAllows : HostPlan → List RingEntry → RingEntry → Type 0
+HostAllows plan before e = HostFits plan (progress_of before) e
+
+-- Each entry fits those before it.
+abbrev pub EachAllows : (List RingEntry → RingEntry → Type 0) → List RingEntry → Type 0
+EachAllows Allows ring =
+    (before after : List RingEntry) (e : RingEntry) → StandsIn ring before e after → Allows before e

@@ -1,0 +1,78 @@
+-- Ends of calls, where calls and requests are found by their names. This project's own.
+use Rattle.std.specs.Prelude.{◌≡◌, ℕ, if◌then◌else◌, List, Option, Some, None}
+use Rattle.std.specs.Option.{option_map}
+use Rattle.mstr_block.specs.Call.{is_same_call}
+use Rattle.mstr_block.specs.declared.call.CallId.{CallId}
+use Rattle.ring_core.specs.declared.frame.FrameKind.{FrameKind}
+use Rattle.ring_core.specs.declared.frame.FrameKind.TheVariants.{Request, Reply}
+use Rattle.ring_core.specs.declared.frame.Frame.{Frame}
+use Rattle.ring_core.specs.declared.entry.RingEntry.{RingEntry}
+use Rattle.ring_core.specs.declared.entry.RingEntry.TheVariants.{Take, Local, GiveUp}
+use Rattle.controller_core.specs.declared.entry.Entry.{Entry}
+use Rattle.controller_core.specs.declared.entry.Entry.TheVariants as entries
+use Rattle.host_port.specs.declared.entry.HostEntry.{HostEntry}
+use Rattle.host_port.specs.declared.entry.HostEntry.TheVariants as host_entries
+use Rattle.tied_lists.specs.Items.{Asked, Called, Came, Ended, Kind, NetCall, Station}
+use Rattle.tied_lists.specs.Items.{ended_at_home, kind_in, outcome_of_reply}
+use Rattle.tied_lists.specs.Items.{or_some, outcome_of_word}
+use Rattle.comm_port.specs.Reading.{outcome_of}
+use Rattle.joint_law.specs.declared.by_call.ByCall.{ByCall}
+use Rattle.joint_law.specs.declared.ending.EndKind.{EndKind}
+use Rattle.joint_law.specs.Kinds.{kind_as}
+use Rattle.joint_law.specs.Named.{value_at}
+
+-- The kind of a call that was noted.
+abbrev pub kind_at : ByCall EndKind → CallId → Option Kind
+kind_at kinds id = option_map kind_as (value_at kinds id)
+
+-- The first of two.
+abbrev pub or_kind : Option Kind → Option Kind → Option Kind
+or_kind (Some kind) other = Some kind
+or_kind None other = other
+
+-- A call was noted, unless one of its name was before.
+abbrev pub NotesKind : ByCall EndKind → CallId → Kind → ByCall EndKind → Type 0
+NotesKind old id kind new = (q : CallId)
+    → kind_at new q ≡ or_kind (kind_at old q) (if is_same_call id q then Some kind else None)
+
+abbrev pub NotesCalls : ByCall EndKind → List Called → ByCall EndKind → Type 0
+NotesCalls old calls new =
+    (q : CallId) → kind_at new q ≡ or_kind (kind_at old q) (kind_in calls q)
+
+-- A request was noted, in place of an earlier one of its name.
+abbrev pub pdu_for : CallId → Option Asked → Option (List ℕ)
+pdu_for id None = None
+pdu_for id (Some a) = if is_same_call a.id id then Some a.pdu else None
+
+abbrev pub NotesAsk : ByCall (List ℕ) → Option Asked → ByCall (List ℕ) → Type 0
+NotesAsk old asked new = (q : CallId) → value_at new q ≡ or_some (pdu_for q asked) (value_at old q)
+
+-- The end that an entry tells.
+abbrev pub end_with : (CallId → Option Kind) → Entry → Option Ended
+end_with kinds (entries.Finish id result) =
+    Some (record { id = id; kind = kinds id; outcome = Came result })
+end_with kinds _ = None
+
+abbrev pub host_end_with : (CallId → Option Kind) → HostEntry → Option Ended
+host_end_with kinds (host_entries.Answer id result) =
+    Some (record { id = id; kind = kinds id; outcome = outcome_of result })
+host_end_with kinds _ = None
+
+-- The end that an entry of the ring gives.
+abbrev pub ended_with_frame : Station → (CallId → Option (List ℕ)) → FrameKind → Frame → Option Ended
+ended_with_frame station asked Request f = None
+ended_with_frame station asked Reply f = Some (record {
+  id = f.id;
+  kind = Some NetCall;
+  outcome = outcome_of_reply station (asked f.id) f.pdu;
+})
+
+abbrev pub ended_with : Station → (CallId → Option (List ℕ)) → RingEntry → Option Ended
+ended_with station asked (Take n f) = ended_with_frame station asked f.kind f
+ended_with station asked (Local n id op result) = ended_at_home n id op result
+ended_with station asked (GiveUp id word) = Some (record {
+  id = id;
+  kind = Some NetCall;
+  outcome = outcome_of_word station word;
+})
+ended_with station asked _ = None

@@ -1,0 +1,47 @@
+-- How often calls have ended, by their names. This project's own.
+use Rattle.std.specs.Prelude.{◌≡◌, ℕ, ◌==◌, Bool, if◌then◌else◌, List, Option, Some, None}
+use Rattle.std.specs.Prelude.{count_by, is_none}
+use Rattle.mstr_block.specs.Call.{is_same_call}
+use Rattle.mstr_block.specs.declared.call.CallId.{CallId}
+use Rattle.controller_core.specs.declared.entry.Entry.{Entry}
+use Rattle.controller_core.specs.declared.entry.Entry.TheVariants.{Finish}
+use Rattle.host_port.specs.declared.entry.HostEntry.{HostEntry}
+use Rattle.host_port.specs.declared.entry.HostEntry.TheVariants.{Answer}
+use Rattle.tied_lists.specs.Items.{Called, Ended}
+use Rattle.joint_law.specs.Named.{value_at}
+use Rattle.joint_law.specs.declared.by_call.ByCall.{ByCall}
+
+abbrev pub id_of_call : Called → CallId
+id_of_call call = call.id
+
+abbrev pub id_of_end : Ended → CallId
+id_of_end end = end.id
+
+-- The call that an entry ends.
+abbrev pub end_id_in : Entry → Option CallId
+end_id_in (Finish id result) = Some id
+end_id_in _ = None
+
+abbrev pub host_end_id_in : HostEntry → Option CallId
+host_end_id_in (Answer id result) = Some id
+host_end_id_in _ = None
+
+-- How often a call ends.
+abbrev pub ends_of : List CallId → CallId → ℕ
+ends_of ends call = count_by (λ (id : CallId). is_same_call id call) ends
+
+abbrev pub EndsOnce : List CallId → CallId → Type 0
+EndsOnce ends call = ends_of ends call ≡ 1
+
+-- Whether a call that has ended did so once.
+abbrev pub once_of : ℕ → Option Bool
+once_of count = if count == 0 then None else Some (count == 1)
+
+-- These ends were noted.
+abbrev pub CountsEnds : List CallId → ByCall Bool → Type 0
+CountsEnds ends once = (q : CallId) → value_at once q ≡ once_of (ends_of ends q)
+
+-- One more end was.
+abbrev pub NotesEnd : ByCall Bool → CallId → ByCall Bool → Type 0
+NotesEnd old id new = (q : CallId) → value_at new q
+    ≡ (if is_same_call id q then Some (is_none (value_at old id)) else value_at old q)

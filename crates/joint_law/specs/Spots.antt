@@ -1,0 +1,123 @@
+-- What a judge's verdict says of a joint history. This project's own.
+use Rattle.std.specs.Prelude.{◌≡◌, ℕ, ◌<◌, List, map}
+use Rattle.std.specs.List.{All, AllZip, Any, zip}
+use Rattle.plant_types.specs.declared.net.HostPlan.{HostPlan}
+use Rattle.plant_types.specs.declared.plan.ControllerPlan.{ControllerPlan}
+use Rattle.plant_types.specs.declared.plan.Plant.{Plant}
+use Rattle.plant_types.specs.Plans.{IsPlant, controller_nodes, host_nodes}
+use Rattle.ring_core.specs.Legal.{IsLegal as IsLegalRing}
+use Rattle.controller_core.specs.Controller.{IsLegal}
+use Rattle.controller_core.specs.Machine.{IsRunnable}
+use Rattle.host_port.specs.Legal.{IsHostHistory}
+use Rattle.comm_port.specs.declared.joint.ControllerLog.{ControllerLog}
+use Rattle.comm_port.specs.declared.joint.HostLog.{HostLog}
+use Rattle.comm_port.specs.declared.joint.Joint.{Joint}
+use Rattle.comm_port.specs.Complete.{IsComplete, IsCompleteLog, IsCompleteHostLog}
+use Rattle.comm_port.specs.JointLaws.{IsJoint, IsLegalHostLog, IsLegalJoint, IsLegalLog, fixed_of}
+use Rattle.joint_law.specs.Bound.{Bound, Breaks, Keeps, bounds_of, number_of}
+use Rattle.joint_law.specs.Differing.{BreaksAt}
+use Rattle.joint_law.specs.declared.law.Law.{Law}
+use Rattle.joint_law.specs.declared.verdict.Spot.{Spot}
+use Rattle.joint_law.specs.declared.verdict.Spot.TheVariants as spots
+use Rattle.joint_law.specs.declared.verdict.Verdict.{Verdict}
+use Rattle.joint_law.specs.declared.verdict.Verdict.TheVariants.{Legal, Illegal}
+
+-- A plant whose controllers can make so many scans.
+pub record CanBeJudged (plant : Plant) (scans : ℕ) : Type 0 where
+  pub sound : IsPlant plant
+  pub runs : All (λ plan. IsRunnable (fixed_of plant scans plan)) plant.controllers
+
+-- The lists are those of the plant's stations, in its order.
+pub record HasSections (plant : Plant) (joint : Joint) : Type 0 where
+  pub controllers : map (λ (log : ControllerLog). log.node) joint.controllers
+      ≡ controller_nodes plant
+  pub hosts : map (λ (log : HostLog). log.node) joint.hosts ≡ host_nodes plant
+
+-- Each controller of a plant with its list, and each host with its.
+abbrev pub controllers_of : Plant → Joint → List (ControllerPlan × ControllerLog)
+controllers_of plant joint = zip plant.controllers joint.controllers
+
+abbrev pub hosts_of : Plant → Joint → List (HostPlan × HostLog)
+hosts_of plant joint = zip plant.hosts joint.hosts
+
+-- The lists of all controllers are legal, and those of all hosts.
+abbrev pub AreLegalLogs : Plant → ℕ → Joint → Type 0
+AreLegalLogs plant scans joint =
+    AllZip (IsLegalLog plant scans) plant.controllers joint.controllers
+
+abbrev pub AreLegalHostLogs : Plant → Joint → Type 0
+AreLegalHostLogs plant joint = AllZip IsLegalHostLog plant.hosts joint.hosts
+
+-- The first controller whose list isn't legal, and the entry that makes it so.
+pub record ControllerSpot (plant : Plant) (scans : ℕ) (joint : Joint) (node entry : ℕ)
+    : Type 0 where
+  pub sections : HasSections plant joint
+  pub earlier : All
+      (λ of. of.1.node < node → IsLegal (fixed_of plant scans of.0) of.1.entries)
+      (controllers_of plant joint)
+  pub here : Any
+      (λ of. (of.1.node ≡ node)
+      × BreaksAt (IsLegal (fixed_of plant scans of.0)) of.1.entries entry)
+      (controllers_of plant joint)
+
+-- The first host.
+pub record HostSpot (plant : Plant) (scans : ℕ) (joint : Joint) (node entry : ℕ) : Type 0 where
+  pub sections : HasSections plant joint
+  pub controllers : AreLegalLogs plant scans joint
+  pub earlier : All (λ of. of.1.node < node → IsHostHistory of.0 of.1.entries)
+      (hosts_of plant joint)
+  pub here : Any
+      (λ of. (of.1.node ≡ node) × BreaksAt (IsHostHistory of.0) of.1.entries entry)
+      (hosts_of plant joint)
+
+-- The entry that makes the ring's list no legal one.
+pub record RingSpot (plant : Plant) (scans : ℕ) (joint : Joint) (entry : ℕ) : Type 0 where
+  pub controllers : AreLegalLogs plant scans joint
+  pub hosts : AreLegalHostLogs plant joint
+  pub here : BreaksAt (IsLegalRing plant.net) joint.ring entry
+
+-- The first law that is broken, the first station that breaks it, and where its two lists differ.
+pub record LawSpot (plant : Plant) (scans : ℕ) (joint : Joint) (law : Law) (node place : ℕ)
+    : Type 0 where
+  pub legal : IsLegalJoint plant scans joint
+  pub laws : (other : Law) → number_of other < number_of law
+      → All (Keeps other) (bounds_of joint)
+  pub earlier : All (λ (s : Bound). s.node < node → Keeps law s) (bounds_of joint)
+  pub here : Any (λ (s : Bound). (s.node ≡ node) × Breaks law s place) (bounds_of joint)
+
+-- The stations at an address are complete.
+pub record IsCompleteAt (plant : Plant) (scans : ℕ) (joint : Joint) (node : ℕ) : Type 0 where
+  pub controllers : All
+      (λ of. of.1.node ≡ node → IsCompleteLog plant scans joint.ring of.0 of.1)
+      (controllers_of plant joint)
+  pub hosts : All (λ of. of.1.node ≡ node → IsCompleteHostLog plant joint.ring of.0 of.1)
+      (hosts_of plant joint)
+
+-- The first station that isn't.
+pub record IncompleteSpot (plant : Plant) (scans : ℕ) (joint : Joint) (node : ℕ) : Type 0 where
+  pub legal : IsLegalJoint plant scans joint
+  pub tied : IsJoint joint
+  pub earlier : (n : ℕ) → n < node → IsCompleteAt plant scans joint n
+  pub here : IsCompleteAt plant scans joint node → ⊥
+
+-- A whole run: its lists are legal, keep the laws between them, and are complete.
+pub record IsWholeRun (plant : Plant) (scans : ℕ) (joint : Joint) : Type 0 where
+  pub legal : IsLegalJoint plant scans joint
+  pub tied : IsJoint joint
+  pub complete : IsComplete plant scans joint
+
+-- What each spot says.
+abbrev pub IsSpot : Plant → ℕ → Joint → Spot → Type 0
+IsSpot plant scans joint spots.Sections = HasSections plant joint → ⊥
+IsSpot plant scans joint (spots.Controller node entry) =
+    ControllerSpot plant scans joint node entry
+IsSpot plant scans joint (spots.Host node entry) = HostSpot plant scans joint node entry
+IsSpot plant scans joint (spots.Ring entry) = RingSpot plant scans joint entry
+IsSpot plant scans joint (spots.Law number node place) =
+    (law : Law) × (number_of law ≡ number) × LawSpot plant scans joint law node place
+IsSpot plant scans joint (spots.Incomplete node) = IncompleteSpot plant scans joint node
+
+-- What a verdict says.
+abbrev pub IsVerdict : Plant → ℕ → Joint → Verdict → Type 0
+IsVerdict plant scans joint Legal = IsWholeRun plant scans joint
+IsVerdict plant scans joint (Illegal spot) = IsSpot plant scans joint spot

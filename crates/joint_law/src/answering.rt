@@ -1,0 +1,229 @@
+//! The second law: what a station and its port answered is what was taken for each.
+ghost use Rattle.std.specs.Prelude.{◌≡◌, ◌++◌, [], true, false, Some, IfOk, OnOk, map};
+ghost use Rattle.std.specs.List.{cons_option};
+ghost use Rattle.tied_lists.specs.Items.{answered_of, port_answers, request_of, taken_by};
+ghost use Rattle.tied_lists.specs.Items.{taken_in, taken_of};
+ghost use Rattle.comm_port.specs.Reading.{host_items_of, items_of};
+ghost use Rattle.joint_law.specs.Bound.{sorted, sorted_answer, taken_in_order};
+ghost use Rattle.joint_law.specs.Readings.{answer_in, host_answer_in};
+ghost use Rattle.joint_law.specs.Split.{AreWithin, picked};
+ghost use Rattle.joint_law.specs.Taking.{items_for};
+
+use crate::differing::Same;
+use crate::same::same_bytes;
+use controller_core::Entry;
+use host_port::HostEntry;
+use mstr_block::CallId;
+use plant_types::{Copied, Pdu};
+use ring_core::{CLEAR_STATISTICS, Frame, FrameKind, GET_STATISTICS, LocalOp, RingEntry, is_stats};
+use std::alloc::{AllocError, Global};
+use std::marker::Model;
+
+/// A request that was answered or taken, if there can be one, and whether it is for the port.
+#[derive(Drop)]
+pub(crate) struct Served {
+    statistics: bool,
+    id: CallId,
+    request: Option<Pdu>,
+}
+
+impl Model for Served {
+    ghost use Rattle.joint_law.specs.Bound.{Sorted};
+
+    ghost Value = { Sorted };
+
+    ghost view = { λ s. record { statistics = s.statistics; item = (s.id, s.request) } };
+}
+
+impl Same for Served {
+    fn is_same(&self, other: &Self) -> bool {
+        self.statistics == other.statistics
+            && self.id == other.id
+            && same_bytes(&self.request, &other.request)
+    }
+}
+
+fn serving(alloc: Global, statistics: bool, id: CallId, request: &Pdu) -> Result<Served, AllocError>
+    ensures { IfOk result (λ made. made ≡ sorted statistics (id, Some request.now)) }
+{
+    Ok(Served {
+        statistics,
+        id,
+        request: Some(request.copied(alloc)?),
+    })
+}
+
+fn add_answer(alloc: Global, list: &mut Vec<Served>, entry: &Entry) -> Result<(), AllocError>
+    ensures { OnOk result (list.new.items
+        ≡ list.old.items ++ map (sorted_answer false) (cons_option (answer_in entry.now) [])) }
+{
+    match entry {
+        Entry::Peer { id, request, .. } => {
+            list.push(serving(alloc, false, *id, request)?)?;
+            Ok(())
+        }
+        _ => Ok(()),
+    }
+}
+
+/// What a controller answered.
+pub(crate) fn answered(alloc: Global, entries: &[Entry]) -> Result<Vec<Served>, AllocError>
+    ensures { IfOk result (λ list. list.items
+        ≡ map (sorted_answer false) (items_of entries.now).answers) }
+{
+    let mut list = Vec::new(alloc);
+    for entry in entries {
+        add_answer(alloc, &mut list, entry)?;
+    }
+    Ok(list)
+}
+
+fn add_host_answer(
+    alloc: Global,
+    list: &mut Vec<Served>,
+    entry: &HostEntry,
+) -> Result<(), AllocError>
+    ensures { OnOk result (list.new.items ≡ list.old.items
+        ++ map (sorted_answer false) (cons_option (host_answer_in entry.now) [])) }
+{
+    match entry {
+        HostEntry::Served { id, request, .. } => {
+            list.push(serving(alloc, false, *id, request)?)?;
+            Ok(())
+        }
+        _ => Ok(()),
+    }
+}
+
+/// What a host answered.
+pub(crate) fn host_answered(alloc: Global, entries: &[HostEntry]) -> Result<Vec<Served>, AllocError>
+    ensures { IfOk result (λ list. list.items
+        ≡ map (sorted_answer false) (host_items_of entries.now).answers) }
+{
+    let mut list = Vec::new(alloc);
+    for entry in entries {
+        add_host_answer(alloc, &mut list, entry)?;
+    }
+    Ok(list)
+}
+
+/// The request that an operation of the port answers, if it answers one.
+fn request_of(alloc: Global, op: &LocalOp) -> Result<Option<Pdu>, AllocError>
+    ensures { IfOk result (λ request. request ≡ request_of op.now) }
+{
+    match op {
+        LocalOp::RemoteGet => Pdu::of(alloc, &GET_STATISTICS[..]),
+        LocalOp::RemoteClear => Pdu::of(alloc, &CLEAR_STATISTICS[..]),
+        _ => Ok(None),
+    }
+}
+
+fn add_port_answer(
+    alloc: Global,
+    list: &mut Vec<Served>,
+    entry: &RingEntry,
+) -> Result<(), AllocError>
+    ensures { OnOk result (list.new.items ≡ list.old.items
+        ++ map (sorted_answer true) (cons_option (answered_of entry.now) [])) }
+{
+    let RingEntry::Local { node, id, op, .. } = entry else {
+        return Ok(());
+    };
+    if id.node == *node {
+        return Ok(());
+    }
+    let request = request_of(alloc, op)?;
+    list.push(Served {
+        statistics: true,
+        id: *id,
+        request,
+    })?;
+    Ok(())
+}
+
+/// Adds what a node's port answered.
+pub(crate) fn add_port_answers(
+    alloc: Global,
+    list: &mut Vec<Served>,
+    ring: &[RingEntry],
+    places: &[usize],
+) -> Result<(), AllocError>
+    requires { AreWithin ring.now places.now }
+    ensures { OnOk result (list.new.items ≡ list.old.items
+        ++ map (sorted_answer true) (port_answers (picked ring.now places.now))) }
+{
+    for place in places {
+        add_port_answer(alloc, list, &ring[*place])?;
+    }
+    Ok(())
+}
+
+fn add_taken_frame(
+    alloc: Global,
+    statistics: bool,
+    list: &mut Vec<Served>,
+    frame: &Frame,
+) -> Result<(), AllocError>
+    ensures { OnOk result (list.new.items ≡ list.old.items
+        ++ map (sorted statistics) (items_for statistics
+        (cons_option (taken_in frame.now.kind frame.now) []))) }
+{
+    if let FrameKind::Reply = frame.kind {
+        return Ok(());
+    }
+    if is_stats(&frame.pdu) != statistics {
+        return Ok(());
+    }
+    list.push(serving(alloc, statistics, frame.id, &frame.pdu)?)?;
+    Ok(())
+}
+
+fn add_taken(
+    alloc: Global,
+    statistics: bool,
+    list: &mut Vec<Served>,
+    entry: &RingEntry,
+) -> Result<(), AllocError>
+    ensures { OnOk result (list.new.items ≡ list.old.items
+        ++ map (sorted statistics)
+        (items_for statistics (cons_option (taken_of entry.now) []))) }
+{
+    match entry {
+        RingEntry::Take { frame, .. } => add_taken_frame(alloc, statistics, list, frame),
+        _ => Ok(()),
+    }
+}
+
+/// Adds the requests that a node took for its port, or those for the others.
+pub(crate) fn add_all_taken(
+    alloc: Global,
+    statistics: bool,
+    list: &mut Vec<Served>,
+    ring: &[RingEntry],
+    places: &[usize],
+) -> Result<(), AllocError>
+    requires { AreWithin ring.now places.now }
+    ensures { OnOk result (list.new.items ≡ list.old.items ++ map (sorted statistics)
+        (items_for statistics (taken_by (picked ring.now places.now)))) }
+{
+    for place in places {
+        add_taken(alloc, statistics, list, &ring[*place])?;
+    }
+    Ok(())
+}
+
+/// What a node took, first for its station and then for its port.
+pub(crate) fn taken_in_order(
+    alloc: Global,
+    ring: &[RingEntry],
+    places: &[usize],
+) -> Result<Vec<Served>, AllocError>
+    requires { AreWithin ring.now places.now }
+    ensures { IfOk result (λ list. list.items
+        ≡ taken_in_order (picked ring.now places.now)) }
+{
+    let mut list = Vec::new(alloc);
+    add_all_taken(alloc, false, &mut list, ring, places)?;
+    add_all_taken(alloc, true, &mut list, ring, places)?;
+    Ok(list)
+}

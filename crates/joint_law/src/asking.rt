@@ -1,0 +1,157 @@
+//! The first law: what a station asked on the ring is what its calls ask.
+ghost use Rattle.std.specs.Prelude.{◌≡◌, ◌++◌, [], ◌+◌, None, IfOk, IfSome, OnOk, filter_map, map};
+ghost use Rattle.std.specs.List.{cons_option};
+ghost use Rattle.tied_lists.specs.Items.{asked_by, asked_of, net_ask};
+ghost use Rattle.comm_port.specs.Reading.{called_of, host_items_of, items_of};
+ghost use Rattle.joint_law.specs.Readings.{calls_in, host_call_in};
+ghost use Rattle.joint_law.specs.Split.{AreWithin, picked};
+
+use crate::differing::Same;
+use controller_core::{Call, CallKind, Entry};
+use host_port::HostEntry;
+use mstr_block::CallId;
+use plant_types::{Copied, Pdu};
+use ring_core::{FrameKind, RingEntry};
+use std::alloc::{AllocError, Global};
+use std::marker::Model;
+
+/// A request that a station asks another for.
+#[derive(Drop)]
+pub(crate) struct Asking {
+    id: CallId,
+    to: u8,
+    pdu: Pdu,
+}
+
+impl Model for Asking {
+    ghost use Rattle.tied_lists.specs.Items.{Asked};
+
+    ghost Value = { Asked };
+
+    ghost view = { λ a. record { id = a.id; to = a.to; pdu = a.pdu } };
+}
+
+impl Same for Asking {
+    fn is_same(&self, other: &Self) -> bool {
+        self.id == other.id && self.to == other.to && self.pdu.bytes() == other.pdu.bytes()
+    }
+}
+
+fn add_posted(alloc: Global, list: &mut Vec<Asking>, entry: &RingEntry) -> Result<(), AllocError>
+    ensures { OnOk result
+        (list.new.items ≡ list.old.items ++ cons_option (asked_of entry.now) []) }
+{
+    let RingEntry::Post { frame, .. } = entry else {
+        return Ok(());
+    };
+    if let FrameKind::Reply = frame.kind {
+        return Ok(());
+    }
+    let pdu = frame.pdu.copied(alloc)?;
+    list.push(Asking {
+        id: frame.id,
+        to: frame.to,
+        pdu,
+    })?;
+    Ok(())
+}
+
+/// What was asked on the ring.
+pub(crate) fn asked(
+    alloc: Global,
+    ring: &[RingEntry],
+    places: &[usize],
+) -> Result<Vec<Asking>, AllocError>
+    requires { AreWithin ring.now places.now }
+    ensures { IfOk result (λ list. list.items ≡ asked_by (picked ring.now places.now)) }
+{
+    let mut list = Vec::new(alloc);
+    for place in places {
+        add_posted(alloc, &mut list, &ring[*place])?;
+    }
+    Ok(list)
+}
+
+fn add_call(alloc: Global, list: &mut Vec<Asking>, call: &Call) -> Result<(), AllocError>
+    ensures { OnOk result (list.new.items
+        ≡ list.old.items ++ cons_option (net_ask (called_of call.now)) []) }
+{
+    match &call.kind {
+        CallKind::Net { to, pdu } => {
+            let pdu = pdu.copied(alloc)?;
+            list.push(Asking {
+                id: call.id,
+                to: *to,
+                pdu,
+            })?;
+            Ok(())
+        }
+        CallKind::Local(_) => Ok(()),
+    }
+}
+
+fn add_calls(alloc: Global, list: &mut Vec<Asking>, calls: &[Call]) -> Result<(), AllocError>
+    ensures { OnOk result (list.new.items
+        ≡ list.old.items ++ filter_map net_ask (map called_of calls.now)) }
+{
+    for call in calls {
+        add_call(alloc, list, call)?;
+    }
+    Ok(())
+}
+
+fn add_entry(alloc: Global, list: &mut Vec<Asking>, entry: &Entry) -> Result<(), AllocError>
+    ensures { OnOk result (list.new.items
+        ≡ list.old.items ++ filter_map net_ask (calls_in entry.now)) }
+{
+    match entry {
+        Entry::Collect(calls) => add_calls(alloc, list, calls.as_slice()),
+        _ => Ok(()),
+    }
+}
+
+/// What a controller's calls ask.
+pub(crate) fn called(alloc: Global, entries: &[Entry]) -> Result<Vec<Asking>, AllocError>
+    ensures { IfOk result
+        (λ list. list.items ≡ filter_map net_ask (items_of entries.now).calls) }
+{
+    let mut list = Vec::new(alloc);
+    for entry in entries {
+        add_entry(alloc, &mut list, entry)?;
+    }
+    Ok(list)
+}
+
+fn add_host_entry(
+    alloc: Global,
+    list: &mut Vec<Asking>,
+    entry: &HostEntry,
+) -> Result<(), AllocError>
+    ensures { OnOk result (list.new.items
+        ≡ list.old.items ++ filter_map net_ask (cons_option (host_call_in entry.now) [])) }
+{
+    match entry {
+        HostEntry::Ask { id, to, pdu } => {
+            let pdu = pdu.copied(alloc)?;
+            list.push(Asking {
+                id: *id,
+                to: *to,
+                pdu,
+            })?;
+            Ok(())
+        }
+        _ => Ok(()),
+    }
+}
+
+/// What a host asks.
+pub(crate) fn host_called(alloc: Global, entries: &[HostEntry]) -> Result<Vec<Asking>, AllocError>
+    ensures { IfOk result
+        (λ list. list.items ≡ filter_map net_ask (host_items_of entries.now).calls) }
+{
+    let mut list = Vec::new(alloc);
+    for entry in entries {
+        add_host_entry(alloc, &mut list, entry)?;
+    }
+    Ok(list)
+}

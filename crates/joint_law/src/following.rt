@@ -1,0 +1,124 @@
+//! Following the lists of controllers and hosts.
+ghost use Rattle.std.specs.Prelude.{◌≡◌, ◌↔◌, ◌+◌, [], None, count_by, IfOk, IfSome, IsTrue};
+ghost use Rattle.plant_types.specs.Plans.{IsHostPlan};
+ghost use Rattle.controller_core.specs.Controller.{IsLegal};
+ghost use Rattle.controller_core.specs.Machine.{IsRunnable};
+ghost use Rattle.host_port.specs.Legal.{IsHostHistory};
+ghost use Rattle.comm_port.specs.Complete.{ControllerIsComplete, EndsEachCall, is_end};
+ghost use Rattle.comm_port.specs.JointLaws.{fixed_of};
+ghost use Rattle.comm_port.specs.Reading.{host_items_of};
+ghost use Rattle.joint_law.specs.Courses.{FollowedTo, IsCourse};
+
+use crate::ended::{ends_each_call, host_ends_each_call};
+use controller_core::{Controller, Entry};
+use host_port::{Host, HostEntry};
+use plant_types::{ControllerPlan, HostPlan, NetPlan, Plant};
+use std::alloc::{AllocError, Global};
+
+/// How a station's list goes.
+#[derive(Clone, Copy, Drop)]
+pub(crate) enum Course {
+    /// The entry, counted from 0, makes it no legal one.
+    Breaks(usize),
+    /// It is legal, and its station was done, or not.
+    Whole(bool),
+}
+
+/// Makes the events of a list, as far as they may follow.
+fn follow_entries(
+    controller: &mut Controller,
+    entries: &[Entry],
+) -> Result<Option<usize>, AllocError>
+    requires { controller.old.history ≡ [] }
+    ensures legal { IfOk result (FollowedTo (IsLegal controller.old.fixed) entries.now) }
+    ensures history { IfOk result (λ first. first ≡ None
+        → controller.new.history ≡ entries.now) }
+    ensures fixed { controller.new.fixed ≡ controller.old.fixed }
+{
+    let _ = controller.history();
+    for place in 0..entries.len() {
+        if !controller.follow(&entries[place])? {
+            return Ok(Some(place));
+        }
+    }
+    Ok(None)
+}
+
+fn count_scans(entries: &[Entry]) -> usize
+    ensures { result ≡ count_by is_end entries.now }
+{
+    entries
+        .iter()
+        .filter(|entry| matches!(entry, Entry::End))
+        .count()
+}
+
+/// Whether a controller that made these events was done.
+fn is_done(
+    alloc: Global,
+    controller: &Controller,
+    scans: u32,
+    entries: &[Entry],
+) -> Result<bool, AllocError>
+    requires history { controller.now.history ≡ entries.now }
+    requires scans { controller.now.fixed.scans ≡ scans }
+    ensures { IfOk result (λ done. IsTrue done
+        ↔ ControllerIsComplete controller.now.fixed entries.now) }
+{
+    if controller.has_started() {
+        return Ok(false);
+    }
+    if controller.stop_code() == 0 && count_scans(entries) != scans as usize {
+        return Ok(false);
+    }
+    ends_each_call(alloc, entries)
+}
+
+pub(crate) fn controller_course(
+    alloc: Global,
+    plant: &Plant,
+    scans: u32,
+    plan: &ControllerPlan,
+    entries: &[Entry],
+) -> Result<Course, AllocError>
+    requires { IsRunnable (fixed_of plant.now scans plan.now) }
+    ensures { IfOk result (IsCourse (IsLegal (fixed_of plant.now scans plan.now))
+        (ControllerIsComplete (fixed_of plant.now scans plan.now) entries.now) entries.now) }
+{
+    let (scan_time, watchdog) = (plant.scan_time, plant.watchdog);
+    let mut controller = Controller::new(alloc, plan, scan_time, watchdog, scans)?;
+    match follow_entries(&mut controller, entries)? {
+        Some(place) => Ok(Course::Breaks(place)),
+        None => Ok(Course::Whole(is_done(alloc, &controller, scans, entries)?)),
+    }
+}
+
+fn follow_host_entries(host: &mut Host, entries: &[HostEntry]) -> Result<Option<usize>, AllocError>
+    requires { host.old.history ≡ [] }
+    ensures { IfOk result (FollowedTo (IsHostHistory host.old.plan) entries.now) }
+{
+    let _ = host.history();
+    for place in 0..entries.len() {
+        if !host.follow(&entries[place])? {
+            return Ok(Some(place));
+        }
+    }
+    Ok(None)
+}
+
+pub(crate) fn host_course(
+    alloc: Global,
+    net: &NetPlan,
+    plan: &HostPlan,
+    entries: &[HostEntry],
+) -> Result<Course, AllocError>
+    requires { IsHostPlan plan.now }
+    ensures { IfOk result (IsCourse (IsHostHistory plan.now)
+        (EndsEachCall (host_items_of entries.now)) entries.now) }
+{
+    let mut host = Host::new(alloc, plan, net)?;
+    match follow_host_entries(&mut host, entries)? {
+        Some(place) => Ok(Course::Breaks(place)),
+        None => Ok(Course::Whole(host_ends_each_call(alloc, entries)?)),
+    }
+}

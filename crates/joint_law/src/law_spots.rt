@@ -1,0 +1,176 @@
+//! The first law that is broken, and where.
+ghost use Rattle.std.specs.Prelude.{◌≡◌, ◌+◌, IfOk, length, map};
+ghost use Rattle.joint_law.specs.Bound.{bounds_of, controller_bound, host_bound, number_of};
+ghost use Rattle.joint_law.specs.LawEnds.{IsLawsEnd, IsLogEnd, IsLogsEnd, IsNodesEnd};
+ghost use Rattle.joint_law.specs.Split.{IsSplit};
+
+use crate::law::Law;
+use crate::own_lists::OwnLists;
+use crate::stations::{controller_breaks, host_breaks};
+use crate::verdict::Spot;
+use comm_port::{ControllerLog, HostLog, Joint};
+use ring_core::RingEntry;
+use std::alloc::{AllocError, Global};
+
+/// Addresses are below this.
+const ADDRESSES: u8 = 65;
+
+fn number_of(law: Law) -> u8
+    ensures { result ≡ number_of law }
+{
+    match law {
+        Law::Asks => 1,
+        Law::Answers => 2,
+        Law::Replies => 3,
+        Law::Ends => 4,
+    }
+}
+
+/// Where the controller of a log breaks a law, if it is the one of this node.
+fn log_breaks(
+    alloc: Global,
+    law: Law,
+    ring: &[RingEntry],
+    lists: &OwnLists,
+    node: u8,
+    log: &ControllerLog,
+) -> Result<Option<usize>, AllocError>
+    requires { IsSplit ring.now (length ring.now) lists.now }
+    ensures { IfOk result (IsLogEnd law node (controller_bound ring.now log.now)) }
+{
+    if log.node != node {
+        return Ok(None);
+    }
+    controller_breaks(alloc, law, log.entries.as_slice(), ring, lists.places(node))
+}
+
+fn logs_break(
+    alloc: Global,
+    law: Law,
+    ring: &[RingEntry],
+    lists: &OwnLists,
+    node: u8,
+    logs: &[ControllerLog],
+) -> Result<Option<usize>, AllocError>
+    requires { IsSplit ring.now (length ring.now) lists.now }
+    ensures { IfOk result (IsLogsEnd law node (map (controller_bound ring.now) logs.now)) }
+{
+    for log in logs {
+        if let Some(place) = log_breaks(alloc, law, ring, lists, node, log)? {
+            return Ok(Some(place));
+        }
+    }
+    Ok(None)
+}
+
+fn host_log_breaks(
+    alloc: Global,
+    law: Law,
+    ring: &[RingEntry],
+    lists: &OwnLists,
+    node: u8,
+    log: &HostLog,
+) -> Result<Option<usize>, AllocError>
+    requires { IsSplit ring.now (length ring.now) lists.now }
+    ensures { IfOk result (IsLogEnd law node (host_bound ring.now log.now)) }
+{
+    if log.node != node {
+        return Ok(None);
+    }
+    host_breaks(alloc, law, log.entries.as_slice(), ring, lists.places(node))
+}
+
+fn host_logs_break(
+    alloc: Global,
+    law: Law,
+    ring: &[RingEntry],
+    lists: &OwnLists,
+    node: u8,
+    logs: &[HostLog],
+) -> Result<Option<usize>, AllocError>
+    requires { IsSplit ring.now (length ring.now) lists.now }
+    ensures { IfOk result (IsLogsEnd law node (map (host_bound ring.now) logs.now)) }
+{
+    for log in logs {
+        if let Some(place) = host_log_breaks(alloc, law, ring, lists, node, log)? {
+            return Ok(Some(place));
+        }
+    }
+    Ok(None)
+}
+
+/// Where the station of a node breaks a law.
+fn node_breaks(
+    alloc: Global,
+    law: Law,
+    joint: &Joint,
+    lists: &OwnLists,
+    node: u8,
+) -> Result<Option<usize>, AllocError>
+    requires { IsSplit joint.now.ring (length joint.now.ring) lists.now }
+    ensures { IfOk result (IsLogsEnd law node (bounds_of joint.now)) }
+{
+    let ring = joint.ring.as_slice();
+    let logs = joint.controllers.as_slice();
+    if let Some(place) = logs_break(alloc, law, ring, lists, node, logs)? {
+        return Ok(Some(place));
+    }
+    host_logs_break(alloc, law, ring, lists, node, joint.hosts.as_slice())
+}
+
+/// A place, counted from 1; no memory holds more than these numbers count.
+pub(crate) fn number(place: usize) -> Result<u32, AllocError>
+    ensures { IfOk result (λ number. number ≡ place + 1) }
+{
+    if place >= u32::MAX as usize {
+        return Err(AllocError);
+    }
+    Ok(place as u32 + 1)
+}
+
+/// The first node that breaks a law.
+fn law_spot(
+    alloc: Global,
+    law: Law,
+    joint: &Joint,
+    lists: &OwnLists,
+) -> Result<Option<Spot>, AllocError>
+    requires { IsSplit joint.now.ring (length joint.now.ring) lists.now }
+    ensures { IfOk result (IsNodesEnd law (bounds_of joint.now)) }
+{
+    for node in 0..ADDRESSES {
+        if let Some(place) = node_breaks(alloc, law, joint, lists, node)? {
+            let place = number(place)?;
+            return Ok(Some(Spot::Law {
+                law: number_of(law),
+                node,
+                place,
+            }));
+        }
+    }
+    Ok(None)
+}
+
+/// The first law that is broken, each over all nodes.
+pub(crate) fn laws_spot(
+    alloc: Global,
+    joint: &Joint,
+    lists: &OwnLists,
+) -> Result<Option<Spot>, AllocError>
+    requires { IsSplit joint.now.ring (length joint.now.ring) lists.now }
+    ensures { IfOk result (IsLawsEnd (bounds_of joint.now)) }
+{
+    let asks = law_spot(alloc, Law::Asks, joint, lists)?;
+    if asks.is_some() {
+        return Ok(asks);
+    }
+    let answers = law_spot(alloc, Law::Answers, joint, lists)?;
+    if answers.is_some() {
+        return Ok(answers);
+    }
+    let replies = law_spot(alloc, Law::Replies, joint, lists)?;
+    if replies.is_some() {
+        return Ok(replies);
+    }
+    law_spot(alloc, Law::Ends, joint, lists)
+}

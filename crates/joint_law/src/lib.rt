@@ -1,0 +1,33 @@
+//! The judge of joint histories: whether all lists of a plant's run are legal, keep the laws
+//! between them and are complete, and else the first spot where not.
+#![tactic(auto)]
+
+mod answering;
+mod asking;
+mod by_call;
+mod complete;
+mod completing;
+mod courses;
+mod differing;
+mod ended;
+mod ending;
+mod following;
+mod judging;
+mod law;
+mod law_spots;
+mod laws;
+mod own_lists;
+mod replying;
+mod ring_following;
+mod same;
+mod sections;
+mod stations;
+mod verdict;
+
+pub use judging::judge;
+pub use law::Law;
+pub use laws::verdicts_agree;
+pub use verdict::{Spot, Verdict};
+
+#[cfg(test)]
+mod tests;

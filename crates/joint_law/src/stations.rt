@@ -1,0 +1,122 @@
+//! The laws at one station.
+ghost use Rattle.std.specs.Prelude.{◌≡◌, ◌++◌, [], true, map, IfOk};
+ghost use Rattle.tied_lists.specs.Items.{AController, AHost, asked_by, due_replies, ended_by};
+ghost use Rattle.tied_lists.specs.Items.{port_answers, replied_by, replies_in, taken_by};
+ghost use Rattle.comm_port.specs.Reading.{host_items_of, items_of};
+ghost use Rattle.joint_law.specs.Bound.{sorted_answer, taken_in_order};
+ghost use Rattle.joint_law.specs.Comparing.{Compared, IsLawEnd};
+ghost use Rattle.joint_law.specs.Kinds.{station_of};
+ghost use Rattle.joint_law.specs.Split.{AreWithin, picked};
+
+use crate::answering::{Served, add_port_answers, answered, host_answered, taken_in_order};
+use crate::asking::{Asking, asked, called, host_called};
+use crate::differing::first_difference;
+use crate::ending::{Ending, Sort, ends, host_ends, met};
+use crate::law::Law;
+use crate::replying::{answers, due, host_answers, replied};
+use controller_core::Entry;
+use host_port::HostEntry;
+use plant_types::Pdu;
+use ring_core::RingEntry;
+use std::alloc::{AllocError, Global};
+use std::collections::VecDeque;
+
+fn compare_asks(
+    alloc: Global,
+    ring: &[RingEntry],
+    places: &[usize],
+    made: Vec<Asking>,
+) -> Result<Option<usize>, AllocError>
+    requires { AreWithin ring.now places.now }
+    ensures { IfOk result (Compared (asked_by (picked ring.now places.now)) made.items) }
+{
+    let posted = asked(alloc, ring, places)?;
+    Ok(first_difference(posted.as_slice(), made.as_slice()))
+}
+
+fn compare_answers(
+    alloc: Global,
+    ring: &[RingEntry],
+    places: &[usize],
+    mut answers: Vec<Served>,
+) -> Result<Option<usize>, AllocError>
+    requires { AreWithin ring.now places.now }
+    ensures { IfOk result (Compared
+        (answers.items ++ map (sorted_answer true) (port_answers (picked ring.now places.now)))
+        (taken_in_order (picked ring.now places.now))) }
+{
+    add_port_answers(alloc, &mut answers, ring, places)?;
+    let taken = taken_in_order(alloc, ring, places)?;
+    Ok(first_difference(answers.as_slice(), taken.as_slice()))
+}
+
+fn compare_replies(
+    alloc: Global,
+    ring: &[RingEntry],
+    places: &[usize],
+    peers: VecDeque<Pdu>,
+) -> Result<Option<usize>, AllocError>
+    requires { AreWithin ring.now places.now }
+    ensures { IfOk result (Compared (replied_by (picked ring.now places.now))
+        (due_replies (taken_by (picked ring.now places.now)) peers.items
+        (replies_in (port_answers (picked ring.now places.now))))) }
+{
+    let posted = replied(alloc, ring, places)?;
+    let due = due(alloc, ring, places, peers)?;
+    Ok(first_difference(posted.as_slice(), due.as_slice()))
+}
+
+fn compare_ends(
+    alloc: Global,
+    sort: Sort,
+    ring: &[RingEntry],
+    places: &[usize],
+    ended: Vec<Ending>,
+) -> Result<Option<usize>, AllocError>
+    requires { AreWithin ring.now places.now }
+    ensures { IfOk result (Compared ended.items
+        (ended_by (station_of sort) [] (picked ring.now places.now))) }
+{
+    let came = met(alloc, sort, ring, places)?;
+    Ok(first_difference(ended.as_slice(), came.as_slice()))
+}
+
+/// Where a controller breaks a law, counted from 0.
+pub(crate) fn controller_breaks(
+    alloc: Global,
+    law: Law,
+    entries: &[Entry],
+    ring: &[RingEntry],
+    places: &[usize],
+) -> Result<Option<usize>, AllocError>
+    requires { AreWithin ring.now places.now }
+    ensures { IfOk result (IsLawEnd law AController (items_of entries.now)
+        (picked ring.now places.now)) }
+{
+    match law {
+        Law::Asks => compare_asks(alloc, ring, places, called(alloc, entries)?),
+        Law::Answers => compare_answers(alloc, ring, places, answered(alloc, entries)?),
+        Law::Replies => compare_replies(alloc, ring, places, answers(alloc, entries)?),
+        Law::Ends => compare_ends(alloc, Sort::Controller, ring, places, ends(alloc, entries)?),
+    }
+}
+
+/// Where a host breaks a law, counted from 0.
+pub(crate) fn host_breaks(
+    alloc: Global,
+    law: Law,
+    entries: &[HostEntry],
+    ring: &[RingEntry],
+    places: &[usize],
+) -> Result<Option<usize>, AllocError>
+    requires { AreWithin ring.now places.now }
+    ensures { IfOk result (IsLawEnd law AHost (host_items_of entries.now)
+        (picked ring.now places.now)) }
+{
+    match law {
+        Law::Asks => compare_asks(alloc, ring, places, host_called(alloc, entries)?),
+        Law::Answers => compare_answers(alloc, ring, places, host_answered(alloc, entries)?),
+        Law::Replies => compare_replies(alloc, ring, places, host_answers(alloc, entries)?),
+        Law::Ends => compare_ends(alloc, Sort::Host, ring, places, host_ends(alloc, entries)?),
+    }
+}

@@ -1,0 +1,26 @@
+//! What a judge says of a joint history.
+
+/// Where a joint history first fails. Entries and places count from 1. This project's own.
+#[derive(Clone, Copy, Debug, Drop, PartialEq, Eq)]
+pub enum Spot {
+    /// The lists are not those of the plant's stations.
+    Sections,
+    /// The entry makes a controller's list no legal one.
+    Controller { node: u8, entry: u32 },
+    /// The entry makes a host's list no legal one.
+    Host { node: u8, entry: u32 },
+    /// The entry makes the ring's list no legal one.
+    Ring(u32),
+    /// A law, 1 to 4, is broken between a station's list and its node's entries on the ring: the
+    /// two lists that it compares differ at the place.
+    Law { law: u8, node: u8, place: u32 },
+    /// The station was not done.
+    Incomplete(u8),
+}
+
+/// What a judge says. This project's own.
+#[derive(Clone, Copy, Debug, Drop, PartialEq, Eq)]
+pub enum Verdict {
+    Legal,
+    Illegal(Spot),
+}

@@ -1,0 +1,93 @@
+// What a journal comes to.
+ghost use Rattle.std.specs.Prelude.{◌≡◌, ◌≤◌, IfOk, string_bytes};
+ghost use Rattle.journal_text.specs.Fronts.{IsJournalOf};
+ghost use Rattle.serial_run.specs.Stations.{CanRunPlant};
+ghost use Rattle.plant984.specs.Judged.{IsJudged, law_text, line_text, place_text, spot_text};
+
+use comm_port::Joint;
+use joint_law::{Spot, Verdict, judge};
+use journal_text::{JournalFault, read_journal};
+use plant_types::Plant;
+use std::alloc::{AllocError, Global};
+use std::fmt::Write;
+
+/// What a journal comes to.
+#[derive(Drop)]
+pub enum Judged {
+    /// The joint history of a whole run.
+    Whole(Joint),
+    /// The text of the spot at which it is none.
+    Illegal(String),
+}
+
+fn line_text(alloc: Global, line: u32) -> Result<String, AllocError>
+    ensures { IfOk result (λ text. string_bytes text ≡ line_text line) }
+{
+    format!(in alloc; "text {line}\n")
+}
+
+fn place_text(alloc: Global, section: &str, node: u8, place: u32) -> Result<String, AllocError>
+    ensures { IfOk result (λ text. string_bytes text ≡ place_text section.now node place) }
+{
+    let mut text = String::new(alloc);
+    write!(text, "{section} {node} {place}\n")?;
+    Ok(text)
+}
+
+fn law_text(alloc: Global, law: u8, node: u8, place: u32) -> Result<String, AllocError>
+    ensures { IfOk result (λ text. string_bytes text ≡ law_text law node place) }
+{
+    let mut text = String::new(alloc);
+    write!(text, "J{law} {node} {place}\n")?;
+    Ok(text)
+}
+
+fn spot_text(alloc: Global, spot: Spot) -> Result<String, AllocError>
+    ensures { IfOk result (λ text. string_bytes text ≡ spot_text spot) }
+{
+    match spot {
+        Spot::Sections => String::from_str(alloc, "sections\n"),
+        Spot::Controller { node, entry } => place_text(alloc, "C", node, entry),
+        Spot::Host { node, entry } => place_text(alloc, "H", node, entry),
+        Spot::Ring(entry) => format!(in alloc; "R {entry}\n"),
+        Spot::Law { law, node, place } => law_text(alloc, law, node, place),
+        Spot::Incomplete(node) => format!(in alloc; "D16 {node}\n"),
+    }
+}
+
+/// What a joint history that was read comes to.
+fn judge_joint(
+    alloc: Global,
+    plant: &Plant,
+    scans: u32,
+    journal: &[u8],
+    joint: Joint,
+) -> Result<Judged, AllocError>
+    requires plant { CanRunPlant plant.now }
+    requires scans { scans ≤ 2000 }
+    requires read { IsJournalOf joint journal.now }
+    ensures { IfOk result (IsJudged plant.now scans journal.now) }
+{
+    match judge(alloc, plant, &joint, scans)? {
+        Verdict::Legal => Ok(Judged::Whole(joint)),
+        Verdict::Illegal(spot) => Ok(Judged::Illegal(spot_text(alloc, spot)?)),
+    }
+}
+
+/// What bytes come to.
+pub fn judge_journal(
+    alloc: Global,
+    plant: &Plant,
+    scans: u32,
+    journal: &[u8],
+) -> Result<Judged, AllocError>
+    requires plant { CanRunPlant plant.now }
+    requires scans { scans ≤ 2000 }
+    ensures { IfOk result (IsJudged plant.now scans journal.now) }
+{
+    match read_journal(alloc, journal) {
+        Ok(joint) => judge_joint(alloc, plant, scans, journal, joint),
+        Err(JournalFault::Text(line)) => Ok(Judged::Illegal(line_text(alloc, line)?)),
+        Err(JournalFault::NoMemory) => Err(AllocError),
+    }
+}

@@ -1,0 +1,16 @@
+pub mod Lists
+pub mod Rings
+pub mod Holders
+pub mod Distinct
+pub mod Grown
+pub mod ScanSteps
+pub mod Standings
+pub mod HeldTurns
+pub mod TurnsMade
+pub mod Did
+pub mod Measures
+pub mod Holding
+pub mod Starting
+pub mod Laws
+pub mod Rounds
+pub mod AllScans

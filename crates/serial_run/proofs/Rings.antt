@@ -1,0 +1,219 @@
+-- Members of the ring and their Passes, as the ring goes on.
+use Rattle.std.proofs.Common.{◌≡◌, ◌≢◌, ℕ, zero, suc, ◌+◌, ◌<◌, ◌==◌, nat_le, Bool, true}
+use Rattle.std.proofs.Common.{false, cond, List, [], ◌∷◌, ◌++◌, length, set}
+use Rattle.std.proofs.Common.{replicate, count_by, refl, sym, ap, subst, ◌∙◌, arith}
+use Rattle.std.proofs.Common.{⊎_elim, All, append-nil, append_assoc}
+use Rattle.std.proofs.lemmas.Bool.{cases_Bool, cases_eq, cond_both, eq-eqb, ne_eqb}
+use Rattle.std.proofs.lemmas.List.Elements.{All-contains}
+use Rattle.std.proofs.lemmas.List.Sums.{sum_by-append}
+use Rattle.plant_types.specs.declared.net.Fate.{Fate}
+use Rattle.plant_types.specs.declared.net.NetPlan.{NetPlan}
+use Rattle.mstr_block.specs.declared.call.CallId.{CallId}
+use Rattle.ring_core.specs.declared.frame.Frame.{Frame}
+use Rattle.ring_core.specs.declared.frame.FrameKind.{FrameKind}
+use Rattle.ring_core.specs.declared.entry.Heard.{Heard}
+use Rattle.ring_core.specs.declared.entry.RingEntry.{RingEntry}
+use Rattle.ring_core.specs.declared.frame.FrameKind.TheVariants.{Request, Reply}
+use Rattle.ring_core.specs.declared.entry.Heard.TheVariants.{Acked, Silent, Busy}
+use Rattle.ring_core.specs.declared.entry.RingEntry.TheVariants.{Post, Send, Take, Local, GiveUp}
+use Rattle.ring_core.specs.declared.entry.RingEntry.TheVariants.{Pass, Leave}
+use Rattle.ring_core.specs.Words.{maker}
+use Rattle.ring_core.specs.Machine.{NodeIs, RingIs, addresses, fresh, part_of, ring_node}
+use Rattle.ring_core.specs.Machine.{after_pass, gone, with_frame, arrived, arrival}
+use Rattle.ring_core.specs.Machine.{fell, is_repeat, is_full, waits_for, path_of}
+use Rattle.tied_lists.proofs.Histories.{arrived-part}
+use Rattle.ring_core.specs.Machine.{fate_at, heard_of, heard_by, sent_off, failed, silence_word}
+use Rattle.ring_core.specs.Machine.{sent_head, after, ring_after}
+use Rattle.ring_core.specs.Machine.{with_members}
+use Rattle.ring_core.specs.Legal.{IsLegal, IsRun, IsRingStep}
+use Rattle.ring_core.specs.Kept.{IsSoundRing}
+use Rattle.ring_core.specs.Stability.{IsLeave, NoLeave, NoneBy}
+use Rattle.ring_core.proofs.Sound.{after-sound, opening-sound}
+use Rattle.ring_core.proofs.Stability.{left-stays, member-stays}
+use Rattle.tied_lists.specs.Own.{own}
+use Rattle.tied_lists.proofs.Turns.{next-ring, none-by}
+use Rattle.comm_port.specs.Complete.{is_pass}
+
+-- ---- what all entries but a node's own Pass and Leave keep of it
+
+abbrev pub seen : NodeIs → Bool × ℕ
+seen c = (c.here, c.passes)
+
+-- a write that keeps it
+pub seen-set : (nodes : List NodeIs) (m k : ℕ) (c : NodeIs) → seen c ≡ seen (part_of nodes m)
+    → seen (part_of (set nodes m c) k) ≡ seen (part_of nodes k)
+seen-set [] m k c e = refl
+seen-set (d ∷ ds) zero zero c e = e
+seen-set (d ∷ ds) zero (suc k) c e = refl
+seen-set (d ∷ ds) (suc m) zero c e = refl
+seen-set (d ∷ ds) (suc m) (suc k) c e = seen-set ds m k c e
+
+-- a write of another node
+pub other-set : (nodes : List NodeIs) (m k : ℕ) (c : NodeIs) → m ≢ k → part_of (set nodes m c) k ≡ part_of nodes k
+other-set [] m k c e = refl
+other-set (d ∷ ds) zero zero c e = absurd (e refl)
+other-set (d ∷ ds) zero (suc k) c e = refl
+other-set (d ∷ ds) (suc m) zero c e = refl
+other-set (d ∷ ds) (suc m) (suc k) c e = other-set ds m k c (λ is. e (omega (arith, is)))
+
+-- a write of the node
+pub same-set : (nodes : List NodeIs) (m : ℕ) (c : NodeIs) → m < length nodes → part_of (set nodes m c) m ≡ c
+same-set [] m c low = absurd (omega arith)
+same-set (d ∷ ds) zero c low = refl
+same-set (d ∷ ds) (suc m) c low = same-set ds m c (omega arith)
+
+seen-fell : (c : NodeIs) (f : Frame) (kind : FrameKind) → seen (with_frame c (fell c kind f.id) f) ≡ seen c
+seen-fell c f Request = cond_both (is_repeat c f.id) _ _ (λ x. seen (with_frame c x f) ≡ seen c) (λ _. refl)
+    (λ _. cond_both (is_full c) _ _ (λ x. seen (with_frame c x f) ≡ seen c) (λ _. refl) (λ _. refl))
+seen-fell c f Reply = cond_both (waits_for (path_of c f.id.path).awaits f.id.seq) _ _ (λ x. seen (with_frame c x f) ≡ seen c) (λ _. refl) (λ _. refl)
+
+seen-arrived : (nodes : List NodeIs) (f : Frame) (fate : Fate) (k : ℕ)
+    → seen (part_of (arrived nodes f (arrival nodes fate f)) k) ≡ seen (part_of nodes k)
+seen-arrived nodes f fate k =
+    arrived-part nodes f fate (λ (k : ℕ) (c : NodeIs). seen c ≡ seen (part_of nodes k)) (λ k. refl)
+    (λ here. seen-fell (part_of nodes f.to) f f.kind) k
+
+seen-heard : (c : NodeIs) (kind : FrameKind) (id : CallId) (there : Bool) (h : Heard) → seen (heard_by c kind id there h) ≡ seen c
+seen-heard c kind id there Acked = refl
+seen-heard c kind id there Busy = refl
+seen-heard c kind id there Silent = cond_both (nat_le 2 c.tries) (sent_off c (failed c kind id (silence_word there))) _
+    (λ (x : NodeIs). seen x ≡ seen c) (λ _. refl) (λ _. refl)
+
+pub seen-sent : (net : NetPlan) (r : RingIs) (m : ℕ) (box : List Frame) (k : ℕ) → seen (ring_node (sent_head net r m box) k) ≡ seen (ring_node r k)
+seen-sent net r m [] k = refl
+seen-sent net r m (f ∷ fs) k =
+    let fall = arrival r.nodes (fate_at net.fates r.sent) f in
+    let nodes = arrived r.nodes f fall in
+    seen-set nodes m k _ (seen-heard (part_of nodes m) f.kind f.id (ring_node r f.to).here (heard_of (fate_at net.fates r.sent) fall))
+    ∙ seen-arrived r.nodes f (fate_at net.fates r.sent) k
+
+-- ---- how many Passes a node has made
+
+pub count-more : {X : Type 0} (p : X → Bool) (xs ys : List X) → count_by p (xs ++ ys) ≡ count_by p xs + count_by p ys
+count-more p xs ys = sum_by-append (λ x. cond (p x) 1 0) xs ys
+
+abbrev passes : RingIs → ℕ → ℕ
+passes r n = (ring_node r n).passes
+
+abbrev passed : ℕ → List RingEntry → ℕ
+passed n es = count_by is_pass (own n es)
+
+quiet-entry : (n m : ℕ) (e : RingEntry) → is_pass e ≡ false → passed n (e ∷ []) ≡ 0
+quiet-entry n m e no' = cond_both (maker e == n) (e ∷ []) [] (λ (es : List RingEntry). count_by is_pass es ≡ 0)
+    (λ _. let z : cond {A = ℕ} (is_pass e) 1 0 ≡ 0 = ap (λ (b : Bool). cond {A = ℕ} b 1 0) no' in omega arith) (λ _. refl)
+
+passes-with : (nodes : List NodeIs) (holder sent m n : ℕ) (done : Bool) (words : List ℕ) → (m ≡ n → m < length nodes)
+    → (part_of (set nodes m (after_pass (part_of nodes m) done)) n).passes ≡ (part_of nodes n).passes + passed n (Pass m done words ∷ [])
+passes-with nodes holder sent m n done words low = ⊎_elim
+    (λ (e : m ≡ n).
+    let counts : passed n (Pass m done words ∷ []) ≡ 1 = ap (λ (b : Bool). count_by is_pass (cond b (Pass m done words ∷ []) [])) (eq-eqb m n e) in
+    let it = same-set nodes m (after_pass (part_of nodes m) done) (low e) in
+    let there : (part_of (set nodes m (after_pass (part_of nodes m) done)) n).passes ≡ (part_of nodes n).passes + 1 =
+    ap (λ (k : ℕ). (part_of (set nodes m (after_pass (part_of nodes m) done)) k).passes) (sym e)
+    ∙ (ap (λ (c : NodeIs). c.passes) it ∙ ap (λ (k : ℕ). (part_of nodes k).passes + 1) e) in
+    there ∙ ap (λ (k : ℕ). (part_of nodes n).passes + k) (sym counts))
+    (λ (other : m ≡ n → ⊥).
+    let counts : passed n (Pass m done words ∷ []) ≡ 0 = ap (λ (b : Bool). count_by is_pass (cond b (Pass m done words ∷ []) [])) (ne_eqb m n other) in
+    let it : (part_of (set nodes m (after_pass (part_of nodes m) done)) n).passes ≡ (part_of nodes n).passes =
+    ap (λ (c : NodeIs). c.passes) (other-set nodes m n _ other) in
+    omega (arith, counts, it))
+    (cases_eq m n)
+
+none-more : (a b k : ℕ) → a ≡ b → k ≡ 0 → a ≡ b + k
+none-more a b k is none = omega (arith, is, none)
+
+passes-after : (net : NetPlan) (past : List RingEntry) (r : RingIs) (n : ℕ) (e : RingEntry) → length r.nodes ≡ addresses
+    → All (λ m. m < addresses) net.members → IsRingStep net past e → passes (after net r e) n ≡ passes r n + passed n (e ∷ [])
+passes-after net past r n (Post m f) size low step =
+    none-more _ _ _ (ap (λ (p : Bool × ℕ). p.1) (seen-set r.nodes m n _ refl)) (quiet-entry n m (Post m f) refl)
+passes-after net past r n (Send m heard) size low step =
+    none-more _ _ _ (ap (λ (p : Bool × ℕ). p.1) (seen-sent net r m (ring_node r m).outbox n)) (quiet-entry n m (Send m heard) refl)
+passes-after net past r n (Take m f) size low step =
+    none-more _ _ _ (ap (λ (p : Bool × ℕ). p.1) (seen-set r.nodes m n _ refl)) (quiet-entry n m (Take m f) refl)
+passes-after net past r n (Local m id op result) size low step = none-more _ _ _ refl (quiet-entry n m (Local m id op result) refl)
+passes-after net past r n (GiveUp id word) size low step =
+    none-more _ _ _ (ap (λ (p : Bool × ℕ). p.1) (seen-set r.nodes id.node n _ refl)) (quiet-entry n id.node (GiveUp id word) refl)
+passes-after net past r n (Pass m done words) size low step =
+    let small : m < addresses = All-contains (λ k. k < addresses) net.members m low step.0 in
+    passes-with r.nodes r.holder r.sent m n done words (λ _. omega (arith, size, small))
+passes-after net past r n (Leave m cause) size low step =
+    none-more _ _ _ (⊎_elim
+    (λ (e : m ≡ n). left-passes r.nodes m n e)
+    (λ (other : m ≡ n → ⊥). ap (λ (c : NodeIs). c.passes) (other-set r.nodes m n _ other))
+    (cases_eq m n)) (quiet-entry n m (Leave m cause) refl) where
+      left-passes : (nodes : List NodeIs) (a b : ℕ) → a ≡ b
+          → (part_of (set nodes a (gone (part_of nodes a))) b).passes ≡ (part_of nodes b).passes
+      left-passes [] a b e = refl
+      left-passes (d ∷ ds) zero zero e = refl
+      left-passes (d ∷ ds) zero (suc b) e = refl
+      left-passes (d ∷ ds) (suc a) zero e = refl
+      left-passes (d ∷ ds) (suc a) (suc b) e = left-passes ds a b (omega (arith, e))
+
+counted-from : (net : NetPlan) (n : ℕ) (past es : List RingEntry) → (k : ℕ) → IsSoundRing k (ring_after net past)
+    → All (λ m. m < addresses) net.members → IsRun net past es
+    → passes (ring_after net (past ++ es)) n ≡ passes (ring_after net past) n + passed n es
+counted-from net n past [] k sound low run =
+    none-more _ _ _ (ap (λ (l : List RingEntry). passes (ring_after net l) n) (append-nil past)) refl
+counted-from net n past (e ∷ es) k sound low run =
+    let r = ring_after net past in
+    let one : passes (ring_after net (past ++ e ∷ [])) n ≡ passes r n + passed n (e ∷ []) =
+    ap (λ (x : RingIs). passes x n) (next-ring net past e) ∙ passes-after net past r n e sound.size low run.0 in
+    let now : IsSoundRing (k + 1) (ring_after net (past ++ e ∷ [])) =
+    subst (IsSoundRing (k + 1)) (sym (next-ring net past e)) (after-sound net k r e sound) in
+    let more = counted-from net n (past ++ e ∷ []) es (k + 1) now low run.1 in
+    let whole : passes (ring_after net (past ++ e ∷ es)) n ≡ passes (ring_after net ((past ++ e ∷ []) ++ es)) n =
+    ap (λ (l : List RingEntry). passes (ring_after net l) n) (sym (append_assoc past (e ∷ []) es)) in
+    let split : passed n (e ∷ es) ≡ passed n (e ∷ []) + passed n es = own-split (maker e == n) in
+    omega (arith, one, more, whole, split) where
+      own-split : (b : Bool) → count_by is_pass (cond b (e ∷ own n es) (own n es))
+          ≡ count_by is_pass (cond b (e ∷ []) []) + count_by is_pass (own n es)
+      own-split true = count-more is_pass (e ∷ []) (own n es)
+      own-split false = omega arith
+
+opening-passes : (nodes : List NodeIs) (ms : List ℕ) (n : ℕ) → ((k : ℕ) → (part_of nodes k).passes ≡ 0) → (part_of (with_members nodes ms) n).passes ≡ 0
+opening-passes nodes [] n none = none n
+opening-passes nodes (m ∷ ms) n none = opening-passes (set nodes m (fresh true)) ms n (zero-set nodes m none) where
+  zero-set : (ns : List NodeIs) (m : ℕ) → ((k : ℕ) → (part_of ns k).passes ≡ 0) → (k : ℕ) → (part_of (set ns m (fresh true)) k).passes ≡ 0
+  zero-set [] m z k = refl
+  zero-set (d ∷ ds) zero z zero = refl
+  zero-set (d ∷ ds) zero z (suc k) = z (suc k)
+  zero-set (d ∷ ds) (suc m) z zero = z 0
+  zero-set (d ∷ ds) (suc m) z (suc k) = zero-set ds m (λ j. z (suc j)) k
+
+fresh-passes : (size n : ℕ) → (part_of (replicate size (fresh false)) n).passes ≡ 0
+fresh-passes zero n = refl
+fresh-passes (suc size) zero = refl
+fresh-passes (suc size) (suc n) = fresh-passes size n
+
+-- the Passes of a node are those of its list
+pub passes-counted : (net : NetPlan) (history : List RingEntry) (n : ℕ) → All (λ m. m < addresses) net.members → IsLegal net history
+    → (ring_node (ring_after net history) n).passes ≡ count_by is_pass (own n history)
+passes-counted net history n low legal =
+    let start : passes (ring_after net []) n ≡ 0 = opening-passes (replicate addresses (fresh false)) net.members n (fresh-passes addresses) in
+    let all = counted-from net n [] history 0 (opening-sound net) low legal in
+    omega (arith, start, all)
+
+-- ---- who is there
+
+-- entries of others don't change whether a node has left
+no-leave : (n : ℕ) (es : List RingEntry) → own n es ≡ [] → NoLeave n es
+no-leave n es none = from-none es (none-by n es none) where
+  leave-other : (e : RingEntry) → maker e ≢ n → IsLeave n e → ⊥
+  leave-other (Leave m cause) other is = other is
+  leave-other (Post m f) other is = is
+  leave-other (Send m heard) other is = is
+  leave-other (Take m f) other is = is
+  leave-other (Local m id op result) other is = is
+  leave-other (GiveUp id word) other is = is
+  leave-other (Pass m done words) other is = is
+
+  from-none : (es : List RingEntry) → NoneBy n es → NoLeave n es
+  from-none [] h = tt
+  from-none (e ∷ es) h = (leave-other e h.0, from-none es h.1)
+
+pub here-stays : (net : NetPlan) (past more : List RingEntry) (n : ℕ) → own n more ≡ []
+    → (ring_node (ring_after net (past ++ more)) n).here ≡ (ring_node (ring_after net past) n).here
+here-stays net past more n none = ⊎_elim
+    (λ (there : (ring_node (ring_after net past) n).here ≡ true). member-stays net past more n there (no-leave n more none) ∙ sym there)
+    (λ (left : (ring_node (ring_after net past) n).here ≡ false). ap (λ (c : NodeIs). c.here) (left-stays net past more n left (none-by n more none)))
+    (cases_Bool (ring_node (ring_after net past) n).here)

@@ -1,0 +1,114 @@
+-- What stations keep while others have their turns, and while their scans go on.
+use Rattle.std.proofs.Common.{◌≡◌, ◌≢◌, ℕ, List, [], ◌∷◌, filter, refl}
+use Rattle.std.proofs.Common.{sym, subst, ◌∙◌}
+use Rattle.std.specs.Prelude.{count_by, min}
+use Rattle.comm_port.specs.Complete.{is_pass}
+use Rattle.plant_types.specs.declared.net.NetPlan.{NetPlan}
+use Rattle.plant_types.specs.declared.net.HostPlan.{HostPlan}
+use Rattle.plant_types.specs.declared.plan.ControllerPlan.{ControllerPlan}
+use Rattle.plant_types.specs.declared.plan.Plant.{Plant}
+use Rattle.ring_core.specs.declared.entry.RingEntry.{RingEntry}
+use Rattle.ring_core.specs.Legal.{IsLegal as IsLegalRing}
+use Rattle.controller_core.specs.declared.entry.Entry.{Entry}
+use Rattle.controller_core.specs.declared.entry.Entry.TheVariants as entries
+use Rattle.controller_core.specs.declared.entry.Maker.TheVariants.{Scan}
+use Rattle.controller_core.specs.Controller.{ControllerIs, AreOf, WentOn}
+use Rattle.tied_lists.specs.Own.{is_of}
+use Rattle.tied_lists.specs.Items.{AHost}
+use Rattle.tied_lists.specs.Tied.{Tied}
+use Rattle.comm_port.specs.Reading.{is_ours, host_items_of}
+use Rattle.comm_port.specs.Worker.{Standing, WorkerIs}
+use Rattle.comm_port.specs.HostTurns.{HostTies, PathsAgree}
+use Rattle.comm_port.proofs.Standings.{standing-others, standing-scans}
+use Rattle.controller_core.specs.declared.fixed.Fixed.{Fixed}
+use Rattle.plant_types.specs.Plans.{IsPlant}
+use Rattle.ring_core.specs.Legal.{IsMember}
+use Rattle.serial_run.proofs.Distinct.{low-members}
+use Rattle.serial_run.specs.declared.stations.ControllerStation.{ControllerStation}
+use Rattle.serial_run.specs.declared.stations.HostStation.{HostStation}
+use Rattle.serial_run.specs.Stations.{StandsController, StandsHost, MadeEvents, ram_side, ring_side}
+use Rattle.serial_run.proofs.Grown.{Further, others-own, others-left, others-none}
+
+-- ---- others have their turns
+
+comm-others : (plant : Plant) (w : WorkerIs) (v : ControllerIs) (n : ℕ) (old new : List RingEntry) → IsPlant plant → IsMember plant.net w.node → w.node ≢ n
+    → Further (is_of n) old new → IsLegalRing plant.net new → Standing w (ram_side v) v.history (ring_side plant.net) old
+    → Standing w (ram_side v) v.history (ring_side plant.net) new
+comm-others plant w v n old new sound member other f legal s =
+    subst (Standing w (ram_side v) v.history (ring_side plant.net)) (sym f.is)
+    (standing-others w (ram_side v) v.history (ring_side plant.net) old f.more
+    (record { members = low-members plant sound; legal = subst (IsLegalRing plant.net) f.is legal; member = member })
+    (others-none n w.node old new other f) s)
+
+ties-others : (net : NetPlan) (host : _) (m n : ℕ) (old new : List RingEntry) → m ≢ n → Further (is_of n) old new → IsLegalRing net new
+    → HostTies m host (ring_side net) old → HostTies m host (ring_side net) new
+ties-others net host m n old new other f legal s =
+    let same = others-own n m old new other f in
+    record {
+      node = s.node;
+      legal = s.legal;
+      serves = s.serves;
+      on = record { members = s.on.members; legal = legal; member = s.on.member };
+      tied = subst (Tied AHost (host_items_of host.history)) (sym same) s.tied;
+      paths = subst (PathsAgree host.history) (sym same) s.paths;
+    }
+
+pub stands-others : (plant : Plant) (scans n : ℕ) (old new : List RingEntry) (plan : ControllerPlan) (s : ControllerStation) → IsPlant plant
+    → IsMember plant.net plan.node → plan.node ≢ n
+    → Further (is_of n) old new → IsLegalRing plant.net new → StandsController plant scans old plan s → StandsController plant scans new plan s
+stands-others plant scans n old new plan s sound member other f legal st = record {
+  node = st.node;
+  worker_node = st.worker_node;
+  budget = st.budget;
+  fixed = st.fixed;
+  legal = st.legal;
+  standing = comm-others plant s.worker s.controller n old new sound (subst (IsMember plant.net) (sym st.worker_node) member)
+      (λ e. other (sym st.worker_node ∙ e)) f legal st.standing;
+  left = st.left ∙ sym (others-left plant.net n plan.node old new other f);
+}
+
+pub host-stands-others : (plant : Plant) (n : ℕ) (old new : List RingEntry) (plan : HostPlan) (s : HostStation) → plan.node ≢ n
+    → Further (is_of n) old new → IsLegalRing plant.net new → StandsHost plant old plan s → StandsHost plant new plan s
+host-stands-others plant n old new plan s other f legal st = record {
+  node = st.node;
+  worker_node = st.worker_node;
+  budget = st.budget;
+  plan_is = st.plan_is;
+  ties = ties-others plant.net s.host plan.node n old new other f legal st.ties;
+  counts = subst (λ (b : List RingEntry). s.worker.passes ≡ min (count_by is_pass b) 4294967295)
+      (sym (others-own n s.worker.node old new (λ e. other (sym st.worker_node ∙ e)) f)) st.counts;
+  left = st.left ∙ sym (others-left plant.net n plan.node old new other f);
+}
+
+-- ---- events of the scan
+
+no-items : (added : List Entry) → AreOf Scan added → filter is_ours added ≡ []
+no-items [] of = refl
+no-items (entries.Begin ∷ added) of = no-items added of.1
+no-items (entries.Input row ∷ added) of = no-items added of.1
+no-items (entries.Solve row ∷ added) of = no-items added of.1
+no-items (entries.Output row words ∷ added) of = no-items added of.1
+no-items (entries.End ∷ added) of = no-items added of.1
+no-items (entries.Collect calls ∷ added) of = absurd (let is = of.0 in cc)
+no-items (entries.Peer id request reply ∷ added) of = absurd (let is = of.0 in cc)
+no-items (entries.Finish id result ∷ added) of = absurd (let is = of.0 in cc)
+
+comm-scans : (net : NetPlan) (worker : WorkerIs) (added : List Entry) (v w : ControllerIs) (ring : List RingEntry) → WentOn Scan added v w
+    → Standing worker (ram_side v) v.history (ring_side net) ring → Standing worker (ram_side w) w.history (ring_side net) ring
+comm-scans net worker added v w ring went s =
+    subst (λ (f : Fixed). Standing worker (record { fixed = f; place = tt }) w.history (ring_side net) ring) (sym went.fixed)
+    (subst (λ (h : List Entry). Standing worker (ram_side v) h (ring_side net) ring) (sym went.history)
+    (standing-scans worker (ram_side v) v.history added (ring_side net) ring (no-items added went.made) s))
+
+pub stands-scans : (plant : Plant) (scans : ℕ) (ring : List RingEntry) (plan : ControllerPlan) (s : ControllerStation) (w : ControllerIs)
+    (h : List Entry) → MadeEvents h s.controller w → StandsController plant scans ring plan s
+    → StandsController plant scans ring plan (record s { controller = w })
+stands-scans plant scans ring plan s w h made st = record {
+  node = st.node;
+  worker_node = st.worker_node;
+  budget = st.budget;
+  fixed = made.went_on.fixed ∙ st.fixed;
+  legal = made.went_on.legal;
+  standing = comm-scans plant.net s.worker made.events s.controller w ring made.went_on st.standing;
+  left = st.left;
+}

@@ -1,0 +1,130 @@
+-- Stations at their start.
+use Rattle.std.proofs.Common.{◌≡◌, ℕ, true, false, List, [], None}
+use Rattle.std.proofs.Common.{replicate, refl, sym, ap, subst, arith}
+use Rattle.std.specs.Prelude.{not}
+use Rattle.plant_types.specs.declared.net.HostPlan.{HostPlan}
+use Rattle.plant_types.specs.declared.plan.ControllerPlan.{ControllerPlan}
+use Rattle.plant_types.specs.declared.plan.Plant.{Plant}
+use Rattle.plant_types.specs.Plans.{IsPlant}
+use Rattle.ring_core.specs.Machine.{path_places}
+use Rattle.ring_core.specs.Legal.{IsMember}
+use Rattle.controller_core.specs.Controller.{ControllerIs, IsLegal}
+use Rattle.tied_lists.specs.Items.{AHost, no_items}
+use Rattle.tied_lists.specs.Tied.{Tied}
+use Rattle.comm_port.specs.JointLaws.{fixed_of}
+use Rattle.comm_port.specs.Worker.{WorkerIs}
+use Rattle.comm_port.specs.HostTurns.{HostWorkerIs, PathsAgree}
+use Rattle.host_port.specs.Host.{HostIs}
+use Rattle.host_port.specs.Legal.{IsHostHistory}
+use Rattle.serial_run.specs.declared.stations.ControllerStation.{ControllerStation}
+use Rattle.std.specs.List.{AllZip}
+use Rattle.ring_core.specs.declared.entry.RingEntry.{RingEntry}
+use Rattle.ring_core.specs.Legal.{IsLegal as IsLegalRing}
+use Rattle.controller_core.specs.declared.entry.Entry.{Entry}
+use Rattle.controller_core.specs.Controller.{left_of}
+use Rattle.serial_run.specs.declared.stations.Stations.{Stations}
+use Rattle.serial_run.specs.Turns.{empty_host_log, empty_log, has_left}
+use Rattle.serial_run.specs.Scans.{IsBetweenScans}
+use Rattle.serial_run.specs.Stations.{StandsController, StandsHost, StartsController, StartsHost}
+use Rattle.serial_run.specs.Stations.{StartControllers, StartHosts, Starts, host_log_of, log_of}
+use Rattle.serial_run.proofs.Lists.{zip-each, zip-other, zip-same-map}
+use Rattle.comm_port.proofs.Standings.{standing-new}
+use Rattle.serial_run.specs.Stations.{ring_side}
+use Rattle.serial_run.proofs.Distinct.{low-members, member-node}
+use Rattle.serial_run.proofs.Holders.{member-there}
+
+nothing-host-tied : Tied AHost no_items []
+nothing-host-tied = record { asks = refl; peers = refl; port = refl; replies = refl; ends = refl }
+
+nobody-left : (plant : Plant) → IsPlant plant → (n : ℕ) → IsMember plant.net n → false ≡ has_left plant.net [] n
+nobody-left plant sound n member =
+    let node = member-node plant sound n member in
+    let to = node.to in
+    ap not (sym (member-there plant.net n (omega arith) member))
+
+pub start-controller : (plant : Plant) (scans : ℕ) (plan : ControllerPlan) (v : ControllerIs) (w : WorkerIs) → IsPlant plant → IsMember plant.net plan.node
+    → IsLegal (fixed_of plant scans plan) []
+    → v ≡ record { fixed = fixed_of plant scans plan; history = []; reserved = false }
+    → w ≡ record { node = plan.node; net = plant.net; budget = true; waiting = replicate path_places None }
+    → StartsController plant scans plan (record { node = plan.node; controller = v; worker = w; left = false })
+start-controller plant scans plan v w sound member legal v-is w-is =
+    subst (λ (v : ControllerIs). StartsController plant scans plan (record { node = plan.node; controller = v; worker = w; left = false })) (sym v-is)
+    (subst (λ (w : WorkerIs). StartsController plant scans plan (record {
+      node = plan.node;
+      controller = record { fixed = fixed_of plant scans plan; history = []; reserved = false };
+      worker = w;
+      left = false;
+    })) (sym w-is)
+    (record {
+      stands = record {
+        node = refl;
+        worker_node = refl;
+        budget = refl;
+        fixed = refl;
+        legal = legal;
+        standing = standing-new plan.node plant.net true (record { fixed = fixed_of plant scans plan; place = tt }) [] (ring_side plant.net) refl refl tt refl;
+        left = nobody-left plant sound plan.node member;
+      };
+      nothing = refl;
+    }))
+
+paths-agree : PathsAgree [] []
+paths-agree = record { waits = λ p. refl; numbers = λ p. refl }
+
+pub start-host : (plant : Plant) (plan : HostPlan) (v : HostIs) (w : HostWorkerIs) → IsPlant plant → IsMember plant.net plan.node
+    → IsHostHistory plan [] → v ≡ record { plan = plan; history = [] } → w ≡ record { node = plan.node; budget = true; passes = 0 }
+    → StartsHost plant plan (record { node = plan.node; host = v; worker = w; left = false })
+start-host plant plan v w sound member legal v-is w-is =
+    subst (λ (v : HostIs). StartsHost plant plan (record { node = plan.node; host = v; worker = w; left = false })) (sym v-is)
+    (subst (λ (w : HostWorkerIs). StartsHost plant plan (record { node = plan.node; host = record { plan = plan; history = [] }; worker = w; left = false }))
+    (sym w-is)
+    (record {
+      stands = record {
+        node = refl;
+        worker_node = refl;
+        budget = refl;
+        plan_is = refl;
+        ties = record {
+          node = refl;
+          legal = legal;
+          serves = tt;
+          on = record { members = low-members plant sound; legal = tt; member = member };
+          tied = nothing-host-tied;
+          paths = paths-agree;
+        };
+        counts = refl;
+        left = nobody-left plant sound plan.node member;
+      };
+      nothing = refl;
+    }))
+
+-- ---- all stations
+
+pub start-all : (plant : Plant) (scans : ℕ) (run : Stations) → IsPlant plant → run.ring ≡ record { net = plant.net; history = []; spare = 0 }
+    → StartControllers plant scans run.controllers.items → StartHosts plant run.hosts.items → Starts plant scans run
+start-all plant scans run sound ring controllers hosts = record {
+  stand = record {
+    sound = sound;
+    net = ap (λ r. r.net) ring;
+    legal = subst (IsLegalRing plant.net) (sym history) tt;
+    controllers = subst (λ (l : List RingEntry). AllZip (StandsController plant scans l) plant.controllers run.controllers.items) (sym history)
+        (zip-other (StartsController plant scans) (StandsController plant scans []) plant.controllers run.controllers.items controllers
+        (λ k x y at-x at-y s. s.stands));
+    hosts = subst (λ (l : List RingEntry). AllZip (StandsHost plant l) plant.hosts run.hosts.items) (sym history)
+        (zip-other (StartsHost plant) (StandsHost plant []) plant.hosts run.hosts.items hosts (λ k x y at-x at-y s. s.stands));
+  };
+  nothing =
+      let a = zip-same-map (StartsController plant scans) empty_log log_of plant.controllers run.controllers.items controllers
+      (λ x y s. (λ i. record { node = s.stands.node i; entries = s.nothing i })) in
+      let b = zip-same-map (StartsHost plant) empty_host_log host_log_of plant.hosts run.hosts.items hosts
+      (λ x y s. (λ i. record { node = s.stands.node i; entries = s.nothing i })) in
+      λ i. record { controllers = a i; hosts = b i; ring = history i };
+  between = zip-each (StartsController plant scans) (λ (s : ControllerStation). IsBetweenScans s.controller) plant.controllers run.controllers.items
+      controllers (λ x y s. record {
+        next = 1;
+        many = y.controller.fixed.scans;
+        left = λ goes. ap (λ (h : List Entry). left_of y.controller.fixed h) s.nothing;
+      });
+} where
+  history : run.ring.history ≡ []
+  history = ap (λ r. r.history) ring

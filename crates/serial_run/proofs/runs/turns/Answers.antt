@@ -1,0 +1,42 @@
+use Rattle.std.proofs.Common.{take, sym, subst}
+use Rattle.std.proofs.lemmas.List.{take_more}
+use Rattle.comm_port.specs.JointLaws.{IsJoint, IsLegalJoint}
+use Rattle.effect_laws.specs.Effects.{EffectsAreRight}
+use Rattle.serial_run.specs.Turns.{MakesTurns, nothing_made}
+use Rattle.serial_run.specs.Stations.{joint_of}
+use Rattle.serial_run.proofs.Laws.{if-ok, one-more-turn, stand-joint, stand-legal}
+use Rattle.serial_run.proofs.runs.turns.Goals as goal
+
+pub loop-turn-preserved : goal.loop-turn-preserved
+loop-turn-preserved c =
+    let plant = c.args.plant.now in
+    let scans = c.args.scans in
+    let at = c.loop-turn.turn-index in
+    let did = c.in_ok-turn.ensures in
+    let stand = c.loop-turn.invariant.stand in
+    record {
+      stand = did.stand plant scans stand;
+      made = subst (λ turns. MakesTurns plant scans turns (nothing_made plant) (joint_of c.turn.new.self))
+          (sym (take_more c.args.order.now at _ c.loop-turn-test.true))
+          (one-more-turn plant scans (take at c.args.order.now) _ (nothing_made plant) (joint_of c.loop-turn.run) (joint_of c.turn.new.self)
+          c.loop-turn.invariant.made (did.made plant scans stand));
+    }
+
+pub returns-clause-legal : goal.returns-clause-legal
+returns-clause-legal c =
+    let plant = c.args.plant.now in
+    if-ok c.joint_of.result (λ joint is. subst (IsLegalJoint plant c.args.scans) (sym is) (stand-legal plant c.args.scans c.loop-turn.run
+    c.loop-turn.invariant.stand)) c.joint_of.ensures
+
+pub returns-clause-joint : goal.returns-clause-joint
+returns-clause-joint c =
+    if-ok c.joint_of.result (λ joint is. subst IsJoint (sym is) (stand-joint c.args.plant.now c.args.scans c.loop-turn.run
+    c.loop-turn.invariant.stand)) c.joint_of.ensures
+
+pub returns-clause-effects : goal.returns-clause-effects
+returns-clause-effects c =
+    let plant = c.args.plant.now in
+    let run = c.loop-turn.run in
+    let stand = c.loop-turn.invariant.stand in
+    if-ok c.joint_of.result (λ joint is. subst EffectsAreRight (sym is) (c.effects_are_right.ensures plant c.args.scans (joint_of run) c.requires.plant.sound
+    (stand-legal plant c.args.scans run stand) (stand-joint plant c.args.scans run stand))) c.joint_of.ensures

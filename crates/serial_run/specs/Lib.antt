@@ -1,0 +1,5 @@
+pub mod Turns
+pub mod Serial
+pub mod Scans
+pub mod Stations
+pub mod Held

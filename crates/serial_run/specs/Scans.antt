@@ -1,0 +1,46 @@
+-- Where controllers stand between their scans. This project's own.
+use Rattle.std.specs.Prelude.{◌≡◌, ◌<◌, ◌≤◌, ℕ, Bool, false, length}
+use Rattle.std.specs.List.{All, AllZip, list_all, sum_by}
+use Rattle.controller_core.specs.Scans.{scans_from}
+use Rattle.controller_core.specs.Controller.{ControllerIs, has_ended, left_of, state_of}
+use Rattle.serial_run.specs.declared.stations.ControllerStation.{ControllerStation}
+use Rattle.serial_run.specs.declared.stations.Stations.{Stations}
+
+-- Whole scans are left of what is due: so many, from one on.
+pub record IsBetweenScans (v : ControllerIs) : Type 0 where
+  pub next : ℕ
+  pub many : ℕ
+  pub left : (state_of v).stop ≡ 0 → left_of v.fixed v.history ≡ scans_from v.fixed next many
+
+abbrev pub AreBetweenScans : Stations → Type 0
+AreBetweenScans run =
+    All (λ (station : ControllerStation). IsBetweenScans station.controller) run.controllers.items
+
+-- As many steps are left to a controller as before, and it has stopped if it had.
+pub record KeepsScan (v w : ControllerIs) : Type 0 where
+  pub fixed : w.fixed ≡ v.fixed
+  pub left : left_of w.fixed w.history ≡ left_of v.fixed v.history
+  pub stop : (state_of w).stop ≡ (state_of v).stop
+
+abbrev pub KeepScans : Stations → Stations → Type 0
+KeepScans old new = AllZip
+    (λ (a b : ControllerStation). KeepsScan a.controller b.controller)
+    old.controllers.items new.controllers.items
+
+-- How many steps are left to all controllers.
+abbrev pub steps_left : Stations → ℕ
+steps_left run = sum_by
+    (λ (station : ControllerStation).
+    length (left_of station.controller.fixed station.controller.history))
+    run.controllers.items
+
+-- A controller that has not ended has fewer steps before it.
+pub record LessensScan (v w : ControllerIs) : Type 0 where
+  pub no_more : length (left_of w.fixed w.history) ≤ length (left_of v.fixed v.history)
+  pub less : has_ended v ≡ false
+      → length (left_of w.fixed w.history) < length (left_of v.fixed v.history)
+
+-- All controllers have ended.
+abbrev pub have_ended : Stations → Bool
+have_ended run =
+    list_all (λ (station : ControllerStation). has_ended station.controller) run.controllers.items

@@ -1,0 +1,133 @@
+-- What a run keeps of all stations of its plant. This project's own.
+use Rattle.std.specs.Prelude.{◌≡◌, ℕ, true, List, map, None}
+use Rattle.std.specs.Prelude.{[]}
+use Rattle.std.specs.List.{AllZip}
+use Rattle.plant_types.specs.declared.net.NetPlan.{NetPlan}
+use Rattle.plant_types.specs.declared.net.HostPlan.{HostPlan}
+use Rattle.plant_types.specs.declared.plan.ControllerPlan.{ControllerPlan}
+use Rattle.plant_types.specs.declared.plan.Plant.{Plant}
+use Rattle.plant_types.specs.Plans.{IsPlant}
+use Rattle.std.specs.List.{All}
+use Rattle.ring_core.specs.declared.entry.RingEntry.{RingEntry}
+use Rattle.ring_core.specs.Legal.{IsLegal as IsLegalRing}
+use Rattle.controller_core.specs.declared.entry.Entry.{Entry}
+use Rattle.controller_core.specs.declared.entry.Maker.TheVariants.{Scan}
+use Rattle.controller_core.specs.Controller.{ControllerIs, IsLegal, WentOn}
+use Rattle.controller_core.specs.Machine.{CanRun}
+use Rattle.comm_port.specs.declared.joint.ControllerLog.{ControllerLog}
+use Rattle.comm_port.specs.declared.joint.HostLog.{HostLog}
+use Rattle.comm_port.specs.declared.joint.Joint.{Joint}
+use Rattle.comm_port.specs.JointLaws.{fixed_of}
+use Rattle.comm_port.specs.Sides.{RamSideIs, RingSideIs}
+use Rattle.comm_port.specs.Worker.{Standing}
+use Rattle.comm_port.specs.HostTurns.{CountsPasses, HostTies}
+use Rattle.serial_run.specs.declared.stations.ControllerStation.{ControllerStation}
+use Rattle.serial_run.specs.declared.stations.HostStation.{HostStation}
+use Rattle.serial_run.specs.declared.stations.Stations.{Stations}
+use Rattle.serial_run.specs.Turns.{has_left, nothing_made}
+use Rattle.serial_run.specs.Scans.{AreBetweenScans}
+
+-- A plant that can be run: its parts fit each other, and so does each controller's program.
+pub record CanRunPlant (plant : Plant) : Type 0 where
+  pub sound : IsPlant plant
+  pub controllers : All CanRun plant.controllers
+
+-- The log of a station.
+abbrev pub log_of : ControllerStation → ControllerLog
+log_of station = record { node = station.node; entries = station.controller.history }
+
+abbrev pub host_log_of : HostStation → HostLog
+host_log_of station = record { node = station.node; entries = station.host.history }
+
+-- The joint history that the stations have made so far.
+abbrev pub joint_of : Stations → Joint
+joint_of run = record {
+  controllers = map log_of run.controllers.items;
+  hosts = map host_log_of run.hosts.items;
+  ring = run.ring.history;
+}
+
+-- A controller and a ring as the sides of a worker, where nobody else writes.
+abbrev pub ram_side : ControllerIs → RamSideIs Unit
+ram_side controller = record { fixed = controller.fixed; place = tt }
+
+abbrev pub ring_side : NetPlan → RingSideIs Unit
+ring_side net = record { net = net; writer = None; place = tt }
+
+-- A controller's station stands between its turns.
+pub record StandsController (plant : Plant) (scans : ℕ) (ring : List RingEntry)
+    (plan : ControllerPlan) (station : ControllerStation) : Type 0 where
+  pub node : station.node ≡ plan.node
+  pub worker_node : station.worker.node ≡ plan.node
+  pub budget : station.worker.budget ≡ true
+  pub fixed : station.controller.fixed ≡ fixed_of plant scans plan
+  pub legal : IsLegal station.controller.fixed station.controller.history
+  pub standing : Standing station.worker (ram_side station.controller)
+      station.controller.history (ring_side plant.net) ring
+  pub left : station.left ≡ has_left plant.net ring plan.node
+
+-- And a host's.
+pub record StandsHost (plant : Plant) (ring : List RingEntry) (plan : HostPlan)
+    (station : HostStation) : Type 0 where
+  pub node : station.node ≡ plan.node
+  pub worker_node : station.worker.node ≡ plan.node
+  pub budget : station.worker.budget ≡ true
+  pub plan_is : station.host.plan ≡ plan
+  pub ties : HostTies plan.node station.host (ring_side plant.net) ring
+  pub counts : CountsPasses station.worker ring
+  pub left : station.left ≡ has_left plant.net ring plan.node
+
+-- All of them do, those of the plant in its order.
+pub record StandAll (plant : Plant) (scans : ℕ) (run : Stations) : Type 0 where
+  pub sound : IsPlant plant
+  pub net : run.ring.net ≡ plant.net
+  pub legal : IsLegalRing plant.net run.ring.history
+  pub controllers : AllZip (StandsController plant scans run.ring.history) plant.controllers
+      run.controllers.items
+  pub hosts : AllZip (StandsHost plant run.ring.history) plant.hosts run.hosts.items
+
+-- They are the stations of some plant.
+pub record Stand (run : Stations) : Type 0 where
+  pub plant : Plant
+  pub scans : ℕ
+  pub all : StandAll plant scans run
+
+-- What some turns made of the joint history of stations, which still stand.
+pub record Did (Made : Plant → ℕ → Joint → Joint → Type 0) (old new : Stations) : Type 0 where
+  pub stand : (plant : Plant) (scans : ℕ) → StandAll plant scans old → StandAll plant scans new
+  pub made : (plant : Plant) (scans : ℕ) → StandAll plant scans old
+      → Made plant scans (joint_of old) (joint_of new)
+
+-- The same, for plants with so many rotations.
+abbrev pub DidWith : ℕ → (Plant → ℕ → Joint → Joint → Type 0) → Stations → Stations → Type 0
+DidWith rotations Made old new = Did
+    (λ plant scans before behind. plant.net.rotations ≡ rotations → Made plant scans before behind)
+    old new
+
+-- At the start nothing was made.
+pub record StartsController (plant : Plant) (scans : ℕ) (plan : ControllerPlan)
+    (station : ControllerStation) : Type 0 where
+  pub stands : StandsController plant scans [] plan station
+  pub nothing : station.controller.history ≡ []
+
+pub record StartsHost (plant : Plant) (plan : HostPlan) (station : HostStation) : Type 0 where
+  pub stands : StandsHost plant [] plan station
+  pub nothing : station.host.history ≡ []
+
+abbrev pub StartControllers : Plant → ℕ → List ControllerStation → Type 0
+StartControllers plant scans stations =
+    AllZip (StartsController plant scans) plant.controllers stations
+
+abbrev pub StartHosts : Plant → List HostStation → Type 0
+StartHosts plant stations = AllZip (StartsHost plant) plant.hosts stations
+
+pub record Starts (plant : Plant) (scans : ℕ) (run : Stations) : Type 0 where
+  pub stand : StandAll plant scans run
+  pub nothing : joint_of run ≡ nothing_made plant
+  pub between : AreBetweenScans run
+
+-- A controller went on by events of its scan alone, to this history.
+pub record MadeEvents (history : List Entry) (old new : ControllerIs) : Type 0 where
+  pub history_is : new.history ≡ history
+  pub events : List Entry
+  pub went_on : WentOn Scan events old new

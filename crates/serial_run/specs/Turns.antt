@@ -1,0 +1,171 @@
+-- What a turn of a station makes of a joint history. This project's own.
+use Rattle.std.specs.Prelude.{◌≡◌, ℕ, ◌==◌, Bool, true, false, ◌&&◌, not, List, [], ◌∷◌, map, set}
+use Rattle.std.specs.Prelude.{Option, Some, None}
+use Rattle.std.specs.List.{position, slice_get}
+use Rattle.plant_types.specs.declared.net.NetPlan.{NetPlan}
+use Rattle.plant_types.specs.declared.net.HostPlan.{HostPlan}
+use Rattle.plant_types.specs.declared.plan.ControllerPlan.{ControllerPlan}
+use Rattle.plant_types.specs.declared.plan.Plant.{Plant}
+use Rattle.ring_core.specs.Machine.{ring_after, ring_node}
+use Rattle.ring_core.specs.declared.entry.RingEntry.{RingEntry}
+use Rattle.controller_core.specs.declared.fixed.Fixed.{Fixed}
+use Rattle.controller_core.specs.declared.entry.Entry.{Entry}
+use Rattle.controller_core.specs.Controller.{stepped}
+use Rattle.host_port.specs.declared.entry.HostEntry.{HostEntry}
+use Rattle.comm_port.specs.declared.joint.ControllerLog.{ControllerLog}
+use Rattle.comm_port.specs.declared.joint.HostLog.{HostLog}
+use Rattle.comm_port.specs.declared.joint.Joint.{Joint}
+use Rattle.comm_port.specs.JointLaws.{fixed_of}
+use Rattle.comm_port.specs.Reading.{controller_at, has_started_at}
+use Rattle.comm_port.specs.HoldTurn.{HoldsTurn, VisitsEnd}
+use Rattle.comm_port.specs.HostTurns.{HoldsHostTurn}
+use Rattle.serial_run.specs.declared.order.Turn.{Turn}
+use Rattle.serial_run.specs.declared.order.Turn.TheVariants.{Step, Hold, Visit}
+
+-- The empty list of a controller, and that of a host.
+abbrev pub empty_log : ControllerPlan → ControllerLog
+empty_log plan = record { node = plan.node; entries = [] }
+
+abbrev pub empty_host_log : HostPlan → HostLog
+empty_host_log plan = record { node = plan.node; entries = [] }
+
+-- The joint history of a plant where nothing was made yet.
+abbrev pub nothing_made : Plant → Joint
+nothing_made plant = record {
+  controllers = map empty_log plant.controllers;
+  hosts = map empty_host_log plant.hosts;
+  ring = [];
+}
+
+-- The place of the controller of a node in its plant, and that of a host.
+abbrev pub controller_place : Plant → ℕ → Option ℕ
+controller_place plant node = position (λ plan. plan.node == node) plant.controllers
+
+abbrev pub host_place : Plant → ℕ → Option ℕ
+host_place plant node = position (λ plan. plan.node == node) plant.hosts
+
+-- The controller at a place has this plan and this list.
+pub record IsControllerAt (plant : Plant) (joint : Joint) (at : ℕ) (plan : ControllerPlan)
+    (log : ControllerLog) : Type 0 where
+  pub plan_is : slice_get plant.controllers at ≡ Some plan
+  pub log_is : slice_get joint.controllers at ≡ Some log
+
+-- And a host.
+pub record IsHostAt (plant : Plant) (joint : Joint) (at : ℕ) (plan : HostPlan) (log : HostLog)
+    : Type 0 where
+  pub plan_is : slice_get plant.hosts at ≡ Some plan
+  pub log_is : slice_get joint.hosts at ≡ Some log
+
+-- A joint history with another list of the controller at a place, or of the host.
+abbrev pub with_list : ℕ → ControllerLog → List Entry → Joint → Joint
+with_list at log entries joint = record joint {
+  controllers = set joint.controllers at (record { node = log.node; entries = entries });
+}
+
+abbrev pub with_host_list : ℕ → HostLog → List HostEntry → Joint → Joint
+with_host_list at log entries joint = record joint {
+  hosts = set joint.hosts at (record { node = log.node; entries = entries });
+}
+
+-- A controller's list behind its due step; the same list where it has ended or stopped.
+abbrev pub stepped_list : Fixed → List Entry → List Entry
+stepped_list fixed entries = (stepped (controller_at fixed entries)).history
+
+-- The controller at a place makes its due step.
+pub record StepsAt (plant : Plant) (scans at : ℕ) (old new : Joint) : Type 0 where
+  pub plan : ControllerPlan
+  pub log : ControllerLog
+  pub is : IsControllerAt plant old at plan log
+  pub made : new ≡ with_list at log (stepped_list (fixed_of plant scans plan) log.entries) old
+
+-- Step: nothing where no controller has the node.
+abbrev pub MakesStep : Plant → ℕ → Option ℕ → Joint → Joint → Type 0
+MakesStep plant scans None old new = new ≡ old
+MakesStep plant scans (Some at) old new = StepsAt plant scans at old new
+
+-- The controller at a place makes its hold turn: its own list and the ring's go on.
+pub record HoldsAt (plant : Plant) (scans at : ℕ) (old new : Joint) : Type 0 where
+  pub plan : ControllerPlan
+  pub log : ControllerLog
+  pub is : IsControllerAt plant old at plan log
+  pub entries : List Entry
+  pub ring : List RingEntry
+  pub left : Bool
+  pub turn : HoldsTurn true true (fixed_of plant scans plan) plant.net plan.node true log.entries
+      entries old.ring ring left
+  pub made : new ≡ record (with_list at log entries old) { ring = ring }
+
+-- And a host.
+pub record HostHoldsAt (plant : Plant) (at : ℕ) (old new : Joint) : Type 0 where
+  pub plan : HostPlan
+  pub log : HostLog
+  pub is : IsHostAt plant old at plan log
+  pub entries : List HostEntry
+  pub ring : List RingEntry
+  pub left : Bool
+  pub turn : HoldsHostTurn true plant.net plan.node plan true log.entries entries old.ring ring
+      left
+  pub made : new ≡ record (with_host_list at log entries old) { ring = ring }
+
+-- Hold: the station of the node that holds the token makes its hold turn; nothing where all have
+-- left, so that no station's node holds it.
+abbrev pub MakesHold : Plant → ℕ → Option ℕ → Option ℕ → Joint → Joint → Type 0
+MakesHold plant scans (Some at) host old new = HoldsAt plant scans at old new
+MakesHold plant scans None (Some at) old new = HostHoldsAt plant at old new
+MakesHold plant scans None None old new = new ≡ old
+
+-- A node has left the ring.
+abbrev pub has_left : NetPlan → List RingEntry → ℕ → Bool
+has_left net ring node = not (ring_node (ring_after net ring) node).here
+
+-- A controller's visit is due: it has left, and has calls that were not collected.
+abbrev pub visit_is_due : Plant → ℕ → ControllerPlan → List Entry → List RingEntry → Bool
+visit_is_due plant scans plan entries ring =
+    has_left plant.net ring plan.node && has_started_at (fixed_of plant scans plan) entries
+
+-- The controller at a place makes its visit: its own list and the ring's go on.
+pub record VisitsAt (plant : Plant) (scans at : ℕ) (plan : ControllerPlan) (log : ControllerLog)
+    (old new : Joint) : Type 0 where
+  pub entries : List Entry
+  pub ring : List RingEntry
+  pub visit : VisitsEnd true true (fixed_of plant scans plan) plant.net plan.node log.entries
+      entries old.ring ring
+  pub made : new ≡ record (with_list at log entries old) { ring = ring }
+
+-- It does where that is due, and else nothing.
+abbrev pub VisitsWhere : Bool → Plant → ℕ → ℕ → ControllerPlan → ControllerLog → Joint → Joint
+    → Type 0
+VisitsWhere true plant scans at plan log old new = VisitsAt plant scans at plan log old new
+VisitsWhere false plant scans at plan log old new = new ≡ old
+
+pub record VisitsIfDue (plant : Plant) (scans at : ℕ) (old new : Joint) : Type 0 where
+  pub plan : ControllerPlan
+  pub log : ControllerLog
+  pub is : IsControllerAt plant old at plan log
+  pub visits : VisitsWhere (visit_is_due plant scans plan log.entries old.ring) plant scans at plan
+      log old new
+
+-- Visit: nothing where no controller has the node.
+abbrev pub MakesVisit : Plant → ℕ → Option ℕ → Joint → Joint → Type 0
+MakesVisit plant scans None old new = new ≡ old
+MakesVisit plant scans (Some at) old new = VisitsIfDue plant scans at old new
+
+-- A turn: what it makes of one joint history is another.
+abbrev pub MakesTurn : Plant → ℕ → Turn → Joint → Joint → Type 0
+MakesTurn plant scans (Step node) old new =
+    MakesStep plant scans (controller_place plant node) old new
+MakesTurn plant scans Hold old new =
+    let holder = (ring_after plant.net old.ring).holder in
+    MakesHold plant scans (controller_place plant holder) (host_place plant holder) old new
+MakesTurn plant scans (Visit node) old new =
+    MakesVisit plant scans (controller_place plant node) old new
+
+-- Turns one after another.
+abbrev pub MakesTurns : Plant → ℕ → List Turn → Joint → Joint → Type 0
+MakesTurns plant scans [] old new = new ≡ old
+MakesTurns plant scans (turn ∷ turns) old new =
+    (next : Joint) × MakesTurn plant scans turn old next × MakesTurns plant scans turns next new
+
+-- What the turns of a list make from the start.
+abbrev pub IsTurns : Plant → ℕ → List Turn → Joint → Type 0
+IsTurns plant scans order joint = MakesTurns plant scans order (nothing_made plant) joint

@@ -1,0 +1,12 @@
+//! The turns of stations.
+
+/// What a station does at once, in the order of a run. This project's own.
+#[derive(Clone, Copy, Debug, PartialEq, Eq)]
+pub enum Turn {
+    /// The controller of this node makes its due step.
+    Step(u8),
+    /// The station of the node that holds the token makes its hold turn.
+    Hold,
+    /// The controller of this node, which has left, ends the calls that it still starts.
+    Visit(u8),
+}

@@ -1,0 +1,129 @@
+//! The serial run, part by part.
+ghost use Rattle.std.specs.Prelude.{◌≡◌, ◌<◌, false, OnOk};
+ghost use Rattle.serial_run.specs.Serial.{scanned, visits_of, Finishes, IsRepetition, MakesRound};
+ghost use Rattle.serial_run.specs.Serial.{MakesRounds, Repeats};
+ghost use Rattle.serial_run.specs.Turns.{MakesTurns};
+ghost use Rattle.serial_run.specs.Stations.{Did, DidWith, Stand};
+ghost use Rattle.serial_run.specs.Scans.{have_ended, steps_left, AreBetweenScans, KeepScans};
+ghost use Rattle.serial_run.specs.Held.{stations_here, turns_left, Lessens};
+
+use crate::scanning::scan;
+use crate::stations::Stations;
+use std::alloc::AllocError;
+
+impl Stations {
+    /// How many stations have not left.
+    fn here(&self) -> usize
+        ensures { result ≡ stations_here self.now }
+    {
+        let controllers = self
+            .controllers
+            .iter()
+            .filter(|station| !station.left)
+            .count();
+        let hosts = self.hosts.iter().filter(|station| !station.left).count();
+        controllers + hosts
+    }
+
+    /// Whether all controllers have ended.
+    fn have_ended(&self) -> bool
+        ensures { result ≡ have_ended self.now }
+    {
+        self.controllers
+            .iter()
+            .all(|station| station.controller.has_ended())
+    }
+
+    /// Each controller that has not ended makes one whole scan, or stops in it.
+    fn scan_all(&mut self) -> Result<(), AllocError>
+        requires stand { Stand self.old }
+        requires between { AreBetweenScans self.old }
+        ensures scans { OnOk result (Did (λ plant scans old new. new ≡ scanned plant scans old)
+            self.old self.new) }
+        ensures between { OnOk result (AreBetweenScans self.new) }
+        ensures less { OnOk result (have_ended self.old ≡ false
+            → steps_left self.new < steps_left self.old) }
+    {
+        for at in 0..self.controllers.len() {
+            scan(&mut self.controllers[at].controller)?;
+        }
+        Ok(())
+    }
+
+    /// The visits of all controllers, as far as they are due.
+    fn visit_all(&mut self) -> Result<(), AllocError>
+        requires { Stand self.old }
+        ensures visits { OnOk result (Did (λ plant scans. MakesTurns plant scans (visits_of plant))
+            self.old self.new) }
+        ensures scans { OnOk result (KeepScans self.old self.new) }
+    {
+        for at in 0..self.controllers.len() {
+            let node = self.controllers[at].node;
+            self.visit(node)?;
+        }
+        Ok(())
+    }
+
+    /// A round: as many hold turns as there are members at its beginning.
+    fn round(&mut self) -> Result<(), AllocError>
+        requires { Stand self.old }
+        ensures round { OnOk result (Did MakesRound self.old self.new) }
+        ensures scans { OnOk result (KeepScans self.old self.new) }
+        ensures less { OnOk result (Lessens self.old self.new) }
+    {
+        for _ in 0..self.here() {
+            self.hold()?;
+        }
+        Ok(())
+    }
+
+    /// So many rounds.
+    fn rounds(&mut self, count: u32) -> Result<(), AllocError>
+        requires { Stand self.old }
+        ensures rounds { OnOk result (Did (λ plant scans. MakesRounds plant scans count)
+            self.old self.new) }
+        ensures scans { OnOk result (KeepScans self.old self.new) }
+    {
+        for _ in 0..count {
+            self.round()?;
+        }
+        Ok(())
+    }
+
+    /// A repetition: scans, visits, and so many rounds.
+    fn repetition(&mut self, rotations: u32) -> Result<(), AllocError>
+        requires stand { Stand self.old }
+        requires between { AreBetweenScans self.old }
+        requires goes_on { have_ended self.old ≡ false }
+        ensures did { OnOk result (DidWith rotations IsRepetition self.old self.new) }
+        ensures between { OnOk result (AreBetweenScans self.new) }
+        ensures less { OnOk result (steps_left self.new < steps_left self.old) }
+    {
+        self.scan_all()?;
+        self.visit_all()?;
+        self.rounds(rotations)
+    }
+
+    /// Repetitions until all controllers have ended.
+    pub(crate) fn repeat(&mut self, rotations: u32) -> Result<(), AllocError>
+        requires stand { Stand self.old }
+        requires between { AreBetweenScans self.old }
+        ensures { OnOk result (DidWith rotations Repeats self.old self.new) }
+    {
+        while !self.have_ended() {
+            self.repetition(rotations)?;
+        }
+        Ok(())
+    }
+
+    /// Rounds until every node has left.
+    pub(crate) fn finish(&mut self) -> Result<(), AllocError>
+        requires { Stand self.old }
+        ensures { OnOk result (Did Finishes self.old self.new) }
+    {
+        while self.here() != 0 {
+            self.round()?;
+        }
+        Ok(())
+    }
+}

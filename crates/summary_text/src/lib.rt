@@ -1,0 +1,10 @@
+//! The summary of a run: how many controllers it had, what they did, and what is on at its end.
+#![tactic(auto)]
+
+mod coils;
+mod counts;
+mod summary;
+#[cfg(test)]
+mod tests;
+
+pub use summary::summary_text;

@@ -1,0 +1,47 @@
+//! The text of the summary.
+ghost use Rattle.std.specs.Prelude.{◌≡◌, ◌++◌, IfOk, OnOk, map, string_bytes};
+ghost use Rattle.std.specs.List.{flat_map};
+ghost use Rattle.comm_port.specs.JointLaws.{IsLegalJoint};
+ghost use Rattle.panel_text.specs.Panel.{CanRunAll, most_scans};
+ghost use Rattle.summary_text.specs.Summary.{count_line, summary};
+
+use crate::coils::coils_of_all;
+use crate::counts::{Counted, entries_that, passes_in};
+use comm_port::Joint;
+use plant_types::Plant;
+use std::alloc::{AllocError, Global};
+use std::fmt::Write;
+
+/// Adds a line for each count.
+fn push_counts(text: &mut String, counts: &[(&str, u128)]) -> Result<(), AllocError>
+    ensures { OnOk result (string_bytes text.new ≡ string_bytes text.old
+        ++ flat_map count_line (map (λ count. (count.0.now, count.1)) counts.now)) }
+{
+    for (name, count) in counts {
+        write!(text, "{name} {count}\n")?;
+    }
+    Ok(())
+}
+
+/// The summary of a plant by what its stations noted, in seven lines: how many controllers it has,
+/// the segments that they solved, the requests that they answered, the calls of theirs that ended
+/// well and badly, how often the token was passed on, and how many coils are on at the end.
+pub fn summary_text(alloc: Global, plant: &Plant, joint: &Joint) -> Result<Vec<u8>, AllocError>
+    requires plant { CanRunAll plant.now }
+    requires joint { IsLegalJoint plant.now most_scans joint.now }
+    ensures { IfOk result (λ text. text.items ≡ summary plant.now joint.now) }
+{
+    let logs = joint.controllers.as_slice();
+    let counts = [
+        ("controllers", logs.len() as u128),
+        ("solves", entries_that(Counted::Solves, logs)),
+        ("peers", entries_that(Counted::Peers, logs)),
+        ("good", entries_that(Counted::Good, logs)),
+        ("bad", entries_that(Counted::Bad, logs)),
+        ("passes", passes_in(joint.ring.as_slice()) as u128),
+        ("coils", coils_of_all(alloc, plant, logs)?),
+    ];
+    let mut text = String::new(alloc);
+    push_counts(&mut text, &counts)?;
+    Ok(text.into_bytes())
+}
