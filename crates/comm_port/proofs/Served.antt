@@ -195,11 +195,6 @@ reply-out n f ram known side ring w kind t =
     let r = t.reply kind in
     (NetCall, subst (λ (i : CallId). IsOutAs (items_of known) i NetCall) r.2 (t.waits.outs f.id.path r.0 (t.waits.waits f.id.path ∙ r.1)))
 
-pub reply-slot : {P Q : Type 0} (n : ℕ) (f : Frame) (ram : RamSideIs P) (known : List Entry) (side : RingSideIs Q) (ring : List
-    RingEntry) (w : List (Option Frame)) → f.kind ≡ Reply → Taking n f ram known side ring w → (ask : Frame) × (get_or w f.id.path
-    None ≡ Some ask)
-reply-slot n f ram known side ring w kind t = let r = t.reply kind in (r.0, t.waits.waits f.id.path ∙ r.1)
-
 -- a question, or a Take of an empty inbox
 pub ring-still : {P Q : Type 0} (alone : Bool) (n : ℕ) (rest : List Called) (ram : RamSideIs P) (known : List Entry) (side side' :
     RingSideIs Q) (ring ring' : List RingEntry) (w : List (Option Frame)) → side' ≡ side → IsLegal side.net ring' → WentOn alone

@@ -2,6 +2,7 @@
 use Rattle.std.proofs.Common.{◌≡◌, ℕ, zero, suc, Bool, true, false, List, [], ◌∷◌}
 use Rattle.std.proofs.Common.{◌++◌, filter, get_or, set, replicate, Option, Some, None}
 use Rattle.std.proofs.Common.{refl, sym, ◌∙◌, subst, append-nil}
+use Rattle.std.proofs.Common.{ap, arith, get_or-set_same, ◌<◌}
 use Rattle.std.proofs.lemmas.List.{length-replicate}
 use Rattle.plant_types.specs.declared.net.NetPlan.{NetPlan}
 use Rattle.controller_core.specs.declared.entry.Entry.{Entry}
@@ -36,7 +37,7 @@ fresh-path p = each-same (λ (x : Path). NotFailed x.awaits) path_places p no_pa
 fresh-rests : (here : Bool) → RestsIn (fresh here)
 fresh-rests here = (refl, fresh-path)
 
-put-each : (P : NodeIs → Type 0) (nodes : List NodeIs) (m k : ℕ) (c : NodeIs) → P c → P (part_of nodes k) → P (part_of (set nodes m c) k)
+pub put-each : (P : NodeIs → Type 0) (nodes : List NodeIs) (m k : ℕ) (c : NodeIs) → P c → P (part_of nodes k) → P (part_of (set nodes m c) k)
 put-each P [] m k c new old = old
 put-each P (x ∷ nodes) zero zero c new old = new
 put-each P (x ∷ nodes) zero (suc k) c new old = old
@@ -125,3 +126,12 @@ standing-others w ram known side ring more on none s =
       waits = subst (λ (b : List RingEntry). AreWaiting w.node (items_of known) b w.waiting) (sym is) s.waits;
       rest = rest-through false side.net w.node ring (ring ++ more) (record { members = on.members; legal = s.legal; member = on.member }) on.legal adds s.rest;
     }
+
+-- a member is there at the start
+keep-here : (nodes : List NodeIs) (members : List ℕ) (k : ℕ) → (part_of nodes k).here ≡ true → (part_of (with_members nodes members) k).here ≡ true
+keep-here nodes [] k it = it
+keep-here nodes (m ∷ ms) k it = keep-here (set nodes m (fresh true)) ms k (put-each (λ c. c.here ≡ true) nodes m k (fresh true) refl it)
+
+pub first-here : (n : ℕ) (members : List ℕ) → n < addresses → (part_of (with_members (replicate addresses (fresh false)) (n ∷ members)) n).here ≡ true
+first-here n members low = keep-here (set (replicate addresses (fresh false)) n (fresh true)) members n
+    (ap (λ (c : NodeIs). c.here) (get_or-set_same (replicate addresses (fresh false)) n (fresh true) (fresh false) (let s = length-replicate addresses (fresh false) in omega (arith, s, low))))

@@ -214,47 +214,6 @@ passed-at net n done budget alone a b c d spent ended one did_one not_one two di
       stays = λ is. after-pass net n c done (words_put n c) d (moved net n alone c e d refl on w (inl t.holds)) t.holds;
     }
 
-left : (net : NetPlan) (n : ℕ) (cause : LeaveCause) (alone : Bool) (old new : List RingEntry) (did : Bool) → did ≡ true →
-    LeftOrStood alone net n cause old new did → LeftRing alone net n cause old new
-left net n cause alone old new true is did = did
-left net n cause alone old new false is did = absurd cc
-
-pub left-spent : (net : NetPlan) (n : ℕ) (done budget alone : Bool) (words : List ℕ) (a b : List RingEntry) (spent : Bool)
-    → spent ≡ (budget && is_due net (ring_after net a) n Spent) → LeftOrStood alone net n Spent a b spent → spent ≡ true
-    → (cause_due net (ring_after net a) n done budget ≡ Some Spent) × HandedOn alone net n done words (cause_due net (ring_after net a) n done budget) a b
-left-spent net n done budget alone words a b spent one did yes' =
-    let l = left net n Spent alone a b spent yes' did in
-    let due : cause_due net (ring_after net a) n done budget ≡ Some Spent =
-    ap (λ x. if x then Some Spent else (if done && is_due net (ring_after net a) n Ended then Some Ended else None)) (sym one ∙ yes') in (
-      due,
-      record {
-        grew = subst (λ o. Grew alone (is_of n) a (last_entry n done words o ∷ []) b) (sym due) l.grew;
-        gone = λ why is. l.gone;
-        stays = λ is. let no' : Some Spent ≡ None = sym due ∙ is in absurd cc;
-      },
-    )
-
-left-at : (net : NetPlan) (n : ℕ) (done budget alone : Bool) (words : List ℕ) (a b c : List RingEntry) (spent ended : Bool)
-    → spent ≡ (budget && is_due net (ring_after net a) n Spent) → LeftOrStood alone net n Spent a b spent → spent ≡ false
-    → ended ≡ (done && is_due net (ring_after net b) n Ended) → LeftOrStood alone net n Ended b c ended → ended ≡ true
-    → (cause_due net (ring_after net a) n done budget ≡ Some Ended) × HandedOn alone net n done words (cause_due net (ring_after net a) n done budget) a c
-left-at net n done budget alone words a b c spent ended one did_one not_one two did_two yes' =
-    let s = stood net n Spent alone a b spent not_one did_one in
-    let l = left net n Ended alone b c ended yes' did_two in
-    let second : (done && is_due net (ring_after net a) n Ended) ≡ true =
-    ap (λ x. done && x) (sym (due-as net (ring_after net a) (ring_after net b) n Ended s.part s.quiet)) ∙ sym two ∙ yes' in
-    let due : cause_due net (ring_after net a) n done budget ≡ Some Ended =
-    ap (λ x. if x then Some Spent else (if done && is_due net (ring_after net a) n Ended then Some Ended else None)) (sym one ∙ not_one)
-    ∙ ap (λ x. if x then Some Ended else None) second in (
-      due,
-      record {
-        grew = subst (λ o. Grew alone (is_of n) a (last_entry n done words o ∷ []) c) (sym due) (grew-more alone (is_of n) a b c
-            [] (Leave n Ended ∷ []) s.grew l.grew);
-        gone = λ why is. l.gone;
-        stays = λ is. let no' : Some Ended ≡ None = sym due ∙ is in absurd cc;
-      },
-    )
-
 -- the same, where the second attempt speaks of a side that stayed the same
 pub passed-on : {Q : Type 0} (side side' side'' : RingSideIs Q) (n : ℕ) (done budget alone : Bool) (a b c d : List RingEntry)
     (spent ended : Bool) → side' ≡ side → side'' ≡ side'
@@ -267,14 +226,3 @@ passed-on {Q} side side' side'' n done budget alone a b c d spent ended same nex
     (subst (λ (s : RingSideIs Q). ended ≡ (done && is_due s.net (ring_after s.net b) n Ended)) same two)
     (subst (λ (s : RingSideIs Q). LeftOrStood alone s.net n Ended b c ended) same did_two) not_two w
     (on-ring side a d n turn (subst (λ (s : RingSideIs Q). IsLegal s.net d) (next_same ∙ same) legal))
-
-pub left-ended : {Q : Type 0} (side side' : RingSideIs Q) (n : ℕ) (done budget alone : Bool) (words : List ℕ) (a b c : List
-    RingEntry) (spent ended : Bool) → side' ≡ side
-    → spent ≡ (budget && is_due side.net (ring_after side.net a) n Spent) → LeftOrStood alone side.net n Spent a b spent → spent ≡ false
-    → ended ≡ (done && is_due side'.net (ring_after side'.net b) n Ended) → LeftOrStood alone side'.net n Ended b c ended → ended ≡ true
-    → (cause_due side.net (ring_after side.net a) n done budget ≡ Some Ended)
-    × HandedOn alone side.net n done words (cause_due side.net (ring_after side.net a) n done budget) a c
-left-ended {Q} side side' n done budget alone words a b c spent ended same one did_one not_one two did_two is =
-    left-at side.net n done budget alone words a b c spent ended one did_one not_one
-    (subst (λ (s : RingSideIs Q). ended ≡ (done && is_due s.net (ring_after s.net b) n Ended)) same two)
-    (subst (λ (s : RingSideIs Q). LeftOrStood alone s.net n Ended b c ended) same did_two) is

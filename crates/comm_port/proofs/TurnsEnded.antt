@@ -25,16 +25,6 @@ use Rattle.comm_port.proofs.RingTurns.{on-ring}
 use Rattle.comm_port.proofs.Made.{ram-still}
 use Rattle.comm_port.proofs.Served.{waiting-as}
 
-pub rested-of : {P Q : Type 0} (n : ℕ) (ram : RamSideIs P) (known : List Entry) (side : RingSideIs Q) (ring : List RingEntry) (w :
-    List (Option Frame)) → Turning n [] ram known side ring w → Rested n ram known side ring w
-rested-of n ram known side ring w t = record {
-  node = t.node;
-  serves = t.own_turn.serves;
-  on = t.own_turn.on;
-  tied = tied-all AController (items_of known) (own n ring) t.tied;
-  waits = t.waits;
-}
-
 -- the last entry says nothing to the laws
 last-tied : (n : ℕ) (done : Bool) (words : List ℕ) (cause : Option LeaveCause) (a : Items) (b : List RingEntry) → TiedBut
     AController [] a b → TiedBut AController [] a (b ++ last_entry n done words cause ∷ [])

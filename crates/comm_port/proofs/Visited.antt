@@ -12,7 +12,7 @@ use Rattle.ring_core.specs.declared.frame.Frame.{Frame}
 use Rattle.ring_core.specs.declared.entry.RingEntry.{RingEntry}
 use Rattle.ring_core.specs.Words.{is_same_call}
 use Rattle.ring_core.specs.Legal.{IsLegal}
-use Rattle.tied_lists.specs.Own.{is_of, own, WentOn, Grew}
+use Rattle.tied_lists.specs.Own.{own, WentOn}
 use Rattle.tied_lists.specs.Items.{Called, Kind, Ended, Items}
 use Rattle.tied_lists.specs.Items.{Came, kind_in, asked_by, last_asked}
 use Rattle.tied_lists.specs.Calls.{AreNewCalls}
@@ -21,10 +21,9 @@ use Rattle.tied_lists.proofs.Asked.{waiting-last, no-end-push, kind-more}
 use Rattle.comm_port.specs.Sides.{RingSideIs, RamSideIs}
 use Rattle.comm_port.specs.Reading.{is_ours, items_of}
 use Rattle.comm_port.specs.Sending.{GaveUp}
-use Rattle.comm_port.specs.Turns.{KeepsInbox}
 use Rattle.comm_port.specs.Making.{Owing}
 use Rattle.comm_port.proofs.Items.{items-one}
-use Rattle.comm_port.proofs.Given.{Waits, given-lead-but, stays-lead}
+use Rattle.comm_port.proofs.Given.{Waits, given-lead-but}
 use Rattle.comm_port.proofs.Made.{asked-before, known-net, out-before}
 
 same-eq : (a b : CallId) → is_same_call a b ≡ true → a ≡ b
@@ -73,14 +72,3 @@ owing-given {P} {Q} rest alone alone' n p id word ram ram' known known' side sid
       fresh = subst (λ (a : Items). AreNewCalls n o.earlier a.ends rest) (sym items_is) (ends-of-known n o.earlier (items_of
           known).ends rest ended made.0 made.1 o.fresh);
     }
-
-pub owing-still : {P Q : Type 0} (alone : Bool) (n : ℕ) (rest : List Called) (ram : RamSideIs P) (known : List Entry) (side side'
-    : RingSideIs Q) (ring ring' : List RingEntry) (w : List (Option Frame)) → side' ≡ side → IsLegal side.net ring' → KeepsInbox
-    side.net n ring ring'
-    → Grew alone (is_of n) ring [] ring' → Owing n rest ram known side ring w → Owing n rest ram known side' ring' w
-owing-still alone n rest ram known side side' ring ring' w same legal kept grew o = record {
-  turning = stays-lead alone n rest ram known side side' ring ring' w same legal kept grew o.turning;
-  earlier = o.earlier;
-  calls_are = o.calls_are;
-  fresh = o.fresh;
-}

@@ -36,8 +36,8 @@ use Rattle.comm_port.specs.Replies.{reply_frame}
 abbrev pub inbox_of : NetPlan → ℕ → List RingEntry → List Frame
 inbox_of net n ring = (ring_node (ring_after net ring) n).inbox
 
--- A frame is served: it is taken, and a Reply finishes its call; to a request for statistics the
--- port does what is asked and posts its Reply, to another the controller answers and that is posted.
+-- A frame is served: it is taken, and a Reply finishes its call. A request for statistics has the
+-- port do what is asked and post its Reply; another is answered by the controller, and posted.
 abbrev pub ServedAs : FrameKind → Bool → ℕ → Frame → List Entry → List RingEntry → Type 0
 ServedAs Reply stats n f noted done = (result : MstrResult) × (noted ≡ Finish f.id result ∷ [])
     × (done ≡ Take n f ∷ [])

@@ -20,3 +20,4 @@ pub mod Serving
 pub mod Calling
 pub mod Giving
 pub mod Visiting
+pub mod TurnTests

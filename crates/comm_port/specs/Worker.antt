@@ -30,8 +30,8 @@ pub record IsMemberWorker (net : NetPlan) (n : ℕ) : Type 0 where
   pub answer : 0 < net.answer
 
 -- A worker stands between two turns: its node is that of the controller, its net that of the ring,
--- the lists of both are tied, its Requests are those of its node's own list, and nothing of the node
--- is to be sent or has failed.
+-- the lists of both are tied, its Requests are those of its node's own list, and nothing of the
+-- node is to be sent or has failed.
 pub record Standing {P Q : Type 0} (w : WorkerIs) (ram : RamSideIs P) (known : List Entry)
     (side : RingSideIs Q) (ring : List RingEntry) : Type 0 where
   pub node : ram.fixed.plan.node ≡ w.node

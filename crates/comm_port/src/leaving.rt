@@ -20,8 +20,8 @@ fn leave_if_due<R: RingSide>(node: u8, cause: LeaveCause, ring: &mut R) -> Resul
         ≡ [] }
     requires taken { (ring_node (ring_after (R.side ring.old).net (R.known ring.old)) node).inbox
         ≡ [] }
-    ensures due { IfOk result (λ left. left
-        ≡ is_due (R.side ring.old).net (ring_after (R.side ring.old).net (R.known ring.old)) node cause) }
+    ensures due { IfOk result (λ left. left ≡ is_due (R.side ring.old).net
+        (ring_after (R.side ring.old).net (R.known ring.old)) node cause) }
     ensures did { IfOk result (LeftOrStood R.alone (R.side ring.old).net node cause
         (R.known ring.old) (R.known ring.new)) }
     ensures legal { IsLegal (R.side ring.old).net (R.known ring.new) }
@@ -49,8 +49,8 @@ fn leave_if<R: RingSide>(
         ≡ [] }
     requires taken { (ring_node (ring_after (R.side ring.old).net (R.known ring.old)) node).inbox
         ≡ [] }
-    ensures due { IfOk result (λ left. left ≡ (wants
-        && is_due (R.side ring.old).net (ring_after (R.side ring.old).net (R.known ring.old)) node cause)) }
+    ensures due { IfOk result (λ left. left ≡ (wants && is_due (R.side ring.old).net
+        (ring_after (R.side ring.old).net (R.known ring.old)) node cause)) }
     ensures did { IfOk result (LeftOrStood R.alone (R.side ring.old).net node cause
         (R.known ring.old) (R.known ring.new)) }
     ensures legal { IsLegal (R.side ring.old).net (R.known ring.new) }

@@ -16,6 +16,8 @@ mod sending;
 mod serving;
 mod short;
 mod taking;
+#[cfg(test)]
+mod turn_tests;
 mod visiting;
 mod waiting;
 mod worker;

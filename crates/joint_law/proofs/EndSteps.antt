@@ -42,10 +42,6 @@ pub or_kind-assoc : (a b c : Option Kind) → or_kind (or_kind a b) c ≡ or_kin
 or_kind-assoc None b c = refl
 or_kind-assoc (Some k) b c = refl
 
-pub or_kind-none : (a : Option Kind) → or_kind a None ≡ a
-or_kind-none None = refl
-or_kind-none (Some k) = refl
-
 or_some-assoc : (a b c : Option (List ℕ)) → or_some (or_some a b) c ≡ or_some a (or_some b c)
 or_some-assoc None b c = refl
 or_some-assoc (Some k) b c = refl

@@ -76,9 +76,6 @@ said-any before after n words = list_any-append says_done before (Pass n true wo
 around : (xs : List RingEntry) (k : ℕ) (d : RingEntry) → k < length xs → xs ≡ take k xs ++ get_or xs k d ∷ drop (k + 1) xs
 around xs k d low = sym (take-append-drop k xs) ∙ ap (λ (l : List RingEntry). take k xs ++ l) (drop_more xs k d low)
 
-replied-of : (n : ℕ) (done : Bool) (words : List ℕ) (before : List RingEntry) → NodeAllows before (Pass n done words) → HasReplied (progress_of before) (Pass n done words)
-replied-of n done words before fits = fits.replied
-
 -- each entry of a node fits where it replies before its Passes, and stays done
 pub replies-from : (b : List RingEntry) → EachAllows NodeAllows b → RepliesBeforePasses b
 replies-from b each before after n done words is = (each before after (Pass n done words) is).replied

@@ -3,8 +3,7 @@ use Rattle.std.proofs.Common.{◌≡◌, ℕ, ◌+◌, ◌<◌, ◌≤◌, true,
 use Rattle.std.proofs.Common.{Option, Some, None}
 use Rattle.std.proofs.Common.{refl, sym, ap, subst, ◌∙◌, ⊎_elim, arith}
 use Rattle.std.specs.List.{All, Any}
-use Rattle.std.proofs.Common.{◌≢◌}
-use Rattle.std.proofs.lemmas.Bool.{cases_eq, cases_lt}
+use Rattle.std.proofs.lemmas.Bool.{cases_lt}
 use Rattle.std.proofs.Math.ListN.{get_or-map}
 use Rattle.std.proofs.lemmas.List.{get_or_read, get_or_append_left, get_or-append-add}
 use Rattle.std.proofs.lemmas.List.{length-append, length-map}
@@ -74,20 +73,9 @@ any-left P xs ys a = (a.0, a.1, let n = length-append xs ys in let l = a.2 in om
 any-right : {X : Type 0} (P : X → Type 0) (xs ys : List X) → Any P ys → Any P (xs ++ ys)
 any-right P xs ys a = (length xs + a.0, a.1, let n = length-append xs ys in let l = a.2 in omega (arith, n, l), get_or-append-add xs ys a.0 a.1 ∙ a.3, a.4)
 
-pub first-end : (law : Law) (node : ℕ) (xs ys : List Bound) (place : ℕ) → IsLogsEnd law node xs (Some place) → IsLogsEnd law node (xs ++ ys) (Some place)
-first-end law node xs ys place a = any-left (λ (s : Bound). (s.node ≡ node) × Breaks law s (place + 1)) xs ys a
-
 pub joined-end : (law : Law) (node : ℕ) (xs ys : List Bound) (end : Option ℕ) → IsLogsEnd law node xs None → IsLogsEnd law node ys end → IsLogsEnd law node (xs ++ ys) end
 joined-end law node xs ys None all more = All-append (λ (s : Bound). s.node ≡ node → Keeps law s) xs ys all more
 joined-end law node xs ys (Some place) all any = any-right (λ (s : Bound). (s.node ≡ node) × Breaks law s (place + 1)) xs ys any
-
--- addresses so far, and one more
-pub nodes-more : (law : Law) (stations : List Bound) (node : ℕ) → All (λ (s : Bound). s.node < node → Keeps law s) stations → All (λ (s : Bound). s.node ≡ node → Keeps law s) stations
-    → All (λ (s : Bound). s.node < node + 1 → Keeps law s) stations
-nodes-more law stations node before here k d low less =
-    ⊎_elim (λ (same : (get_or stations k d).node ≡ node). here k d low same)
-    (λ (apart : (get_or stations k d).node ≢ node). before k d low (omega arith))
-    (cases_eq (get_or stations k d).node node)
 
 pub keeps-joined : (answers : List Answered) (ring : List RingEntry) → map item_of answers ≡ plain_items (taken_by ring) → map item_of (port_answers ring) ≡ stats_items (taken_by ring)
     → answered_in_order answers ring ≡ taken_in_order ring

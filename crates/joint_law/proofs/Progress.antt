@@ -24,10 +24,6 @@ use Rattle.joint_law.specs.declared.completing.Progress.{Progress}
 use Rattle.joint_law.specs.Split.{entry_at, picked}
 use Rattle.joint_law.proofs.Lists.{filter_map-push}
 
-option-size : {X : Type 0} → Option X → ℕ
-option-size None = 0
-option-size (Some x) = 1
-
 size-push : {Y : Type 0} (f : RingEntry → Option Y) (b : List RingEntry) (e : RingEntry) (o : Option Y) → f e ≡ o
     → length (filter_map f (b ++ e ∷ [])) ≡ length (filter_map f b) + length (cons_option o [])
 size-push f b e o is = ap length (filter_map-push f b e) ∙ (length-append (filter_map f b) (cons_option (f e) [])

@@ -23,11 +23,12 @@ pub record IsHostNodeDone (plan : HostPlan) (is_done : Bool) (b : List RingEntry
   pub node : IsNodeDone is_done b
   pub asks : EachAllows (HostAllows plan) b
 
--- All controllers of a node were, and all hosts.
+-- All controllers of a node were.
 abbrev pub AreControllersDone : List ControllerLog → List Bool → ℕ → List RingEntry → Type 0
 AreControllersDone logs done node b = (k : ℕ) (d : ControllerLog) → k < length logs
     → (get_or logs k d).node ≡ node → IsNodeDone (get_or done k false) b
 
+-- And all hosts.
 abbrev pub AreHostNodesDone : List HostPlan → List HostLog → List Bool → ℕ → List RingEntry
     → Type 0
 AreHostNodesDone plans logs done node b = (k : ℕ) (p : HostPlan) (d : HostLog) → k < length logs

@@ -16,8 +16,9 @@ use Rattle.joint_law.specs.declared.courses.Courses.TheVariants.{Breaks, Whole}
 pub record AreDone (plant : Plant) (scans : ℕ) (joint : Joint) (done : List Bool) : Type 0 where
   pub size : length done ≡ length plant.controllers
   pub each : (k : ℕ) (plan : ControllerPlan) (log : ControllerLog) → k < length plant.controllers
-      → IsTrue (get_or done k false) ↔ ControllerIsComplete
-      (fixed_of plant scans (get_or plant.controllers k plan)) (get_or joint.controllers k log).entries
+      → IsTrue (get_or done k false)
+      ↔ ControllerIsComplete (fixed_of plant scans (get_or plant.controllers k plan))
+      (get_or joint.controllers k log).entries
 
 -- And each host, of what it asked.
 pub record AreHostsDone (plant : Plant) (joint : Joint) (done : List Bool) : Type 0 where
@@ -33,6 +34,7 @@ ControllersEnd plant scans joint (Breaks node place) =
 ControllersEnd plant scans joint (Whole done) =
     AreLegalLogs plant scans joint × AreDone plant scans joint done
 
+-- The same of the hosts.
 abbrev pub HostsEnd : Plant → ℕ → Joint → Courses → Type 0
 HostsEnd plant scans joint (Breaks node place) = HostSpot plant scans joint node (place + 1)
 HostsEnd plant scans joint (Whole done) =

@@ -22,6 +22,7 @@ pub record Bound : Type 0 where
   pub items : Items
   pub ring : List RingEntry
 
+-- A controller, by its list.
 abbrev pub controller_bound : List RingEntry → ControllerLog → Bound
 controller_bound ring log = record {
   node = log.node;
@@ -30,6 +31,7 @@ controller_bound ring log = record {
   ring = own log.node ring;
 }
 
+-- A host, by its list.
 abbrev pub host_bound : List RingEntry → HostLog → Bound
 host_bound ring log = record {
   node = log.node;
@@ -56,9 +58,11 @@ pub record Sorted : Type 0 where
   pub statistics : Bool
   pub item : Item
 
+-- An item, and whether it is for statistics.
 abbrev pub sorted : Bool → Item → Sorted
 sorted statistics item = record { statistics = statistics; item = item }
 
+-- The item of an answer.
 abbrev pub sorted_answer : Bool → Answered → Sorted
 sorted_answer statistics a = sorted statistics (item_of a)
 

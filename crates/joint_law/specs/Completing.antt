@@ -17,6 +17,7 @@ abbrev pub says_done : RingEntry → Bool
 says_done (Pass n done words) = done
 says_done _ = false
 
+-- A Leave.
 abbrev pub is_leave : RingEntry → Bool
 is_leave (Leave n cause) = true
 is_leave _ = false
@@ -36,13 +37,16 @@ abbrev pub posted_next : Progress → FrameKind → Progress
 posted_next p Request = record p { asked = p.asked + 1 }
 posted_next p Reply = record p { replied = p.replied + 1 }
 
+-- A Request that was taken counts.
 abbrev pub taken_next : Progress → FrameKind → Progress
 taken_next p Request = record p { taken = p.taken + 1 }
 taken_next p Reply = p
 
+-- A Pass counts, and may say done.
 abbrev pub passed_next : Progress → Bool → Progress
 passed_next p done = record p { passes = p.passes + 1; is_done = p.is_done || done }
 
+-- Every other entry counts nothing.
 abbrev pub progress_next : Progress → RingEntry → Progress
 progress_next p (Post n f) = posted_next p f.kind
 progress_next p (Take n f) = taken_next p f.kind
@@ -56,24 +60,27 @@ pub record IsShort (p : Progress) : Type 0 where
   pub replied : p.replied + 1 < 2 ^ 64
   pub taken : p.taken + 1 < 2 ^ 64
 
--- A Pass needs that all was replied to, and a node that is done does nothing more.
+-- A Pass needs that all was replied to.
 abbrev pub HasReplied : Progress → RingEntry → Type 0
 HasReplied p (Pass n done words) = p.replied ≡ p.taken
 HasReplied p _ = Unit {0}
 
+-- An entry fits what its node has done.
 pub record NodeFits (p : Progress) (e : RingEntry) : Type 0 where
   pub replied : HasReplied p e
   pub done : p.is_done ≡ true → IsOfDone e
 
--- A host asks nothing too early, and is done only once it has asked all.
+-- A host asks nothing too early.
 abbrev pub IsInHold : HostPlan → Progress → Type 0
 IsInHold plan p =
     (ask : HostAsk) → slice_get plan.requests p.asked ≡ Some ask → ask.hold ≤ 1 + p.passes
 
+-- A Request that is posted is in its hold.
 abbrev pub AskFits : HostPlan → Progress → FrameKind → Type 0
 AskFits plan p Request = IsInHold plan p
 AskFits plan p Reply = Unit {0}
 
+-- An entry fits what its host has done.
 abbrev pub HostFits : HostPlan → Progress → RingEntry → Type 0
 HostFits plan p (Post n f) = AskFits plan p f.kind
 HostFits plan p (Pass n done words) = done ≡ true → p.asked ≡ length plan.requests
@@ -83,6 +90,7 @@ HostFits plan p _ = Unit {0}
 abbrev pub NodeAllows : List RingEntry → RingEntry → Type 0
 NodeAllows before e = NodeFits (progress_of before) e
 
+-- And of a host.
 abbrev pub HostAllows : HostPlan → List RingEntry → RingEntry → Type 0
 HostAllows plan before e = HostFits plan (progress_of before) e
 

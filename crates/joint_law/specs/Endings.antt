@@ -35,6 +35,7 @@ abbrev pub NotesKind : ByCall EndKind → CallId → Kind → ByCall EndKind →
 NotesKind old id kind new = (q : CallId)
     → kind_at new q ≡ or_kind (kind_at old q) (if is_same_call id q then Some kind else None)
 
+-- Calls were noted, one after another.
 abbrev pub NotesCalls : ByCall EndKind → List Called → ByCall EndKind → Type 0
 NotesCalls old calls new =
     (q : CallId) → kind_at new q ≡ or_kind (kind_at old q) (kind_in calls q)
@@ -44,6 +45,7 @@ abbrev pub pdu_for : CallId → Option Asked → Option (List ℕ)
 pdu_for id None = None
 pdu_for id (Some a) = if is_same_call a.id id then Some a.pdu else None
 
+-- It was noted.
 abbrev pub NotesAsk : ByCall (List ℕ) → Option Asked → ByCall (List ℕ) → Type 0
 NotesAsk old asked new = (q : CallId) → value_at new q ≡ or_some (pdu_for q asked) (value_at old q)
 
@@ -53,13 +55,15 @@ end_with kinds (entries.Finish id result) =
     Some (record { id = id; kind = kinds id; outcome = Came result })
 end_with kinds _ = None
 
+-- And that a host's entry tells.
 abbrev pub host_end_with : (CallId → Option Kind) → HostEntry → Option Ended
 host_end_with kinds (host_entries.Answer id result) =
     Some (record { id = id; kind = kinds id; outcome = outcome_of result })
 host_end_with kinds _ = None
 
 -- The end that an entry of the ring gives.
-abbrev pub ended_with_frame : Station → (CallId → Option (List ℕ)) → FrameKind → Frame → Option Ended
+abbrev pub ended_with_frame : Station → (CallId → Option (List ℕ))
+    → FrameKind → Frame → Option Ended
 ended_with_frame station asked Request f = None
 ended_with_frame station asked Reply f = Some (record {
   id = f.id;
@@ -67,6 +71,7 @@ ended_with_frame station asked Reply f = Some (record {
   outcome = outcome_of_reply station (asked f.id) f.pdu;
 })
 
+-- The same of any entry.
 abbrev pub ended_with : Station → (CallId → Option (List ℕ)) → RingEntry → Option Ended
 ended_with station asked (Take n f) = ended_with_frame station asked f.kind f
 ended_with station asked (Local n id op result) = ended_at_home n id op result

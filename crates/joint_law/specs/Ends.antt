@@ -11,9 +11,11 @@ use Rattle.tied_lists.specs.Items.{Called, Ended}
 use Rattle.joint_law.specs.Named.{value_at}
 use Rattle.joint_law.specs.declared.by_call.ByCall.{ByCall}
 
+-- The name of a call.
 abbrev pub id_of_call : Called → CallId
 id_of_call call = call.id
 
+-- The name of a call that ended.
 abbrev pub id_of_end : Ended → CallId
 id_of_end end = end.id
 
@@ -22,6 +24,7 @@ abbrev pub end_id_in : Entry → Option CallId
 end_id_in (Finish id result) = Some id
 end_id_in _ = None
 
+-- And of a host's.
 abbrev pub host_end_id_in : HostEntry → Option CallId
 host_end_id_in (Answer id result) = Some id
 host_end_id_in _ = None
@@ -30,6 +33,7 @@ host_end_id_in _ = None
 abbrev pub ends_of : List CallId → CallId → ℕ
 ends_of ends call = count_by (λ (id : CallId). is_same_call id call) ends
 
+-- It ends once.
 abbrev pub EndsOnce : List CallId → CallId → Type 0
 EndsOnce ends call = ends_of ends call ≡ 1
 

@@ -8,14 +8,17 @@ use Rattle.joint_law.specs.declared.ending.Outcome.TheVariants as ends
 use Rattle.joint_law.specs.declared.ending.Sort.{Sort}
 use Rattle.joint_law.specs.declared.ending.Sort.TheVariants.{Controller, Host}
 
+-- What a station is.
 abbrev pub station_of : Sort → Station
 station_of Controller = AController
 station_of Host = AHost
 
+-- The kind of a call that ended.
 abbrev pub kind_as : EndKind → Kind
 kind_as kinds.Net = NetCall
 kind_as (kinds.Home op) = LocalCall op
 
+-- What it ended with.
 abbrev pub outcome_as : End → Outcome
 outcome_as (ends.Came result) = Came result
 outcome_as (ends.Replied pdu) = Replied pdu

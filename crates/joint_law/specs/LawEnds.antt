@@ -30,6 +30,7 @@ pub record IsBreak (law : Law) (stations : List Bound) (spot : Spot) : Type 0 wh
 abbrev pub AllKeep : Law → List Bound → Type 0
 AllKeep law stations = All (λ (s : Bound). s.node < addresses → Keeps law s) stations
 
+-- All keep it, or one of them breaks it.
 abbrev pub IsNodesEnd : Law → List Bound → Option Spot → Type 0
 IsNodesEnd law stations None = AllKeep law stations
 IsNodesEnd law stations (Some spot) = IsBreak law stations spot
@@ -40,6 +41,7 @@ pub record IsFirstBreak (stations : List Bound) (spot : Spot) : Type 0 where
   pub laws : (other : Law) → number_of other < number_of law → AllKeep other stations
   pub breaks : IsBreak law stations spot
 
+-- All laws are kept, or one is broken.
 abbrev pub IsLawsEnd : List Bound → Option Spot → Type 0
 IsLawsEnd stations None = (law : Law) → AllKeep law stations
 IsLawsEnd stations (Some spot) = IsFirstBreak stations spot

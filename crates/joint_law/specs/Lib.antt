@@ -8,6 +8,7 @@ pub mod Courses
 pub mod Differing
 pub mod Endings
 pub mod Ends
+pub mod Example
 pub mod Kinds
 pub mod LawEnds
 pub mod Named

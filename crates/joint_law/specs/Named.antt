@@ -5,6 +5,7 @@ use Rattle.mstr_block.specs.Call.{is_same_call}
 use Rattle.mstr_block.specs.declared.call.CallId.{CallId}
 use Rattle.joint_law.specs.declared.by_call.ByCall.{ByCall}
 
+-- Two keys are one.
 abbrev pub is_same_key : ℕ × (ℕ × ℕ) → ℕ × (ℕ × ℕ) → Bool
 is_same_key x y = nat_eq x.0 y.0 && (nat_eq x.1.0 y.1.0 && nat_eq x.1.1 y.1.1)
 

@@ -12,6 +12,7 @@ abbrev pub calls_in : Entry → List Called
 calls_in (entries.Collect calls) = map called_of calls
 calls_in _ = []
 
+-- And that of a host.
 abbrev pub host_call_in : HostEntry → Option Called
 host_call_in (host_entries.Ask id to pdu) = Some (record { id = id; sort = OverNet to pdu })
 host_call_in _ = None
@@ -22,6 +23,7 @@ answer_in (entries.Peer id request reply) =
     Some (record { id = id; request = Some request; reply = reply })
 answer_in _ = None
 
+-- And that of a host.
 abbrev pub host_answer_in : HostEntry → Option Answered
 host_answer_in (host_entries.Served id request reply) =
     Some (record { id = id; request = Some request; reply = reply })

@@ -14,6 +14,7 @@ AreWithin ring places = All (λ p. p < length ring) places
 abbrev pub entry_at : List RingEntry → ℕ → RingEntry
 entry_at ring place = get_or ring place (Leave 0 Ended)
 
+-- The entries at some places.
 abbrev pub picked : List RingEntry → List ℕ → List RingEntry
 picked ring places = map (entry_at ring) places
 

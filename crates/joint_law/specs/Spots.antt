@@ -33,18 +33,20 @@ pub record HasSections (plant : Plant) (joint : Joint) : Type 0 where
       ≡ controller_nodes plant
   pub hosts : map (λ (log : HostLog). log.node) joint.hosts ≡ host_nodes plant
 
--- Each controller of a plant with its list, and each host with its.
+-- Each controller of a plant with its list.
 abbrev pub controllers_of : Plant → Joint → List (ControllerPlan × ControllerLog)
 controllers_of plant joint = zip plant.controllers joint.controllers
 
+-- And each host.
 abbrev pub hosts_of : Plant → Joint → List (HostPlan × HostLog)
 hosts_of plant joint = zip plant.hosts joint.hosts
 
--- The lists of all controllers are legal, and those of all hosts.
+-- The lists of all controllers are legal.
 abbrev pub AreLegalLogs : Plant → ℕ → Joint → Type 0
 AreLegalLogs plant scans joint =
     AllZip (IsLegalLog plant scans) plant.controllers joint.controllers
 
+-- And those of all hosts.
 abbrev pub AreLegalHostLogs : Plant → Joint → Type 0
 AreLegalHostLogs plant joint = AllZip IsLegalHostLog plant.hosts joint.hosts
 

@@ -8,12 +8,13 @@ abbrev pub items_for : Bool → List Taken → List Item
 items_for true taken = stats_items taken
 items_for false taken = plain_items taken
 
--- What is left of the answers of a station, and of its port, behind them.
+-- What is left of the answers of a station behind them.
 abbrev pub left_plain : List Taken → List (List ℕ) → List (List ℕ)
 left_plain [] peers = peers
 left_plain (Plain id pdu ∷ ts) peers = left_plain ts (rest_of peers)
 left_plain (ForStats id pdu ∷ ts) peers = left_plain ts peers
 
+-- And of its port.
 abbrev pub left_stats : List Taken → List (List ℕ) → List (List ℕ)
 left_stats [] locals = locals
 left_stats (Plain id pdu ∷ ts) locals = left_stats ts locals

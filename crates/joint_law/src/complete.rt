@@ -1,10 +1,9 @@
 //! The first station that was not done.
 ghost use Rattle.std.specs.Prelude.{◌≡◌, ◌↔◌, ℕ, [], get_or, length, IsTrue};
-ghost use Rattle.comm_port.specs.declared.joint.ControllerLog.{ControllerLog as AnyLog};
 ghost use Rattle.plant_types.specs.Plans.{IsPlant};
 ghost use Rattle.joint_law.specs.AllCourses.{AreDone, AreHostsDone};
-ghost use Rattle.joint_law.specs.AllComplete.{AreControllersDone, AreHostNodesDone, IsFirstIncomplete};
-ghost use Rattle.joint_law.specs.AllComplete.{IsHostNodeDone, IsNodeDone};
+ghost use Rattle.joint_law.specs.AllComplete.{AreControllersDone, AreHostNodesDone};
+ghost use Rattle.joint_law.specs.AllComplete.{IsFirstIncomplete, IsHostNodeDone, IsNodeDone};
 ghost use Rattle.joint_law.specs.Spots.{HasSections, IsCompleteAt};
 ghost use Rattle.joint_law.specs.Split.{IsSplit, picked};
 

@@ -118,7 +118,7 @@ fn node_breaks(
     host_logs_break(alloc, law, ring, lists, node, joint.hosts.as_slice())
 }
 
-/// A place, counted from 1; no memory holds more than these numbers count.
+/// A place, counted from 1. A spot has no number for more of them, and then memory is wanting.
 pub(crate) fn number(place: usize) -> Result<u32, AllocError>
     ensures { IfOk result (λ number. number ≡ place + 1) }
 {

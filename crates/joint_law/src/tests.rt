@@ -1,6 +1,7 @@
 //! Joint histories of a controller and of a host that asks it for a register, and what one change
 //! makes of them.
-ghost use Rattle.std.specs.Prelude.{IfOk};
+ghost use Rattle.std.specs.Prelude.{◌≡◌, ◌∷◌, [], IfOk};
+ghost use Rattle.joint_law.specs.Example.{controller_plan, host_plan, net_plan};
 ghost use Rattle.joint_law.specs.Spots.{CanBeJudged};
 
 use crate::{Spot, Verdict, judge};
@@ -46,7 +47,9 @@ const REPLY: [u8; 4] = [3, 2, 0, 0];
 
 const ANOTHER_REPLY: [u8; 4] = [3, 2, 0, 1];
 
-fn pdu_of(alloc: Global, bytes: &[u8]) -> Result<Pdu, AllocError> {
+fn pdu_of(alloc: Global, bytes: &[u8]) -> Result<Pdu, AllocError>
+    ensures { IfOk result (λ pdu. pdu ≡ bytes.now) }
+{
     match Pdu::of(alloc, bytes)? {
         Some(pdu) => Ok(pdu),
         None => Err(AllocError),
@@ -54,7 +57,9 @@ fn pdu_of(alloc: Global, bytes: &[u8]) -> Result<Pdu, AllocError> {
 }
 
 /// A controller of 16 registers, which solves nothing.
-fn controllers(alloc: Global) -> Result<List<ControllerPlan>, AllocError> {
+fn controllers(alloc: Global) -> Result<List<ControllerPlan>, AllocError>
+    ensures { IfOk result (λ plans. plans ≡ controller_plan ∷ []) }
+{
     let mut plans = List::new(alloc);
     plans.push(ControllerPlan {
         node: 1,
@@ -71,7 +76,9 @@ fn controllers(alloc: Global) -> Result<List<ControllerPlan>, AllocError> {
 }
 
 /// A host that asks for its first register at once.
-fn hosts(alloc: Global) -> Result<List<HostPlan>, AllocError> {
+fn host(alloc: Global) -> Result<HostPlan, AllocError>
+    ensures { IfOk result (λ plan. plan ≡ host_plan) }
+{
     let mut requests = List::new(alloc);
     let pdu = pdu_of(alloc, &REQUEST)?;
     requests.push(HostAsk {
@@ -79,12 +86,20 @@ fn hosts(alloc: Global) -> Result<List<HostPlan>, AllocError> {
         to: 1,
         pdu,
     })?;
+    Ok(HostPlan { node: 2, requests })
+}
+
+fn hosts(alloc: Global) -> Result<List<HostPlan>, AllocError>
+    ensures { IfOk result (λ plans. plans ≡ host_plan ∷ []) }
+{
     let mut plans = List::new(alloc);
-    plans.push(HostPlan { node: 2, requests })?;
+    plans.push(host(alloc)?)?;
     Ok(plans)
 }
 
-fn net(alloc: Global) -> Result<NetPlan, AllocError> {
+fn net(alloc: Global) -> Result<NetPlan, AllocError>
+    ensures { IfOk result (λ net. net ≡ net_plan) }
+{
     let mut members = List::new(alloc);
     members.push(1)?;
     members.push(2)?;

@@ -1,10 +1,9 @@
 -- Calls that are read one after the other, as a loop does.
-use Rattle.std.proofs.Common.{◌≡◌, ℕ, ◌+◌, ◌<◌, Bool, true, false, cond, ◌⊎◌, inl, inr}
-use Rattle.std.proofs.Common.{List, [], ◌∷◌, ◌++◌, length, Option, Some, None, refl, sym, ap, subst}
-use Rattle.std.proofs.Common.{◌∙◌, arith, append_assoc}
+use Rattle.std.proofs.Common.{◌≡◌, ℕ, true, false, inl, inr}
+use Rattle.std.proofs.Common.{List, [], ◌∷◌, ◌++◌, Option, Some, None, refl, sym, ap, subst, ◌∙◌}
+use Rattle.std.proofs.Common.{append_assoc}
 use Rattle.std.specs.Prelude.{◌==◌}
-use Rattle.std.specs.List.{slice_split, onto_first}
-use Rattle.std.proofs.lemmas.List.{append-nil}
+use Rattle.std.specs.List.{slice_split}
 use Rattle.controller_core.specs.declared.call.Call.{Call}
 use Rattle.journal_text.specs.declared.cutting.LineFault.{LineFault}
 use Rattle.journal_text.specs.declared.cutting.LineFault.TheVariants as faults

@@ -1,9 +1,8 @@
 -- Operations, results and calls are read as they are written.
-use Rattle.std.proofs.Common.{◌≡◌, ◌≢◌, ℕ, zero, suc, ◌<◌, ◌≤◌, Bool, true, false, cond, ◌&&◌, ◌⊎◌}
-use Rattle.std.proofs.Common.{inl, inr}
-use Rattle.std.proofs.Common.{List, [], ◌∷◌, ◌++◌, length, Option, Some, None, All, map, refl, sym}
-use Rattle.std.proofs.Common.{ap, subst, ◌∙◌, arith, append_assoc}
-use Rattle.std.specs.Prelude.{codes, nat_le, ◌==◌, slice_index}
+use Rattle.std.proofs.Common.{◌≡◌, ◌≢◌, ℕ, true, false, cond, inl, inr}
+use Rattle.std.proofs.Common.{List, [], ◌∷◌, ◌++◌, length, Some, None, All, map, refl, sym, ap}
+use Rattle.std.proofs.Common.{subst, ◌∙◌, arith, append_assoc}
+use Rattle.std.specs.Prelude.{codes, ◌==◌, slice_index}
 use Rattle.std.specs.Fmt.{decimal}
 use Rattle.std.specs.List.{flat_map, join_with_byte, slice_split, AllByRecursion}
 use Rattle.std.specs.Str.{bytes_eq}
@@ -13,7 +12,6 @@ use Rattle.std.proofs.lemmas.List.{append-nil}
 use Rattle.std.proofs.lemmas.List.Splits.{join_with_byte-slice_split, length-slice_split}
 use Rattle.std.proofs.lemmas.List.Concat.{flat_map-cons}
 use Rattle.std.proofs.lemmas.List.Elements.{All-nil, All-cons, All-head, All-tail}
-use Rattle.mstr_block.specs.declared.call.CallId.{CallId}
 use Rattle.mstr_block.specs.declared.call.MstrResult.{MstrResult}
 use Rattle.mstr_block.specs.declared.call.MstrResult.TheVariants.{Good, Bad}
 use Rattle.ring_core.specs.declared.entry.LocalOp.{LocalOp}
@@ -21,13 +19,13 @@ use Rattle.ring_core.specs.declared.entry.LocalOp.TheVariants as ops
 use Rattle.controller_core.specs.declared.call.Call.{Call}
 use Rattle.controller_core.specs.declared.call.CallKind.{CallKind}
 use Rattle.controller_core.specs.declared.call.CallKind.TheVariants.{Net, Local}
-use Rattle.journal_text.specs.Fields.{hex_bytes, hex_words, hex_word, id_text, op_text, result_text}
+use Rattle.journal_text.specs.Fields.{hex_bytes, id_text, op_text, result_text}
 use Rattle.journal_text.specs.Lines.{kind_text, call_text}
 use Rattle.journal_text.specs.Journal.{IsOwnOp, IsPlainKind, IsPlainCall}
-use Rattle.journal_text.specs.Sizes.{IsId, IsPdu, IsSmall, IsWord, IsBlock, AreWords, FitsOp}
-use Rattle.journal_text.specs.Sizes.{FitsResult, FitsKind, FitsCall}
-use Rattle.journal_text.specs.Reading.{◌>>=◌, behind, cut, first_of, made, or_else, two, is_digit}
-use Rattle.journal_text.specs.Reading.{small_of, word_number, id_of, pdu_read}
+use Rattle.journal_text.specs.Sizes.{IsId, IsPdu, IsSmall, IsWord, FitsOp, FitsResult, FitsKind}
+use Rattle.journal_text.specs.Sizes.{FitsCall}
+use Rattle.journal_text.specs.Reading.{◌>>=◌, behind, two, is_digit, small_of, word_number}
+use Rattle.journal_text.specs.Reading.{pdu_read}
 use Rattle.journal_text.specs.ReadLines.{own_op_kinds, bare_op, own_op_of, op_of, result_kinds}
 use Rattle.journal_text.specs.ReadLines.{result_of, net_of, local_kind, kind_of}
 use Rattle.journal_text.specs.ReadLines.{call_from, call_of, each_of, calls_of, served_of, asked_of}
@@ -35,7 +33,7 @@ use Rattle.journal_text.specs.ReadLines.{named_of}
 use Rattle.journal_text.proofs.Ranges.{chosen, lies, all_lie, all-append, all-flat_map, outside}
 use Rattle.journal_text.proofs.Cuts.{some_is, bind_some, none_some, text_is}
 use Rattle.journal_text.proofs.ReadLaws.{IsField, IsKind, two_fields, made_field, lie_in}
-use Rattle.journal_text.proofs.ReadLaws.{kind_of_field, first_takes, widened}
+use Rattle.journal_text.proofs.ReadLaws.{kind_of_field, first_takes}
 use Rattle.journal_text.proofs.Numbers.{small_field, word_number_field, id_field}
 use Rattle.journal_text.proofs.Digits.{pdu_field, words_field, word_field, block_field}
 

@@ -1,10 +1,10 @@
 -- Bytes and words are read from hexadecimal digits as they are written.
-use Rattle.std.proofs.Common.{◌≡◌, ℕ, zero, suc, ◌+◌, ◌-◌, ◌*◌, ◌/◌, ◌%◌, ◌^◌, ◌<◌, ◌≤◌, Bool, true}
-use Rattle.std.proofs.Common.{false, not, ◌&&◌, ◌||◌, ◌⊎◌, inl, inr}
-use Rattle.std.proofs.Common.{List, [], ◌∷◌, ◌++◌, length, get_or, Option, Some, None, Result, Ok}
-use Rattle.std.proofs.Common.{Err, All, refl, sym, ap, subst, ◌∙◌, arith}
+use Rattle.std.proofs.Common.{◌≡◌, ℕ, ◌+◌, ◌*◌, ◌/◌, ◌%◌, ◌<◌, ◌≤◌, Bool, true, false, not, ◌&&◌}
+use Rattle.std.proofs.Common.{◌||◌, inl, inr}
+use Rattle.std.proofs.Common.{List, [], ◌∷◌, ◌++◌, length, Option, Some, None, Result, Ok, Err, All}
+use Rattle.std.proofs.Common.{refl, sym, ap, subst, ◌∙◌, arith}
 use Rattle.std.proofs.Common.{append_assoc, cond, unwrap_or}
-use Rattle.std.specs.Prelude.{codes, nat_le, nat_lt, ◌==◌, slice_index, option_map}
+use Rattle.std.specs.Prelude.{codes, nat_le, ◌==◌, slice_index, option_map}
 use Rattle.std.specs.Fmt.{digit_glyph}
 use Rattle.std.specs.List.{list_all, flat_map}
 use Rattle.std.specs.Str.{bytes_eq}
@@ -20,8 +20,7 @@ use Rattle.hex.specs.Hex.{encode_lower, encode_with, lower_digits, pair_value, v
 use Rattle.hex.specs.Hex.{◌>>=◌ as ◌>=>◌}
 use Rattle.hex.specs.declared.error.FromHexError.{FromHexError}
 use Rattle.hex.proofs.HexLemmas.{decode_of-encode_lower, decode_of-ok, decode_of-even}
-use Rattle.plant_types.specs.Words.{pdu_of, most_block_words, most_pdu_bytes, FitsBlock}
-use Rattle.plant_types.specs.Words.{IsPduLength}
+use Rattle.plant_types.specs.Words.{pdu_of, most_block_words, most_pdu_bytes}
 use Rattle.journal_text.specs.Fields.{small_digit, hex_byte, hex_word, hex_bytes, hex_words}
 use Rattle.journal_text.specs.Sizes.{IsSmall, IsWord, IsPdu, IsBlock, AreWords}
 use Rattle.journal_text.specs.Reading.{◌>>=◌, is_capital, decoded, bytes_of, pdu_read, joined}

@@ -1,8 +1,8 @@
 -- Words that were read from bytes are the words that the bytes are.
-use Rattle.std.proofs.Common.{◌≡◌, ℕ, suc, ◌+◌, ◌*◌, ◌/◌, ◌%◌, ◌^◌, ◌<◌, List, [], ◌∷◌, length}
-use Rattle.std.proofs.Common.{get_or, refl, arith, Option, Some, None}
+use Rattle.std.proofs.Common.{◌≡◌, ℕ, suc, ◌+◌, ◌*◌, ◌%◌, List, [], ◌∷◌, length, refl, arith, Some}
+use Rattle.std.proofs.Common.{None}
 use Rattle.byteorder.specs.Endian.{big_number, IsRead}
-use Rattle.journal_text.specs.Reading.{◌>>=◌, joined}
+use Rattle.journal_text.specs.Reading.{joined}
 
 pub joined_read : (bytes words : List ℕ) → length bytes ≡ 2 * length words → IsRead big_number 2 bytes words → joined bytes ≡ Some words
 joined_read [] [] long read = refl

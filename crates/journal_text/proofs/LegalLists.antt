@@ -1,6 +1,6 @@
 -- Each legal joint history is plain.
-use Rattle.std.proofs.Common.{◌≡◌, ◌≢◌, ◌⊎◌, ℕ, zero, suc, ◌<◌, ◌≤◌, ◌++◌, true, false, List, []}
-use Rattle.std.proofs.Common.{◌∷◌, length, map, is_some, refl, sym, ap, ◌∙◌, subst, arith, inl, inr}
+use Rattle.std.proofs.Common.{◌≡◌, ◌≢◌, ℕ, zero, suc, ◌++◌, true, List, []}
+use Rattle.std.proofs.Common.{◌∷◌, map, is_some, refl, sym, ◌∙◌, subst, arith, inr}
 use Rattle.std.specs.List.{All, AllZip, Contains, slice_get, slice_index_or}
 use Rattle.std.specs.List.Sorted.{IsStrictlyIncreasing}
 use Rattle.std.proofs.lemmas.Bool.{false≢true}
@@ -9,7 +9,6 @@ use Rattle.plant_types.specs.declared.net.NetPlan.{NetPlan}
 use Rattle.plant_types.specs.declared.net.HostPlan.{HostPlan}
 use Rattle.plant_types.specs.declared.plan.ControllerPlan.{ControllerPlan}
 use Rattle.plant_types.specs.declared.plan.Plant.{Plant}
-use Rattle.plant_types.specs.Plans.{IsNode, IsPlant}
 use Rattle.mstr_block.specs.declared.call.MstrAsk.{MstrAsk}
 use Rattle.mstr_block.specs.declared.call.MstrAsk.TheVariants.{Write, Read, LocalStats, ClearLocal}
 use Rattle.mstr_block.specs.declared.call.MstrAsk.TheVariants.{PutGlobal, GetGlobal, RemoteStats}
@@ -24,7 +23,6 @@ use Rattle.ring_core.specs.declared.entry.RingEntry.{RingEntry}
 use Rattle.ring_core.specs.declared.entry.RingEntry.TheVariants.{Post, Send, Take, Local, GiveUp}
 use Rattle.ring_core.specs.declared.entry.RingEntry.TheVariants.{Pass, Leave}
 use Rattle.ring_core.specs.Legal.{IsFrom, IsLawful, IsRun}
-use Rattle.ring_core.specs.Machine.{addresses}
 use Rattle.ring_laws.specs.Once.{IsRingHistory, OnlyItsTarget, ReplyToItsCaller}
 use Rattle.controller_core.specs.declared.call.Call.{Call}
 use Rattle.controller_core.specs.declared.fixed.Fixed.{Fixed}
@@ -35,9 +33,8 @@ use Rattle.controller_core.specs.Controller.{EachFits, Fits}
 use Rattle.controller_core.specs.Replay.{State, apply, start, table_of}
 use Rattle.comm_port.specs.declared.joint.ControllerLog.{ControllerLog}
 use Rattle.comm_port.specs.declared.joint.HostLog.{HostLog}
-use Rattle.comm_port.specs.declared.joint.Joint.{Joint}
-use Rattle.comm_port.specs.JointLaws.{IsLegalJoint, IsLegalLog, IsLegalHostLog}
-use Rattle.journal_text.specs.Journal.{IsPlain, IsPlainCall, IsPlainEntry, IsPlainFrame, IsPlainGot}
+use Rattle.comm_port.specs.JointLaws.{IsLegalLog, IsLegalHostLog}
+use Rattle.journal_text.specs.Journal.{IsPlainCall, IsPlainEntry, IsPlainFrame, IsPlainGot}
 use Rattle.journal_text.specs.Journal.{IsPlainKind, IsPlainRing}
 use Rattle.journal_text.specs.Laws.{LegalIsPlain}
 

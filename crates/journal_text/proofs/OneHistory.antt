@@ -1,16 +1,16 @@
 -- One text is the journal of one joint history.
-use Rattle.std.proofs.Common.{◌≡◌, ℕ, zero, suc, ◌<◌, ◌≤◌, List, ◌++◌, ◌∷◌, length, Option, Some}
-use Rattle.std.proofs.Common.{None, ◌⊎◌, inl, inr, refl, sym, ap, subst, ◌∙◌, arith}
+use Rattle.std.proofs.Common.{◌≡◌, ℕ, zero, suc, ◌<◌, List, length, Option, Some, None, ◌⊎◌, inl}
+use Rattle.std.proofs.Common.{inr, refl, sym, subst, ◌∙◌, arith}
 use Rattle.comm_port.specs.declared.joint.Joint.{Joint}
 use Rattle.journal_text.specs.declared.draft.Draft.{Draft}
 use Rattle.journal_text.specs.declared.draft.Draft.TheVariants as drafts
 use Rattle.journal_text.specs.Laws.{OneHistoryOfAText}
 use Rattle.journal_text.specs.Reading.{cut}
-use Rattle.journal_text.specs.Drafts.{ending, step}
+use Rattle.journal_text.specs.Drafts.{ending}
 use Rattle.journal_text.proofs.Cuts.{some_is, cut_parts, cut_lacks, shorter}
 use Rattle.journal_text.proofs.Steps.{IsHistory, history_of, Goes}
 use Rattle.journal_text.proofs.StepGoes.{step_goes}
-use Rattle.journal_text.proofs.ReadLoop.{IsEnd, ending_is, not_ended, whole_is}
+use Rattle.journal_text.proofs.ReadLoop.{ending_is, not_ended, whole_is}
 
 -- what may become of the rest
 cases_of : {A : Type 0} (o : Option A) → ((x : A) × (o ≡ Some x)) ⊎ (o ≡ None)

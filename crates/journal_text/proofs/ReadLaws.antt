@@ -1,14 +1,13 @@
 -- Readers that read just what is written.
 use Rattle.std.proofs.Common.{◌≡◌, ℕ, ◌<◌, ◌≤◌, Bool, true, false, ◌⊎◌, inl, inr, ◌&&◌, ◌||◌}
-use Rattle.std.proofs.Common.{List, [], ◌∷◌, ◌++◌, Option, Some, None, refl, sym, ap, subst, ◌∙◌}
-use Rattle.std.proofs.Common.{arith}
+use Rattle.std.proofs.Common.{List, [], ◌∷◌, ◌++◌, Option, Some, refl, sym, ap, subst, ◌∙◌, arith}
 use Rattle.std.specs.Prelude.{nat_le, nat_lt}
 use Rattle.std.specs.List.{AllByRecursion}
 use Rattle.std.proofs.lemmas.Bool.{and_parts}
 use Rattle.std.proofs.lemmas.Bool.Decides.{nat_tests}
-use Rattle.journal_text.specs.Reading.{◌>>=◌, Kind, behind, cut, first_of, made, or_else, two}
+use Rattle.journal_text.specs.Reading.{◌>>=◌, Kind, behind, cut, first_of, made, two}
 use Rattle.journal_text.proofs.Ranges.{lies, all_lie, all-append, wider}
-use Rattle.journal_text.proofs.Cuts.{IsCut, some_is, bind_some, else_some, cut_parts, cut_range}
+use Rattle.journal_text.proofs.Cuts.{some_is, bind_some, else_some, cut_parts, cut_range}
 use Rattle.journal_text.proofs.Cuts.{behind_parts}
 
 -- what is read is the text of what it gives, and such a text is read; its bytes lie in a range

@@ -1,17 +1,14 @@
 -- The lines of the ring are read as they are written.
-use Rattle.std.proofs.Common.{◌≡◌, ℕ, ◌<◌, Bool, true, false, cond, ◌⊎◌, inl, inr}
-use Rattle.std.proofs.Common.{List, [], ◌∷◌, ◌++◌, Option, Some, None, refl, sym, ap, subst, ◌∙◌}
-use Rattle.std.proofs.Common.{arith, append_assoc}
+use Rattle.std.proofs.Common.{◌≡◌, ℕ, Bool, true, false, cond, inl, inr}
+use Rattle.std.proofs.Common.{List, [], ◌∷◌, ◌++◌, Some, None, refl, sym, ap, ◌∙◌, append_assoc}
 use Rattle.std.specs.Prelude.{codes}
 use Rattle.std.specs.Fmt.{decimal}
 use Rattle.std.specs.List.{AllByRecursion}
 use Rattle.std.specs.Str.{bytes_eq}
 use Rattle.mstr_block.specs.declared.call.CallId.{CallId}
-use Rattle.mstr_block.specs.declared.call.MstrResult.{MstrResult}
 use Rattle.ring_core.specs.declared.frame.FrameKind.{FrameKind}
 use Rattle.ring_core.specs.declared.frame.FrameKind.TheVariants.{Request, Reply}
 use Rattle.ring_core.specs.declared.frame.Frame.{Frame}
-use Rattle.ring_core.specs.declared.entry.LocalOp.{LocalOp}
 use Rattle.ring_core.specs.declared.entry.Heard.{Heard}
 use Rattle.ring_core.specs.declared.entry.Heard.TheVariants.{Acked, Silent, Busy}
 use Rattle.ring_core.specs.declared.entry.LeaveCause.{LeaveCause}
@@ -20,20 +17,18 @@ use Rattle.ring_core.specs.declared.entry.RingEntry.{RingEntry}
 use Rattle.ring_core.specs.declared.entry.RingEntry.TheVariants as ring
 use Rattle.journal_text.specs.Fields.{hex_bytes, hex_words, hex_word, id_text, op_text, result_text}
 use Rattle.journal_text.specs.Lines.{sent_text, got_text, heard_text, cause_text, done_text}
-use Rattle.journal_text.specs.Lines.{ring_line, request_text}
+use Rattle.journal_text.specs.Lines.{ring_line}
 use Rattle.journal_text.specs.Journal.{IsPlainFrame, IsPlainGot, IsPlainRing}
 use Rattle.journal_text.specs.Sizes.{IsId, IsPdu, IsSmall, IsWord, AreWords, FitsOp, FitsResult}
 use Rattle.journal_text.specs.Sizes.{FitsFrame, FitsRingEntry}
 use Rattle.journal_text.specs.Fronts.{ended}
-use Rattle.journal_text.specs.Reading.{behind, first_of, made, or_else, two, small_of, id_of}
-use Rattle.journal_text.specs.Reading.{word_of, words_of}
+use Rattle.journal_text.specs.Reading.{behind, two, small_of, id_of, word_of, words_of}
 use Rattle.journal_text.specs.ReadLines.{op_of, result_of, sent_kinds, sent_of, got_from, got_kinds}
 use Rattle.journal_text.specs.ReadLines.{got_of, target_of, taken, request_frame, reply_frame}
 use Rattle.journal_text.specs.ReadLines.{heard_of, cause_of, done_of, ring_kinds, ring_entry_of}
 use Rattle.journal_text.proofs.Ranges.{chosen, all_lie}
 use Rattle.journal_text.proofs.Cuts.{some_is, none_some, text_is}
-use Rattle.journal_text.proofs.ReadLaws.{IsField, IsKind, two_fields, made_field, lie_in}
-use Rattle.journal_text.proofs.ReadLaws.{kind_of_field, first_takes}
+use Rattle.journal_text.proofs.ReadLaws.{IsField, IsKind, two_fields, kind_of_field, first_takes}
 use Rattle.journal_text.proofs.Numbers.{small_field, id_field}
 use Rattle.journal_text.proofs.Digits.{words_field, word_field}
 use Rattle.journal_text.proofs.Calls.{op_field, result_field, named_field, asked_field}

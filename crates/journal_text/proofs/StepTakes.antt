@@ -1,8 +1,7 @@
 -- What a line adds to what is read is the line, and it can be told.
-use Rattle.std.proofs.Common.{◌≡◌, ◌≢◌, ℕ, zero, suc, ◌+◌, ◌<◌, ◌≤◌, Bool, true, false, cond, ◌⊎◌}
-use Rattle.std.proofs.Common.{inl, inr}
-use Rattle.std.proofs.Common.{List, [], ◌∷◌, ◌++◌, length, map, All, Option, Some, None, refl, sym}
-use Rattle.std.proofs.Common.{ap, subst, ◌∙◌, arith, append_assoc}
+use Rattle.std.proofs.Common.{◌≡◌, ℕ, ◌<◌, true, cond, ◌⊎◌, inl, inr}
+use Rattle.std.proofs.Common.{List, [], ◌∷◌, ◌++◌, Option, Some, None, refl, sym, ap, subst, ◌∙◌}
+use Rattle.std.proofs.Common.{arith, append_assoc}
 use Rattle.std.specs.Prelude.{codes, nat_lt}
 use Rattle.std.specs.Fmt.{decimal}
 use Rattle.std.specs.List.{flat_map, AllByRecursion}
@@ -10,8 +9,7 @@ use Rattle.std.specs.Str.{bytes_eq}
 use Rattle.std.proofs.lemmas.Bool.Decides.{nat_tests}
 use Rattle.std.proofs.lemmas.List.{append-nil, flat_map_more}
 use Rattle.std.proofs.lemmas.List.Concat.{flat_map-cons}
-use Rattle.std.proofs.lemmas.List.Elements.{All-nil, All-cons, All-head, All-tail, All-push}
-use Rattle.ring_core.specs.declared.entry.RingEntry.{RingEntry}
+use Rattle.std.proofs.lemmas.List.Elements.{All-nil, All-cons, All-head, All-push}
 use Rattle.controller_core.specs.declared.entry.Entry.{Entry}
 use Rattle.host_port.specs.declared.entry.HostEntry.{HostEntry}
 use Rattle.comm_port.specs.declared.joint.ControllerLog.{ControllerLog}
@@ -23,11 +21,10 @@ use Rattle.journal_text.specs.declared.draft.Draft.{Draft}
 use Rattle.journal_text.specs.declared.draft.Draft.TheVariants as drafts
 use Rattle.journal_text.specs.Lines.{controller_line, host_line, ring_line}
 use Rattle.journal_text.specs.Journal.{IsPlainEntry, IsPlainRing, controller_section, host_section}
-use Rattle.journal_text.specs.Journal.{journal}
 use Rattle.journal_text.specs.Sizes.{IsSmall, FitsLog, FitsHostLog, FitsEntry, FitsHostEntry}
 use Rattle.journal_text.specs.Sizes.{FitsRingEntry}
 use Rattle.journal_text.specs.Fronts.{ended}
-use Rattle.journal_text.specs.Reading.{◌>>=◌, behind, first_of, small_of}
+use Rattle.journal_text.specs.Reading.{◌>>=◌, behind}
 use Rattle.journal_text.specs.ReadLines.{entry_of, host_entry_of, ring_entry_of}
 use Rattle.journal_text.specs.Drafts.{head_kinds, head_of, new_log, new_host_log, logged}
 use Rattle.journal_text.specs.Drafts.{host_logged, ring_from, ringed}
@@ -38,12 +35,11 @@ use Rattle.journal_text.proofs.Ranges.{chosen, all_lie}
 use Rattle.journal_text.proofs.Cuts.{some_is, bind_some, none_some, text_is}
 use Rattle.journal_text.proofs.ReadLaws.{IsField, IsKind, lie_in, kind_of_field, first_takes}
 use Rattle.journal_text.proofs.Numbers.{small_field}
-use Rattle.journal_text.proofs.StationLines.{IsEntry, entry_body, entry_ended, entry_field}
-use Rattle.journal_text.proofs.StationLines.{host_body, host_ended, host_field}
-use Rattle.journal_text.proofs.RingLines.{IsRingEntry, ring_body, ring_ended, ring_field}
+use Rattle.journal_text.proofs.StationLines.{IsEntry, entry_ended, entry_field, host_ended}
+use Rattle.journal_text.proofs.StationLines.{host_field}
+use Rattle.journal_text.proofs.RingLines.{ring_ended, ring_field}
 use Rattle.journal_text.proofs.Steps.{controller_node, host_node, Rises, rises_more, same_last}
 use Rattle.journal_text.proofs.Steps.{all_front, all_back, PlainLog, AreControllers, AreHosts}
-use Rattle.journal_text.proofs.Steps.{AreRing}
 use Rattle.journal_text.proofs.Steps.{IsHistory, text_of, IsGood, journal_parts, no_logs, no_hosts}
 use Rattle.journal_text.proofs.Steps.{no_ring}
 

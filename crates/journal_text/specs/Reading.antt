@@ -1,6 +1,6 @@
 -- What the fields of a journal are read as. This project's own.
-use Rattle.std.specs.Prelude.{◌≡◌, ℕ, ◌+◌, ◌-◌, ◌*◌, ◌==◌, ◌^◌, ◌&&◌, ◌||◌, Bool, true, not}
-use Rattle.std.specs.Prelude.{nat_le, nat_lt, if◌then◌else◌, codes, List, [], ◌∷◌, ◌++◌, length}
+use Rattle.std.specs.Prelude.{◌≡◌, ℕ, ◌+◌, ◌-◌, ◌*◌, ◌==◌, ◌^◌, ◌&&◌, ◌||◌, Bool, not}
+use Rattle.std.specs.Prelude.{nat_le, nat_lt, if◌then◌else◌, codes, List, [], ◌∷◌, length}
 use Rattle.std.specs.Prelude.{slice_index, fold, Option, Some, None, Result, Ok, Err}
 use Rattle.std.specs.List.{list_all}
 use Rattle.std.specs.Str.{bytes_eq}

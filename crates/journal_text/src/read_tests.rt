@@ -50,101 +50,109 @@ const TEXTS: [(&str, u32); 24] = [
     ("%JOURNAL\nR\nC 2\n%END\n", 3),
 ];
 
-/// Lines behind the head of a section, and whether they are lines there.
-const LINES: [(&str, &str, bool); 92] = [
-    ("C 2", "B", true),
-    ("C 2", "B ", false),
-    ("C 2", "", false),
-    ("C 2", "E", true),
-    ("C 2", "E\r", false),
-    ("C 2", "I 0", true),
-    ("C 2", "I 65535", true),
-    ("C 2", "I 65536", false),
-    ("C 2", "I 00", false),
-    ("C 2", "I +1", false),
-    ("C 2", "I", false),
-    ("C 2", "I ", false),
-    ("C 2", "I 1 ", false),
-    ("C 2", "S 1", true),
-    ("C 2", "S 01", false),
-    ("C 2", "S 99999999999999999999", false),
-    ("C 2", "O 1 -", true),
-    ("C 2", "O 1 00ffabcd", true),
-    ("C 2", "O 1 ", false),
-    ("C 2", "O 1", false),
-    ("C 2", "O 1 00ffABCD", false),
-    ("C 2", "O 1 00ffab", false),
-    ("C 2", "O 1  -", false),
-    ("C 2", "O 1 --", false),
-    ("C 2", "O 1 0x12", false),
-    ("C 2", "L 2.1.1=5:03", true),
-    ("C 2", "L 2.1.1=5:03 2.0.0=GS 3.0.2=CS", true),
-    ("C 2", "L 2.0.1=PG:- 2.0.2=GG:64:32", true),
-    ("C 2", "L", false),
-    ("C 2", "L ", false),
-    ("C 2", "L 2.1.1=5:03 ", false),
-    ("C 2", "L 2.1.1=5:", false),
-    ("C 2", "L 2.1.1=256:03", false),
-    ("C 2", "L 2.1.1=RG", false),
-    ("C 2", "L 2.1.1=RC", false),
-    ("C 2", "L 2.1.1=gs", false),
-    ("C 2", "L 2.0.1=PG:", false),
-    ("C 2", "L 2.0.1=GG:64", false),
-    ("C 2", "L 2.0.1=GG:64:032", false),
-    ("C 2", "P 2.4.4294967295 01 8101", true),
-    ("C 2", "P 2.4.4294967296 01 8101", false),
-    ("C 2", "P 2.4 01 8101", false),
-    ("C 2", "P 2.4.1.1 01 8101", false),
-    ("C 2", "P 2.04.1 01 8101", false),
-    ("C 2", "P 2.4.1 01 810", false),
-    ("C 2", "P 2.4.1 01 ", false),
-    ("C 2", "P 2.4.1 01", false),
-    ("C 2", "P 2.4.1 - 8101", false),
-    ("C 2", "F 2.0.4 G -", true),
-    ("C 2", "F 2.0.4 G 0001", true),
-    ("C 2", "F 2.0.4 B 200a", true),
-    ("C 2", "F 2.0.4 B 200A", false),
-    ("C 2", "F 2.0.4 B 20a", false),
-    ("C 2", "F 2.0.4 B -", false),
-    ("C 2", "F 2.0.4 C 200a", false),
-    ("C 2", "F 2.0.4 G", false),
-    ("C 2", "Q 2.1.1 5 03", false),
-    ("H 10", "Q 10.1.1 2 0300000001", true),
-    ("H 10", "Q 10.1.1 2", false),
-    ("H 10", "Q 10.1.1 02 03", false),
-    ("H 10", "A 10.1.1 R 03020000", true),
-    ("H 10", "A 10.1.1 B 6103", true),
-    ("H 10", "A 10.1.1 G 6103", false),
-    ("H 10", "A 10.1.1 R ", false),
-    ("H 10", "P 2.4.1 01 8101", true),
-    ("H 10", "B", false),
-    ("R", "PO 2 Q 2.1.1 5 0300000002", true),
-    ("R", "PO 5 R 2.1.1 0304002a002b", true),
-    ("R", "PO 2 Q 2.1.1 0300000002", false),
-    ("R", "PO 5 R 2.1.1 2 0304002a002b", false),
-    ("R", "SE 2 A", true),
-    ("R", "SE 2 S", true),
-    ("R", "SE 2 B", true),
-    ("R", "SE 2 C", false),
-    ("R", "SE 2", false),
-    ("R", "TA 5 Q 2.1.1 0300000002", true),
-    ("R", "TA 2 R 2.1.1 0304002a002b", true),
-    ("R", "TA 5 Q 2.1.1 5 0300000002", false),
-    ("R", "LO 3 3.0.4 GG:64:32 B 200a", true),
-    ("R", "LO 3 2.1.1 RG G 0003", true),
-    ("R", "LO 3 2.1.2 RC G -", true),
-    ("R", "LO 3 2.1.2 RX G -", false),
-    ("R", "LO 3 2.1.2 GS", false),
-    ("R", "GU 2.1.2 6101", true),
-    ("R", "GU 2.1.2 61011", false),
-    ("R", "PA 2 0 -", true),
-    ("R", "PA 2 1 00070008", true),
-    ("R", "PA 2 2 -", false),
-    ("R", "PA 2 0", false),
-    ("R", "LE 2 E", true),
-    ("R", "LE 5 S", true),
-    ("R", "LE 5 A", false),
-];
+/// Lines of a controller, each right.
+const CONTROLLER_RIGHT: &str = "B
+E
+I 0
+I 65535
+S 1
+O 1 -
+O 1 00ffabcd
+L 2.1.1=5:03
+L 2.1.1=5:03 2.0.0=GS 3.0.2=CS
+L 2.0.1=PG:- 2.0.2=GG:64:32
+P 2.4.4294967295 01 8101
+F 2.0.4 G -
+F 2.0.4 G 0001
+F 2.0.4 B 200a";
+
+/// Lines of a controller, each wrong in one way.
+const CONTROLLER_WRONG: &str = "B\x20
+
+E\r
+I 65536
+I 00
+I +1
+I
+I\x20
+I 1\x20
+S 01
+S 99999999999999999999
+O 1\x20
+O 1
+O 1 00ffABCD
+O 1 00ffab
+O 1  -
+O 1 --
+O 1 0x12
+L
+L\x20
+L 2.1.1=5:03\x20
+L 2.1.1=5:
+L 2.1.1=256:03
+L 2.1.1=RG
+L 2.1.1=RC
+L 2.1.1=gs
+L 2.0.1=PG:
+L 2.0.1=GG:64
+L 2.0.1=GG:64:032
+P 2.4.4294967296 01 8101
+P 2.4 01 8101
+P 2.4.1.1 01 8101
+P 2.04.1 01 8101
+P 2.4.1 01 810
+P 2.4.1 01\x20
+P 2.4.1 01
+P 2.4.1 - 8101
+F 2.0.4 B 200A
+F 2.0.4 B 20a
+F 2.0.4 B -
+F 2.0.4 C 200a
+F 2.0.4 G
+Q 2.1.1 5 03";
+
+/// Lines of a host, each right.
+const HOST_RIGHT: &str = "Q 10.1.1 2 0300000001
+A 10.1.1 R 03020000
+A 10.1.1 B 6103
+P 2.4.1 01 8101";
+
+/// Lines of a host, each wrong in one way.
+const HOST_WRONG: &str = "Q 10.1.1 2
+Q 10.1.1 02 03
+A 10.1.1 G 6103
+A 10.1.1 R\x20
+B";
+
+/// Lines of the ring, each right.
+const RING_RIGHT: &str = "PO 2 Q 2.1.1 5 0300000002
+PO 5 R 2.1.1 0304002a002b
+SE 2 A
+SE 2 S
+SE 2 B
+TA 5 Q 2.1.1 0300000002
+TA 2 R 2.1.1 0304002a002b
+LO 3 3.0.4 GG:64:32 B 200a
+LO 3 2.1.1 RG G 0003
+LO 3 2.1.2 RC G -
+GU 2.1.2 6101
+PA 2 0 -
+PA 2 1 00070008
+LE 2 E
+LE 5 S";
+
+/// Lines of the ring, each wrong in one way.
+const RING_WRONG: &str = "PO 2 Q 2.1.1 0300000002
+PO 5 R 2.1.1 2 0304002a002b
+SE 2 C
+SE 2
+TA 5 Q 2.1.1 5 0300000002
+LO 3 2.1.2 RX G -
+LO 3 2.1.2 GS
+GU 2.1.2 61011
+PA 2 2 -
+PA 2 0
+LE 5 A";
 
 /// The number of the first wrong line; 0 where the text is a journal, which is written as it was.
 fn wrong_line(alloc: Global, text: &str) -> Result<u32, Fail> {
@@ -181,14 +189,42 @@ fn texts(rt: HostRuntime) -> Result<(), Fail> {
     Ok(())
 }
 
-#[test]
-fn lines(rt: HostRuntime) -> Result<(), Fail> {
-    let alloc = rt.alloc();
-    for (head, line, right) in LINES {
+/// How many lines of a section are answered otherwise than by this number.
+fn misread(alloc: Global, head: &str, lines: &str, number: u32) -> Result<u32, Fail> {
+    let mut count = 0u32;
+    for line in lines.split('\n') {
         let text = with_line(alloc, head, line)?;
-        let place = if right { 0 } else { 3 };
-        assert_eq!(rt; wrong_line(alloc, text.as_str())?, place, "{line}");
+        if wrong_line(alloc, text.as_str())? != number {
+            count = count.saturating_add(1);
+        }
     }
+    Ok(count)
+}
+
+#[test]
+fn lines_of_a_controller(rt: HostRuntime) -> Result<(), Fail> {
+    let alloc = rt.alloc();
+    let right = misread(alloc, "C 2", CONTROLLER_RIGHT, 0)?;
+    let wrong = misread(alloc, "C 2", CONTROLLER_WRONG, 3)?;
+    assert_eq!(rt; (right, wrong), (0, 0));
+    Ok(())
+}
+
+#[test]
+fn lines_of_a_host(rt: HostRuntime) -> Result<(), Fail> {
+    let alloc = rt.alloc();
+    let right = misread(alloc, "H 10", HOST_RIGHT, 0)?;
+    let wrong = misread(alloc, "H 10", HOST_WRONG, 3)?;
+    assert_eq!(rt; (right, wrong), (0, 0));
+    Ok(())
+}
+
+#[test]
+fn lines_of_the_ring(rt: HostRuntime) -> Result<(), Fail> {
+    let alloc = rt.alloc();
+    let right = misread(alloc, "R", RING_RIGHT, 0)?;
+    let wrong = misread(alloc, "R", RING_WRONG, 3)?;
+    assert_eq!(rt; (right, wrong), (0, 0));
     Ok(())
 }
 

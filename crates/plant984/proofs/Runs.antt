@@ -48,7 +48,7 @@ shows_all plant runs = λ k d within. record {
 found-whole : (reads : Bool) (plant : Plant) (scans : ℕ) (behind : List ℕ) (joint : Joint) → IsHistory reads plant scans behind joint
     → IsLegalJoint plant scans joint
 found-whole true plant scans behind joint found = found.whole.legal
-found-whole false plant scans behind joint found = found.legal
+found-whole false plant scans behind joint found = found.whole.legal
 
 few-scans : (command : Command) → IsCommandInRange command → scans_of command ≤ 2000
 few-scans (Do task scans) within = within.to
@@ -57,7 +57,7 @@ few-scans (Gen number scans) within = within.1.to
 found-tied : (reads : Bool) (plant : Plant) (scans : ℕ) (behind : List ℕ) (joint : Joint) → IsHistory reads plant scans behind joint
     → IsJoint joint
 found-tied true plant scans behind joint found = found.whole.tied
-found-tied false plant scans behind joint found = found.tied
+found-tied false plant scans behind joint found = found.whole.tied
 
 -- its calls take effect as they are to
 pub found_right : AllEffectsAreRight → (command : Command) (plant : Plant) (behind : List ℕ) (joint : Joint) → IsPlant plant

@@ -12,7 +12,7 @@ use Rattle.plant_gen.specs.Text.{plant_text}
 use Rattle.comm_port.specs.declared.joint.Joint.{Joint}
 use Rattle.effect_laws.specs.Effects.{EffectsAreRight}
 use Rattle.serial_run.specs.Serial.{IsSerial}
-use Rattle.comm_port.specs.JointLaws.{IsJoint, IsLegalJoint}
+use Rattle.joint_law.specs.Spots.{IsWholeRun}
 use Rattle.journal_text.specs.Journal.{journal}
 use Rattle.panel_text.specs.Panel.{panel}
 use Rattle.summary_text.specs.Summary.{summary}
@@ -76,11 +76,11 @@ abbrev pub IsFile : Command → List ℕ → List ℕ → List ℕ → Type 0
 IsFile (Do task scans) input file journal = IsTaskFile (judges task) input file journal
 IsFile (Gen number scans) input file journal = (file ≡ plant_text number) × (journal ≡ [])
 
--- The joint history of a plant's serial run: it is legal, and it keeps the laws between its lists.
+-- The joint history of a plant's serial run: it is legal, it keeps the laws between its lists, and
+-- it is complete.
 pub record IsRun (plant : Plant) (scans : ℕ) (joint : Joint) : Type 0 where
   pub serial : IsSerial plant scans joint
-  pub legal : IsLegalJoint plant scans joint
-  pub tied : IsJoint joint
+  pub whole : IsWholeRun plant scans joint
 
 -- The joint history that a command is about: that of the journal, or of the serial run.
 abbrev pub IsHistory : Bool → Plant → ℕ → List ℕ → Joint → Type 0

@@ -22,7 +22,6 @@ fault_number faults.BadDrop = 10
 fault_number faults.BadScript = 11
 fault_number faults.BadNode = 12
 fault_number faults.TooLarge = 13
-fault_number faults.NotBuilt = 14
 
 -- The name of a fault. This project's own.
 abbrev pub fault_name : PlantFault → List ℕ
@@ -39,7 +38,6 @@ fault_name faults.BadDrop = codes "BadDrop"
 fault_name faults.BadScript = codes "BadScript"
 fault_name faults.BadNode = codes "BadNode"
 fault_name faults.TooLarge = codes "TooLarge"
-fault_name faults.NotBuilt = codes "NotBuilt"
 
 -- A fault as its number and its name. This project's own.
 abbrev pub fault_text : PlantFault → List ℕ

@@ -18,6 +18,5 @@ pub mod Standing
 pub mod PlanTests
 pub mod Passing
 pub mod Effect
-pub mod Plain
 pub mod Discretes
 pub mod Plans

@@ -22,8 +22,6 @@ pub enum PlantFault {
     BadScript,
     BadNode,
     TooLarge,
-    /// What a later version of the program will take.
-    NotBuilt,
 }
 
 impl PlantFault {
@@ -45,7 +43,6 @@ impl PlantFault {
             PlantFault::BadScript => 11,
             PlantFault::BadNode => 12,
             PlantFault::TooLarge => 13,
-            PlantFault::NotBuilt => 14,
         }
     }
 
@@ -67,7 +64,6 @@ impl PlantFault {
             PlantFault::BadScript => "BadScript",
             PlantFault::BadNode => "BadNode",
             PlantFault::TooLarge => "TooLarge",
-            PlantFault::NotBuilt => "NotBuilt",
         }
     }
 }

@@ -153,8 +153,8 @@ fn texts_of_references_faults_and_places(rt: HostRuntime) -> Result<(), AllocErr
         "8 CoilTwice controller 1 segment 1 network 12 cell 4"
     );
     assert_eq!(rt;
-        format!(in alloc; "{} {}", PlantFault::NotBuilt, Place::PLANT)?.as_str(),
-        "14 NotBuilt plant"
+        format!(in alloc; "{} {}", PlantFault::BadToml, Place::PLANT)?.as_str(),
+        "1 BadToml plant"
     );
     Ok(())
 }

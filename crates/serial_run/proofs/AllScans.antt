@@ -66,11 +66,6 @@ zip-last [] (b ∷ ys) x y all it = absurd all
 zip-last (a ∷ xs) [] x y all it = absurd all
 zip-last (a ∷ xs) (b ∷ ys) x y all it = (all.0, zip-last xs ys x y all.1 it)
 
-length-set-same : (xs : List ControllerStation) (at : ℕ) (y : ControllerStation) → length (set xs at y) ≡ length xs
-length-set-same [] at y = refl
-length-set-same (x ∷ xs) zero y = refl
-length-set-same (x ∷ xs) (suc at) y = ap suc (length-set-same xs at y)
-
 -- the station of the place is the first one still
 pub still-first : (first now : List ControllerStation) (at : ℕ) (d : ControllerStation) → SomeScanned first now at → at < length first
     → get_or now at d ≡ get_or first at d

@@ -34,10 +34,11 @@ use Rattle.serial_run.specs.Stations.{host_log_of}
 use Rattle.serial_run.specs.Stations.{joint_of, ram_side, ring_side}
 use Rattle.serial_run.specs.Held.{StaysStation, HeldController, StandsBeside, HasToken}
 use Rattle.serial_run.specs.Held.{HostStandsBeside, HeldHost, VisitedController, VisitedWhere}
+use Rattle.turn_laws.specs.KeepsOn.{HostKeepsOn, KeepsOn}
 use Rattle.serial_run.proofs.Distinct.{controller-member, host-member, member-node}
 use Rattle.serial_run.proofs.Grown.{Further, further-none}
 use Rattle.serial_run.proofs.HeldTurns.{turn-ring, host-turn-ring, visit-ring}
-use Rattle.serial_run.proofs.Holders.{holder-there, gone-stays}
+use Rattle.turn_laws.proofs.Holders.{holder-there, gone-stays}
 use Rattle.serial_run.proofs.Lists.{set-there}
 use Rattle.serial_run.proofs.Standings.{stands-scans}
 use Rattle.serial_run.proofs.TurnsMade.{at-place, place-is, host-place-is, stand-with, is-at}
@@ -152,19 +153,14 @@ no-step-did old node none = record {
 
 -- ---- a hold turn
 
--- whether a node has left is kept with its station
-left-as : (old new : List RingEntry) (net : NetPlan) (n : ℕ) (left : Bool) → (left ≡ true → (ring_node (ring_after net new) n).here ≡ false)
-    → (left ≡ false → (ring_node (ring_after net new) n).here ≡ true) → left ≡ has_left net new n
-left-as old new net n true gone here = ap not (sym (gone refl))
-left-as old new net n false gone here = ap not (sym (here refl))
-
 module _ (old new : Stations) (at : ℕ) (s t : ControllerStation)
     (is : slice_get old.controllers.items at ≡ Some s)
     (items : new.controllers.items ≡ set old.controllers.items at t)
     (hosts : new.hosts.items ≡ old.hosts.items)
     (stays : StaysStation s t old.ring new.ring)
     (further : Further (is_of s.worker.node) old.ring.history new.ring.history)
-    (left : (plant : Plant) (scans : ℕ) → StandAll plant scans old → t.left ≡ has_left old.ring.net new.ring.history s.worker.node) where
+    (left : (plant : Plant) (scans : ℕ) → StandAll plant scans old → t.left ≡ has_left old.ring.net new.ring.history s.worker.node)
+    (keeps : KeepsOn s.controller.fixed old.ring.net s.worker.node t.controller.history new.ring.history t.left) where
   pub own-stands : (plant : Plant) (scans : ℕ) → StandAll plant scans old → StandAll plant scans new
   own-stands plant scans all =
       let p = at-place plant scans old at s all is in
@@ -180,6 +176,9 @@ module _ (old new : Stations) (at : ℕ) (s t : ControllerStation)
         standing = subst (λ (net : NetPlan). Standing t.worker (ram_side t.controller) t.controller.history (ring_side net) new.ring.history)
             net stays.stands;
         left = left plant scans all ∙ (λ i. has_left (all.net i) new.ring.history (worker i));
+        keeps = subst (λ (f : Fixed). KeepsOn f plant.net p.plan.node t.controller.history new.ring.history t.left) p.stands.fixed
+            (subst (λ (net : NetPlan). KeepsOn s.controller.fixed net p.plan.node t.controller.history new.ring.history t.left) all.net
+            (subst (λ (n : ℕ). KeepsOn s.controller.fixed old.ring.net n t.controller.history new.ring.history t.left) worker keeps));
       })
       net
       (subst (λ (n : ℕ). Further (is_of n) old.ring.history new.ring.history) worker further)
@@ -193,7 +192,7 @@ pub hold-did : (old new : Stations) (at : ℕ) (s t : ControllerStation)
 hold-did old new at s t is found items hosts budget held = record {
   stand = own-stands old new at s t is items hosts held.stays
       (turn-ring s.controller.fixed old.ring.net s.worker.node s.controller.history t.controller.history old.ring.history new.ring.history t.left turn)
-      (λ plant scans all. held.left);
+      (λ plant scans all. held.left) held.keeps;
   made = λ plant scans all.
       let p = at-place plant scans old at s all is in
       let holder : (ring_of old.ring).holder ≡ (ring_after plant.net old.ring.history).holder =
@@ -251,6 +250,8 @@ module _ (old new : Stations) (at : ℕ) (s t : HostStation)
             (subst (λ (n : ℕ). HostTies n t.host (ring_side new.ring.net) new.ring.history) now held.stands.ties);
         counts = held.stands.counts;
         left = held.left ∙ (λ i. has_left (all.net i) new.ring.history (worker i));
+        keeps = subst (λ (plan : HostPlan). HostKeepsOn plan plant.net t.host.history new.ring.history t.left) p.stands.plan_is
+            (subst (λ (net : NetPlan). HostKeepsOn s.host.plan net t.host.history new.ring.history t.left) all.net held.keeps);
       })
       net
       (subst (λ (n : ℕ). Further (is_of n) old.ring.history new.ring.history) worker host-further)
@@ -363,7 +364,7 @@ module _ (old new : Stations) (at : ℕ) (s t : ControllerStation)
   pub visit-did : (node : ℕ) → position (λ (s : ControllerStation). s.node == node) old.controllers.items ≡ Some at
       → Did (λ plant scans. MakesTurn plant scans (Visit node)) old new
   visit-did node found = record {
-    stand = own-stands old new at s t is items hosts visited.stays visit-further visit-left;
+    stand = own-stands old new at s t is items hosts visited.stays visit-further visit-left visited.keeps;
     made = λ plant scans all. subst (λ (o : Option ℕ). MakesVisit plant scans o (joint_of old) (joint_of new))
         (sym found ∙ place-is plant scans old node all)
         (let p = at-place plant scans old at s all is in

@@ -18,7 +18,7 @@ use Rattle.std.specs.List.{AllByRecursion}
 use Rattle.tied_lists.specs.Waits.{HasLeft}
 use Rattle.comm_port.specs.Leaving.{IsHere}
 use Rattle.serial_run.specs.Turns.{has_left}
-use Rattle.serial_run.proofs.Holders.{gone-stays}
+use Rattle.turn_laws.proofs.Holders.{gone-stays}
 use Rattle.controller_core.specs.declared.fixed.Fixed.{Fixed}
 use Rattle.controller_core.specs.declared.entry.Entry.{Entry}
 use Rattle.tied_lists.specs.Own.{is_of, own, Adds, Grew}
@@ -165,10 +165,6 @@ left-by net n handed new_ring false a gone stays =
     let none : NoLeave n a.grew.more = subst (NoLeave n) (sym (a.grew.all_alone refl)) (no-leaves n a.added a.sort) in
     ap not (sym (ap (λ (l : List RingEntry). (ring_node (ring_after net l) n).here) a.grew.after_is
     ∙ member-stays net handed a.grew.more n (stays refl) none))
-
-pub turn-left : (net : NetPlan) (n : ℕ) (ring new_ring : List RingEntry) (left : Bool) → TurnEnded net n ring new_ring left
-    → left ≡ has_left net new_ring n
-turn-left net n ring new_ring left t = left-by net n t.handed new_ring left t.rest t.gone t.stays
 
 -- ---- a node has fewer hold turns before it
 

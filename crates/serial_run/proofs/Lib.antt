@@ -1,6 +1,5 @@
 pub mod Lists
 pub mod Rings
-pub mod Holders
 pub mod Distinct
 pub mod Grown
 pub mod ScanSteps
@@ -14,3 +13,7 @@ pub mod Starting
 pub mod Laws
 pub mod Rounds
 pub mod AllScans
+pub mod Collecting
+pub mod Keeping
+pub mod Collected
+pub mod Finished

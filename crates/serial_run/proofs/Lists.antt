@@ -2,10 +2,8 @@
 use Rattle.std.proofs.Common.{◌≡◌, ◌≢◌, ℕ, zero, suc, ◌+◌, Bool, true, false, cond, List, []}
 use Rattle.std.proofs.Common.{◌∷◌, ◌++◌, length, map, set, Some, None, refl, sym, ap, subst}
 use Rattle.std.proofs.Common.{◌∙◌, arith}
-use Rattle.std.proofs.Common.{get_or, not, nat_lt, ◌≤◌, ⊎_elim}
+use Rattle.std.proofs.Common.{not, nat_lt, ◌≤◌, ⊎_elim}
 use Rattle.std.proofs.lemmas.Bool.{cases_Bool, ltb-false}
-use Rattle.std.proofs.lemmas.List.Quantifiers.{position-Some}
-use Rattle.std.proofs.lemmas.Option.{slice_get-get_or}
 use Rattle.std.proofs.lemmas.List.Elements.{All-cons, All-nil}
 use Rattle.std.specs.List.{All, AllZip, position, position_or_len, slice_get}
 
@@ -83,12 +81,6 @@ pub zip-position : {A B : Type 0} (R : A → B → Type 0) (p : A → Bool) (q :
 zip-position R p q xs ys all same =
     ap (λ n. cond (nat_lt (position_or_len q ys) n) (Some (position_or_len q ys)) None) (zip-long R xs ys all)
     ∙ ap (λ k. cond (nat_lt k (length xs)) (Some k) None) (zip-first R p q xs ys all same)
-
-pub position-at : {X : Type 0} (p : X → Bool) (xs : List X) (at : ℕ) (d : X) → position p xs ≡ Some at
-    → (x : X) × (slice_get xs at ≡ Some x) × (p x ≡ true)
-position-at p xs at d is =
-    let found = position-Some p xs at d is in
-    (get_or xs at d, slice_get-get_or xs at d found.0, found.1)
 
 not-within : (n size : ℕ) → cond (nat_lt n size) (Some n) None ≡ None → size ≤ n
 not-within n size none = ⊎_elim

@@ -29,7 +29,7 @@ use Rattle.serial_run.specs.Held.{Lessens}
 use Rattle.serial_run.specs.Held.{stations_here, turns_left, turns_of}
 use Rattle.serial_run.proofs.Distinct.{member-station, same-controller, same-host, not-both}
 use Rattle.serial_run.proofs.Grown.{Further, others-own}
-use Rattle.serial_run.proofs.Holders.{holder-there, there-member}
+use Rattle.turn_laws.proofs.Holders.{holder-there, there-member}
 use Rattle.serial_run.proofs.Lists.{zip-at, zip-at-first, position-none}
 use Rattle.serial_run.proofs.ScanSteps.{quiet-scan}
 

@@ -1,29 +1,19 @@
 -- Members of the ring and their Passes, as the ring goes on.
-use Rattle.std.proofs.Common.{◌≡◌, ◌≢◌, ℕ, zero, suc, ◌+◌, ◌<◌, ◌==◌, nat_le, Bool, true}
+use Rattle.std.proofs.Common.{◌≡◌, ◌≢◌, ℕ, zero, suc, ◌+◌, ◌<◌, ◌==◌, Bool, true}
 use Rattle.std.proofs.Common.{false, cond, List, [], ◌∷◌, ◌++◌, length, set}
 use Rattle.std.proofs.Common.{replicate, count_by, refl, sym, ap, subst, ◌∙◌, arith}
 use Rattle.std.proofs.Common.{⊎_elim, All, append-nil, append_assoc}
 use Rattle.std.proofs.lemmas.Bool.{cases_Bool, cases_eq, cond_both, eq-eqb, ne_eqb}
 use Rattle.std.proofs.lemmas.List.Elements.{All-contains}
 use Rattle.std.proofs.lemmas.List.Sums.{sum_by-append}
-use Rattle.plant_types.specs.declared.net.Fate.{Fate}
 use Rattle.plant_types.specs.declared.net.NetPlan.{NetPlan}
-use Rattle.mstr_block.specs.declared.call.CallId.{CallId}
-use Rattle.ring_core.specs.declared.frame.Frame.{Frame}
-use Rattle.ring_core.specs.declared.frame.FrameKind.{FrameKind}
-use Rattle.ring_core.specs.declared.entry.Heard.{Heard}
 use Rattle.ring_core.specs.declared.entry.RingEntry.{RingEntry}
-use Rattle.ring_core.specs.declared.frame.FrameKind.TheVariants.{Request, Reply}
-use Rattle.ring_core.specs.declared.entry.Heard.TheVariants.{Acked, Silent, Busy}
 use Rattle.ring_core.specs.declared.entry.RingEntry.TheVariants.{Post, Send, Take, Local, GiveUp}
 use Rattle.ring_core.specs.declared.entry.RingEntry.TheVariants.{Pass, Leave}
 use Rattle.ring_core.specs.Words.{maker}
 use Rattle.ring_core.specs.Machine.{NodeIs, RingIs, addresses, fresh, part_of, ring_node}
-use Rattle.ring_core.specs.Machine.{after_pass, gone, with_frame, arrived, arrival}
-use Rattle.ring_core.specs.Machine.{fell, is_repeat, is_full, waits_for, path_of}
-use Rattle.tied_lists.proofs.Histories.{arrived-part}
-use Rattle.ring_core.specs.Machine.{fate_at, heard_of, heard_by, sent_off, failed, silence_word}
-use Rattle.ring_core.specs.Machine.{sent_head, after, ring_after}
+use Rattle.ring_core.specs.Machine.{after_pass, gone}
+use Rattle.ring_core.specs.Machine.{after, ring_after}
 use Rattle.ring_core.specs.Machine.{with_members}
 use Rattle.ring_core.specs.Legal.{IsLegal, IsRun, IsRingStep}
 use Rattle.ring_core.specs.Kept.{IsSoundRing}
@@ -33,20 +23,7 @@ use Rattle.ring_core.proofs.Stability.{left-stays, member-stays}
 use Rattle.tied_lists.specs.Own.{own}
 use Rattle.tied_lists.proofs.Turns.{next-ring, none-by}
 use Rattle.comm_port.specs.Complete.{is_pass}
-
--- ---- what all entries but a node's own Pass and Leave keep of it
-
-abbrev pub seen : NodeIs → Bool × ℕ
-seen c = (c.here, c.passes)
-
--- a write that keeps it
-pub seen-set : (nodes : List NodeIs) (m k : ℕ) (c : NodeIs) → seen c ≡ seen (part_of nodes m)
-    → seen (part_of (set nodes m c) k) ≡ seen (part_of nodes k)
-seen-set [] m k c e = refl
-seen-set (d ∷ ds) zero zero c e = e
-seen-set (d ∷ ds) zero (suc k) c e = refl
-seen-set (d ∷ ds) (suc m) zero c e = refl
-seen-set (d ∷ ds) (suc m) (suc k) c e = seen-set ds m k c e
+use Rattle.turn_laws.proofs.Holders.{seen-set, seen-sent}
 
 -- a write of another node
 pub other-set : (nodes : List NodeIs) (m k : ℕ) (c : NodeIs) → m ≢ k → part_of (set nodes m c) k ≡ part_of nodes k
@@ -61,31 +38,6 @@ pub same-set : (nodes : List NodeIs) (m : ℕ) (c : NodeIs) → m < length nodes
 same-set [] m c low = absurd (omega arith)
 same-set (d ∷ ds) zero c low = refl
 same-set (d ∷ ds) (suc m) c low = same-set ds m c (omega arith)
-
-seen-fell : (c : NodeIs) (f : Frame) (kind : FrameKind) → seen (with_frame c (fell c kind f.id) f) ≡ seen c
-seen-fell c f Request = cond_both (is_repeat c f.id) _ _ (λ x. seen (with_frame c x f) ≡ seen c) (λ _. refl)
-    (λ _. cond_both (is_full c) _ _ (λ x. seen (with_frame c x f) ≡ seen c) (λ _. refl) (λ _. refl))
-seen-fell c f Reply = cond_both (waits_for (path_of c f.id.path).awaits f.id.seq) _ _ (λ x. seen (with_frame c x f) ≡ seen c) (λ _. refl) (λ _. refl)
-
-seen-arrived : (nodes : List NodeIs) (f : Frame) (fate : Fate) (k : ℕ)
-    → seen (part_of (arrived nodes f (arrival nodes fate f)) k) ≡ seen (part_of nodes k)
-seen-arrived nodes f fate k =
-    arrived-part nodes f fate (λ (k : ℕ) (c : NodeIs). seen c ≡ seen (part_of nodes k)) (λ k. refl)
-    (λ here. seen-fell (part_of nodes f.to) f f.kind) k
-
-seen-heard : (c : NodeIs) (kind : FrameKind) (id : CallId) (there : Bool) (h : Heard) → seen (heard_by c kind id there h) ≡ seen c
-seen-heard c kind id there Acked = refl
-seen-heard c kind id there Busy = refl
-seen-heard c kind id there Silent = cond_both (nat_le 2 c.tries) (sent_off c (failed c kind id (silence_word there))) _
-    (λ (x : NodeIs). seen x ≡ seen c) (λ _. refl) (λ _. refl)
-
-pub seen-sent : (net : NetPlan) (r : RingIs) (m : ℕ) (box : List Frame) (k : ℕ) → seen (ring_node (sent_head net r m box) k) ≡ seen (ring_node r k)
-seen-sent net r m [] k = refl
-seen-sent net r m (f ∷ fs) k =
-    let fall = arrival r.nodes (fate_at net.fates r.sent) f in
-    let nodes = arrived r.nodes f fall in
-    seen-set nodes m k _ (seen-heard (part_of nodes m) f.kind f.id (ring_node r f.to).here (heard_of (fate_at net.fates r.sent) fall))
-    ∙ seen-arrived r.nodes f (fate_at net.fates r.sent) k
 
 -- ---- how many Passes a node has made
 

@@ -30,6 +30,9 @@ use Rattle.serial_run.specs.Held.{stations_here, turns_left, Lessens}
 use Rattle.serial_run.specs.Scans.{have_ended, steps_left, AreBetweenScans, IsBetweenScans}
 use Rattle.serial_run.specs.Scans.{KeepsScan}
 use Rattle.serial_run.specs.Scans.{KeepScans}
+use Rattle.serial_run.specs.Held.{AreCollected, CollectFor, StayCollected}
+use Rattle.serial_run.proofs.Collected.{SomeCollected, collected-both, collected-same}
+use Rattle.serial_run.proofs.Collected.{one-more-collected}
 use Rattle.serial_run.proofs.Laws.{one-more-turn}
 use Rattle.serial_run.proofs.Lists.{zip-both}
 use Rattle.serial_run.proofs.Measures.{scans-same}
@@ -97,6 +100,7 @@ pub record SomeHolds (count : ℕ) (old new : Stations) : Type 0 where
   pub scans : KeepScans old new
   pub no_more : turns_left new ≤ turns_left old
   pub less : stations_here old ≢ 0 → 0 < count → turns_left new < turns_left old
+  pub collected : StayCollected old new
 
 pub no-holds : (run : Stations) → SomeHolds 0 run run
 no-holds run = record {
@@ -105,6 +109,7 @@ no-holds run = record {
   scans = scans-same run run refl;
   no_more = omega arith;
   less = λ some low. absurd (omega arith);
+  collected = collected-same run.controllers.items;
 }
 
 keep-both : (u v w : ControllerIs) → KeepsScan u v → KeepsScan v w → KeepsScan u w
@@ -121,8 +126,10 @@ first-less a b c some zero less no_more next first is = first refl is
 first-less a b c some (suc count) less no_more next first is = let l = less is (omega arith) in omega (arith, l, next)
 
 pub one-more-hold : (count : ℕ) (first old new : Stations) → SomeHolds count first old
-    → Did (λ plant scans. MakesTurn plant scans Hold) old new → KeepScans old new → Lessens old new → SomeHolds (count + 1) first new
-one-more-hold count first old new some did scans less = record {
+    → Did (λ plant scans. MakesTurn plant scans Hold) old new → KeepScans old new → Lessens old new → StayCollected old new
+    → SomeHolds (count + 1) first new
+one-more-hold count first old new some did scans less collected = record {
+  collected = collected-both first old new some.collected collected;
   none = λ is. absurd (let a : count + 1 ≡ 0 = is in omega (arith, a));
   did = record {
     stand = λ plant n all. did.stand plant n (some.did.stand plant n all);
@@ -192,9 +199,10 @@ one-more-round count first old new some did = record {
 pub record SomeVisits (at : ℕ) (old new : Stations) : Type 0 where
   pub did : Did (λ plant scans. MakesTurns plant scans (take at (visits_of plant))) old new
   pub scans : KeepScans old new
+  pub collected : SomeCollected at new.controllers.items
 
 pub no-visits : (run : Stations) → SomeVisits 0 run run
-no-visits run = record { did = did-none run; scans = scans-same run run refl }
+no-visits run = record { did = did-none run; scans = scans-same run run refl; collected = λ k d low. absurd (omega arith) }
 
 zip-length : {A B : Type 0} (R : A → B → Type 0) (xs : List A) (ys : List B) → AllZip R xs ys → length ys ≡ length xs
 zip-length R [] [] all = refl
@@ -238,8 +246,9 @@ all-visits at first new is some = record {
 
 pub one-more-visit : (at : ℕ) (first old new : Stations) (s : ControllerStation) → SomeVisits at first old → at < length old.controllers.items
     → s ≡ get_or old.controllers.items at s → Did (λ plant scans. MakesTurn plant scans (Visit s.node)) old new → KeepScans old new
-    → SomeVisits (at + 1) first new
-one-more-visit at first old new s some low is did scans = record {
+    → CollectFor s.node old new → SomeVisits (at + 1) first new
+one-more-visit at first old new s some low is did scans collects = record {
+  collected = one-more-collected at old new s some.collected low is collects;
   did = record {
     stand = λ plant n all. did.stand plant n (some.did.stand plant n all);
     made = λ plant n all.
@@ -331,9 +340,11 @@ one-more-of came first next last some it = record {
 pub record SomeRepetitions (rotations : ℕ) (old new : Stations) : Type 0 where
   pub did : DidWith rotations (λ plant scans. SomeOf (IsRepetition plant scans)) old new
   pub between : AreBetweenScans new
+  pub collected : AreCollected new
 
-pub no-repetitions : (rotations : ℕ) (run : Stations) → AreBetweenScans run → SomeRepetitions rotations run run
-no-repetitions rotations run between = record {
+pub no-repetitions : (rotations : ℕ) (run : Stations) → AreBetweenScans run → AreCollected run → SomeRepetitions rotations run run
+no-repetitions rotations run between collected = record {
+  collected = collected;
   did = record {
     stand = λ plant scans all. all;
     made = λ plant scans all same. none-of-them (IsRepetition plant scans) (joint_of run);
@@ -342,8 +353,9 @@ no-repetitions rotations run between = record {
 }
 
 pub one-more-repetition : (rotations : ℕ) (first old new : Stations) → SomeRepetitions rotations first old → DidWith rotations IsRepetition old new
-    → AreBetweenScans new → SomeRepetitions rotations first new
-one-more-repetition rotations first old new some did between = record {
+    → AreBetweenScans new → AreCollected new → SomeRepetitions rotations first new
+one-more-repetition rotations first old new some did between collected = record {
+  collected = collected;
   did = record {
     stand = λ plant n all. did.stand plant n (some.did.stand plant n all);
     made = λ plant n all same.
@@ -368,32 +380,43 @@ all-repeated rotations first new some ended = record {
 
 -- ---- rounds behind the repetitions
 
-abbrev pub SomeLate : Stations → Stations → Type 0
-SomeLate old new = Did (λ plant scans. SomeOf (IsLateRound plant scans)) old new
+pub record SomeLate (old new : Stations) : Type 0 where
+  pub did : Did (λ plant scans. SomeOf (IsLateRound plant scans)) old new
+  pub scans : KeepScans old new
+  pub collected : StayCollected old new
 
 pub no-late : (run : Stations) → SomeLate run run
 no-late run = record {
-  stand = λ plant scans all. all;
-  made = λ plant scans all. none-of-them (IsLateRound plant scans) (joint_of run);
+  did = record {
+    stand = λ plant scans all. all;
+    made = λ plant scans all. none-of-them (IsLateRound plant scans) (joint_of run);
+  };
+  scans = scans-same run run refl;
+  collected = collected-same run.controllers.items;
 }
 
-pub one-more-late : (first old new : Stations) → SomeLate first old → stations_here old ≢ 0 → Did MakesRound old new → SomeLate first new
-one-more-late first old new some is did = record {
-  stand = λ plant n all. did.stand plant n (some.stand plant n all);
-  made = λ plant n all.
-      let now = some.stand plant n all in
-      one-more-of (IsLateRound plant n) (joint_of first) (joint_of old) (joint_of new) (some.made plant n all)
-      (record { goes_on = λ none. is (here-members plant n old now ∙ none); round = did.made plant n now });
+pub one-more-late : (first old new : Stations) → SomeLate first old → stations_here old ≢ 0 → Did MakesRound old new → KeepScans old new
+    → StayCollected old new → SomeLate first new
+one-more-late first old new some is did scans collected = record {
+  did = record {
+    stand = λ plant n all. did.stand plant n (some.did.stand plant n all);
+    made = λ plant n all.
+        let now = some.did.stand plant n all in
+        one-more-of (IsLateRound plant n) (joint_of first) (joint_of old) (joint_of new) (some.did.made plant n all)
+        (record { goes_on = λ none. is (here-members plant n old now ∙ none); round = did.made plant n now });
+  };
+  scans = scans-both first old new some.scans scans;
+  collected = collected-both first old new some.collected collected;
 }
 
 pub all-finished : (first new : Stations) → SomeLate first new → stations_here new ≡ 0 → Did Finishes first new
 all-finished first new some none = record {
-  stand = some.stand;
+  stand = some.did.stand;
   made = λ plant n all.
-      let s = some.made plant n all in
+      let s = some.did.made plant n all in
       record {
         behind_each = s.behind_each;
         rounds = s.chain;
-        left = sym (here-members plant n new (some.stand plant n all)) ∙ none;
+        left = sym (here-members plant n new (some.did.stand plant n all)) ∙ none;
       };
 }

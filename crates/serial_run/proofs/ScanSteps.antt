@@ -255,16 +255,6 @@ scan-over target v scan off = sym (append-nil v.history) ∙ (ap (λ (l : List E
       (λ (none : scan.rest ≡ []). ap (entries_from v.fixed (state_of v)) none ∙ entries-end v.fixed (state_of v))
       (scan.over off)
 
-pub scan-between : (target : List Entry) (v : ControllerIs) → InScan target v → v.reserved ≡ false → IsBetweenScans v
-scan-between target v scan off = record {
-  next = scan.next;
-  many = scan.many;
-  left = λ goes. ⊎_elim
-      (λ (stopped : (state_of v).stop ≢ 0). absurd (stopped goes))
-      (λ (none : scan.rest ≡ []). scan.left goes ∙ ap (λ (l : List ScanStep). l ++ scans_from v.fixed scan.next scan.many) none)
-      (scan.over off);
-}
-
 -- a controller that has not ended goes on
 pub open-stop : (v : ControllerIs) → has_ended v ≡ false → (state_of v).stop ≡ 0
 open-stop v open' = by ((state_of v).stop == 0) refl where

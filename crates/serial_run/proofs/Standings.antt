@@ -1,5 +1,5 @@
 -- What stations keep while others have their turns, and while their scans go on.
-use Rattle.std.proofs.Common.{◌≡◌, ◌≢◌, ℕ, List, [], ◌∷◌, filter, refl}
+use Rattle.std.proofs.Common.{◌++◌, ◌≡◌, ◌≢◌, ℕ, List, [], ◌∷◌, filter, refl}
 use Rattle.std.proofs.Common.{sym, subst, ◌∙◌}
 use Rattle.std.specs.Prelude.{count_by, min}
 use Rattle.comm_port.specs.Complete.{is_pass}
@@ -23,6 +23,11 @@ use Rattle.comm_port.proofs.Standings.{standing-others, standing-scans}
 use Rattle.controller_core.specs.declared.fixed.Fixed.{Fixed}
 use Rattle.plant_types.specs.Plans.{IsPlant}
 use Rattle.ring_core.specs.Legal.{IsMember}
+use Rattle.turn_laws.specs.KeepsOn.{HostKeepsOn, KeepsOn}
+use Rattle.turn_laws.proofs.Others.{others, scans as scans-keep}
+use Rattle.turn_laws.proofs.HostOthers.{host-others}
+use Rattle.controller_core.specs.Controller.{IsLegal}
+use Rattle.comm_port.specs.JointLaws.{fixed_of}
 use Rattle.serial_run.proofs.Distinct.{low-members}
 use Rattle.serial_run.specs.declared.stations.ControllerStation.{ControllerStation}
 use Rattle.serial_run.specs.declared.stations.HostStation.{HostStation}
@@ -65,6 +70,8 @@ stands-others plant scans n old new plan s sound member other f legal st = recor
   standing = comm-others plant s.worker s.controller n old new sound (subst (IsMember plant.net) (sym st.worker_node) member)
       (λ e. other (sym st.worker_node ∙ e)) f legal st.standing;
   left = st.left ∙ sym (others-left plant.net n plan.node old new other f);
+  keeps = subst (λ (l : List RingEntry). KeepsOn (fixed_of plant scans plan) plant.net plan.node s.controller.history l s.left) (sym f.is)
+      (others (fixed_of plant scans plan) plant.net plan.node s.controller.history old f.more s.left (others-none n plan.node old new other f) st.keeps);
 }
 
 pub host-stands-others : (plant : Plant) (n : ℕ) (old new : List RingEntry) (plan : HostPlan) (s : HostStation) → plan.node ≢ n
@@ -78,6 +85,8 @@ host-stands-others plant n old new plan s other f legal st = record {
   counts = subst (λ (b : List RingEntry). s.worker.passes ≡ min (count_by is_pass b) 4294967295)
       (sym (others-own n s.worker.node old new (λ e. other (sym st.worker_node ∙ e)) f)) st.counts;
   left = st.left ∙ sym (others-left plant.net n plan.node old new other f);
+  keeps = subst (λ (l : List RingEntry). HostKeepsOn plan plant.net s.host.history l s.left) (sym f.is)
+      (host-others plan plant.net s.host.history old f.more s.left (others-none n plan.node old new other f) st.keeps);
 }
 
 -- ---- events of the scan
@@ -111,4 +120,12 @@ stands-scans plant scans ring plan s w h made st = record {
   legal = made.went_on.legal;
   standing = comm-scans plant.net s.worker made.events s.controller w ring made.went_on st.standing;
   left = st.left;
+  keeps =
+      let went = made.went_on in
+      let fixed : w.fixed ≡ fixed_of plant scans plan = went.fixed ∙ st.fixed in
+      let legal : IsLegal (fixed_of plant scans plan) (s.controller.history ++ made.events) =
+      subst (IsLegal (fixed_of plant scans plan)) went.history (subst (λ (f : Fixed). IsLegal f w.history) fixed went.legal) in
+      subst (λ (h : List Entry). KeepsOn (fixed_of plant scans plan) plant.net plan.node h ring s.left) (sym went.history)
+      (scans-keep (fixed_of plant scans plan) plant.net plan.node s.controller.history made.events ring s.left legal
+      (no-items made.events went.made) st.keeps);
 }

@@ -31,7 +31,9 @@ use Rattle.serial_run.proofs.Lists.{zip-each, zip-other, zip-same-map}
 use Rattle.comm_port.proofs.Standings.{standing-new}
 use Rattle.serial_run.specs.Stations.{ring_side}
 use Rattle.serial_run.proofs.Distinct.{low-members, member-node}
-use Rattle.serial_run.proofs.Holders.{member-there}
+use Rattle.turn_laws.proofs.Others.{starts}
+use Rattle.turn_laws.proofs.HostOthers.{host-starts}
+use Rattle.turn_laws.proofs.Holders.{member-there}
 
 nothing-host-tied : Tied AHost no_items []
 nothing-host-tied = record { asks = refl; peers = refl; port = refl; replies = refl; ends = refl }
@@ -64,8 +66,10 @@ start-controller plant scans plan v w sound member legal v-is w-is =
         legal = legal;
         standing = standing-new plan.node plant.net true (record { fixed = fixed_of plant scans plan; place = tt }) [] (ring_side plant.net) refl refl tt refl;
         left = nobody-left plant sound plan.node member;
+        keeps = starts (fixed_of plant scans plan) plant.net plan.node [] refl;
       };
       nothing = refl;
+      here = refl;
     }))
 
 paths-agree : PathsAgree [] []
@@ -94,6 +98,7 @@ start-host plant plan v w sound member legal v-is w-is =
         };
         counts = refl;
         left = nobody-left plant sound plan.node member;
+        keeps = host-starts plan plant.net [] refl;
       };
       nothing = refl;
     }))
@@ -125,6 +130,8 @@ start-all plant scans run sound ring controllers hosts = record {
         many = y.controller.fixed.scans;
         left = λ goes. ap (λ (h : List Entry). left_of y.controller.fixed h) s.nothing;
       });
+  here = zip-each (StartsController plant scans) (λ (s : ControllerStation). s.left ≡ false) plant.controllers run.controllers.items
+      controllers (λ x y s. s.here);
 } where
   history : run.ring.history ≡ []
   history = ap (λ r. r.history) ring

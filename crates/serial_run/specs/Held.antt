@@ -1,7 +1,7 @@
 -- What a station's own turn did to it and to the ring. This project's own.
-use Rattle.std.specs.Prelude.{◌≡◌, ◌≢◌, ℕ, ◌+◌, ◌-◌, ◌<◌, ◌≤◌, ◌&&◌, Bool, true, false, not}
-use Rattle.std.specs.Prelude.{if◌then◌else◌, List}
-use Rattle.std.specs.List.{sum_by, count_by}
+use Rattle.std.specs.Prelude.{◌≡◌, ◌≢◌, ℕ, ◌+◌, ◌-◌, ◌<◌, ◌≤◌, ◌&&◌, Bool, true, false, not, List}
+use Rattle.std.specs.Prelude.{if◌then◌else◌}
+use Rattle.std.specs.List.{All, AllZip, sum_by, count_by}
 use Rattle.plant_types.specs.declared.net.NetPlan.{NetPlan}
 use Rattle.ring_core.specs.declared.entry.RingEntry.{RingEntry}
 use Rattle.ring_core.specs.Kept.{RingLog}
@@ -17,6 +17,8 @@ use Rattle.serial_run.specs.declared.stations.ControllerStation.{ControllerStati
 use Rattle.serial_run.specs.declared.stations.HostStation.{HostStation}
 use Rattle.serial_run.specs.declared.stations.Stations.{Stations}
 use Rattle.serial_run.specs.Turns.{has_left}
+use Rattle.comm_port.specs.Worker.{IsMemberWorker}
+use Rattle.turn_laws.specs.KeepsOn.{HostKeepsOn, KeepsOn}
 use Rattle.serial_run.specs.Stations.{ram_side, ring_side}
 
 -- A controller's station beside the ring alone.
@@ -38,6 +40,41 @@ abbrev pub KnowsLeft : ControllerStation → RingLog → Type 0
 KnowsLeft station ring =
     station.left ≡ has_left ring.net ring.history station.worker.node
 
+-- What its lists keep from turn to turn.
+pub record KeepsBeside (station : ControllerStation) (ring : RingLog) : Type 0 where
+  pub member : IsMemberWorker ring.net station.worker.node
+  pub legal : IsLegal station.controller.fixed station.controller.history
+  pub keeps : KeepsOn station.controller.fixed ring.net station.worker.node
+      station.controller.history ring.history station.left
+
+-- And a host's.
+abbrev pub HostKeepsBeside : HostStation → RingLog → Type 0
+HostKeepsBeside station ring =
+    HostKeepsOn station.host.plan ring.net station.host.history ring.history station.left
+
+-- A station that has left has collected all calls.
+abbrev pub HasCollected : ControllerStation → Type 0
+HasCollected station = station.left ≡ true → has_started station.controller ≡ false
+
+abbrev pub AreCollected : Stations → Type 0
+AreCollected run = All HasCollected run.controllers.items
+
+-- Those that had collected all calls still have.
+abbrev pub StaysCollected : ControllerStation → ControllerStation → Type 0
+StaysCollected old new = HasCollected old → HasCollected new
+
+abbrev pub StayCollected : Stations → Stations → Type 0
+StayCollected old new = AllZip StaysCollected old.controllers.items new.controllers.items
+
+-- And the station of a node has.
+pub record CollectsFor (node : ℕ) (old new : ControllerStation) : Type 0 where
+  pub stays : StaysCollected old new
+  pub visited : old.node ≡ node → HasCollected new
+
+abbrev pub CollectFor : ℕ → Stations → Stations → Type 0
+CollectFor node old new =
+    AllZip (CollectsFor node) old.controllers.items new.controllers.items
+
 -- What no turn changes of a controller's station, and that its lists are legal.
 pub record StaysStation (old new : ControllerStation) (ring new_ring : RingLog) : Type 0 where
   pub node : new.node ≡ old.node
@@ -54,6 +91,9 @@ pub record HeldController (old new : ControllerStation) (ring new_ring : RingLog
   pub turn : HoldsTurn true true old.controller.fixed ring.net old.worker.node old.worker.budget
       old.controller.history new.controller.history ring.history new_ring.history new.left
   pub left : new.left ≡ has_left ring.net new_ring.history old.worker.node
+  pub keeps : KeepsOn old.controller.fixed ring.net old.worker.node new.controller.history
+      new_ring.history new.left
+  pub collected : has_started new.controller ≡ false
 
 -- A host's station made its hold turn.
 pub record HeldHost (old new : HostStation) (ring new_ring : RingLog) : Type 0 where
@@ -67,6 +107,7 @@ pub record HeldHost (old new : HostStation) (ring new_ring : RingLog) : Type 0 w
   pub turn : HoldsHostTurn true ring.net old.worker.node old.host.plan old.worker.budget
       old.host.history new.host.history ring.history new_ring.history new.left
   pub left : new.left ≡ has_left ring.net new_ring.history old.worker.node
+  pub keeps : HostKeepsOn old.host.plan ring.net new.host.history new_ring.history new.left
 
 -- A controller's station made its visit, or none was due.
 abbrev pub VisitedWhere : Bool → ControllerStation → ControllerStation → RingLog → RingLog
@@ -81,6 +122,9 @@ pub record VisitedController (old new : ControllerStation) (ring new_ring : Ring
   pub stays : StaysStation old new ring new_ring
   pub left : new.left ≡ old.left
   pub visit : VisitedWhere (old.left && has_started old.controller) old new ring new_ring
+  pub keeps : KeepsOn old.controller.fixed ring.net old.worker.node new.controller.history
+      new_ring.history new.left
+  pub collected : HasCollected new
 
 -- How many hold turns a node has before it at most: one for each Pass that its budget leaves, and
 -- one for its Leave.

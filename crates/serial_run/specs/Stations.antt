@@ -1,5 +1,5 @@
 -- What a run keeps of all stations of its plant. This project's own.
-use Rattle.std.specs.Prelude.{◌≡◌, ℕ, true, List, map, None}
+use Rattle.std.specs.Prelude.{false, ◌≡◌, ℕ, true, List, map, None}
 use Rattle.std.specs.Prelude.{[]}
 use Rattle.std.specs.List.{AllZip}
 use Rattle.plant_types.specs.declared.net.NetPlan.{NetPlan}
@@ -26,6 +26,7 @@ use Rattle.serial_run.specs.declared.stations.HostStation.{HostStation}
 use Rattle.serial_run.specs.declared.stations.Stations.{Stations}
 use Rattle.serial_run.specs.Turns.{has_left, nothing_made}
 use Rattle.serial_run.specs.Scans.{AreBetweenScans}
+use Rattle.turn_laws.specs.KeepsOn.{HostKeepsOn, KeepsOn}
 
 -- A plant that can be run: its parts fit each other, and so does each controller's program.
 pub record CanRunPlant (plant : Plant) : Type 0 where
@@ -65,6 +66,8 @@ pub record StandsController (plant : Plant) (scans : ℕ) (ring : List RingEntry
   pub standing : Standing station.worker (ram_side station.controller)
       station.controller.history (ring_side plant.net) ring
   pub left : station.left ≡ has_left plant.net ring plan.node
+  pub keeps : KeepsOn (fixed_of plant scans plan) plant.net plan.node station.controller.history
+      ring station.left
 
 -- And a host's.
 pub record StandsHost (plant : Plant) (ring : List RingEntry) (plan : HostPlan)
@@ -76,6 +79,7 @@ pub record StandsHost (plant : Plant) (ring : List RingEntry) (plan : HostPlan)
   pub ties : HostTies plan.node station.host (ring_side plant.net) ring
   pub counts : CountsPasses station.worker ring
   pub left : station.left ≡ has_left plant.net ring plan.node
+  pub keeps : HostKeepsOn plan plant.net station.host.history ring station.left
 
 -- All of them do, those of the plant in its order.
 pub record StandAll (plant : Plant) (scans : ℕ) (run : Stations) : Type 0 where
@@ -109,6 +113,7 @@ pub record StartsController (plant : Plant) (scans : ℕ) (plan : ControllerPlan
     (station : ControllerStation) : Type 0 where
   pub stands : StandsController plant scans [] plan station
   pub nothing : station.controller.history ≡ []
+  pub here : station.left ≡ false
 
 pub record StartsHost (plant : Plant) (plan : HostPlan) (station : HostStation) : Type 0 where
   pub stands : StandsHost plant [] plan station
@@ -125,6 +130,7 @@ pub record Starts (plant : Plant) (scans : ℕ) (run : Stations) : Type 0 where
   pub stand : StandAll plant scans run
   pub nothing : joint_of run ≡ nothing_made plant
   pub between : AreBetweenScans run
+  pub here : All (λ (station : ControllerStation). station.left ≡ false) run.controllers.items
 
 -- A controller went on by events of its scan alone, to this history.
 pub record MadeEvents (history : List Entry) (old new : ControllerIs) : Type 0 where

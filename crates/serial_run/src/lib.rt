@@ -7,6 +7,8 @@ mod runs;
 mod scanning;
 mod serial;
 mod stations;
+#[cfg(test)]
+mod tests;
 mod turning;
 
 pub use order::Turn;

@@ -1,6 +1,7 @@
 //! Runs: turns in a given order, and the serial run.
 ghost use Rattle.std.specs.Prelude.{◌≡◌, ◌≤◌, IfOk};
 ghost use Rattle.effect_laws.specs.Effects.{EffectsAreRight};
+ghost use Rattle.comm_port.specs.Complete.{IsComplete};
 ghost use Rattle.comm_port.specs.JointLaws.{IsJoint, IsLegalJoint};
 ghost use Rattle.serial_run.specs.Turns.{IsTurns};
 ghost use Rattle.serial_run.specs.Serial.{IsSerial};
@@ -13,6 +14,7 @@ use comm_port::Joint;
 use effect_laws::effects_are_right;
 use plant_types::Plant;
 use std::alloc::{AllocError, Global};
+use turn_laws::runs_complete;
 
 /// Makes turns one after another from the start of a plant; what all stations and the ring noted.
 /// Workers keep to their budget of Passes. Only memory can want.
@@ -41,8 +43,10 @@ pub fn run(alloc: Global, plant: &Plant, scans: u32) -> Result<Joint, AllocError
     ensures legal { IfOk result (IsLegalJoint plant.now scans) }
     ensures joint { IfOk result IsJoint }
     ensures effects { IfOk result EffectsAreRight }
+    ensures complete { IfOk result (IsComplete plant.now scans) }
 {
     effects_are_right();
+    runs_complete();
     let mut run = Stations::new(alloc, plant, scans)?;
     run.repeat(plant.net.rotations)?;
     run.finish()?;

@@ -1,11 +1,11 @@
 //! The serial run, part by part.
-ghost use Rattle.std.specs.Prelude.{◌≡◌, ◌<◌, false, OnOk};
+ghost use Rattle.std.specs.Prelude.{◌≡◌, ◌<◌, true, false, OnOk};
 ghost use Rattle.serial_run.specs.Serial.{scanned, visits_of, Finishes, IsRepetition, MakesRound};
 ghost use Rattle.serial_run.specs.Serial.{MakesRounds, Repeats};
 ghost use Rattle.serial_run.specs.Turns.{MakesTurns};
 ghost use Rattle.serial_run.specs.Stations.{Did, DidWith, Stand};
 ghost use Rattle.serial_run.specs.Scans.{have_ended, steps_left, AreBetweenScans, KeepScans};
-ghost use Rattle.serial_run.specs.Held.{stations_here, turns_left, Lessens};
+ghost use Rattle.serial_run.specs.Held.{stations_here, AreCollected, Lessens, StayCollected};
 
 use crate::scanning::scan;
 use crate::stations::Stations;
@@ -56,6 +56,7 @@ impl Stations {
         ensures visits { OnOk result (Did (λ plant scans. MakesTurns plant scans (visits_of plant))
             self.old self.new) }
         ensures scans { OnOk result (KeepScans self.old self.new) }
+        ensures collected { OnOk result (AreCollected self.new) }
     {
         for at in 0..self.controllers.len() {
             let node = self.controllers[at].node;
@@ -70,6 +71,7 @@ impl Stations {
         ensures round { OnOk result (Did MakesRound self.old self.new) }
         ensures scans { OnOk result (KeepScans self.old self.new) }
         ensures less { OnOk result (Lessens self.old self.new) }
+        ensures collected { OnOk result (StayCollected self.old self.new) }
     {
         for _ in 0..self.here() {
             self.hold()?;
@@ -83,6 +85,7 @@ impl Stations {
         ensures rounds { OnOk result (Did (λ plant scans. MakesRounds plant scans count)
             self.old self.new) }
         ensures scans { OnOk result (KeepScans self.old self.new) }
+        ensures collected { OnOk result (StayCollected self.old self.new) }
     {
         for _ in 0..count {
             self.round()?;
@@ -98,6 +101,7 @@ impl Stations {
         ensures did { OnOk result (DidWith rotations IsRepetition self.old self.new) }
         ensures between { OnOk result (AreBetweenScans self.new) }
         ensures less { OnOk result (steps_left self.new < steps_left self.old) }
+        ensures collected { OnOk result (AreCollected self.new) }
     {
         self.scan_all()?;
         self.visit_all()?;
@@ -108,7 +112,10 @@ impl Stations {
     pub(crate) fn repeat(&mut self, rotations: u32) -> Result<(), AllocError>
         requires stand { Stand self.old }
         requires between { AreBetweenScans self.old }
-        ensures { OnOk result (DidWith rotations Repeats self.old self.new) }
+        requires collected { AreCollected self.old }
+        ensures did { OnOk result (DidWith rotations Repeats self.old self.new) }
+        ensures ended { OnOk result (have_ended self.new ≡ true) }
+        ensures collected { OnOk result (AreCollected self.new) }
     {
         while !self.have_ended() {
             self.repetition(rotations)?;
@@ -119,7 +126,10 @@ impl Stations {
     /// Rounds until every node has left.
     pub(crate) fn finish(&mut self) -> Result<(), AllocError>
         requires { Stand self.old }
-        ensures { OnOk result (Did Finishes self.old self.new) }
+        ensures did { OnOk result (Did Finishes self.old self.new) }
+        ensures scans { OnOk result (KeepScans self.old self.new) }
+        ensures collected { OnOk result (StayCollected self.old self.new) }
+        ensures left { OnOk result (stations_here self.new ≡ 0) }
     {
         while self.here() != 0 {
             self.round()?;

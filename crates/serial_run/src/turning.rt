@@ -1,18 +1,20 @@
 //! The turns of the stations.
-ghost use Rattle.std.specs.Prelude.{◌≡◌, ◌&&◌, true, OnOk};
+ghost use Rattle.std.specs.Prelude.{◌≡◌, ◌&&◌, true, false, OnOk};
 ghost use Rattle.controller_core.specs.Controller.{has_started, stepped};
 ghost use Rattle.serial_run.specs.Turns.{MakesTurn};
 ghost use Rattle.serial_run.specs.Stations.{Did, MadeEvents, Stand};
 ghost use Rattle.serial_run.specs.Scans.{KeepScans};
 ghost use Rattle.serial_run.specs.Held.{HasToken, HeldController, HeldHost, HostStandsBeside};
-ghost use Rattle.serial_run.specs.Held.{KnowsLeft};
+ghost use Rattle.serial_run.specs.Held.{CollectFor, HostKeepsBeside, KeepsBeside, KnowsLeft};
+ghost use Rattle.serial_run.specs.Held.{StayCollected};
 ghost use Rattle.serial_run.specs.Held.{Lessens, StandsBeside, VisitedController};
 
 use crate::order::Turn;
 use crate::stations::{ControllerStation, HostStation, Stations};
-use controller_core::{Controller, ended_controllers_stay};
+use controller_core::{Controller, calls_follow, ended_controllers_stay};
 use ring_core::Ring;
 use std::alloc::AllocError;
+use turn_laws::{host_turns_keep_on, turns_keep_on, visits_keep_on};
 
 /// Has the memory of a scan, if it hasn't yet.
 pub(crate) fn reserve(controller: &mut Controller) -> Result<(), AllocError>
@@ -43,8 +45,12 @@ fn make_step(controller: &mut Controller) -> Result<(), AllocError>
 fn hold_controller(station: &mut ControllerStation, ring: &mut Ring) -> Result<(), AllocError>
     requires stands { StandsBeside station.old ring.old }
     requires token { HasToken station.old.worker.node ring.old }
+    requires keeps { KeepsBeside station.old ring.old }
+    requires here { station.old.left ≡ false }
     ensures { OnOk result (HeldController station.old station.new ring.old ring.new) }
 {
+    turns_keep_on();
+    calls_follow();
     let left = station.worker.hold_turn(&mut station.controller, ring)?;
     let _ = station.controller.history();
     let _ = ring.history();
@@ -56,8 +62,11 @@ fn hold_controller(station: &mut ControllerStation, ring: &mut Ring) -> Result<(
 fn hold_host(station: &mut HostStation, ring: &mut Ring) -> Result<(), AllocError>
     requires stands { HostStandsBeside station.old ring.old }
     requires token { HasToken station.old.worker.node ring.old }
+    requires keeps { HostKeepsBeside station.old ring.old }
+    requires here { station.old.left ≡ false }
     ensures { OnOk result (HeldHost station.old station.new ring.old ring.new) }
 {
+    host_turns_keep_on();
     let left = station.worker.hold_turn(&mut station.host, ring)?;
     let _ = ring.history();
     station.left = left;
@@ -79,9 +88,12 @@ fn is_visit_due(station: &ControllerStation) -> bool
 fn make_visit(station: &mut ControllerStation, ring: &mut Ring) -> Result<(), AllocError>
     requires stands { StandsBeside station.old ring.old }
     requires left { KnowsLeft station.old ring.old }
+    requires keeps { KeepsBeside station.old ring.old }
     requires due { (station.old.left && has_started station.old.controller) ≡ true }
     ensures { OnOk result (VisitedController station.old station.new ring.old ring.new) }
 {
+    visits_keep_on();
+    calls_follow();
     station.worker.visit_end(&mut station.controller, ring)?;
     let _ = station.controller.history();
     let _ = ring.history();
@@ -92,6 +104,7 @@ fn make_visit(station: &mut ControllerStation, ring: &mut Ring) -> Result<(), Al
 fn visit_controller(station: &mut ControllerStation, ring: &mut Ring) -> Result<(), AllocError>
     requires stands { StandsBeside station.old ring.old }
     requires left { KnowsLeft station.old ring.old }
+    requires keeps { KeepsBeside station.old ring.old }
     ensures { OnOk result (VisitedController station.old station.new ring.old ring.new) }
 {
     if is_visit_due(station) {
@@ -121,6 +134,7 @@ impl Stations {
             self.old self.new) }
         ensures scans { OnOk result (KeepScans self.old self.new) }
         ensures less { OnOk result (Lessens self.old self.new) }
+        ensures collected { OnOk result (StayCollected self.old self.new) }
     {
         let holder = self.ring.holder();
         if let Some(at) = self.controller_at(holder) {
@@ -138,6 +152,7 @@ impl Stations {
         ensures visited { OnOk result (Did (λ plant scans. MakesTurn plant scans (Turn.Visit node))
             self.old self.new) }
         ensures scans { OnOk result (KeepScans self.old self.new) }
+        ensures collected { OnOk result (CollectFor node self.old self.new) }
     {
         match self.controller_at(node) {
             Some(at) => visit_controller(&mut self.controllers[at], &mut self.ring),

@@ -12,5 +12,6 @@ pub mod HostWent
 pub mod HostTurns
 pub mod HostOthers
 pub mod Stands
+pub mod Holders
 mod Read2
 pub mod Spent

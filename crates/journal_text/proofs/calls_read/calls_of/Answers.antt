@@ -1,4 +1,4 @@
-use Rattle.std.proofs.Common.{sym, arith}
+use Rattle.std.proofs.Common.{sym}
 use Rattle.std.proofs.lemmas.Result.{err_from_is_err_and}
 use Rattle.journal_text.specs.ReadLines.{calls_of, call_of, each_of}
 use Rattle.journal_text.proofs.CallLoop.{pieces, goes_on, stops, last_stops, is_done}

@@ -9,6 +9,8 @@ use Rattle.serial_run.proofs.Did.{host-stands-beside}
 use Rattle.serial_run.proofs.Did.{no-hold-did, stands-beside}
 use Rattle.serial_run.proofs.Measures.{lessens-none, scans-same}
 use Rattle.serial_run.proofs.Holding.{hold-lessens, hold-scans, host-hold-lessens}
+use Rattle.serial_run.proofs.Keeping.{host-is-here, host-keeps-beside, is-here, keeps-beside}
+use Rattle.serial_run.proofs.Collected.{collected-same, collected-with}
 use Rattle.serial_run.proofs.stations.Stations.hold.Goals as goal
 
 pub hold_controller-requires-clause-stands : goal.hold_controller-requires-clause-stands
@@ -25,6 +27,56 @@ hold_controller-requires-clause-token c =
     let found = found-station run c.holder-holder.result c.in-Some.at s (sym c.controller_at.ensures ∙ c.in-Some.is) c.index_mut.ensures.value in
     has-token c.requires.plant c.requires.scans run c.in-Some.at s c.requires.all found.0
     (subst (λ (n : ℕ). (s.node == n) ≡ true) c.holder-holder.ensures found.1)
+
+pub hold_controller-requires-clause-keeps : goal.hold_controller-requires-clause-keeps
+hold_controller-requires-clause-keeps c =
+    let run = c.args.self.now in
+    let s = c.index_mut.result.now in
+    let found = found-station run c.holder-holder.result c.in-Some.at s (sym c.controller_at.ensures ∙ c.in-Some.is) c.index_mut.ensures.value in
+    keeps-beside c.requires.plant c.requires.scans run c.in-Some.at s c.requires.all found.0
+
+pub hold_controller-requires-clause-here : goal.hold_controller-requires-clause-here
+hold_controller-requires-clause-here c =
+    let run = c.args.self.now in
+    let s = c.index_mut.result.now in
+    let found = found-station run c.holder-holder.result c.in-Some.at s (sym c.controller_at.ensures ∙ c.in-Some.is) c.index_mut.ensures.value in
+    is-here c.requires.plant c.requires.scans run c.in-Some.at s c.requires.all found.0
+    (has-token c.requires.plant c.requires.scans run c.in-Some.at s c.requires.all found.0
+    (subst (λ (n : ℕ). (s.node == n) ≡ true) c.holder-holder.ensures found.1))
+
+pub hold_host-requires-clause-keeps : goal.hold_host-requires-clause-keeps
+hold_host-requires-clause-keeps c =
+    let run = c.args.self.now in
+    let s = c.index_mut-in-Some-host_at.result.now in
+    let found = found-host run c.holder-holder.result c.in-Some-host_at.at s (sym c.host_at.ensures ∙ c.in-Some-host_at.is)
+    c.index_mut-in-Some-host_at.ensures.value in
+    host-keeps-beside c.requires.plant c.requires.scans run c.in-Some-host_at.at s c.requires.all found.0
+
+pub hold_host-requires-clause-here : goal.hold_host-requires-clause-here
+hold_host-requires-clause-here c =
+    let run = c.args.self.now in
+    let s = c.index_mut-in-Some-host_at.result.now in
+    let found = found-host run c.holder-holder.result c.in-Some-host_at.at s (sym c.host_at.ensures ∙ c.in-Some-host_at.is)
+    c.index_mut-in-Some-host_at.ensures.value in
+    host-is-here c.requires.plant c.requires.scans run c.in-Some-host_at.at s c.requires.all found.0
+    (host-has-token c.requires.plant c.requires.scans run c.in-Some-host_at.at s c.requires.all found.0
+    (subst (λ (n : ℕ). (s.node == n) ≡ true) c.holder-holder.ensures found.1))
+
+pub returns-in-Some-clause-collected : goal.returns-in-Some-clause-collected
+returns-in-Some-clause-collected c =
+    let run = c.args.self.now in
+    let at = c.in-Some.at in
+    let s = c.index_mut.result.now in
+    let t = c.hold_controller.new.station in
+    let found = found-station run c.holder-holder.result at s (sym c.controller_at.ensures ∙ c.in-Some.is) c.index_mut.ensures.value in
+    on-ok c.hold_controller.result (λ held. collected-with run.controllers.items at s t found.0 (λ was left. held.collected)) c.hold_controller.ensures
+
+pub returns-in-Some-host_at-clause-collected : goal.returns-in-Some-host_at-clause-collected
+returns-in-Some-host_at-clause-collected c =
+    on-ok c.hold_host.result (λ held. collected-same c.args.self.now.controllers.items) c.hold_host.ensures
+
+pub returns-clause-collected : goal.returns-clause-collected
+returns-clause-collected c = collected-same c.args.self.now.controllers.items
 
 pub returns-in-Some-clause-held : goal.returns-in-Some-clause-held
 returns-in-Some-clause-held c =

@@ -1,4 +1,5 @@
 use Rattle.std.proofs.Common.{arith}
+use Rattle.serial_run.proofs.Collected.{stay-collected}
 use Rattle.serial_run.proofs.Rounds.{repetition-did, scans-between, scans-both, steps-kept}
 use Rattle.serial_run.proofs.TurnsMade.{on-ok}
 use Rattle.serial_run.proofs.stations.Stations.repetition.Goals as goal
@@ -40,3 +41,9 @@ returns-clause-less c =
     let less = c.in_ok-scan_all.ensures.less c.requires.goes_on in
     omega (arith, same, less))
     c.rounds.ensures.scans
+
+pub returns-clause-collected : goal.returns-clause-collected
+returns-clause-collected c =
+    on-ok c.rounds.result
+    (λ stay. stay-collected c.visit_all.new.self c.rounds.new.self stay c.in_ok-visit_all.ensures.collected)
+    c.rounds.ensures.collected

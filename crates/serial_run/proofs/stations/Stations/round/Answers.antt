@@ -13,7 +13,7 @@ hold-requires c =
 pub loop-preserved : goal.loop-preserved
 loop-preserved c =
     let o = c.in_ok-hold.ensures in
-    one-more-hold c.loop.counter c.args.self.now c.loop.self c.hold.new.self c.loop.invariant o.held o.scans o.less
+    one-more-hold c.loop.counter c.args.self.now c.loop.self c.hold.new.self c.loop.invariant o.held o.scans o.less o.collected
 
 pub returns-clause-round : goal.returns-clause-round
 returns-clause-round c =
@@ -21,6 +21,9 @@ returns-clause-round c =
     let high = c.loop.auto.counter-end in
     let is : c.loop.counter ≡ c.here-end.result = omega (arith, low, high) in
     holds-round c.args.self.now c.loop.self c.loop.counter (is ∙ c.here-end.ensures) c.loop.invariant
+
+pub returns-clause-collected : goal.returns-clause-collected
+returns-clause-collected c = c.loop.invariant.collected
 
 pub returns-clause-scans : goal.returns-clause-scans
 returns-clause-scans c = c.loop.invariant.scans

@@ -1,12 +1,17 @@
 use Rattle.std.proofs.Common.{◌≡◌, refl, subst, arith}
 use Rattle.serial_run.specs.Serial.{MakesRounds}
 use Rattle.serial_run.specs.Stations.{Did}
+use Rattle.serial_run.proofs.Collected.{collected-both, collected-same}
 use Rattle.serial_run.proofs.Measures.{scans-same}
 use Rattle.serial_run.proofs.Rounds.{no-rounds, one-more-round, scans-both}
 use Rattle.serial_run.proofs.stations.Stations.rounds.Goals as goal
 
 pub loop-init : goal.loop-init
-loop-init c = record { did = no-rounds c.args.self.now; scans = scans-same c.args.self.now c.args.self.now refl }
+loop-init c = record {
+  did = no-rounds c.args.self.now;
+  scans = scans-same c.args.self.now c.args.self.now refl;
+  collected = collected-same c.args.self.now.controllers.items;
+}
 
 pub round-requires : goal.round-requires
 round-requires c =
@@ -19,6 +24,7 @@ loop-preserved c =
     record {
       did = one-more-round c.loop.counter c.args.self.now c.loop.self c.round.new.self c.loop.invariant.did o.round;
       scans = scans-both c.args.self.now c.loop.self c.round.new.self c.loop.invariant.scans o.scans;
+      collected = collected-both c.args.self.now c.loop.self c.round.new.self c.loop.invariant.collected o.collected;
     }
 
 pub returns-clause-rounds : goal.returns-clause-rounds
@@ -27,6 +33,9 @@ returns-clause-rounds c =
     let high = c.loop.auto.counter-end in
     let is : c.loop.counter ≡ c.args.count = omega (arith, low, high) in
     subst (λ n. Did (λ plant scans. MakesRounds plant scans n) c.args.self.now c.loop.self) is c.loop.invariant.did
+
+pub returns-clause-collected : goal.returns-clause-collected
+returns-clause-collected c = c.loop.invariant.collected
 
 pub returns-clause-scans : goal.returns-clause-scans
 returns-clause-scans c = c.loop.invariant.scans

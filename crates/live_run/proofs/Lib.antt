@@ -1,0 +1,12 @@
+pub mod Stays
+pub mod Scans
+pub mod Members
+pub mod Keeping
+pub mod Starting
+pub mod Closing
+pub mod Gathering
+pub mod Ran
+pub mod Dealt
+pub mod Through
+pub mod Closed
+pub mod Whole

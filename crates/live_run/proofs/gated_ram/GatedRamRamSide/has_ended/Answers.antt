@@ -1,0 +1,18 @@
+use Rattle.std.proofs.Common.{ap, ◌∙◌}
+use Rattle.turn_gate.specs.Known.{PassFacts}
+use Rattle.controller_core.specs.Controller.{ControllerIs}
+use Rattle.controller_core.specs.declared.entry.Entry.{Entry}
+use Rattle.comm_port.specs.Reading.{is_ours}
+use Rattle.live_run.specs.Cells.{controller_in, maker_number}
+use Rattle.live_run.specs.Sides.{GatedRamIs}
+use Rattle.live_run.proofs.Stays.{stay-went, none-ours}
+use Rattle.live_run.proofs.gated_ram.GatedRamRamSide.has_ended.Goals as goal
+
+pub returns-clause-went : goal.returns-clause-went
+returns-clause-went g c =
+    let found = c.get_mut-controller.ensures.value ∙ ap controller_in c.value.ensures.value in
+    stay-went maker_number is_ours 2 none-ours c.self.inside.pass _ _ _ _ _ _
+    c.self.invariant.number_is c.enter-held.ensures.found
+    (ap (λ (s : GatedRamIs). s.seen) c.self.view_is)
+    (ap (λ (v : ControllerIs). v.history) found) c.has_ended-answer.ensures.went
+    (ap (λ (p : PassFacts Entry). p.seen) c.leave.ensures.pass)

@@ -1,0 +1,39 @@
+use Rattle.std.proofs.Common.{◌≡◌, All, sym, ap, subst, ◌∙◌, refl}
+use Rattle.turn_gate.specs.Known.{Owns, StartsWith}
+use Rattle.controller_core.specs.Controller.{ControllerIs, IsLegal}
+use Rattle.comm_port.specs.JointLaws.{fixed_of}
+use Rattle.live_run.specs.Cells.{controller_in, maker_number}
+use Rattle.live_run.specs.Pairs.{IsBack, ram_side}
+use Rattle.live_run.proofs.Closing.{came-to-end}
+use Rattle.live_run.proofs.Starting.{talks-start}
+use Rattle.live_run.proofs.pairs.run_controller.Goals as goal
+
+pub through_gate-zero-requires-clause-talks : goal.through_gate-zero-requires-clause-talks
+through_gate-zero-requires-clause-talks g c κs within =
+    let gate = c.in_ok-gate.gate in
+    let made = c.new-3.ensures ∙ c.in_ok-controller.ensures in
+    talks-start c.args.plant.now c.args.plan.now.node c.in_ok-worker.worker (ram_side gate) gate.name.opening (g.G.RingSide.side c.args.ring.now)
+    (g.G.RingSide.known c.args.ring.now)
+    (ap (λ f. f.plan.node) c.in_ok-gate.ensures.fixed ∙ ap (λ (v : ControllerIs). v.fixed.plan.node) made)
+    (c.in_ok-gate.ensures.opening ∙ ap (λ (v : ControllerIs). v.history) made) c.requires.unused c.in_ok-worker.ensures
+
+pub returns-clause-ended : goal.returns-clause-ended
+returns-clause-ended g c =
+    let gate = c.in_ok-gate.gate in
+    let made = c.new-3.ensures ∙ c.in_ok-controller.ensures in
+    let fixed : gate.fixed ≡ fixed_of c.args.plant.now c.args.scans c.args.plan.now =
+    c.in_ok-gate.ensures.fixed ∙ ap (λ (v : ControllerIs). v.fixed) made in
+    let t = c.through_gate-zero in
+    let inner : c.into_inner-controller.result ≡ controller_in c.close.result = c.into_inner-controller.ensures in
+    let history : c.into_history.result ≡ (controller_in c.close.result).history =
+    c.into_history.ensures.history ∙ ap (λ (v : ControllerIs). v.history) inner in
+    let kept : c.into_inner-controller.result.fixed ≡ fixed_of c.args.plant.now c.args.scans c.args.plan.now =
+    ap (λ (v : ControllerIs). v.fixed) inner ∙ (c.close.ensures.fixed ∙ fixed) in
+    came-to-end c.args.plant.now c.args.scans c.args.plan.now gate t.new.worker (g.G.RingSide.side t.new.ring) (g.G.RingSide.known t.new.ring) t.result.0
+    c.into_history.result _ (c.in_ok-gate.ensures.opening ∙ ap (λ (v : ControllerIs). v.history) made) fixed t.ensures.node
+    (ap (λ s. s.net) t.ensures.side ∙ c.requires.unused.net)
+    (subst (IsBack gate t.new.worker (g.G.RingSide.side t.new.ring) (g.G.RingSide.known t.new.ring) t.result.0) c.if-not-done.false t.ensures.back)
+    (subst (λ l. All (StartsWith l) t.result.0.heard) (sym history) c.close.ensures.heard)
+    (subst (Owns maker_number t.result.0) (sym history) c.close.ensures.own)
+    (subst (λ f. IsLegal f c.into_history.result) kept (subst (IsLegal c.into_inner-controller.result.fixed) (sym c.into_history.ensures.history)
+    c.into_history.ensures.legal)) refl

@@ -1,0 +1,30 @@
+-- A controller's gate after its two workers. This project's own.
+use Rattle.std.specs.Prelude.{◌≡◌, Bool, true, List, [], ◌∷◌}
+use Rattle.turn_gate.specs.Known.{GateFacts, IsOutside, PassFacts, own as made_by}
+use Rattle.ring_core.specs.declared.entry.RingEntry.{RingEntry}
+use Rattle.controller_core.specs.declared.entry.Entry.{Entry}
+use Rattle.controller_core.specs.declared.fixed.Fixed.{Fixed}
+use Rattle.comm_port.specs.Sides.{RamSideIs, RingSideIs}
+use Rattle.comm_port.specs.Worker.{WorkerIs}
+use Rattle.live_run.specs.Cells.{maker_number}
+use Rattle.live_run.specs.Talking.{TalksOn}
+
+-- What a side over a controller's gate keeps.
+abbrev pub ram_side : GateFacts Entry Fixed → RamSideIs (GateFacts Entry Fixed)
+ram_side gate = record { fixed = gate.fixed; place = gate }
+
+-- Pass 0 has the passes of both workers back; where they came so far, the communication left.
+pub record IsBack {Q : Type 0} (gate : GateFacts Entry Fixed) (worker : WorkerIs)
+    (side : RingSideIs Q) (ring : List RingEntry) (p : PassFacts Entry) (done : Bool)
+    : Type 0 where
+  pub scanned : PassFacts Entry
+  pub talked : List Entry
+  pub mine : List Entry
+  pub gate_is : p.gate ≡ gate.name
+  pub outside : IsOutside p
+  pub is_zero : p.number ≡ 0
+  pub given_is : p.given ≡ 2 ∷ 1 ∷ []
+  pub joined_is : p.joined ≡ (1, scanned.mine) ∷ (2, mine) ∷ []
+  pub heard_is : p.heard ≡ scanned.seen ∷ talked ∷ []
+  pub talks : done ≡ true → TalksOn worker (ram_side gate) talked side ring true
+  pub owns : gate.name.opening ≡ [] → mine ≡ made_by maker_number 2 talked

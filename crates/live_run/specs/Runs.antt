@@ -1,0 +1,44 @@
+-- A run whose passes of the ring are all back. This project's own.
+use Rattle.std.specs.Prelude.{◌≡◌, ℕ, Bool, true, List}
+use Rattle.std.specs.List.{All, AllZip, Contains}
+use Rattle.turn_gate.specs.Known.{GateFacts, HasAllBack, IsOutside, PassFacts, own as made_by}
+use Rattle.plant_types.specs.declared.net.NetPlan.{NetPlan}
+use Rattle.plant_types.specs.declared.plan.Plant.{Plant}
+use Rattle.plant_types.specs.Plans.{IsPlant}
+use Rattle.ring_core.specs.declared.entry.RingEntry.{RingEntry}
+use Rattle.ring_core.specs.Words.{maker}
+use Rattle.controller_core.specs.Machine.{CanRun}
+use Rattle.comm_port.specs.declared.joint.ControllerLog.{ControllerLog}
+use Rattle.comm_port.specs.declared.joint.HostLog.{HostLog}
+use Rattle.live_run.specs.Stations.{CameToEnd, HostCameToEnd}
+
+-- A plant that can run.
+pub record CanRunPlant (plant : Plant) : Type 0 where
+  pub sound : IsPlant plant
+  pub controllers : All CanRun plant.controllers
+
+-- Among what passes brought back is that of a node, with a list of which this holds.
+pub record IsBrought (joined : List (ℕ × List RingEntry)) (heard : List (List RingEntry)) (node : ℕ)
+    (Holds : List RingEntry → Type 0) : Type 0 where
+  pub seen : List RingEntry
+  pub holds : Holds seen
+  pub own_is : Contains joined (node, made_by maker node seen)
+  pub heard_is : Contains heard seen
+
+abbrev pub AreBrought : {P L : Type 0} → List (ℕ × List RingEntry) → List (List RingEntry)
+    → (P → ℕ) → (P → L → List RingEntry → Type 0) → List P → List L → Type 0
+AreBrought joined heard node_of Holds plans logs =
+    AllZip (λ plan log. IsBrought joined heard (node_of plan) (Holds plan log)) plans logs
+
+-- Pass 0 has all passes back; where all stations came to their ends, it has what they tell.
+pub record IsThrough (plant : Plant) (scans : ℕ) (gate : GateFacts RingEntry NetPlan)
+    (p : PassFacts RingEntry) (logs : List ControllerLog) (host_logs : List HostLog) (done : Bool)
+    : Type 0 where
+  pub gate_is : p.gate ≡ gate.name
+  pub outside : IsOutside p
+  pub is_zero : p.number ≡ 0
+  pub all_back : HasAllBack p
+  pub ran : done ≡ true
+      → AreBrought p.joined p.heard (λ plan. plan.node) (CameToEnd plant scans) plant.controllers logs
+  pub served : done ≡ true
+      → AreBrought p.joined p.heard (λ plan. plan.node) (HostCameToEnd plant) plant.hosts host_logs

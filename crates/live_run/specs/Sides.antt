@@ -1,0 +1,28 @@
+-- What contracts see of sides over gates. This project's own.
+use Rattle.std.specs.Prelude.{ℕ, ◌<◌, List, All}
+use Rattle.turn_gate.specs.Known.{GateFacts, PassFacts, IsReady}
+use Rattle.plant_types.specs.declared.net.NetPlan.{NetPlan}
+use Rattle.controller_core.specs.declared.entry.Entry.{Entry}
+use Rattle.controller_core.specs.declared.fixed.Fixed.{Fixed}
+use Rattle.ring_core.specs.declared.entry.RingEntry.{RingEntry}
+use Rattle.ring_core.specs.Machine.{addresses}
+use Rattle.ring_core.specs.Words.{maker}
+
+-- The gate of a controller, and the events that its communication's pass has seen.
+pub record GatedRamIs : Type 0 where
+  pub gate : GateFacts Entry Fixed
+  pub seen : List Entry
+
+-- The gate of the ring, the number of the pass, which is its node, and the entries that it has
+-- seen.
+pub record GatedRingIs : Type 0 where
+  pub gate : GateFacts RingEntry NetPlan
+  pub number : ℕ
+  pub seen : List RingEntry
+
+-- A pass of the ring's gate is ready for a stay in this node's name, and the members of the ring
+-- have addresses.
+pub record IsAtRing (number : ℕ) (gate : GateFacts RingEntry NetPlan) (p : PassFacts RingEntry)
+    : Type 0 where
+  pub ready : IsReady maker number gate.name p
+  pub members : All (λ m. m < addresses) gate.fixed.members

@@ -1,0 +1,81 @@
+-- What a run leaves of its stations. This project's own.
+use Rattle.std.specs.Prelude.{◌≡◌, ℕ, List, [], All, Some, None, IfSome, map}
+use Rattle.std.specs.List.{AllZip}
+use Rattle.plant_types.specs.declared.net.HostPlan.{HostPlan}
+use Rattle.plant_types.specs.declared.plan.ControllerPlan.{ControllerPlan}
+use Rattle.plant_types.specs.declared.plan.Plant.{Plant}
+use Rattle.plant_types.specs.Plans.{IsHostPlan, IsNetPlan}
+use Rattle.ring_core.specs.Legal.{IsMember}
+use Rattle.ring_core.specs.declared.entry.RingEntry.{RingEntry}
+use Rattle.controller_core.specs.Machine.{IsRunnable}
+use Rattle.tied_lists.specs.Own.{own}
+use Rattle.comm_port.specs.declared.joint.ControllerLog.{ControllerLog}
+use Rattle.comm_port.specs.declared.joint.HostLog.{HostLog}
+use Rattle.comm_port.specs.JointLaws.{fixed_of}
+use Rattle.comm_port.specs.Sides.{RingSideIs}
+use Rattle.turn_laws.specs.KeepsOn.{HasFinished, HostHasFinished, NoneSpent}
+use Rattle.live_run.specs.declared.stations.Station.{Station}
+
+-- Each controller of these plans can run, and each host can serve.
+abbrev pub CanRunAll : Plant → ℕ → List ControllerPlan → Type 0
+CanRunAll plant scans plans =
+    All (λ (plan : ControllerPlan). IsRunnable (fixed_of plant scans plan)) plans
+
+abbrev pub CanServeAll : List HostPlan → Type 0
+CanServeAll plans = All IsHostPlan plans
+
+-- A side of the plant's ring that writes in the name of this member alone, and has seen nothing.
+pub record IsUnused {Q : Type 0} (plant : Plant) (node : ℕ) (side : RingSideIs Q)
+    (known : List RingEntry) : Type 0 where
+  pub sound : IsNetPlan plant.net
+  pub member : IsMember plant.net node
+  pub net : side.net ≡ plant.net
+  pub writer : side.writer ≡ Some node
+  pub nothing : known ≡ []
+
+-- A controller came to its end, as its history and what its node has seen of the ring tell.
+pub record CameToEnd (plant : Plant) (scans : ℕ) (plan : ControllerPlan) (log : ControllerLog)
+    (ring : List RingEntry) : Type 0 where
+  pub node : log.node ≡ plan.node
+  pub finished : HasFinished plant scans ring plan log
+  pub unspent : NoneSpent (own plan.node ring)
+
+-- And so did a host.
+pub record HostCameToEnd (plant : Plant) (plan : HostPlan) (log : HostLog)
+    (ring : List RingEntry) : Type 0 where
+  pub finished : HostHasFinished plant ring plan log
+  pub unspent : NoneSpent (own plan.node ring)
+
+module _ {S Q L : Type 0} (side : S → RingSideIs Q) where
+  abbrev pub sides_of : List (Station S L) → List (RingSideIs Q)
+  sides_of stations = map (λ station. side station.ring) stations
+
+  -- The station of a node has not run.
+  pub record IsFresh (known : S → List RingEntry) (plant : Plant) (node : ℕ)
+      (station : Station S L) : Type 0 where
+    pub unused : IsUnused plant node (side station.ring) (known station.ring)
+    pub unlogged : station.log ≡ None
+
+  -- The stations of the nodes of these plans have not run.
+  abbrev pub AreFresh : {P : Type 0} → (S → List RingEntry) → Plant → (P → ℕ) → List P
+      → List (Station S L) → Type 0
+  AreFresh known plant node_of plans stations =
+      AllZip (λ plan station. IsFresh known plant (node_of plan) station) plans stations
+
+  -- They all have run, and their sides are the same.
+  pub record RanEach {P : Type 0} (Ran : P → Station S L → Type 0) (plans : List P)
+      (old new : List (Station S L)) : Type 0 where
+    pub ran : AllZip Ran plans new
+    pub sides : sides_of new ≡ sides_of old
+
+-- Where a station has a history, its controller came to its end.
+abbrev pub HasRun : {S : Type 0} → (S → List RingEntry) → Plant → ℕ → ControllerPlan
+    → Station S ControllerLog → Type 0
+HasRun known plant scans plan station =
+    IfSome station.log (λ log. CameToEnd plant scans plan log (known station.ring))
+
+-- And so of a host.
+abbrev pub HostHasRun : {S : Type 0} → (S → List RingEntry) → Plant → HostPlan
+    → Station S HostLog → Type 0
+HostHasRun known plant plan station =
+    IfSome station.log (λ log. HostCameToEnd plant plan log (known station.ring))

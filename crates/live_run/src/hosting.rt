@@ -1,0 +1,92 @@
+//! The worker of a host, and the host's closed history.
+ghost use Rattle.std.specs.Prelude.{◌≡◌, true, false, IfOk};
+ghost use Rattle.plant_types.specs.Plans.{IsHostPlan};
+ghost use Rattle.live_run.specs.Stations.{IsUnused, HostCameToEnd};
+ghost use Rattle.live_run.specs.Talking.{AttendsOn};
+
+use crate::flags::Flag;
+use comm_port::{HostLog, HostWorker, RingSide};
+use crossbeam_utils::Backoff;
+use host_port::Host;
+use plant_types::{HostPlan, Plant};
+use std::alloc::{AllocError, Global};
+use std::sync::Wait;
+
+/// Makes a hold turn, where the node holds the token; whether it left.
+fn take_turn<G: RingSide>(
+    node: u8,
+    worker: &mut HostWorker,
+    host: &mut Host,
+    ring: &mut G,
+) -> Result<bool, AllocError>
+    requires node { worker.old.node ≡ node }
+    requires attends { AttendsOn worker.old host.old (G.side ring.old) (G.known ring.old) false }
+    ensures attends { IfOk result
+        (AttendsOn worker.new host.new (G.side ring.new) (G.known ring.new)) }
+    ensures node { IfOk result (λ left. worker.new.node ≡ node) }
+    ensures plan { host.new.plan ≡ host.old.plan }
+    ensures ring_same { G.side ring.new ≡ G.side ring.old }
+{
+    if ring.holder() != node {
+        return Ok(false);
+    }
+    worker.hold_turn(host, ring)
+}
+
+/// Makes hold turns until the node has left; whether it came so far.
+pub(crate) fn attend<G: RingSide, R: Wait>(
+    rt: &R,
+    flag: &Flag,
+    node: u8,
+    worker: &mut HostWorker,
+    host: &mut Host,
+    ring: &mut G,
+) -> bool
+    requires node { worker.old.node ≡ node }
+    requires attends { AttendsOn worker.old host.old (G.side ring.old) (G.known ring.old) false }
+    ensures attends { result ≡ true
+        → AttendsOn worker.new host.new (G.side ring.new) (G.known ring.new) true }
+    ensures plan { host.new.plan ≡ host.old.plan }
+    ensures ring_same { G.side ring.new ≡ G.side ring.old }
+{
+    let backoff = Backoff::new();
+    for _ in rt.forever() {
+        if flag.is_raised() {
+            return false;
+        }
+        match take_turn(node, worker, host, ring) {
+            Ok(true) => return true,
+            Ok(false) => backoff.snooze(),
+            Err(_) => {
+                flag.raise();
+                return false;
+            }
+        }
+    }
+    unreachable!()
+}
+
+/// The history of a host that ran to its end.
+pub(crate) fn run_host<G: RingSide, R: Wait>(
+    rt: &R,
+    flag: &Flag,
+    plant: &Plant,
+    plan: &HostPlan,
+    ring: &mut G,
+    alloc: Global,
+) -> Result<HostLog, AllocError>
+    requires plan { IsHostPlan plan.now }
+    requires unused { IsUnused plant.now plan.now.node (G.side ring.old) (G.known ring.old) }
+    ensures ended { IfOk result (λ log. HostCameToEnd plant.now plan.now log (G.known ring.new)) }
+    ensures side { G.side ring.new ≡ G.side ring.old }
+{
+    let mut host = Host::new(alloc, plan, &plant.net)?;
+    let mut worker = HostWorker::new(alloc, plan.node, &plant.net, false)?;
+    if !attend(rt, flag, plan.node, &mut worker, &mut host, ring) {
+        return Err(AllocError);
+    }
+    Ok(HostLog {
+        node: plan.node,
+        entries: host.into_history(),
+    })
+}

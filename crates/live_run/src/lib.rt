@@ -1,0 +1,20 @@
+//! The live run: controllers, hosts and the ring behind gates, worked on by threads.
+#![tactic(auto)]
+
+mod cells;
+mod flags;
+mod gated_ram;
+mod gated_ring;
+mod hosting;
+mod meets;
+mod pairs;
+mod runs;
+mod scanning;
+mod stations;
+mod talking;
+
+pub use cells::{RamCell, RingCell};
+pub use gated_ram::GatedRam;
+pub use gated_ring::GatedRing;
+pub use meets::{Meet, NoMeet};
+pub use runs::live;

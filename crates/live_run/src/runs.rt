@@ -1,0 +1,203 @@
+//! The whole run.
+ghost use Rattle.std.specs.Prelude.{◌≡◌, ◌<◌, ◌++◌, true, [], All, OnOk, length, map, reverse};
+ghost use Rattle.std.specs.Prelude.{vec_len, vec_capacity};
+ghost use Rattle.std.specs.List.{AllZip};
+ghost use Rattle.turn_gate.specs.Known.{first_pass, IsOutside};
+ghost use Rattle.ring_core.specs.Machine.{addresses};
+ghost use Rattle.live_run.specs.Dealing.{AreNew, fresh_station, IsAt, IsLogged, HasLog};
+ghost use Rattle.live_run.specs.Dealing.{GatheredInto};
+ghost use Rattle.std.specs.Prelude.{◌≤◌, IfOk};
+ghost use Rattle.plant_types.specs.Plans.{IsPlant};
+ghost use Rattle.comm_port.specs.Complete.{IsComplete};
+ghost use Rattle.comm_port.specs.JointLaws.{IsJoint, IsLegalJoint};
+ghost use Rattle.effect_laws.specs.Effects.{EffectsAreRight};
+ghost use Rattle.turn_laws.specs.KeepsOn.{NoneSpent};
+ghost use Rattle.live_run.specs.Stations.{CanRunAll, CanServeAll};
+ghost use Rattle.live_run.specs.Runs.{CanRunPlant, IsThrough};
+
+use crate::cells::RingCell;
+use crate::flags::Flag;
+use crate::gated_ring::GatedRing;
+use crate::meets::Meet;
+use crate::stations::{Station, run_all};
+use comm_port::{ControllerLog, HostLog, Joint};
+use effect_laws::effects_are_right;
+use plant_types::{ControllerPlan, HostPlan, List, Plant};
+use ring_core::Ring;
+use std::alloc::{AllocError, Global};
+use std::sync::Wait;
+use std::thread::Threads;
+use turn_gate::{Gate, Pass};
+use turn_laws::runs_complete;
+
+/// What has a node of its own.
+trait HasNode {
+    ghost use Rattle.std.specs.Prelude.{ℕ};
+
+    ghost node_of: { Self → ℕ };
+
+    fn node(&self) -> u8
+        ensures { result ≡ node_of self.now };
+}
+
+impl HasNode for ControllerPlan {
+    ghost node_of = { λ plan. plan.node };
+
+    fn node(&self) -> u8 {
+        self.node
+    }
+}
+
+impl HasNode for HostPlan {
+    ghost node_of = { λ plan. plan.node };
+
+    fn node(&self) -> u8 {
+        self.node
+    }
+}
+
+/// Gives the node of each plan a pass of the ring and a side.
+fn deal<'a, P: HasNode, L, M: Meet, R: Wait>(
+    rt: &'a R,
+    meet: &'a M,
+    gate: &'a Gate<RingCell>,
+    mut pass: Pass<RingCell>,
+    plans: &[P],
+    mut room: Vec<Station<GatedRing<'a, M, R>, L>>,
+) -> (Pass<RingCell>, Vec<Station<GatedRing<'a, M, R>, L>>)
+    requires pass { pass ≡ record (first_pass gate.now.name) { given = pass.given } }
+    requires members { All (λ m. m < addresses) gate.now.fixed.members }
+    requires new { AreNew pass.given (map P.node_of plans.now) }
+    requires room { (room.items ≡ []) × (vec_len room ≡ 0) × (vec_capacity room ≡ length plans.now) }
+    ensures pass { result.0
+        ≡ record pass { given = reverse (map P.node_of plans.now) ++ pass.given } }
+    ensures stations { result.1.items
+        ≡ map (λ plan. fresh_station gate.now (P.node_of plan)) plans.now }
+{
+    for index in 0..plans.len() {
+        let (zero, other) = gate.split(pass, u32::from(plans[index].node()));
+        pass = zero;
+        room.push_reserved(Station {
+            ring: GatedRing::new(rt, meet, gate, other),
+            log: None,
+        });
+    }
+    (pass, room)
+}
+
+/// Keeps a history, where it is there and has room.
+fn keep<L: Drop>(logs: &mut Vec<L>, log: Option<L>) -> Result<(), AllocError>
+    ensures { OnOk result (IsLogged log logs.old.items logs.new.items) }
+{
+    let Some(log) = log else {
+        return Err(AllocError);
+    };
+    logs.push(log)?;
+    Ok(())
+}
+
+/// Puts the passes of stations back into pass 0, and takes their histories.
+fn gather<'a, L: Drop, M: Meet, R: Wait>(
+    gate: &'a Gate<RingCell>,
+    mut pass: Pass<RingCell>,
+    mut stations: Vec<Station<GatedRing<'a, M, R>, L>>,
+    alloc: Global,
+) -> (Pass<RingCell>, Vec<L>, bool)
+    requires opening { gate.now.name.opening ≡ [] }
+    requires pass { (pass.gate ≡ gate.now.name) × IsOutside pass }
+    requires at { All (IsAt gate.now) stations.items }
+    ensures pass { GatheredInto stations.entry.items pass result.0 }
+    ensures logs { result.2 ≡ true → AllZip HasLog stations.entry.items result.1.items }
+{
+    let mut done = true;
+    let mut logs = Vec::new(alloc);
+    stations.as_mut_slice().reverse();
+    while let Some(station) = stations.pop() {
+        let Station { ring, log } = station;
+        done &= keep(&mut logs, log).is_ok();
+        pass = gate.join(pass, ring.into_pass());
+    }
+    stations.destroy_empty();
+    (pass, logs, done)
+}
+
+/// Runs all stations through the ring's gate.
+fn through_ring<M: Meet + Sync, R: Threads + Wait + Sync>(
+    rt: &R,
+    meet: &M,
+    alloc: Global,
+    plant: &Plant,
+    gate: &Gate<RingCell>,
+    pass: Pass<RingCell>,
+    scans: u32,
+) -> (Pass<RingCell>, Vec<ControllerLog>, Vec<HostLog>, bool)
+    requires plant { IsPlant plant.now }
+    requires runnable { CanRunAll plant.now scans plant.now.controllers
+        × CanServeAll plant.now.hosts }
+    requires net { gate.now.fixed ≡ plant.now.net }
+    requires opening { gate.now.name.opening ≡ [] }
+    requires pass { pass ≡ first_pass gate.now.name }
+    ensures { IsThrough plant.now scans gate.now result.0 result.1.items result.2.items result.3 }
+{
+    let plans = plant.controllers.as_slice();
+    let host_plans = plant.hosts.as_slice();
+    let Ok(room) = Vec::with_capacity(alloc, plans.len()) else {
+        return (pass, Vec::new(alloc), Vec::new(alloc), false);
+    };
+    let Ok(host_room) = Vec::with_capacity(alloc, host_plans.len()) else {
+        room.destroy_empty();
+        return (pass, Vec::new(alloc), Vec::new(alloc), false);
+    };
+    let flag = Flag::new();
+    let (pass, mut stations) = deal(rt, meet, gate, pass, plans, room);
+    let (pass, mut hosts) = deal(rt, meet, gate, pass, host_plans, host_room);
+    run_all(
+        rt,
+        &flag,
+        meet,
+        plant,
+        plans,
+        host_plans,
+        stations.as_mut_slice(),
+        hosts.as_mut_slice(),
+        alloc,
+        scans,
+    );
+    let (pass, logs, done) = gather(gate, pass, stations, alloc);
+    let (pass, host_logs, host_done) = gather(gate, pass, hosts, alloc);
+    (pass, logs, host_logs, done & host_done)
+}
+
+/// Runs a plant in threads, where threads can be made: each controller with its scan worker and
+/// its communication worker behind a gate, each host with its worker, and the ring behind a gate.
+/// The workers have no budget. Only memory can want.
+pub fn live<M: Meet + Sync, R: Threads + Wait + Sync>(
+    rt: &R,
+    alloc: Global,
+    plant: &Plant,
+    scans: u32,
+    meet: &M,
+) -> Result<Joint, AllocError>
+    requires plant { CanRunPlant plant.now }
+    requires scans { scans ≤ 2000 }
+    ensures legal { IfOk result (IsLegalJoint plant.now scans) }
+    ensures joint { IfOk result IsJoint }
+    ensures complete { IfOk result (IsComplete plant.now scans) }
+    ensures unspent { IfOk result (λ joint. NoneSpent joint.ring) }
+    ensures effects { IfOk result EffectsAreRight }
+{
+    effects_are_right();
+    runs_complete();
+    let ring = Ring::new(alloc, &plant.net)?;
+    let (gate, pass) = Gate::new(alloc, RingCell::new(ring))?;
+    let (pass, controllers, hosts, done) = through_ring(rt, meet, alloc, plant, &gate, pass, scans);
+    let ring = gate.close(pass).into_inner();
+    if !done {
+        return Err(AllocError);
+    }
+    Ok(Joint {
+        controllers: List::from_vec(controllers),
+        hosts: List::from_vec(hosts),
+        ring: ring.into_history(),
+    })
+}

@@ -1,0 +1,80 @@
+//! The scan worker of a controller.
+ghost use Rattle.std.specs.Prelude.{◌≡◌, true, IfOk, OnErr};
+ghost use Rattle.turn_gate.specs.Known.{IsReady};
+ghost use Rattle.controller_core.specs.Controller.{WentOn, has_ended, step_entries};
+ghost use Rattle.comm_port.specs.Reading.{has_ended_at};
+ghost use Rattle.live_run.specs.Cells.{maker_number};
+ghost use Rattle.live_run.specs.Scanning.{IsOver};
+
+use crate::cells::RamCell;
+use crate::flags::Flag;
+use crate::meets::Meet;
+use controller_core::{Controller, Maker, StepEnd};
+use scan_order::ScanStep;
+use std::alloc::AllocError;
+use std::sync::Wait;
+use turn_gate::{Gate, Pass};
+
+/// Makes the next event of the scan, for which it reserves memory where a scan begins.
+fn step_reserved(controller: &mut Controller) -> Result<StepEnd, AllocError>
+    ensures went { IfOk result (λ end.
+        WentOn Maker.Scan (step_entries controller.old end) controller.old controller.new) }
+    ensures over { IfOk result (λ end. IsOver end → has_ended controller.new ≡ true) }
+    ensures err { OnErr result (controller.new ≡ controller.old) }
+{
+    if !controller.is_reserved() {
+        controller.reserve_scan()?;
+    }
+    Ok(controller.step())
+}
+
+/// Makes one event in one stay behind the gate.
+fn step_in<M: Meet, R: Wait>(
+    rt: &R,
+    meet: &M,
+    gate: &Gate<RamCell>,
+    pass: &mut Pass<RamCell>,
+    node: u8,
+) -> Result<StepEnd, AllocError>
+    requires ready { IsReady maker_number 1 gate.now.name pass.old }
+    ensures ready { IsReady maker_number 1 gate.now.name pass.new }
+    ensures over { IfOk result (λ end. IsOver end
+        → has_ended_at gate.now.fixed pass.new.seen ≡ true) }
+{
+    let mut held = gate.enter(rt, pass);
+    let answer = step_reserved(held.value().get_mut());
+    if let Ok(StepEnd::Did(ScanStep::Solve(_))) = answer {
+        meet.in_ram(node);
+    }
+    gate.leave(pass, held);
+    answer
+}
+
+/// Makes events until all scans have ended or the controller has stopped; whether it came so far.
+pub(crate) fn scan_all<M: Meet, R: Wait>(
+    rt: &R,
+    flag: &Flag,
+    meet: &M,
+    gate: &Gate<RamCell>,
+    pass: &mut Pass<RamCell>,
+    node: u8,
+) -> bool
+    requires ready { IsReady maker_number 1 gate.now.name pass.old }
+    ensures ready { IsReady maker_number 1 gate.now.name pass.new }
+    ensures ended { result ≡ true → has_ended_at gate.now.fixed pass.new.seen ≡ true }
+{
+    for _ in rt.forever() {
+        if flag.is_raised() {
+            return false;
+        }
+        match step_in(rt, meet, gate, pass, node) {
+            Ok(StepEnd::Did(_)) => {}
+            Ok(_) => return true,
+            Err(_) => {
+                flag.raise();
+                return false;
+            }
+        }
+    }
+    unreachable!()
+}

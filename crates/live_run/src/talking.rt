@@ -1,0 +1,69 @@
+//! The communication worker of a controller.
+ghost use Rattle.std.specs.Prelude.{◌≡◌, true, false, IfOk};
+ghost use Rattle.live_run.specs.Talking.{TalksOn};
+
+use crate::flags::Flag;
+use comm_port::{CommWorker, RamSide, RingSide};
+use crossbeam_utils::Backoff;
+use std::alloc::AllocError;
+use std::sync::Wait;
+use turn_laws::turns_keep_on;
+
+/// Makes a hold turn, where the node holds the token; whether it left.
+fn take_turn<M: RamSide, G: RingSide>(
+    node: u8,
+    worker: &mut CommWorker,
+    ram: &mut M,
+    ring: &mut G,
+) -> Result<bool, AllocError>
+    requires node { worker.old.node ≡ node }
+    requires talks { TalksOn worker.old (M.side ram.old) (M.known ram.old) (G.side ring.old)
+        (G.known ring.old) false }
+    ensures talks { IfOk result (TalksOn worker.new (M.side ram.new) (M.known ram.new)
+        (G.side ring.new) (G.known ring.new)) }
+    ensures node { worker.new.node ≡ worker.old.node }
+    ensures ram_same { M.side ram.new ≡ M.side ram.old }
+    ensures ring_same { G.side ring.new ≡ G.side ring.old }
+{
+    turns_keep_on();
+    if ring.holder() != node {
+        return Ok(false);
+    }
+    worker.hold_turn(ram, ring)
+}
+
+/// Makes hold turns until the node has left; whether it came so far. A worker without a budget
+/// leaves no call uncollected.
+pub(crate) fn talk<M: RamSide, G: RingSide, R: Wait>(
+    rt: &R,
+    flag: &Flag,
+    node: u8,
+    worker: &mut CommWorker,
+    ram: &mut M,
+    ring: &mut G,
+) -> bool
+    requires node { worker.old.node ≡ node }
+    requires talks { TalksOn worker.old (M.side ram.old) (M.known ram.old) (G.side ring.old)
+        (G.known ring.old) false }
+    ensures talks { result ≡ true → TalksOn worker.new (M.side ram.new) (M.known ram.new)
+        (G.side ring.new) (G.known ring.new) true }
+    ensures node { worker.new.node ≡ worker.old.node }
+    ensures ram_same { M.side ram.new ≡ M.side ram.old }
+    ensures ring_same { G.side ring.new ≡ G.side ring.old }
+{
+    let backoff = Backoff::new();
+    for _ in rt.forever() {
+        if flag.is_raised() {
+            return false;
+        }
+        match take_turn(node, worker, ram, ring) {
+            Ok(true) => return true,
+            Ok(false) => backoff.snooze(),
+            Err(_) => {
+                flag.raise();
+                return false;
+            }
+        }
+    }
+    unreachable!()
+}
