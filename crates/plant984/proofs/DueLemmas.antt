@@ -1,6 +1,5 @@
 -- What was answered over what was read keeps the promise.
-use Rattle.std.proofs.Common.{◌≡◌, ℕ, ◌+◌, ◌<◌, ◌≤◌, ◌↔◌, Bool, true, false, List, [], ◌∷◌, length}
-use Rattle.std.proofs.Common.{Option, Some, None}
+use Rattle.std.proofs.Common.{◌≡◌, ℕ, ◌+◌, ◌<◌, ◌≤◌, ◌↔◌, Bool, true, false, List, [], ◌∷◌, length, Option, Some, None}
 use Rattle.std.proofs.Common.{ap, sym, refl, ◌∙◌, ◌++◌, subst, inl, inr, arith, append-nil}
 use Rattle.plant_io.specs.Streams.{GaveFront, IsWhole}
 use Rattle.plant984.specs.declared.status.Status.{Status}

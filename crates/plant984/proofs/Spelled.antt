@@ -1,6 +1,5 @@
 -- Commands and the words that spell them.
-use Rattle.std.proofs.Common.{◌≡◌, ℕ, List, [], ◌∷◌, Option, Some, None, ◌↔◌, ap, sym, refl, ◌∙◌}
-use Rattle.std.proofs.Common.{true≢false}
+use Rattle.std.proofs.Common.{◌≡◌, ℕ, List, [], ◌∷◌, Option, Some, None, ◌↔◌, ap, sym, refl, ◌∙◌, true≢false}
 use Rattle.std.specs.Prelude.{bytes_eq, codes, false, true}
 use Rattle.std.specs.Fmt.{decimal}
 use Rattle.plant_gen.specs.Text.{IsPlantNumber}
