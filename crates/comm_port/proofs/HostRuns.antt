@@ -1,12 +1,14 @@
 -- What a node's own give-ups leave of its part, wherever others' entries stand between them.
-use Rattle.std.proofs.Common.{◌≡◌, ◌≢◌, ◌⊎◌, ℕ, ◌<◌, ◌==◌, ◌||◌, nat_le, Bool, true, false, cond, List, []}
+use Rattle.std.proofs.Common.{◌≡◌, ◌≢◌, ◌⊎◌, ℕ, ◌<◌, ◌==◌, ◌||◌, nat_le, Bool, true, false, cond}
+use Rattle.std.proofs.Common.{List, []}
 use Rattle.std.proofs.Common.{length, ◌∷◌, ◌++◌, map, get_or, set, Option, Some, None, refl, sym}
 use Rattle.std.proofs.Common.{ap, ◌∙◌}
 use Rattle.std.proofs.Common.{subst, inl, inr, ⊎_elim, arith, append_assoc, append-nil}
 use Rattle.std.proofs.Common.{get_or-set_same, get_or-set_other, eq-eqb}
 use Rattle.std.specs.Prelude.{if◌then◌else◌, is_none, ◌↔◌}
 use Rattle.std.specs.List.{cons_option, list_any, AllByRecursion as Each}
-use Rattle.std.proofs.lemmas.Bool.{cases_Bool, cases_eq, eqb-true, leb-false, leb-true, le-ltb, lt-ltb}
+use Rattle.std.proofs.lemmas.Bool.{cases_Bool, cases_eq, eqb-true, leb-false, leb-true, le-ltb}
+use Rattle.std.proofs.lemmas.Bool.{lt-ltb}
 use Rattle.std.proofs.lemmas.List.Folds.{list_any-append}
 use Rattle.std.proofs.lemmas.List.Elements.{filter_map-append}
 use Rattle.plant_types.specs.declared.net.NetPlan.{NetPlan}

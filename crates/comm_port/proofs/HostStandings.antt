@@ -1,6 +1,7 @@
 -- Hosts that stand on one ring, while each has its turns.
 use Rattle.std.proofs.Common.{◌≡◌, ◌≢◌, ℕ, ◌<◌, ◌≤◌, Bool, true, false, cond, List, [], ◌∷◌, ◌++◌}
-use Rattle.std.proofs.Common.{zero, suc, inl, inr, length, get_or, All, Contains, refl, sym, ap, ◌∙◌, subst, arith, ne_eqb}
+use Rattle.std.proofs.Common.{zero, suc, inl, inr, length, get_or, All, Contains, refl, sym, ap}
+use Rattle.std.proofs.Common.{◌∙◌, subst, arith, ne_eqb}
 use Rattle.std.specs.List.{AllByRecursion as Each}
 use Rattle.std.proofs.lemmas.Bool.{cases_Bool, eqb-true}
 use Rattle.plant_types.specs.declared.net.NetPlan.{NetPlan}

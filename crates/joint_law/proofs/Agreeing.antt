@@ -1,14 +1,17 @@
 -- A joint history has one verdict.
-use Rattle.std.proofs.Common.{◌≡◌, ◌≢◌, ℕ, ◌-◌, ◌<◌, ◌≤◌, Bool, true, false, List, [], ◌∷◌, ◌++◌, length, get_or, map, take, drop, eqb}
+use Rattle.std.proofs.Common.{◌≡◌, ◌≢◌, ℕ, ◌-◌, ◌<◌, ◌≤◌, Bool, true, false, List, [], ◌∷◌, ◌++◌}
+use Rattle.std.proofs.Common.{length, get_or, map, take, drop, eqb}
 use Rattle.std.proofs.Common.{refl, sym, ap, subst, ◌∙◌, ⊎_elim, arith}
 use Rattle.std.specs.List.{All, Any, IsDistinct, zip}
 use Rattle.std.specs.List.Sorted.{IsStrictlyIncreasing}
 use Rattle.std.proofs.Math.ListN.{get_or-map}
 use Rattle.std.proofs.lemmas.Bool.{cases_eq, cases_lt, eq-eqb, ne_eqb}
-use Rattle.std.proofs.lemmas.List.{get_or_default, length-map, map-append, take-append-drop, take-take}
+use Rattle.std.proofs.lemmas.List.{get_or_default, length-map, map-append, take-append-drop}
+use Rattle.std.proofs.lemmas.List.{take-take}
 use Rattle.std.proofs.lemmas.List.Kept.{AllPairs-from_increasing}
 use Rattle.std.proofs.lemmas.List.Sorted.{IsPermutation-sym}
-use Rattle.std.proofs.lemmas.Map.Keys.{IsDistinct-IsPermutation, IsDistinct-from_apart, apart_from_distinct}
+use Rattle.std.proofs.lemmas.Map.Keys.{IsDistinct-IsPermutation, IsDistinct-from_apart}
+use Rattle.std.proofs.lemmas.Map.Keys.{apart_from_distinct}
 use Rattle.plant_types.specs.declared.net.HostPlan.{HostPlan}
 use Rattle.plant_types.specs.declared.plan.ControllerPlan.{ControllerPlan}
 use Rattle.plant_types.specs.declared.plan.Plant.{Plant}
@@ -23,9 +26,11 @@ use Rattle.comm_port.specs.declared.joint.HostLog.{HostLog}
 use Rattle.comm_port.specs.declared.joint.Joint.{Joint}
 use Rattle.comm_port.specs.Complete.{IsComplete}
 use Rattle.comm_port.specs.JointLaws.{IsJoint, IsLegalHostLog, IsLegalLog, fixed_of}
-use Rattle.joint_law.specs.Bound.{Bound, Breaks, Keeps, bounds_of, controller_bound, host_bound, number_of}
+use Rattle.joint_law.specs.Bound.{Bound, Breaks, Keeps, bounds_of, controller_bound, host_bound}
+use Rattle.joint_law.specs.Bound.{number_of}
 use Rattle.joint_law.specs.Differing.{BreaksAt, DifferAt}
-use Rattle.joint_law.specs.Spots.{AreLegalHostLogs, AreLegalLogs, ControllerSpot, HasSections, HostSpot, IncompleteSpot}
+use Rattle.joint_law.specs.Spots.{AreLegalHostLogs, AreLegalLogs, ControllerSpot, HasSections}
+use Rattle.joint_law.specs.Spots.{HostSpot, IncompleteSpot}
 use Rattle.joint_law.specs.Spots.{IsSpot, IsVerdict, LawSpot}
 use Rattle.joint_law.specs.declared.law.Law.{Law}
 use Rattle.joint_law.specs.declared.law.Law.TheVariants.{Asks, Answers, Replies, Ends}
@@ -34,7 +39,8 @@ use Rattle.joint_law.specs.declared.verdict.Spot.TheVariants as spots
 use Rattle.joint_law.specs.declared.verdict.Verdict.{Verdict}
 use Rattle.joint_law.specs.declared.verdict.Verdict.TheVariants.{Legal, Illegal}
 use Rattle.joint_law.proofs.CourseSteps.{same-size}
-use Rattle.joint_law.proofs.Verdicts.{complete-at, host-front, joint-keeps, kept-unbroken, legal-sections, no-break, ring-front, some-pair}
+use Rattle.joint_law.proofs.Verdicts.{complete-at, host-front, joint-keeps, kept-unbroken}
+use Rattle.joint_law.proofs.Verdicts.{legal-sections, no-break, ring-front, some-pair}
 
 -- ---- places
 

@@ -1,5 +1,6 @@
 -- How the lists of stations go, one after another.
-use Rattle.std.proofs.Common.{◌≡◌, ℕ, ◌+◌, ◌<◌, ◌≤◌, Bool, false, List, [], ◌∷◌, ◌++◌, length, get_or}
+use Rattle.std.proofs.Common.{◌≡◌, ℕ, ◌+◌, ◌<◌, ◌≤◌, Bool, false, List, [], ◌∷◌, ◌++◌, length}
+use Rattle.std.proofs.Common.{get_or}
 use Rattle.std.proofs.Common.{refl, sym, ap, subst, ◌∙◌, ⊎_elim, arith}
 use Rattle.std.specs.Prelude.{◌↔◌, IsTrue}
 use Rattle.std.proofs.lemmas.Bool.{cases_lt}
@@ -18,7 +19,8 @@ use Rattle.comm_port.specs.JointLaws.{IsLegalHostLog, IsLegalLog, fixed_of}
 use Rattle.comm_port.specs.Reading.{host_items_of}
 use Rattle.joint_law.specs.AllCourses.{AreDone, AreHostsDone}
 use Rattle.joint_law.specs.Differing.{BreaksAt}
-use Rattle.joint_law.specs.Spots.{AreLegalHostLogs, AreLegalLogs, ControllerSpot, HasSections, HostSpot}
+use Rattle.joint_law.specs.Spots.{AreLegalHostLogs, AreLegalLogs, ControllerSpot, HasSections}
+use Rattle.joint_law.specs.Spots.{HostSpot}
 use Rattle.joint_law.proofs.AtNodes.{item-of}
 use Rattle.joint_law.proofs.CourseSteps.{earlier-all, here-any, same-node, same-size, zip-all}
 

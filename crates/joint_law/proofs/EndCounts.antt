@@ -1,5 +1,6 @@
 -- How often calls have ended, by their names.
-use Rattle.std.proofs.Common.{◌≡◌, ℕ, suc, ◌+◌, ◌<◌, ◌==◌, Bool, true, false, List, [], ◌∷◌, ◌++◌, length, get_or, map, take, count_by, cond}
+use Rattle.std.proofs.Common.{◌≡◌, ℕ, suc, ◌+◌, ◌<◌, ◌==◌, Bool, true, false, List, [], ◌∷◌, ◌++◌}
+use Rattle.std.proofs.Common.{length, get_or, map, take, count_by, cond}
 use Rattle.std.proofs.Common.{refl, sym, ap, subst, ◌∙◌, arith, Option, Some, None}
 use Rattle.std.specs.List.{All, cons_option}
 use Rattle.std.proofs.Common.{zero}
@@ -25,7 +26,8 @@ use Rattle.tied_lists.proofs.Boxes.{count-cons}
 use Rattle.comm_port.specs.Complete.{EndsEachCall}
 use Rattle.comm_port.specs.Reading.{items_of, host_items_of}
 use Rattle.joint_law.specs.Endings.{end_with, host_end_with}
-use Rattle.joint_law.specs.Ends.{EndsOnce, end_id_in, ends_of, host_end_id_in, id_of_call, id_of_end}
+use Rattle.joint_law.specs.Ends.{EndsOnce, end_id_in, ends_of, host_end_id_in, id_of_call}
+use Rattle.joint_law.specs.Ends.{id_of_end}
 use Rattle.joint_law.proofs.Lists.{ends-more, host-ends-more}
 
 end-id : (kinds : CallId → Option Kind) (e : Entry) → map id_of_end (cons_option (end_with kinds e) []) ≡ cons_option (end_id_in e) []

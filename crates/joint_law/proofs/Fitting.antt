@@ -1,10 +1,12 @@
 -- Entries that fit those before them, and what a node has done.
-use Rattle.std.proofs.Common.{◌≡◌, ℕ, ◌+◌, ◌<◌, Bool, true, false, List, [], ◌∷◌, ◌++◌, length, get_or, take, drop}
+use Rattle.std.proofs.Common.{◌≡◌, ℕ, ◌+◌, ◌<◌, Bool, true, false, List, [], ◌∷◌, ◌++◌, length}
+use Rattle.std.proofs.Common.{get_or, take, drop}
 use Rattle.std.proofs.Common.{refl, sym, ap, subst, ◌∙◌, append_assoc, arith}
 use Rattle.std.specs.Prelude.{◌||◌}
 use Rattle.std.specs.List.{list_any}
 use Rattle.std.proofs.Common.{suc}
-use Rattle.std.proofs.lemmas.List.{same_from_push, length-append, take-append-drop, drop_more, get_or_at}
+use Rattle.std.proofs.lemmas.List.{same_from_push, length-append, take-append-drop, drop_more}
+use Rattle.std.proofs.lemmas.List.{get_or_at}
 use Rattle.std.proofs.lemmas.List.Folds.{list_any-append}
 use Rattle.plant_types.specs.declared.net.HostPlan.{HostPlan}
 use Rattle.ring_core.specs.declared.frame.FrameKind.{FrameKind}
@@ -13,7 +15,8 @@ use Rattle.ring_core.specs.declared.frame.Frame.{Frame}
 use Rattle.ring_core.specs.declared.entry.RingEntry.{RingEntry}
 use Rattle.ring_core.specs.declared.entry.RingEntry.TheVariants.{Post, Send, Take, Local, GiveUp}
 use Rattle.ring_core.specs.declared.entry.RingEntry.TheVariants.{Pass, Leave}
-use Rattle.comm_port.specs.Complete.{AsksAllBeforeDone, AsksInItsHolds, IsOfDone, RepliesBeforePasses}
+use Rattle.comm_port.specs.Complete.{AsksAllBeforeDone, AsksInItsHolds, IsOfDone}
+use Rattle.comm_port.specs.Complete.{RepliesBeforePasses}
 use Rattle.comm_port.specs.Complete.{StandsIn, StaysDone}
 use Rattle.joint_law.specs.Completing.{AskFits, EachAllows, HasReplied, HostAllows}
 use Rattle.joint_law.specs.Completing.{NodeAllows, is_leave, progress_of, says_done}

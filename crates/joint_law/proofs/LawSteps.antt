@@ -1,15 +1,18 @@
 -- The laws at stations.
-use Rattle.std.proofs.Common.{◌≡◌, ℕ, ◌+◌, ◌<◌, ◌≤◌, true, false, List, ◌++◌, length, get_or, map, Option, Some, None}
+use Rattle.std.proofs.Common.{◌≡◌, ℕ, ◌+◌, ◌<◌, ◌≤◌, true, false, List, ◌++◌, length, get_or, map}
+use Rattle.std.proofs.Common.{Option, Some, None}
 use Rattle.std.proofs.Common.{refl, sym, ap, subst, ◌∙◌, ⊎_elim, arith}
 use Rattle.std.specs.List.{All, Any}
 use Rattle.std.proofs.lemmas.Bool.{cases_lt}
 use Rattle.std.proofs.Math.ListN.{get_or-map}
-use Rattle.std.proofs.lemmas.List.{get_or_read, get_or_append_left, get_or-append-add, length-append, length-map}
+use Rattle.std.proofs.lemmas.List.{get_or_read, get_or_append_left, get_or-append-add}
+use Rattle.std.proofs.lemmas.List.{length-append, length-map}
 use Rattle.std.proofs.lemmas.List.Elements.{All-append, All-map}
 use Rattle.ring_core.specs.declared.entry.RingEntry.{RingEntry}
 use Rattle.tied_lists.specs.Items.{Answered, Items, Station, item_of, plain_items, port_answers}
 use Rattle.tied_lists.specs.Items.{stats_items, taken_by}
-use Rattle.joint_law.specs.Bound.{Bound, Breaks, Keeps, Sorted, answered_in_order, sorted, sorted_answer}
+use Rattle.joint_law.specs.Bound.{Bound, Breaks, Keeps, Sorted, answered_in_order, sorted}
+use Rattle.joint_law.specs.Bound.{sorted_answer}
 use Rattle.joint_law.specs.Bound.{taken_in_order}
 use Rattle.joint_law.specs.Comparing.{Compared, IsLawEnd}
 use Rattle.joint_law.specs.LawEnds.{IsLogEnd, IsLogsEnd}

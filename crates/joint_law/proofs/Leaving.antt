@@ -1,5 +1,6 @@
 -- A member has left the ring where its list has a Leave.
-use Rattle.std.proofs.Common.{◌≡◌, ◌≢◌, ℕ, zero, suc, ◌+◌, ◌<◌, Bool, true, false, List, [], ◌∷◌, length, get_or, set, replicate}
+use Rattle.std.proofs.Common.{◌≡◌, ◌≢◌, ℕ, zero, suc, ◌+◌, ◌<◌, Bool, true, false, List, [], ◌∷◌}
+use Rattle.std.proofs.Common.{length, get_or, set, replicate}
 use Rattle.std.proofs.Common.{refl, sym, ap, subst, ◌∙◌, arith}
 use Rattle.std.specs.Prelude.{nat_le, ◌==◌, ◌||◌, ◌&&◌, not, if◌then◌else◌}
 use Rattle.std.specs.List.{All, Contains, list_any}
@@ -20,8 +21,10 @@ use Rattle.ring_core.specs.declared.entry.RingEntry.{RingEntry}
 use Rattle.ring_core.specs.declared.entry.RingEntry.TheVariants.{Post, Send, Take, Local, GiveUp}
 use Rattle.ring_core.specs.declared.entry.RingEntry.TheVariants.{Pass, Leave}
 use Rattle.ring_core.specs.Machine.{NodeIs, RingIs, addresses, after, after_all, arrival, arrived}
-use Rattle.ring_core.specs.Machine.{failed, fate_at, fresh, heard_by, heard_of, opening, opening_nodes}
-use Rattle.ring_core.specs.Machine.{part_of, ring_after, ring_node, sent_head, sent_off, silence_word}
+use Rattle.ring_core.specs.Machine.{failed, fate_at, fresh, heard_by, heard_of, opening}
+use Rattle.ring_core.specs.Machine.{opening_nodes}
+use Rattle.ring_core.specs.Machine.{part_of, ring_after, ring_node, sent_head, sent_off}
+use Rattle.ring_core.specs.Machine.{silence_word}
 use Rattle.ring_core.specs.Machine.{with_frame, with_members}
 use Rattle.ring_core.specs.Words.{maker}
 use Rattle.tied_lists.specs.Own.{own}

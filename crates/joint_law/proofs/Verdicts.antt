@@ -1,9 +1,11 @@
 -- What a judge finds, as a verdict; and a whole run has no spot.
-use Rattle.std.proofs.Common.{◌≡◌, ℕ, ◌+◌, ◌<◌, List, [], ◌∷◌, ◌++◌, length, get_or, map, take, drop, Some, None}
+use Rattle.std.proofs.Common.{◌≡◌, ℕ, ◌+◌, ◌<◌, List, [], ◌∷◌, ◌++◌, length, get_or, map, take}
+use Rattle.std.proofs.Common.{drop, Some, None}
 use Rattle.std.proofs.Common.{refl, sym, ap, subst, ◌∙◌, append_assoc, arith}
 use Rattle.std.specs.List.{All, AllZip, Any, zip}
 use Rattle.std.proofs.Math.ListN.{get_or-map}
-use Rattle.std.proofs.lemmas.List.{get_or-append-add, get_or_append_left, length-append, length-map, map-append, take-append-drop}
+use Rattle.std.proofs.lemmas.List.{get_or-append-add, get_or_append_left, length-append, length-map}
+use Rattle.std.proofs.lemmas.List.{map-append, take-append-drop}
 use Rattle.std.proofs.lemmas.List.Elements.{All-append, All-map, filter_map-append}
 use Rattle.std.proofs.lemmas.Slice.Zip.{get_or-zip, length-zip}
 use Rattle.plant_types.specs.declared.net.HostPlan.{HostPlan}
@@ -23,7 +25,8 @@ use Rattle.comm_port.specs.declared.joint.ControllerLog.{ControllerLog}
 use Rattle.comm_port.specs.declared.joint.HostLog.{HostLog}
 use Rattle.comm_port.specs.declared.joint.Joint.{Joint}
 use Rattle.comm_port.specs.Complete.{IsComplete, IsCompleteHostLog, IsCompleteLog}
-use Rattle.comm_port.specs.JointLaws.{IsJoint, IsLegalHostLog, IsLegalJoint, IsLegalLog, IsTiedController}
+use Rattle.comm_port.specs.JointLaws.{IsJoint, IsLegalHostLog, IsLegalJoint, IsLegalLog}
+use Rattle.comm_port.specs.JointLaws.{IsTiedController}
 use Rattle.comm_port.specs.JointLaws.{IsTiedHost, fixed_of}
 use Rattle.joint_law.specs.AllComplete.{IsFirstIncomplete}
 use Rattle.joint_law.specs.Bound.{Bound, Breaks, Keeps, bounds_of, controller_bound, host_bound}

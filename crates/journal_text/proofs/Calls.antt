@@ -1,6 +1,7 @@
 -- Operations, results and calls are read as they are written.
 use Rattle.std.proofs.Common.{◌≡◌, ◌≢◌, ℕ, true, false, cond, inl, inr}
-use Rattle.std.proofs.Common.{List, [], ◌∷◌, ◌++◌, length, Some, None, All, map, refl, sym, ap, subst, ◌∙◌, arith, append_assoc}
+use Rattle.std.proofs.Common.{List, [], ◌∷◌, ◌++◌, length, Some, None, All, map, refl, sym, ap}
+use Rattle.std.proofs.Common.{subst, ◌∙◌, arith, append_assoc}
 use Rattle.std.specs.Prelude.{codes, ◌==◌, slice_index}
 use Rattle.std.specs.Fmt.{decimal}
 use Rattle.std.specs.List.{flat_map, join_with_byte, slice_split, AllByRecursion}
@@ -21,13 +22,18 @@ use Rattle.controller_core.specs.declared.call.CallKind.TheVariants.{Net, Local}
 use Rattle.journal_text.specs.Fields.{hex_bytes, id_text, op_text, result_text}
 use Rattle.journal_text.specs.Lines.{kind_text, call_text}
 use Rattle.journal_text.specs.Journal.{IsOwnOp, IsPlainKind, IsPlainCall}
-use Rattle.journal_text.specs.Sizes.{IsId, IsPdu, IsSmall, IsWord, FitsOp, FitsResult, FitsKind, FitsCall}
-use Rattle.journal_text.specs.Reading.{◌>>=◌, behind, two, is_digit, small_of, word_number, pdu_read}
-use Rattle.journal_text.specs.ReadLines.{own_op_kinds, bare_op, own_op_of, op_of, result_kinds, result_of, net_of, local_kind, kind_of}
-use Rattle.journal_text.specs.ReadLines.{call_from, call_of, each_of, calls_of, served_of, asked_of, named_of}
+use Rattle.journal_text.specs.Sizes.{IsId, IsPdu, IsSmall, IsWord, FitsOp, FitsResult, FitsKind}
+use Rattle.journal_text.specs.Sizes.{FitsCall}
+use Rattle.journal_text.specs.Reading.{◌>>=◌, behind, two, is_digit, small_of, word_number}
+use Rattle.journal_text.specs.Reading.{pdu_read}
+use Rattle.journal_text.specs.ReadLines.{own_op_kinds, bare_op, own_op_of, op_of, result_kinds}
+use Rattle.journal_text.specs.ReadLines.{result_of, net_of, local_kind, kind_of}
+use Rattle.journal_text.specs.ReadLines.{call_from, call_of, each_of, calls_of, served_of, asked_of}
+use Rattle.journal_text.specs.ReadLines.{named_of}
 use Rattle.journal_text.proofs.Ranges.{chosen, lies, all_lie, all-append, all-flat_map, outside}
 use Rattle.journal_text.proofs.Cuts.{some_is, bind_some, none_some, text_is}
-use Rattle.journal_text.proofs.ReadLaws.{IsField, IsKind, two_fields, made_field, lie_in, kind_of_field, first_takes}
+use Rattle.journal_text.proofs.ReadLaws.{IsField, IsKind, two_fields, made_field, lie_in}
+use Rattle.journal_text.proofs.ReadLaws.{kind_of_field, first_takes}
 use Rattle.journal_text.proofs.Numbers.{small_field, word_number_field, id_field}
 use Rattle.journal_text.proofs.Digits.{pdu_field, words_field, word_field, block_field}
 

@@ -1,6 +1,8 @@
 -- Bytes and words are read from hexadecimal digits as they are written.
-use Rattle.std.proofs.Common.{◌≡◌, ℕ, ◌+◌, ◌*◌, ◌/◌, ◌%◌, ◌<◌, ◌≤◌, Bool, true, false, not, ◌&&◌, ◌||◌, inl, inr}
-use Rattle.std.proofs.Common.{List, [], ◌∷◌, ◌++◌, length, Option, Some, None, Result, Ok, Err, All, refl, sym, ap, subst, ◌∙◌, arith}
+use Rattle.std.proofs.Common.{◌≡◌, ℕ, ◌+◌, ◌*◌, ◌/◌, ◌%◌, ◌<◌, ◌≤◌, Bool, true, false, not, ◌&&◌}
+use Rattle.std.proofs.Common.{◌||◌, inl, inr}
+use Rattle.std.proofs.Common.{List, [], ◌∷◌, ◌++◌, length, Option, Some, None, Result, Ok, Err, All}
+use Rattle.std.proofs.Common.{refl, sym, ap, subst, ◌∙◌, arith}
 use Rattle.std.proofs.Common.{append_assoc, cond, unwrap_or}
 use Rattle.std.specs.Prelude.{codes, nat_le, ◌==◌, slice_index, option_map}
 use Rattle.std.specs.Fmt.{digit_glyph}
@@ -11,17 +13,21 @@ use Rattle.std.proofs.lemmas.Bool.Decides.{nat_tests}
 use Rattle.std.proofs.lemmas.Fmt.{hex_one_digit}
 use Rattle.std.proofs.lemmas.List.{append-nil, get_or_past}
 use Rattle.std.proofs.lemmas.List.Concat.{flat_map-cons}
-use Rattle.std.proofs.lemmas.List.Elements.{All-nil, All-cons, All-head, All-tail, All-get_or, All-from_get_or}
-use Rattle.hex.specs.Hex.{IsBytes, decode_of, decode_pairs, digit_or_error, hex_digit_value, encode_lower, encode_with, lower_digits, pair_value, value_at}
+use Rattle.std.proofs.lemmas.List.Elements.{All-nil, All-cons, All-head, All-tail, All-get_or}
+use Rattle.std.proofs.lemmas.List.Elements.{All-from_get_or}
+use Rattle.hex.specs.Hex.{IsBytes, decode_of, decode_pairs, digit_or_error, hex_digit_value}
+use Rattle.hex.specs.Hex.{encode_lower, encode_with, lower_digits, pair_value, value_at}
 use Rattle.hex.specs.Hex.{◌>>=◌ as ◌>=>◌}
 use Rattle.hex.specs.declared.error.FromHexError.{FromHexError}
 use Rattle.hex.proofs.HexLemmas.{decode_of-encode_lower, decode_of-ok, decode_of-even}
 use Rattle.plant_types.specs.Words.{pdu_of, most_block_words, most_pdu_bytes}
 use Rattle.journal_text.specs.Fields.{small_digit, hex_byte, hex_word, hex_bytes, hex_words}
 use Rattle.journal_text.specs.Sizes.{IsSmall, IsWord, IsPdu, IsBlock, AreWords}
-use Rattle.journal_text.specs.Reading.{◌>>=◌, is_capital, decoded, bytes_of, pdu_read, joined, one_word, some_words}
+use Rattle.journal_text.specs.Reading.{◌>>=◌, is_capital, decoded, bytes_of, pdu_read, joined}
+use Rattle.journal_text.specs.Reading.{one_word, some_words}
 use Rattle.journal_text.specs.Reading.{joined_words, words_of, word_of, block_of}
-use Rattle.journal_text.proofs.Ranges.{chosen, lies, all_lie, wider, outside, all-flat_map, all_below-at}
+use Rattle.journal_text.proofs.Ranges.{chosen, lies, all_lie, wider, outside, all-flat_map}
+use Rattle.journal_text.proofs.Ranges.{all_below-at}
 use Rattle.journal_text.proofs.ReadLaws.{IsField}
 use Rattle.journal_text.proofs.Cuts.{some_is, bind_some, none_some, text_is}
 

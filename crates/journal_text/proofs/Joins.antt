@@ -1,5 +1,6 @@
 -- Words that were read from bytes are the words that the bytes are.
-use Rattle.std.proofs.Common.{◌≡◌, ℕ, suc, ◌+◌, ◌*◌, ◌%◌, List, [], ◌∷◌, length, refl, arith, Some, None}
+use Rattle.std.proofs.Common.{◌≡◌, ℕ, suc, ◌+◌, ◌*◌, ◌%◌, List, [], ◌∷◌, length, refl, arith, Some}
+use Rattle.std.proofs.Common.{None}
 use Rattle.byteorder.specs.Endian.{big_number, IsRead}
 use Rattle.journal_text.specs.Reading.{joined}
 

@@ -1,6 +1,8 @@
 -- Numbers and names of calls are read as they are written.
-use Rattle.std.proofs.Common.{◌≡◌, ℕ, zero, suc, ◌+◌, ◌-◌, ◌*◌, ◌^◌, ◌<◌, ◌≤◌, true, ◌&&◌, ◌⊎◌, inl, inr}
-use Rattle.std.proofs.Common.{List, length, get_or, Some, None, refl, sym, subst, append_assoc, arith, rules}
+use Rattle.std.proofs.Common.{◌≡◌, ℕ, zero, suc, ◌+◌, ◌-◌, ◌*◌, ◌^◌, ◌<◌, ◌≤◌, true, ◌&&◌, ◌⊎◌, inl}
+use Rattle.std.proofs.Common.{inr}
+use Rattle.std.proofs.Common.{List, length, get_or, Some, None, refl, sym, subst, append_assoc}
+use Rattle.std.proofs.Common.{arith, rules}
 use Rattle.std.specs.Prelude.{nat_lt, fold}
 use Rattle.std.specs.Fmt.{decimal}
 use Rattle.std.specs.List.{list_all}
@@ -11,7 +13,8 @@ use Rattle.std.proofs.lemmas.Fmt.{digits_decimal, digits_value-decimal, decimal-
 use Rattle.std.proofs.lemmas.Str.Parse.{IsNumeralModel, numerals_by_fold}
 use Rattle.journal_text.specs.Fields.{id_text}
 use Rattle.journal_text.specs.Sizes.{IsSmall, IsWord, IsLong, IsId}
-use Rattle.journal_text.specs.Reading.{is_digit, value_of, has_some_digits, has_no_zero_first, is_numeral}
+use Rattle.journal_text.specs.Reading.{is_digit, value_of, has_some_digits, has_no_zero_first}
+use Rattle.journal_text.specs.Reading.{is_numeral}
 use Rattle.journal_text.specs.Reading.{number_below, small_of, word_number, long_of, id_of, id_from}
 use Rattle.journal_text.proofs.Ranges.{chosen, all_lie}
 use Rattle.journal_text.proofs.Cuts.{some_is, none_some}

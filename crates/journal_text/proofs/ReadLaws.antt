@@ -7,7 +7,8 @@ use Rattle.std.proofs.lemmas.Bool.{and_parts}
 use Rattle.std.proofs.lemmas.Bool.Decides.{nat_tests}
 use Rattle.journal_text.specs.Reading.{◌>>=◌, Kind, behind, cut, first_of, made, two}
 use Rattle.journal_text.proofs.Ranges.{lies, all_lie, all-append, wider}
-use Rattle.journal_text.proofs.Cuts.{some_is, bind_some, else_some, cut_parts, cut_range, behind_parts}
+use Rattle.journal_text.proofs.Cuts.{some_is, bind_some, else_some, cut_parts, cut_range}
+use Rattle.journal_text.proofs.Cuts.{behind_parts}
 
 -- what is read is the text of what it gives, and such a text is read; its bytes lie in a range
 pub record IsField {A : Type 0} (read : List ℕ → Option A) (text : A → List ℕ) (fits : A → Type 0) (low high : ℕ) : Type 0 where

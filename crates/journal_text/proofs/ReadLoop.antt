@@ -1,6 +1,7 @@
 -- Lines that are read one after the other, as a loop does, and how it ends.
 use Rattle.std.proofs.Common.{◌≡◌, ◌≢◌, ℕ, ◌+◌}
-use Rattle.std.proofs.Common.{List, [], ◌∷◌, ◌++◌, length, All, Some, None, Result, Ok, Err, refl, sym, ap, subst, ◌∙◌, arith, append_assoc}
+use Rattle.std.proofs.Common.{List, [], ◌∷◌, ◌++◌, length, All, Some, None, Result, Ok, Err, refl}
+use Rattle.std.proofs.Common.{sym, ap, subst, ◌∙◌, arith, append_assoc}
 use Rattle.std.proofs.Common.{length-append}
 use Rattle.std.specs.Prelude.{codes, IfErr, IfOk}
 use Rattle.std.specs.List.{flat_map}
@@ -15,11 +16,13 @@ use Rattle.journal_text.specs.declared.draft.Draft.{Draft}
 use Rattle.journal_text.specs.declared.draft.Draft.TheVariants as drafts
 use Rattle.journal_text.specs.Lines.{controller_line, host_line, ring_line}
 use Rattle.journal_text.specs.Journal.{controller_section, host_section, journal}
-use Rattle.journal_text.specs.Fronts.{IsJournalOf, IsFront, IsLine, ended, IsWrongLine, IsFault, Gives}
+use Rattle.journal_text.specs.Fronts.{IsJournalOf, IsFront, IsLine, ended, IsWrongLine, IsFault}
+use Rattle.journal_text.specs.Fronts.{Gives}
 use Rattle.journal_text.specs.Reading.{cut}
 use Rattle.journal_text.specs.Drafts.{Stops, Takes, ending, step}
 use Rattle.journal_text.proofs.Cuts.{some_is, none_some, cut_parts, cut_lacks}
-use Rattle.journal_text.proofs.Steps.{all_back, IsHistory, history_of, journal_of, text_of, IsGood, good_front, journal_parts, ring_part, host_part, Goes}
+use Rattle.journal_text.proofs.Steps.{all_back, IsHistory, history_of, journal_of, text_of, IsGood}
+use Rattle.journal_text.proofs.Steps.{good_front, journal_parts, ring_part, host_part, Goes}
 use Rattle.journal_text.proofs.StepTakes.{step_adds}
 use Rattle.journal_text.proofs.StepGoes.{line_is, step_goes}
 

@@ -16,12 +16,15 @@ use Rattle.ring_core.specs.declared.entry.LeaveCause.TheVariants.{Ended, Spent}
 use Rattle.ring_core.specs.declared.entry.RingEntry.{RingEntry}
 use Rattle.ring_core.specs.declared.entry.RingEntry.TheVariants as ring
 use Rattle.journal_text.specs.Fields.{hex_bytes, hex_words, hex_word, id_text, op_text, result_text}
-use Rattle.journal_text.specs.Lines.{sent_text, got_text, heard_text, cause_text, done_text, ring_line}
+use Rattle.journal_text.specs.Lines.{sent_text, got_text, heard_text, cause_text, done_text}
+use Rattle.journal_text.specs.Lines.{ring_line}
 use Rattle.journal_text.specs.Journal.{IsPlainFrame, IsPlainGot, IsPlainRing}
-use Rattle.journal_text.specs.Sizes.{IsId, IsPdu, IsSmall, IsWord, AreWords, FitsOp, FitsResult, FitsFrame, FitsRingEntry}
+use Rattle.journal_text.specs.Sizes.{IsId, IsPdu, IsSmall, IsWord, AreWords, FitsOp, FitsResult}
+use Rattle.journal_text.specs.Sizes.{FitsFrame, FitsRingEntry}
 use Rattle.journal_text.specs.Fronts.{ended}
 use Rattle.journal_text.specs.Reading.{behind, two, small_of, id_of, word_of, words_of}
-use Rattle.journal_text.specs.ReadLines.{op_of, result_of, sent_kinds, sent_of, got_from, got_kinds, got_of, target_of, taken, request_frame, reply_frame}
+use Rattle.journal_text.specs.ReadLines.{op_of, result_of, sent_kinds, sent_of, got_from, got_kinds}
+use Rattle.journal_text.specs.ReadLines.{got_of, target_of, taken, request_frame, reply_frame}
 use Rattle.journal_text.specs.ReadLines.{heard_of, cause_of, done_of, ring_kinds, ring_entry_of}
 use Rattle.journal_text.proofs.Ranges.{chosen, all_lie}
 use Rattle.journal_text.proofs.Cuts.{some_is, none_some, text_is}

@@ -1,6 +1,7 @@
 -- The lines of controllers and hosts are read as they are written.
 use Rattle.std.proofs.Common.{◌≡◌, ℕ, true, cond, inl, inr}
-use Rattle.std.proofs.Common.{List, [], ◌∷◌, ◌++◌, Some, None, All, refl, sym, ap, subst, ◌∙◌, append_assoc}
+use Rattle.std.proofs.Common.{List, [], ◌∷◌, ◌++◌, Some, None, All, refl, sym, ap, subst, ◌∙◌}
+use Rattle.std.proofs.Common.{append_assoc}
 use Rattle.std.specs.Prelude.{codes}
 use Rattle.std.specs.Fmt.{decimal}
 use Rattle.std.specs.List.{flat_map, AllByRecursion}
@@ -17,16 +18,20 @@ use Rattle.host_port.specs.declared.entry.HostEntry.TheVariants as host_entries
 use Rattle.journal_text.specs.Fields.{hex_bytes, hex_words, id_text, result_text}
 use Rattle.journal_text.specs.Lines.{call_text, controller_line, answer_text, host_line}
 use Rattle.journal_text.specs.Journal.{IsPlainCall, IsPlainEntry}
-use Rattle.journal_text.specs.Sizes.{IsId, IsWord, IsBlock, FitsCall, FitsEntry, FitsResult, FitsAnswer, FitsHostEntry}
+use Rattle.journal_text.specs.Sizes.{IsId, IsWord, IsBlock, FitsCall, FitsEntry, FitsResult}
+use Rattle.journal_text.specs.Sizes.{FitsAnswer, FitsHostEntry}
 use Rattle.journal_text.specs.Fronts.{ended}
 use Rattle.journal_text.specs.Reading.{behind, two, word_number, id_of, block_of}
-use Rattle.journal_text.specs.ReadLines.{entry_kinds, bare_entry, entry_of, outcome_kinds, outcome_of, host_kinds, host_entry_of, result_of}
+use Rattle.journal_text.specs.ReadLines.{entry_kinds, bare_entry, entry_of, outcome_kinds}
+use Rattle.journal_text.specs.ReadLines.{outcome_of, host_kinds, host_entry_of, result_of}
 use Rattle.journal_text.proofs.Ranges.{chosen, all_lie}
 use Rattle.journal_text.proofs.Cuts.{some_is, none_some, text_is}
-use Rattle.journal_text.proofs.ReadLaws.{IsField, IsKind, two_fields, lie_in, kind_of_field, first_takes}
+use Rattle.journal_text.proofs.ReadLaws.{IsField, IsKind, two_fields, lie_in, kind_of_field}
+use Rattle.journal_text.proofs.ReadLaws.{first_takes}
 use Rattle.journal_text.proofs.Numbers.{word_number_field, id_field}
 use Rattle.journal_text.proofs.Digits.{pdu_field, word_field, block_field}
-use Rattle.journal_text.proofs.Calls.{IsCall, AreCalls, calls_body, next_is, result_field, calls_field, served_field, asked_field}
+use Rattle.journal_text.proofs.Calls.{IsCall, AreCalls, calls_body, next_is, result_field}
+use Rattle.journal_text.proofs.Calls.{calls_field, served_field, asked_field}
 
 -- the line of an entry without its line feed
 abbrev peer_body : CallId → List ℕ → List ℕ → List ℕ

@@ -1,6 +1,7 @@
 -- As a journal goes on from what is read, so its next line is read.
 use Rattle.std.proofs.Common.{◌≡◌, ℕ, ◌<◌, true, false, inl}
-use Rattle.std.proofs.Common.{List, [], ◌∷◌, ◌++◌, map, All, Some, None, refl, sym, ap, subst, ◌∙◌, arith, append_assoc}
+use Rattle.std.proofs.Common.{List, [], ◌∷◌, ◌++◌, map, All, Some, None, refl, sym, ap, subst, ◌∙◌}
+use Rattle.std.proofs.Common.{arith, append_assoc}
 use Rattle.std.specs.Prelude.{codes, nat_lt}
 use Rattle.std.specs.Fmt.{decimal}
 use Rattle.std.specs.List.{flat_map}
@@ -23,20 +24,26 @@ use Rattle.journal_text.specs.declared.draft.Head.TheVariants as heads
 use Rattle.journal_text.specs.declared.draft.Draft.{Draft}
 use Rattle.journal_text.specs.declared.draft.Draft.TheVariants as drafts
 use Rattle.journal_text.specs.Lines.{controller_line, host_line, ring_line}
-use Rattle.journal_text.specs.Journal.{IsPlainEntry, IsPlainRing, controller_section, host_section, journal}
+use Rattle.journal_text.specs.Journal.{IsPlainEntry, IsPlainRing, controller_section, host_section}
+use Rattle.journal_text.specs.Journal.{journal}
 use Rattle.journal_text.specs.Sizes.{FitsLog, FitsHostLog, FitsEntry, FitsHostEntry, FitsRingEntry}
 use Rattle.journal_text.specs.Fronts.{IsLine, ended}
 use Rattle.journal_text.specs.Reading.{behind, cut}
 use Rattle.journal_text.specs.ReadLines.{entry_of, host_entry_of, ring_entry_of}
-use Rattle.journal_text.specs.Drafts.{head_of, new_log, new_host_log, logged, host_logged, ring_from, ringed}
-use Rattle.journal_text.specs.Drafts.{first_section, after_controller, after_host, start_line, open_line, log_line, host_log_line}
+use Rattle.journal_text.specs.Drafts.{head_of, new_log, new_host_log, logged, host_logged}
+use Rattle.journal_text.specs.Drafts.{ring_from, ringed}
+use Rattle.journal_text.specs.Drafts.{first_section, after_controller, after_host, start_line}
+use Rattle.journal_text.specs.Drafts.{open_line, log_line, host_log_line}
 use Rattle.journal_text.specs.Drafts.{controller_step, host_step, ring_line_of, ring_step, step}
 use Rattle.journal_text.proofs.Ranges.{all_lie, lacks}
 use Rattle.journal_text.proofs.Cuts.{some_is, cut_line}
-use Rattle.journal_text.proofs.StationLines.{entry_body, entry_ended, entry_field, host_body, host_ended, host_field}
+use Rattle.journal_text.proofs.StationLines.{entry_body, entry_ended, entry_field, host_body}
+use Rattle.journal_text.proofs.StationLines.{host_ended, host_field}
 use Rattle.journal_text.proofs.RingLines.{ring_body, ring_ended, ring_field}
-use Rattle.journal_text.proofs.Steps.{controller_node, host_node, Rises, rises_next, all_back, PlainLog, IsHistory}
-use Rattle.journal_text.proofs.Steps.{journal_parts, ring_part, host_part, with_more, host_with_more, Goes}
+use Rattle.journal_text.proofs.Steps.{controller_node, host_node, Rises, rises_next, all_back}
+use Rattle.journal_text.proofs.Steps.{PlainLog, IsHistory}
+use Rattle.journal_text.proofs.Steps.{journal_parts, ring_part, host_part, with_more}
+use Rattle.journal_text.proofs.Steps.{host_with_more, Goes}
 use Rattle.journal_text.proofs.StepTakes.{head_body, FitsHead, head_field}
 
 -- two texts whose first lines end are the same line by line

@@ -1,6 +1,7 @@
 -- What a line adds to what is read is the line, and it can be told.
 use Rattle.std.proofs.Common.{◌≡◌, ℕ, ◌<◌, true, cond, ◌⊎◌, inl, inr}
-use Rattle.std.proofs.Common.{List, [], ◌∷◌, ◌++◌, Option, Some, None, refl, sym, ap, subst, ◌∙◌, arith, append_assoc}
+use Rattle.std.proofs.Common.{List, [], ◌∷◌, ◌++◌, Option, Some, None, refl, sym, ap, subst, ◌∙◌}
+use Rattle.std.proofs.Common.{arith, append_assoc}
 use Rattle.std.specs.Prelude.{codes, nat_lt}
 use Rattle.std.specs.Fmt.{decimal}
 use Rattle.std.specs.List.{flat_map, AllByRecursion}
@@ -20,21 +21,27 @@ use Rattle.journal_text.specs.declared.draft.Draft.{Draft}
 use Rattle.journal_text.specs.declared.draft.Draft.TheVariants as drafts
 use Rattle.journal_text.specs.Lines.{controller_line, host_line, ring_line}
 use Rattle.journal_text.specs.Journal.{IsPlainEntry, IsPlainRing, controller_section, host_section}
-use Rattle.journal_text.specs.Sizes.{IsSmall, FitsLog, FitsHostLog, FitsEntry, FitsHostEntry, FitsRingEntry}
+use Rattle.journal_text.specs.Sizes.{IsSmall, FitsLog, FitsHostLog, FitsEntry, FitsHostEntry}
+use Rattle.journal_text.specs.Sizes.{FitsRingEntry}
 use Rattle.journal_text.specs.Fronts.{ended}
 use Rattle.journal_text.specs.Reading.{◌>>=◌, behind}
 use Rattle.journal_text.specs.ReadLines.{entry_of, host_entry_of, ring_entry_of}
-use Rattle.journal_text.specs.Drafts.{head_kinds, head_of, new_log, new_host_log, logged, host_logged, ring_from, ringed}
-use Rattle.journal_text.specs.Drafts.{first_section, after_controller, after_host, start_line, open_line, headed, log_line, host_log_line}
+use Rattle.journal_text.specs.Drafts.{head_kinds, head_of, new_log, new_host_log, logged}
+use Rattle.journal_text.specs.Drafts.{host_logged, ring_from, ringed}
+use Rattle.journal_text.specs.Drafts.{first_section, after_controller, after_host, start_line}
+use Rattle.journal_text.specs.Drafts.{open_line, headed, log_line, host_log_line}
 use Rattle.journal_text.specs.Drafts.{controller_step, host_step, ring_line_of, ring_step, step}
 use Rattle.journal_text.proofs.Ranges.{chosen, all_lie}
 use Rattle.journal_text.proofs.Cuts.{some_is, bind_some, none_some, text_is}
 use Rattle.journal_text.proofs.ReadLaws.{IsField, IsKind, lie_in, kind_of_field, first_takes}
 use Rattle.journal_text.proofs.Numbers.{small_field}
-use Rattle.journal_text.proofs.StationLines.{IsEntry, entry_ended, entry_field, host_ended, host_field}
+use Rattle.journal_text.proofs.StationLines.{IsEntry, entry_ended, entry_field, host_ended}
+use Rattle.journal_text.proofs.StationLines.{host_field}
 use Rattle.journal_text.proofs.RingLines.{ring_ended, ring_field}
-use Rattle.journal_text.proofs.Steps.{controller_node, host_node, Rises, rises_more, same_last, all_front, all_back, PlainLog, AreControllers, AreHosts}
-use Rattle.journal_text.proofs.Steps.{IsHistory, text_of, IsGood, journal_parts, no_logs, no_hosts, no_ring}
+use Rattle.journal_text.proofs.Steps.{controller_node, host_node, Rises, rises_more, same_last}
+use Rattle.journal_text.proofs.Steps.{all_front, all_back, PlainLog, AreControllers, AreHosts}
+use Rattle.journal_text.proofs.Steps.{IsHistory, text_of, IsGood, journal_parts, no_logs, no_hosts}
+use Rattle.journal_text.proofs.Steps.{no_ring}
 
 -- the head of a section
 abbrev pub head_body : Head → List ℕ

@@ -1,6 +1,7 @@
 -- What is read of a journal, its text, and how a journal can go on from there.
 use Rattle.std.proofs.Common.{◌≡◌, ℕ, zero, suc, ◌+◌, ◌<◌}
-use Rattle.std.proofs.Common.{List, [], ◌∷◌, ◌++◌, map, All, refl, sym, ap, ◌∙◌, arith, append_assoc}
+use Rattle.std.proofs.Common.{List, [], ◌∷◌, ◌++◌, map, All, refl, sym, ap, ◌∙◌, arith}
+use Rattle.std.proofs.Common.{append_assoc}
 use Rattle.std.specs.Prelude.{codes}
 use Rattle.std.specs.List.{flat_map}
 use Rattle.std.specs.List.Sorted.{IsStrictlyIncreasing}
@@ -15,7 +16,8 @@ use Rattle.comm_port.specs.declared.joint.Joint.{Joint}
 use Rattle.journal_text.specs.declared.draft.Draft.{Draft}
 use Rattle.journal_text.specs.declared.draft.Draft.TheVariants as drafts
 use Rattle.journal_text.specs.Lines.{controller_line, host_line, ring_line}
-use Rattle.journal_text.specs.Journal.{IsPlainEntry, IsPlainRing, controller_section, host_section, journal}
+use Rattle.journal_text.specs.Journal.{IsPlainEntry, IsPlainRing, controller_section, host_section}
+use Rattle.journal_text.specs.Journal.{journal}
 use Rattle.journal_text.specs.Sizes.{FitsLog, FitsHostLog, FitsRingEntry}
 use Rattle.journal_text.specs.Fronts.{IsFront, IsJournalOf}
 

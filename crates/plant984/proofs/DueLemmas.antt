@@ -1,35 +1,37 @@
 -- What was answered over what was read keeps the promise.
-use Rattle.std.proofs.Common.{◌≡◌, ℕ, ◌+◌, ◌<◌, ◌≤◌, ◌↔◌, Bool, true, false, List, [], ◌∷◌, length, Option, Some, None}
+use Rattle.std.proofs.Common.{◌≡◌, ℕ, ◌+◌, ◌<◌, ◌≤◌, ◌↔◌, Bool, true, false, List, [], ◌∷◌, length}
+use Rattle.std.proofs.Common.{Option, Some, None}
 use Rattle.std.proofs.Common.{ap, sym, refl, ◌∙◌, ◌++◌, subst, inl, inr, arith, append-nil}
 use Rattle.plant_io.specs.Streams.{GaveFront, IsWhole}
 use Rattle.plant984.specs.declared.status.Status.{Status}
 use Rattle.plant984.specs.declared.status.Status.TheVariants as ends
 use Rattle.plant984.specs.declared.words.Command.{Command}
-use Rattle.plant984.specs.Words.{IsCommand, IsCommandInRange, SpellsCommand}
-use Rattle.plant984.specs.Due.{reads_input}
-use Rattle.plant984.specs.Promise.{Answers, Asked, CanRead, EndsAsDue, Failed, HasRead}
-use Rattle.plant984.specs.Promise.{Promised, Side, input_limit}
+use Rattle.plant984.specs.Words.{IsCommandInRange, IsNumberOfScans, SpellsCommand, SpellsLive}
+use Rattle.plant984.specs.Due.{Due}
+use Rattle.plant984.specs.Promise.{Answers, Asked, CanRead, EndsAsDue, Failed, HasRead, IsAsked}
+use Rattle.plant984.specs.Promise.{Keeps, Side, Wrote, input_limit}
 
 -- What a call has found out before it writes: what was asked, and what was read for it.
-pub record Found (words : List (List ℕ)) (source source_now : Side) (command : Command) (input : List ℕ) : Type 0 where
-  pub spelled : SpellsCommand words command
-  pub only : (other : Command) → SpellsCommand words other → other ≡ command
-  pub read : HasRead (reads_input command) source.bytes source_now.bytes input
+pub record Found {C : Type 0} (Spells : List (List ℕ) → C → Type 0) (reads : C → Bool) (words : List (List ℕ))
+    (source source_now : Side) (command : C) (input : List ℕ) : Type 0 where
+  pub spelled : Spells words command
+  pub only : (other : C) → Spells words other → other ≡ command
+  pub read : HasRead (reads command) source.bytes source_now.bytes input
   pub later : source.faults ≤ source_now.faults
 
 -- the words spell one command alone
-pub one-command : (words : List (List ℕ)) (asked : Option Command) (command : Command)
-    → ((other : Command) → (asked ≡ Some other) ↔ SpellsCommand words other)
-    → asked ≡ Some command → (other : Command) → SpellsCommand words other → other ≡ command
-one-command words asked command reads is other spells =
+pub one-command : {C : Type 0} (Spells : List (List ℕ) → C → Type 0) (words : List (List ℕ)) (asked : Option C) (command : C)
+    → ((other : C) → (asked ≡ Some other) ↔ Spells words other)
+    → asked ≡ Some command → (other : C) → Spells words other → other ≡ command
+one-command Spells words asked command reads is other spells =
     let that : asked ≡ Some other = (reads other).1 spells in
     cc
 
 -- words that nothing was read from are no command
-pub not-asked : (words : List (List ℕ)) (asked : Option Command)
-    → ((command : Command) → (asked ≡ Some command) ↔ SpellsCommand words command)
-    → asked ≡ None → IsCommand words → ⊥
-not-asked words asked reads none command =
+pub not-asked : {C : Type 0} (Spells : List (List ℕ) → C → Type 0) (words : List (List ℕ)) (asked : Option C)
+    → ((command : C) → (asked ≡ Some command) ↔ Spells words command)
+    → asked ≡ None → IsAsked Spells words → ⊥
+not-asked Spells words asked reads none command =
     let some : asked ≡ Some command.0 = (reads command.0).1 command.1 in
     absurd (cc)
 
@@ -78,32 +80,32 @@ front-read true (Some bytes) rest input read =
     let whole : bytes ≡ input ++ [] = read.0.0 ∙ sym (append-nil input) in
     (input, omega (arith, read.1), ([], read.0.1, whole))
 
-abbrev asked-found : {words : List (List ℕ)} {source source_now : Side} {command : Command} {input : List ℕ}
-    → Found words source source_now command input → Asked words source.bytes source_now.bytes
+abbrev asked-found : {C : Type 0} {Spells : List (List ℕ) → C → Type 0} {reads : C → Bool} {words : List (List ℕ)}
+    {source source_now : Side} {command : C} {input : List ℕ}
+    → Found Spells reads words source source_now command input → Asked Spells reads words source.bytes source_now.bytes
 asked-found {command = command} {input = input} found =
     record { command = command; spelled = found.spelled; input = input; read = found.read }
 
 -- what was written is what was due
-wrote-ends : (status : Status) (command : Command) (input : List ℕ) (had has : Side) → Answers command input had has status
-    → ¬ (Failed had has) → EndsAsDue command input status had.bytes has.bytes
-wrote-ends ends.Ok command input had has answers no_write = inl answers
-wrote-ends ends.Refused command input had has answers no_write = inl answers
-wrote-ends ends.Illegal command input had has answers no_write = inl answers
-wrote-ends ends.NoMemory command input had has answers no_write = inr refl
-wrote-ends ends.Usage command input had has answers no_write = absurd answers
-wrote-ends ends.ReadFault command input had has answers no_write = absurd answers
-wrote-ends ends.TooLong command input had has answers no_write = absurd answers
-wrote-ends ends.WriteFault command input had has answers no_write = absurd (no_write answers.0)
+wrote-ends : (IsDueHere : Due → Type 0) (status : Status) (had has : Side) → Answers IsDueHere had has status
+    → ¬ (Failed had has) → EndsAsDue IsDueHere status had.bytes has.bytes
+wrote-ends IsDueHere ends.Ok had has answers no_write = inl answers
+wrote-ends IsDueHere ends.Refused had has answers no_write = inl answers
+wrote-ends IsDueHere ends.Illegal had has answers no_write = inl answers
+wrote-ends IsDueHere ends.NoMemory had has answers no_write = inr refl
+wrote-ends IsDueHere ends.Usage had has answers no_write = absurd answers
+wrote-ends IsDueHere ends.ReadFault had has answers no_write = absurd answers
+wrote-ends IsDueHere ends.TooLong had has answers no_write = absurd answers
+wrote-ends IsDueHere ends.WriteFault had has answers no_write = absurd (no_write answers.0)
 
 -- so the promise is kept
-pub Promised-found : {words : List (List ℕ)} {source source_now : Side} {command : Command} {input : List ℕ}
-    → Found words source source_now command input
-    → (had has : Side) (status : Status) → had.faults ≤ has.faults → Answers command input had has status
-    → Promised status words source source_now had has
-Promised-found
-    {words = words} {source = source} {source_now = source_now} {command = command} {input = input} found
-    had has status later answers =
-    let P : Status → Type 0 = λ s. Answers command input had has s in
+pub Keeps-found : {C : Type 0} (Spells : List (List ℕ) → C → Type 0) (reads : C → Bool) (IsDueFor : C → List ℕ → Due → Type 0)
+    (words : List (List ℕ)) (source source_now : Side) (command : C) (input : List ℕ)
+    → Found Spells reads words source source_now command input
+    → (had has : Side) (status : Status) → had.faults ≤ has.faults → Answers (IsDueFor command input) had has status
+    → Keeps Spells reads IsDueFor status words source source_now had has
+Keeps-found {C = C} Spells reads IsDueFor words source source_now command input found had has status later answers =
+    let P : Status → Type 0 = λ s. Answers (IsDueFor command input) had has s in
     record {
       ok = λ is. (asked-found found, subst P is answers);
       refused = λ is. (asked-found found, subst P is answers);
@@ -111,22 +113,27 @@ Promised-found
       usage = λ memory. (λ is. absurd (subst P is answers), λ none. absurd (none (command, found.spelled)));
       read_fault = λ is. absurd (subst P is answers);
       too_long = λ is. absurd (subst P is answers);
-      no_memory = λ is. front-read (reads_input command) source.bytes source_now.bytes input found.read;
+      no_memory = λ is. front-read (reads command) source.bytes source_now.bytes input found.read;
       write_fault = λ is.
           let wrote : P ends.WriteFault = subst P is answers in
-          (wrote.0, (asked-found found, wrote.1));
+          (wrote.0, asked-found found, wrote.1);
       later_source = found.later;
       later_sink = later;
       complete = λ other given spells can no_read no_write.
           let command_is : other ≡ command = found.only other spells in
-          let Can : Command → Type 0 = λ c. CanRead (reads_input c) source.bytes given in
+          let Can : C → Type 0 = λ c. CanRead (reads c) source.bytes given in
           let given_is : given ≡ input =
-          same-input (reads_input command) source.bytes source_now.bytes given input (subst Can command_is can) found.read in
-          let Ends : Command → Type 0 = λ c. EndsAsDue c given status had.bytes has.bytes in
-          let EndsOver : List ℕ → Type 0 = λ bytes. EndsAsDue command bytes status had.bytes has.bytes in
-          subst Ends (sym command_is) (subst EndsOver (sym given_is) (wrote-ends status command input had has answers no_write));
+          same-input (reads command) source.bytes source_now.bytes given input (subst Can command_is can) found.read in
+          let Ends : C → Type 0 = λ c. EndsAsDue (IsDueFor c given) status had.bytes has.bytes in
+          let EndsOver : List ℕ → Type 0 = λ bytes. EndsAsDue (IsDueFor command bytes) status had.bytes has.bytes in
+          subst Ends (sym command_is) (subst EndsOver (sym given_is) (wrote-ends (IsDueFor command input) status had has answers no_write));
       long = λ given asks left long no_read.
           let command_is : asks.0 ≡ command = found.only asks.0 asks.1 in
-          let reads : reads_input command ≡ true = ap reads_input (sym command_is) ∙ asks.2 in
-          absurd (not-long (reads_input command) source.bytes source_now.bytes given input reads left long found.read);
+          let reads_is : reads command ≡ true = ap reads (sym command_is) ∙ asks.2 in
+          absurd (not-long (reads command) source.bytes source_now.bytes given input reads_is left long found.read);
     }
+
+-- a live run that is spelled is in its range
+pub live_in_range : (words : List (List ℕ)) (scans : ℕ) → SpellsLive words scans → IsNumberOfScans scans
+live_in_range [] scans spells = absurd spells
+live_in_range (name ∷ behind) scans spells = spells.in_range

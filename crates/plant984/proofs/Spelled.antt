@@ -1,5 +1,9 @@
 -- Commands and the words that spell them.
-use Rattle.std.proofs.Common.{◌≡◌, ℕ, List, [], ◌∷◌, Option, Some, None, ◌↔◌, ap, sym, refl, ◌∙◌, true≢false}
+use Rattle.std.proofs.Common.{◌≡◌, ◌≤◌, ◌-◌, ℕ, List, [], ◌∷◌, length, take, drop, get_or, Option}
+use Rattle.std.proofs.Common.{Some, None, Ok, Err}
+use Rattle.std.proofs.Common.{◌↔◌, ap, sym, refl, ◌∙◌, true≢false, arith}
+use Rattle.std.specs.Prelude.{IfOk, Result}
+use Rattle.std.proofs.lemmas.List.{take_all}
 use Rattle.std.specs.Prelude.{bytes_eq, codes, false, true}
 use Rattle.std.specs.Fmt.{decimal}
 use Rattle.plant_gen.specs.Text.{IsPlantNumber}
@@ -7,7 +11,8 @@ use Rattle.plant984.specs.declared.words.Command.{Command}
 use Rattle.plant984.specs.declared.words.Command.TheVariants.{Do, Gen}
 use Rattle.plant984.specs.declared.words.Task.{Task}
 use Rattle.plant984.specs.declared.words.Task.TheVariants.{Run, Trace, Check, Replay}
-use Rattle.plant984.specs.Words.{IsNumberOfScans, SpellsBehind, task_name, without_dashes}
+use Rattle.plant984.specs.Words.{IsNumberOfScans, SpellsBehind, SpellsLiveBehind, task_name}
+use Rattle.plant984.specs.Words.{without_dashes}
 
 -- texts that do not compare are not the same
 differ : (one other : List ℕ) → bytes_eq one one ≡ true → bytes_eq one other ≡ false → one ≡ other → ⊥
@@ -110,3 +115,19 @@ pub Spells-none : (name : List ℕ) (behind : List (List ℕ)) → (codes "gen" 
     → (command : Command) → (None ≡ Some command) ↔ SpellsBehind name behind command
 Spells-none name behind no_gen no_task (Do task scans) = (λ e. absurd (cc), λ spells. absurd (no_task task spells.named))
 Spells-none name behind no_gen no_task (Gen number scans) = (λ e. absurd (cc), λ spells. absurd (no_gen spells.named))
+
+-- a live run with the scans that were read behind its name
+pub Spells-live : {E : Type 0} (name : List ℕ) (behind : List (List ℕ)) (read : Result (Option ℕ) E) → name ≡ codes "live"
+    → IfOk read (ReadsScans behind)
+    → IfOk read (λ asked. (scans : ℕ) → (asked ≡ Some scans) ↔ SpellsLiveBehind name behind scans)
+Spells-live name behind (Err e) named reads = tt
+Spells-live name behind (Ok asked) named reads = λ scans. (
+  λ e. let got = (reads scans).0 e in record { named = sym named; numbers = got.0; in_range = got.1 },
+  λ spells. (reads scans).1 (spells.numbers, spells.in_range),
+)
+
+-- a list that is not empty is its first item and the rest
+pub first-rest : {A : Type 0} (xs : List A) (a : A) → 1 ≤ length xs → a ≡ get_or xs 0 a → xs ≡ a ∷ take (length xs - 1) (drop 1 xs)
+first-rest [] a some is = absurd (omega arith)
+first-rest (x ∷ xs) a some is =
+    ap (λ b. b ∷ xs) (sym is) ∙ ap (λ rest. a ∷ rest) (sym (take_all (length (x ∷ xs) - 1) xs (omega arith)))

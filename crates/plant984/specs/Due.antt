@@ -11,6 +11,7 @@ use Rattle.plant_loader.specs.Plant.{plant_of}
 use Rattle.plant_gen.specs.Text.{plant_text}
 use Rattle.comm_port.specs.declared.joint.Joint.{Joint}
 use Rattle.effect_laws.specs.Effects.{EffectsAreRight}
+use Rattle.turn_laws.specs.KeepsOn.{NoneSpent}
 use Rattle.serial_run.specs.Serial.{IsSerial}
 use Rattle.joint_law.specs.Spots.{IsWholeRun}
 use Rattle.journal_text.specs.Journal.{journal}
@@ -143,3 +144,21 @@ pub record IsDue (command : Command) (input : List ℕ) (what : Due) : Type 0 wh
   pub behind : List ℕ
   pub parts : IsFile command input file behind
   pub due : IsDueOf command behind (plant_of file) what
+
+-- The joint history of a live run: that of some run in threads, which is a whole one, in which no
+-- node left because its Passes were spent.
+pub record IsLiveShown (scans : ℕ) (plant : Plant) (what : Due) : Type 0 where
+  pub joint : Joint
+  pub whole : IsWholeRun plant scans joint
+  pub unspent : NoneSpent joint.ring
+  pub effects : EffectsAreRight joint
+  pub status : what.status ≡ ends.Ok
+  pub text : what.text ≡ task_text Trace plant joint
+
+abbrev pub IsLiveDueOf : ℕ → Result Plant Refusal → Due → Type 0
+IsLiveDueOf scans (Ok plant) what = IsLiveShown scans plant what
+IsLiveDueOf scans (Err fault) what = what ≡ refused fault
+
+-- This is due for a live run of so many scans and an input.
+abbrev pub IsLiveDue : ℕ → List ℕ → Due → Type 0
+IsLiveDue scans input what = IsLiveDueOf scans (plant_of input) what

@@ -51,6 +51,12 @@ abbrev pub SpellsCommand : List (List ℕ) → Command → Type 0
 SpellsCommand [] command = ⊥
 SpellsCommand (name ∷ behind) command = SpellsBehind name behind command
 
--- The words are those of some command.
-abbrev pub IsCommand : List (List ℕ) → Type 0
-IsCommand words = (command : Command) × SpellsCommand words command
+-- The words are those of a live run of so many scans.
+pub record SpellsLiveBehind (name : List ℕ) (behind : List (List ℕ)) (scans : ℕ) : Type 0 where
+  pub named : codes "live" ≡ name
+  pub numbers : without_dashes behind ≡ decimal scans ∷ []
+  pub in_range : IsNumberOfScans scans
+
+abbrev pub SpellsLive : List (List ℕ) → ℕ → Type 0
+SpellsLive [] scans = ⊥
+SpellsLive (name ∷ behind) scans = SpellsLiveBehind name behind scans

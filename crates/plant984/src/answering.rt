@@ -37,7 +37,7 @@ fn refusal_text(alloc: Global, fault: PlantFault, place: Place) -> Result<String
     format!(in alloc; "refused {fault} {place}\n")
 }
 
-fn refused(alloc: Global, fault: PlantFault, place: Place) -> Result<Answer, AllocError>
+pub fn refused(alloc: Global, fault: PlantFault, place: Place) -> Result<Answer, AllocError>
     ensures { IfOk result (λ answer. told answer ≡ refused (fault, place)) }
 {
     let text = refusal_text(alloc, fault, place)?;
@@ -59,7 +59,7 @@ fn illegal(alloc: Global, spot: &str) -> Result<Answer, AllocError>
 }
 
 /// The journal, and behind it the panel.
-fn trace_text(alloc: Global, plant: &Plant, joint: &Joint) -> Result<Vec<u8>, AllocError>
+pub fn trace_text(alloc: Global, plant: &Plant, joint: &Joint) -> Result<Vec<u8>, AllocError>
     requires plant { CanRunPlant plant.now }
     requires joint { IsLegalJoint plant.now most_scans joint.now }
     ensures { IfOk result (λ text. text.items ≡ task_text Task.Trace plant.now joint.now) }

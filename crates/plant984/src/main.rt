@@ -5,6 +5,7 @@ mod answering;
 mod arguments;
 mod cutting;
 mod judging;
+mod live;
 #[cfg(test)]
 mod nets;
 #[cfg(test)]
@@ -16,6 +17,7 @@ mod tests;
 mod top;
 mod words;
 
+use live_run::NoMeet;
 use plant_io::{StdSink, StdSource};
 use status::Status;
 use std::io::ErrorKind;
@@ -40,7 +42,7 @@ fn main(rt: HostRuntime) -> ExitCode {
         Ok(words) => {
             let mut source = StdSource::new(rt.reader());
             let mut sink = StdSink::new(io::writer(&rt));
-            exit_of(rt.alloc(), &words, &mut source, &mut sink)
+            exit_of(&rt, rt.alloc(), &words, &mut source, &mut sink, &NoMeet)
         }
         Err(status) => ExitCode::from(status),
     }

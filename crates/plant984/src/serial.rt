@@ -1,7 +1,7 @@
 // The serial top call: the whole input is read, and then the whole text is written.
 ghost use Rattle.std.specs.Prelude.{◌≡◌, ◌≤◌, map, string_bytes};
-ghost use Rattle.plant984.specs.Words.{IsCommandInRange};
-ghost use Rattle.plant984.specs.Due.{reads_input};
+ghost use Rattle.plant984.specs.Words.{IsCommandInRange, SpellsCommand};
+ghost use Rattle.plant984.specs.Due.{IsDue, reads_input};
 ghost use Rattle.plant984.specs.Promise.{Answers, AsksInput, Promised, side, WritesNothing};
 
 use crate::answering::{Answer, answer_to};
@@ -22,7 +22,7 @@ fn reads_input(command: Command) -> bool
 /// Answers a command over an input, and writes the answer.
 fn write_answer<K: Sink>(alloc: Global, command: Command, input: &[u8], sink: &mut K) -> Status
     requires { IsCommandInRange command }
-    ensures answers { Answers command input.now (side (K.taken sink.old) (K.faults sink.old))
+    ensures answers { Answers (IsDue command input.now) (side (K.taken sink.old) (K.faults sink.old))
         (side (K.taken sink.new) (K.faults sink.new)) result }
     ensures later { K.faults sink.old ≤ K.faults sink.new }
     ensures nothing_written { WritesNothing result → sink.new ≡ sink.old }
@@ -49,7 +49,7 @@ pub fn plant_serial<S: Source, K: Sink>(
         (side (S.left source.new) (S.faults source.new))
         (side (K.taken sink.old) (K.faults sink.old))
         (side (K.taken sink.new) (K.faults sink.new)) }
-    ensures reads_nothing { ¬ AsksInput (map string_bytes words.now)
+    ensures reads_nothing { ¬ AsksInput SpellsCommand reads_input (map string_bytes words.now)
         → source.new ≡ source.old }
     ensures nothing_written { WritesNothing result → sink.new ≡ sink.old }
 {

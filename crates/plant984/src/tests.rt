@@ -1,7 +1,8 @@
 // Whole runs, over sources and sinks in memory.
-use crate::serial::INPUT_LIMIT;
+use crate::serial::{INPUT_LIMIT, plant_serial};
 use crate::status::Status;
-use crate::top::{exit_of, plant_top};
+use crate::top::exit_of;
+use live_run::NoMeet;
 use plant_io::{MemSink, MemSource};
 use std::alloc::{AllocError, Global};
 use std::process::ExitCode;
@@ -108,7 +109,7 @@ pub fn outcome_of(
     mut sink: MemSink,
 ) -> Result<Outcome, AllocError> {
     let words = words_of(alloc, line)?;
-    let status = plant_top(alloc, &words, &mut source, &mut sink);
+    let status = plant_serial(alloc, &words, &mut source, &mut sink);
     let written = Vec::from_slice(alloc, sink.bytes())?;
     Ok(Outcome { status, written })
 }
@@ -183,7 +184,7 @@ fn ends_with_the_number_of_its_status(rt: HostRuntime) -> Result<(), Fail> {
     let words = words_of(alloc, "run 1")?;
     let mut sink = sink_of(alloc, &[])?;
     let mut source = source_of(alloc, "", &[])?;
-    let code = exit_of(alloc, &words, &mut source, &mut sink);
+    let code = exit_of(&rt, alloc, &words, &mut source, &mut sink, &NoMeet);
     assert_eq!(rt; code, ExitCode::from(5));
     Ok(())
 }
@@ -194,7 +195,7 @@ fn touches_nothing(alloc: Global, line: &str) -> Result<bool, AllocError> {
     let words = words_of(alloc, line)?;
     let mut sink = sink_of(alloc, &[])?;
     let mut source = source_of(alloc, contact_and_coil(), &[])?;
-    let status = plant_top(alloc, &words, &mut source, &mut sink);
+    let status = plant_serial(alloc, &words, &mut source, &mut sink);
     let outcome = outcome_of(alloc, "run 1", source, sink)?;
     Ok(
         status == Status::Usage

@@ -1,48 +1,75 @@
 // The top call of the program.
-ghost use Rattle.std.specs.Prelude.{◌≡◌, map, string_bytes};
+ghost use Rattle.std.specs.Prelude.{◌≡◌, IsTrue, ◌↔◌, codes, map, string_bytes};
 ghost use Rattle.std.specs.Process.{exit_status};
 ghost use Rattle.plant984.specs.Status.{exit_number};
 ghost use Rattle.plant984.specs.declared.status.Status.{Status as AnyStatus};
-ghost use Rattle.plant984.specs.Promise.{AsksInput, Promised, side, WritesNothing};
+ghost use Rattle.plant984.specs.Promise.{PromisedAll, StartsLive, WritesNothing, side};
 
+use crate::live::plant_live;
 use crate::serial::plant_serial;
 use crate::status::Status;
+use live_run::Meet;
 use plant_io::{Sink, Source};
 use std::alloc::Global;
 use std::process::ExitCode;
+use std::sync::Wait;
+use std::thread::Threads;
 
-/// Does what the words after the program's name say, and answers how that ended.
-pub fn plant_top<S: Source, K: Sink>(
+fn is_live(name: &str) -> bool
+    ensures { IsTrue result ↔ (name.now ≡ codes "live") }
+{
+    name == "live"
+}
+
+/// Whether the first word is that of a live run.
+fn starts_live(words: &[String]) -> bool
+    ensures { IsTrue result ↔ StartsLive (map string_bytes words.now) }
+{
+    match words {
+        [name, ..] => is_live(name.as_str()),
+        [] => false,
+    }
+}
+
+/// Does what the words after the program's name say, and answers how that ended: a live run in
+/// threads, which may wait, and all else without.
+pub fn plant_top<S: Source, K: Sink, M: Meet + Sync, R: Threads + Wait + Sync>(
+    rt: &R,
     alloc: Global,
     words: &[String],
     source: &mut S,
     sink: &mut K,
+    meet: &M,
 ) -> Status
-    ensures promised { Promised result (map string_bytes words.now)
+    ensures promised { PromisedAll result (map string_bytes words.now)
         (side (S.left source.old) (S.faults source.old))
         (side (S.left source.new) (S.faults source.new))
         (side (K.taken sink.old) (K.faults sink.old))
         (side (K.taken sink.new) (K.faults sink.new)) }
-    ensures reads_nothing { ¬ AsksInput (map string_bytes words.now)
-        → source.new ≡ source.old }
     ensures nothing_written { WritesNothing result → sink.new ≡ sink.old }
 {
-    plant_serial(alloc, words, source, sink)
+    if starts_live(words) {
+        plant_live(rt, alloc, words, source, sink, meet)
+    } else {
+        plant_serial(alloc, words, source, sink)
+    }
 }
 
 /// The top call, and the number of its status, with which the process ends.
-pub fn exit_of<S: Source, K: Sink>(
+pub fn exit_of<S: Source, K: Sink, M: Meet + Sync, R: Threads + Wait + Sync>(
+    rt: &R,
     alloc: Global,
     words: &[String],
     source: &mut S,
     sink: &mut K,
+    meet: &M,
 ) -> ExitCode
     ensures { (status : AnyStatus) × (exit_status result ≡ exit_number status)
-        × Promised status (map string_bytes words.now)
+        × PromisedAll status (map string_bytes words.now)
         (side (S.left source.old) (S.faults source.old))
         (side (S.left source.new) (S.faults source.new))
         (side (K.taken sink.old) (K.faults sink.old))
         (side (K.taken sink.new) (K.faults sink.new)) }
 {
-    ExitCode::from(plant_top(alloc, words, source, sink))
+    ExitCode::from(plant_top(rt, alloc, words, source, sink, meet))
 }

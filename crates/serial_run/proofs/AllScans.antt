@@ -1,6 +1,7 @@
 -- The scans of all controllers, one after another.
 use Rattle.std.proofs.Common.{◌≡◌, ℕ, zero, suc, ◌+◌, ◌<◌, ◌≤◌, ◌++◌, Bool, true, false, List}
-use Rattle.std.proofs.Common.{[], ◌∷◌, length, map, set, drop, take, refl, sym, ap, subst, ◌∙◌, arith}
+use Rattle.std.proofs.Common.{[], ◌∷◌, length, map, set, drop, take, refl, sym, ap, subst, ◌∙◌}
+use Rattle.std.proofs.Common.{arith}
 use Rattle.std.proofs.Common.{get_or, All, ⊎_elim, append-nil}
 use Rattle.std.specs.Prelude.{◌&&◌}
 use Rattle.std.specs.List.{AllZip, list_all, sum_by, zip}
@@ -19,7 +20,8 @@ use Rattle.serial_run.specs.declared.stations.Stations.{Stations}
 use Rattle.serial_run.specs.Serial.{log_with_scan, scanned, with_scan}
 use Rattle.serial_run.specs.Stations.{Did, MadeEvents, StandAll, StandsController, StandsHost}
 use Rattle.serial_run.specs.Stations.{host_log_of, log_of}
-use Rattle.serial_run.specs.Scans.{have_ended, steps_left, AreBetweenScans, IsBetweenScans, LessensScan}
+use Rattle.serial_run.specs.Scans.{have_ended, steps_left, AreBetweenScans, IsBetweenScans}
+use Rattle.serial_run.specs.Scans.{LessensScan}
 use Rattle.serial_run.proofs.Lists.{zip-both}
 use Rattle.serial_run.proofs.Standings.{stands-scans}
 

@@ -1,5 +1,6 @@
 -- Which stations have collected all calls, turn by turn.
-use Rattle.std.proofs.Common.{◌≡◌, ◌≢◌, ℕ, zero, suc, ◌+◌, ◌<◌, ◌==◌, true, false, List, [], ◌∷◌, length, set}
+use Rattle.std.proofs.Common.{◌≡◌, ◌≢◌, ℕ, zero, suc, ◌+◌, ◌<◌, ◌==◌, true, false, List, [], ◌∷◌}
+use Rattle.std.proofs.Common.{length, set}
 use Rattle.std.proofs.Common.{Some, None, refl, sym, ap, subst, ◌∙◌, arith, get_or, All}
 use Rattle.std.specs.List.{AllZip, position, slice_get}
 use Rattle.std.proofs.lemmas.Bool.{eq-eqb, eqb-true, true≢false}
@@ -8,7 +9,8 @@ use Rattle.plant_types.specs.declared.plan.Plant.{Plant}
 use Rattle.serial_run.specs.declared.stations.ControllerStation.{ControllerStation}
 use Rattle.serial_run.specs.declared.stations.Stations.{Stations}
 use Rattle.serial_run.specs.Stations.{StandAll}
-use Rattle.serial_run.specs.Held.{AreCollected, CollectFor, CollectsFor, HasCollected, StayCollected, StaysCollected}
+use Rattle.serial_run.specs.Held.{AreCollected, CollectFor, CollectsFor, HasCollected}
+use Rattle.serial_run.specs.Held.{StayCollected, StaysCollected}
 use Rattle.serial_run.proofs.Distinct.{same-controller}
 use Rattle.serial_run.proofs.Lists.{position-none, zip-both}
 use Rattle.serial_run.proofs.TurnsMade.{at-place}

@@ -26,7 +26,8 @@ use Rattle.serial_run.specs.declared.order.Turn.TheVariants.{Step, Hold, Visit}
 use Rattle.serial_run.specs.declared.stations.ControllerStation.{ControllerStation}
 use Rattle.serial_run.specs.declared.stations.HostStation.{HostStation}
 use Rattle.serial_run.specs.declared.stations.Stations.{Stations}
-use Rattle.serial_run.specs.Turns.{has_left, controller_place, host_place, stepped_list, visit_is_due, with_list}
+use Rattle.serial_run.specs.Turns.{has_left, controller_place, host_place, stepped_list}
+use Rattle.serial_run.specs.Turns.{visit_is_due, with_list}
 use Rattle.serial_run.specs.Turns.{MakesTurn, MakesHold, MakesStep, MakesVisit, VisitsWhere}
 use Rattle.serial_run.specs.Stations.{StandsController, StandAll, Did, MadeEvents, log_of}
 use Rattle.serial_run.specs.Stations.{host_log_of}

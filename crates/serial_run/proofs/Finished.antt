@@ -11,19 +11,22 @@ use Rattle.plant_types.specs.declared.plan.Plant.{Plant}
 use Rattle.ring_core.specs.declared.entry.RingEntry.{RingEntry}
 use Rattle.scan_order.specs.declared.due.ScanStep.{ScanStep}
 use Rattle.controller_core.specs.declared.fixed.Fixed.{Fixed}
-use Rattle.controller_core.specs.Controller.{ControllerIs, first_of, has_ended, has_started, is_none, left_of}
+use Rattle.controller_core.specs.Controller.{ControllerIs, first_of, has_ended, has_started}
+use Rattle.controller_core.specs.Controller.{is_none, left_of}
 use Rattle.controller_core.specs.Controller.{state_of}
 use Rattle.comm_port.specs.JointLaws.{fixed_of}
 use Rattle.comm_port.specs.Reading.{has_ended_at, has_started_at}
 use Rattle.comm_port.specs.Worker.{IsMemberWorker}
-use Rattle.turn_laws.specs.KeepsOn.{HasFinished, HostHasFinished, HostKeepsOn, HostStandsTied, KeepsOn}
+use Rattle.turn_laws.specs.KeepsOn.{HasFinished, HostHasFinished, HostKeepsOn, HostStandsTied}
+use Rattle.turn_laws.specs.KeepsOn.{KeepsOn}
 use Rattle.turn_laws.specs.KeepsOn.{StandsTied}
 use Rattle.turn_laws.proofs.Stands.{host-stands-of, stands-of}
 use Rattle.serial_run.specs.declared.stations.ControllerStation.{ControllerStation}
 use Rattle.serial_run.specs.declared.stations.HostStation.{HostStation}
 use Rattle.serial_run.specs.declared.stations.Stations.{Stations}
 use Rattle.serial_run.specs.Scans.{have_ended, KeepScans, KeepsScan}
-use Rattle.serial_run.specs.Stations.{StandAll, StandsController, StandsHost, host_log_of, log_of, ram_side}
+use Rattle.serial_run.specs.Stations.{StandAll, StandsController, StandsHost, host_log_of, log_of}
+use Rattle.serial_run.specs.Stations.{ram_side}
 use Rattle.serial_run.specs.Stations.{ring_side}
 use Rattle.serial_run.specs.Held.{AreCollected, stations_here}
 use Rattle.serial_run.proofs.Distinct.{controller-member, low-members}

@@ -8,7 +8,8 @@ use Rattle.plant_types.specs.declared.net.NetPlan.{NetPlan}
 use Rattle.ring_core.specs.declared.entry.RingEntry.{RingEntry}
 use Rattle.ring_core.specs.declared.entry.LeaveCause.{LeaveCause}
 use Rattle.ring_core.specs.declared.entry.LeaveCause.TheVariants.{Ended, Spent}
-use Rattle.ring_core.specs.declared.entry.RingEntry.TheVariants.{Pass, Leave, GiveUp, Post, Take, Send, Local}
+use Rattle.ring_core.specs.declared.entry.RingEntry.TheVariants.{Pass, Leave, GiveUp, Post, Take}
+use Rattle.ring_core.specs.declared.entry.RingEntry.TheVariants.{Send, Local}
 use Rattle.ring_core.specs.Machine.{addresses, ring_after, ring_node}
 use Rattle.ring_core.specs.Legal.{IsLegal}
 use Rattle.ring_core.specs.Stability.{NoLeave}

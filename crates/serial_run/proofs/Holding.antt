@@ -21,8 +21,10 @@ use Rattle.controller_core.specs.Controller.{has_started}
 use Rattle.serial_run.proofs.Lists.{set-there}
 use Rattle.serial_run.proofs.Distinct.{low-members}
 use Rattle.serial_run.proofs.Grown.{Further}
-use Rattle.serial_run.proofs.HeldTurns.{host-turn-ended, host-turn-ring, turn-ended, turn-known, turn-less, turn-ring, visit-known}
-use Rattle.serial_run.proofs.Measures.{controller-less, host-less, lessens, own-turns, scans-same, scans-with}
+use Rattle.serial_run.proofs.HeldTurns.{host-turn-ended, host-turn-ring, turn-ended, turn-known}
+use Rattle.serial_run.proofs.HeldTurns.{turn-less, turn-ring, visit-known}
+use Rattle.serial_run.proofs.Measures.{controller-less, host-less, lessens, own-turns, scans-same}
+use Rattle.serial_run.proofs.Measures.{scans-with}
 use Rattle.serial_run.proofs.TurnsMade.{at-place, host-at-place}
 
 module _ (old new : Stations) (at : ℕ) (s t : ControllerStation) (is : slice_get old.controllers.items at ≡ Some s)

@@ -12,7 +12,8 @@ use Rattle.tied_lists.specs.Own.{own}
 use Rattle.tied_lists.specs.Items.{AController, AHost}
 use Rattle.tied_lists.specs.Tied.{Tied}
 use Rattle.comm_port.specs.declared.joint.Joint.{Joint}
-use Rattle.comm_port.specs.JointLaws.{IsJoint, IsLegalJoint, IsLegalLog, IsLegalHostLog, IsTiedController}
+use Rattle.comm_port.specs.JointLaws.{IsJoint, IsLegalJoint, IsLegalLog, IsLegalHostLog}
+use Rattle.comm_port.specs.JointLaws.{IsTiedController}
 use Rattle.comm_port.specs.JointLaws.{IsTiedHost}
 use Rattle.comm_port.specs.Reading.{items_of, host_items_of}
 use Rattle.serial_run.specs.declared.order.Turn.{Turn}

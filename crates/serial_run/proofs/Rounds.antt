@@ -22,13 +22,17 @@ use Rattle.serial_run.specs.declared.stations.HostStation.{HostStation}
 use Rattle.serial_run.specs.declared.stations.Stations.{Stations}
 use Rattle.serial_run.specs.Turns.{has_left, MakesTurn, MakesTurns}
 use Rattle.serial_run.specs.Serial.{all_have_ended, log_has_ended, members_left, visits_of, IsChain}
-use Rattle.serial_run.specs.Serial.{Finishes, IsLateRound, IsRepetition, MakesRound, MakesRounds, Repeats, scanned}
-use Rattle.serial_run.specs.Stations.{Did, DidWith, StandAll, StandsController, StandsHost, joint_of, log_of}
+use Rattle.serial_run.specs.Serial.{Finishes, IsLateRound, IsRepetition, MakesRound, MakesRounds}
+use Rattle.serial_run.specs.Serial.{Repeats, scanned}
+use Rattle.serial_run.specs.Stations.{Did, DidWith, StandAll, StandsController, StandsHost}
+use Rattle.serial_run.specs.Stations.{joint_of, log_of}
 use Rattle.serial_run.specs.Held.{stations_here, turns_left, Lessens}
-use Rattle.serial_run.specs.Scans.{have_ended, steps_left, AreBetweenScans, IsBetweenScans, KeepsScan}
+use Rattle.serial_run.specs.Scans.{have_ended, steps_left, AreBetweenScans, IsBetweenScans}
+use Rattle.serial_run.specs.Scans.{KeepsScan}
 use Rattle.serial_run.specs.Scans.{KeepScans}
 use Rattle.serial_run.specs.Held.{AreCollected, CollectFor, StayCollected}
-use Rattle.serial_run.proofs.Collected.{SomeCollected, collected-both, collected-same, one-more-collected}
+use Rattle.serial_run.proofs.Collected.{SomeCollected, collected-both, collected-same}
+use Rattle.serial_run.proofs.Collected.{one-more-collected}
 use Rattle.serial_run.proofs.Laws.{one-more-turn}
 use Rattle.serial_run.proofs.Lists.{zip-both}
 use Rattle.serial_run.proofs.Measures.{scans-same}

@@ -1,7 +1,10 @@
 -- A whole scan of a controller, step by step.
-use Rattle.std.proofs.Common.{◌≡◌, ◌≢◌, ◌⊎◌, ◌==◌, ℕ, zero, suc, ◌+◌, ◌-◌, ◌<◌, ◌≤◌, Bool, true, false, not}
-use Rattle.std.proofs.Common.{◌&&◌, List, [], ◌∷◌, ◌++◌, length, drop, Option, Some, None, refl, sym}
-use Rattle.std.proofs.Common.{ap, subst, ◌∙◌, arith, append_assoc, append-nil, length-append, inl, inr}
+use Rattle.std.proofs.Common.{◌≡◌, ◌≢◌, ◌⊎◌, ◌==◌, ℕ, zero, suc, ◌+◌, ◌-◌, ◌<◌, ◌≤◌, Bool, true}
+use Rattle.std.proofs.Common.{false, not}
+use Rattle.std.proofs.Common.{◌&&◌, List, [], ◌∷◌, ◌++◌, length, drop, Option, Some, None, refl}
+use Rattle.std.proofs.Common.{sym}
+use Rattle.std.proofs.Common.{ap, subst, ◌∙◌, arith, append_assoc, append-nil, length-append, inl}
+use Rattle.std.proofs.Common.{inr}
 use Rattle.std.proofs.Common.{⊎_elim}
 use Rattle.std.specs.Prelude.{if◌then◌else◌}
 use Rattle.std.specs.List.{flat_map, range_with_len}
@@ -25,7 +28,8 @@ use Rattle.controller_core.specs.declared.entry.Maker.TheVariants.{Communication
 use Rattle.serial_run.specs.Serial.{with_scan}
 use Rattle.serial_run.specs.Stations.{MadeEvents}
 use Rattle.serial_run.specs.Scans.{LessensScan}
-use Rattle.controller_core.proofs.Keeping.{replay_more, scan_steps-more, scan_steps-quiet, told_entry}
+use Rattle.controller_core.proofs.Keeping.{replay_more, scan_steps-more, scan_steps-quiet}
+use Rattle.controller_core.proofs.Keeping.{told_entry}
 use Rattle.controller_core.proofs.NextEntry.{stop_stays}
 use Rattle.serial_run.specs.Scans.{IsBetweenScans, KeepsScan}
 

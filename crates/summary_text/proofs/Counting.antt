@@ -1,5 +1,6 @@
 -- Counts that grow item by item.
-use Rattle.std.proofs.Common.{◌≡◌, ◌<◌, ℕ, suc, ◌+◌, ◌-◌, Bool, cond, List, ◌∷◌, length, get_or, drop}
+use Rattle.std.proofs.Common.{◌≡◌, ◌<◌, ℕ, suc, ◌+◌, ◌-◌, Bool, cond, List, ◌∷◌, length, get_or}
+use Rattle.std.proofs.Common.{drop}
 use Rattle.std.proofs.Common.{sym, ap, ◌∙◌, arith, drop-cons, add-one, map}
 use Rattle.std.specs.List.{count_by, range_with_len, zip}
 use Rattle.std.proofs.lemmas.List.Sums.{sum_by-cons}

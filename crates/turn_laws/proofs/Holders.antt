@@ -7,10 +7,13 @@ use Rattle.std.proofs.lemmas.List.{get_or-drop, length-set, length-replicate}
 use Rattle.std.specs.List.{Contains, slice_index_or}
 use Rattle.plant_types.specs.declared.net.NetPlan.{NetPlan}
 use Rattle.ring_core.specs.declared.entry.RingEntry.{RingEntry}
-use Rattle.ring_core.specs.declared.entry.RingEntry.TheVariants.{Post, Send, Take, Local, GiveUp, Pass, Leave}
-use Rattle.ring_core.specs.Machine.{NodeIs, RingIs, addresses, fresh, part_of, ring_node, after_pass}
+use Rattle.ring_core.specs.declared.entry.RingEntry.TheVariants.{Post, Send, Take, Local, GiveUp}
+use Rattle.ring_core.specs.declared.entry.RingEntry.TheVariants.{Pass, Leave}
+use Rattle.ring_core.specs.Machine.{NodeIs, RingIs, addresses, fresh, part_of, ring_node}
+use Rattle.ring_core.specs.Machine.{after_pass}
 use Rattle.ring_core.specs.declared.frame.Frame.{Frame}
-use Rattle.ring_core.specs.Machine.{sent_head, gone, after, after_all, opening, opening_nodes, ring_after}
+use Rattle.ring_core.specs.Machine.{sent_head, gone, after, after_all, opening, opening_nodes}
+use Rattle.ring_core.specs.Machine.{ring_after}
 use Rattle.ring_core.specs.Machine.{with_members, least_from, or_else, successor}
 use Rattle.ring_core.specs.Legal.{IsMember}
 use Rattle.plant_types.specs.declared.net.Fate.{Fate}
@@ -207,9 +210,9 @@ members-back nodes [] k there = inr there
 members-back nodes (m ∷ ms) k there = ⊎_elim
     (λ (c : Contains ms k). inl (contains-more m k ms c))
     (λ (h : (part_of (set nodes m (fresh true)) k).here ≡ true). ⊎_elim
-        (λ (e : m ≡ k). inl (subst (λ (n : ℕ). Contains (m ∷ ms) n) e (contains-first m ms)))
-        (λ (h : (part_of nodes k).here ≡ true). inr h)
-        (set-back nodes m k h))
+    (λ (e : m ≡ k). inl (subst (λ (n : ℕ). Contains (m ∷ ms) n) e (contains-first m ms)))
+    (λ (h : (part_of nodes k).here ≡ true). inr h)
+    (set-back nodes m k h))
     (members-back (set nodes m (fresh true)) ms k there)
 
 fresh-gone : (size k : ℕ) → (part_of (replicate size (fresh false)) k).here ≡ false

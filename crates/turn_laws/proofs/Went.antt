@@ -33,7 +33,8 @@ use Rattle.tied_lists.proofs.Growth.{grew-ours}
 use Rattle.comm_port.specs.Reading.{called_of, has_started_at, is_ours, item_next, items_after}
 use Rattle.comm_port.specs.Reading.{items_of, sort_of}
 use Rattle.comm_port.specs.Parts.{InOrder, PartOf}
-use Rattle.comm_port.specs.HoldTurn.{Collects, CollectsIf, IsEnded, IsGivenUp, IsMade, IsNextSending}
+use Rattle.comm_port.specs.HoldTurn.{Collects, CollectsIf, IsEnded, IsGivenUp, IsMade}
+use Rattle.comm_port.specs.HoldTurn.{IsNextSending}
 use Rattle.comm_port.specs.HoldTurn.{IsServed, MadeAs, EndedAs, SendsAll, ServedAs, finish_of}
 use Rattle.turn_laws.specs.KeepsOn.{DidAtHome}
 use Rattle.turn_laws.proofs.Passes.{IsInner, cancel, each-join}

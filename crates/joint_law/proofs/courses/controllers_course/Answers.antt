@@ -1,4 +1,5 @@
-use Rattle.std.proofs.Common.{◌≡◌, ◌+◌, ◌<◌, List, Bool, false, length, get_or, sym, ap, subst, ◌∙◌, arith}
+use Rattle.std.proofs.Common.{◌≡◌, ◌+◌, ◌<◌, List, Bool, false, length, get_or, sym, ap, subst, ◌∙◌}
+use Rattle.std.proofs.Common.{arith}
 use Rattle.std.specs.Prelude.{◌↔◌, IsTrue}
 use Rattle.std.proofs.lemmas.List.{get_or_default}
 use Rattle.plant_types.specs.declared.plan.ControllerPlan.{ControllerPlan}
@@ -9,7 +10,8 @@ use Rattle.comm_port.specs.Complete.{ControllerIsComplete}
 use Rattle.comm_port.specs.JointLaws.{fixed_of}
 use Rattle.joint_law.specs.Courses.{IsCourse}
 use Rattle.joint_law.specs.Differing.{BreaksAt}
-use Rattle.joint_law.proofs.CourseEnds.{controllers-end, done-next, each-next, controller-spot, size-next}
+use Rattle.joint_law.proofs.CourseEnds.{controllers-end, done-next, each-next, controller-spot}
+use Rattle.joint_law.proofs.CourseEnds.{size-next}
 use Rattle.joint_law.proofs.CourseSteps.{same-size}
 use Rattle.joint_law.proofs.courses.controllers_course.Goals as goal
 

@@ -5,7 +5,8 @@ use Rattle.controller_core.specs.Replay.{replay}
 use Rattle.comm_port.specs.Complete.{is_end}
 use Rattle.comm_port.specs.Reading.{has_started_at}
 use Rattle.joint_law.proofs.EndCounts.{done-iff}
-use Rattle.joint_law.proofs.following.is_done.Goals.{else-stop_code-eq0-via-then-stop_code-eq0+else-count_scans-scans, else-stop_code-eq0-via-else-stop_code-eq0}
+use Rattle.joint_law.proofs.following.is_done.Goals.{else-stop_code-eq0-via-then-stop_code-eq0+else-count_scans-scans}
+use Rattle.joint_law.proofs.following.is_done.Goals.{else-stop_code-eq0-via-else-stop_code-eq0}
 use Rattle.joint_law.proofs.following.is_done.Goals as goal
 
 pub returns : goal.returns

@@ -3,7 +3,8 @@ use Rattle.joint_law.specs.AllCourses.{AreDone}
 use Rattle.joint_law.specs.Bound.{bounds_of}
 use Rattle.joint_law.specs.LawEnds.{IsLawsEnd}
 use Rattle.joint_law.proofs.LawSteps.{none-of}
-use Rattle.joint_law.proofs.Verdicts.{end-verdict, incomplete-verdict, law-spot, laws-joint, legal-sections}
+use Rattle.joint_law.proofs.Verdicts.{end-verdict, incomplete-verdict, law-spot, laws-joint}
+use Rattle.joint_law.proofs.Verdicts.{legal-sections}
 use Rattle.joint_law.proofs.judging.judge_laws.Goals as goal
 
 pub returns-in-Some : goal.returns-in-Some

@@ -1,7 +1,8 @@
 use Rattle.std.proofs.Common.{◌≡◌, [], true, false, map, string_bytes, rules, arith}
-use Rattle.plant984.specs.Due.{reads_input}
+use Rattle.plant984.specs.Words.{SpellsCommand}
+use Rattle.plant984.specs.Due.{IsDue, reads_input}
 use Rattle.plant984.specs.Promise.{side}
-use Rattle.plant984.proofs.DueLemmas.{Found, Promised-found, in_range, nothing_read, one-command}
+use Rattle.plant984.proofs.DueLemmas.{Found, Keeps-found, in_range, nothing_read, one-command}
 use Rattle.plant984.proofs.DueLemmas.{whole_read}
 use Rattle.plant984.proofs.serial.plant_serial.Goals as goal
 
@@ -19,13 +20,13 @@ returns-then-not-reads_input-clause-promised g c =
     let command = c.in-Some.command in
     let source = side (g.S.Source.left c.args.source.now) (g.S.Source.faults c.args.source.now) in
     let off : reads_input command ≡ false = search rules in
-    let found : Found words source source command [] = record {
+    let found : Found SpellsCommand reads_input words source source command [] = record {
       spelled = (c.in-Ok.ensures command).0 c.in-Some.is;
-      only = one-command words c.in-Ok.asked command c.in-Ok.ensures c.in-Some.is;
+      only = one-command SpellsCommand words c.in-Ok.asked command c.in-Ok.ensures c.in-Some.is;
       read = nothing_read (reads_input command) source.bytes off;
       later = omega arith;
     } in
-    Promised-found found (side (g.K.Sink.taken c.args.sink.now) (g.K.Sink.faults c.args.sink.now))
+    Keeps-found SpellsCommand reads_input IsDue words source source command [] found (side (g.K.Sink.taken c.args.sink.now) (g.K.Sink.faults c.args.sink.now))
     (side (g.K.Sink.taken c.write_answer.new.sink) (g.K.Sink.faults c.write_answer.new.sink)) c.write_answer.result
     c.write_answer.ensures.later c.write_answer.ensures.answers
 
@@ -37,13 +38,13 @@ returns-in-Ok-read_all-clause-promised g c =
     let source_now = side (g.S.Source.left c.read_all.new.source) (g.S.Source.faults c.read_all.new.source) in
     let on : reads_input command ≡ true = search rules in
     let input = c.in-Ok-read_all.input.items in
-    let found : Found words source source_now command input = record {
+    let found : Found SpellsCommand reads_input words source source_now command input = record {
       spelled = (c.in-Ok.ensures command).0 c.in-Some.is;
-      only = one-command words c.in-Ok.asked command c.in-Ok.ensures c.in-Some.is;
+      only = one-command SpellsCommand words c.in-Ok.asked command c.in-Ok.ensures c.in-Some.is;
       read = whole_read (reads_input command) source.bytes source_now.bytes input on c.in-Ok-read_all.ensures.whole
           c.in-Ok-read_all.ensures.within;
       later = c.read_all.ensures.later;
     } in
-    Promised-found found (side (g.K.Sink.taken c.args.sink.now) (g.K.Sink.faults c.args.sink.now))
+    Keeps-found SpellsCommand reads_input IsDue words source source_now command input found (side (g.K.Sink.taken c.args.sink.now) (g.K.Sink.faults c.args.sink.now))
     (side (g.K.Sink.taken c.write_answer-in-Ok-read_all.new.sink) (g.K.Sink.faults c.write_answer-in-Ok-read_all.new.sink))
     c.write_answer-in-Ok-read_all.result c.write_answer-in-Ok-read_all.ensures.later (search rules)

@@ -1,5 +1,6 @@
 use Rattle.std.proofs.Common.{sym, ◌∙◌, []}
-use Rattle.serial_run.proofs.ScanSteps.{scanning-begins, scanning-goes-on, scanning-lessens, scanning-made}
+use Rattle.serial_run.proofs.ScanSteps.{scanning-begins, scanning-goes-on, scanning-lessens}
+use Rattle.serial_run.proofs.ScanSteps.{scanning-made}
 use Rattle.serial_run.proofs.ScanSteps.{scanning-shorter}
 use Rattle.serial_run.proofs.scanning.scan.Goals as goal
 

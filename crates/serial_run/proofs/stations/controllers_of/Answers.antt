@@ -1,4 +1,5 @@
-use Rattle.std.proofs.Common.{◌+◌, Some, ◌≡◌, ◌++◌, ◌∷◌, [], length, take, refl, sym, ap, subst, ◌∙◌, arith}
+use Rattle.std.proofs.Common.{◌+◌, Some, ◌≡◌, ◌++◌, ◌∷◌, [], length, take, refl, sym, ap, subst}
+use Rattle.std.proofs.Common.{◌∙◌, arith}
 use Rattle.std.specs.List.{AllZip, slice_get}
 use Rattle.std.proofs.lemmas.List.{take_more}
 use Rattle.std.proofs.lemmas.Option.{slice_get_read}

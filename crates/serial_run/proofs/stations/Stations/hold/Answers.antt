@@ -4,7 +4,8 @@ use Rattle.std.specs.Vec.{with_item}
 use Rattle.serial_run.specs.declared.stations.ControllerStation.{ControllerStation}
 use Rattle.serial_run.specs.declared.stations.HostStation.{HostStation}
 use Rattle.serial_run.proofs.TurnsMade.{at-place, found-station, found-host, host-at-place, on-ok}
-use Rattle.serial_run.proofs.Did.{has-token, hold-did, host-has-token, host-hold-did, host-stands-beside}
+use Rattle.serial_run.proofs.Did.{has-token, hold-did, host-has-token, host-hold-did}
+use Rattle.serial_run.proofs.Did.{host-stands-beside}
 use Rattle.serial_run.proofs.Did.{no-hold-did, stands-beside}
 use Rattle.serial_run.proofs.Measures.{lessens-none, scans-same}
 use Rattle.serial_run.proofs.Holding.{hold-lessens, hold-scans, host-hold-lessens}

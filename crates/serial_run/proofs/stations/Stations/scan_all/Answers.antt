@@ -1,5 +1,6 @@
 use Rattle.std.proofs.Common.{◌<◌, length, refl, sym, subst, ap, ◌∙◌, arith}
-use Rattle.serial_run.proofs.AllScans.{everyone-scanned, none-scanned, one-more-scanned, scan-all-between}
+use Rattle.serial_run.proofs.AllScans.{everyone-scanned, none-scanned, one-more-scanned}
+use Rattle.serial_run.proofs.AllScans.{scan-all-between}
 use Rattle.serial_run.proofs.AllScans.{scan-all-did, scan-all-less, still-first}
 use Rattle.serial_run.specs.declared.stations.ControllerStation.{ControllerStation}
 use Rattle.serial_run.specs.Scans.{IsBetweenScans}

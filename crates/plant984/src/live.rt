@@ -1,0 +1,139 @@
+// The live top call: the plant runs in threads, and may wait.
+ghost use Rattle.std.specs.Prelude.{◌≡◌, ◌≤◌, ◌↔◌, IfOk, ℕ, Some, map, string_bytes};
+ghost use Rattle.plant_loader.specs.Plant.{plant_of};
+ghost use Rattle.serial_run.specs.Stations.{CanRunPlant};
+ghost use Rattle.plant984.specs.Words.{IsNumberOfScans, SpellsLive, SpellsLiveBehind};
+ghost use Rattle.plant984.specs.Due.{IsLiveDue, IsLiveDueOf, IsLiveShown, told};
+ghost use Rattle.plant984.specs.Promise.{Answers, AsksInput, PromisedLive, always, side};
+ghost use Rattle.plant984.specs.Promise.{WritesNothing};
+
+use crate::answering::{Answer, refused, trace_text};
+use crate::arguments::scans_of;
+use crate::serial::INPUT_LIMIT;
+use crate::status::Status;
+use live_run::{Meet, live};
+use plant_io::{ReadEnd, Sink, Source, read_all, write_all};
+use plant_loader::{LoadEnd, load};
+use plant_types::Plant;
+use std::alloc::{AllocError, Global};
+use std::sync::Wait;
+use std::thread::Threads;
+
+/// How many scans the words behind the name of a live run ask for.
+fn live_named(alloc: Global, name: &str, behind: &[String]) -> Result<Option<u32>, AllocError>
+    ensures { IfOk result (λ read. (scans : ℕ) → (read ≡ Some scans)
+        ↔ SpellsLiveBehind name.now (map string_bytes behind.now) scans) }
+{
+    if name == "live" {
+        scans_of(alloc, behind)
+    } else {
+        Ok(None)
+    }
+}
+
+/// How many scans of a live run the words after the program's name ask for.
+fn live_scans(alloc: Global, words: &[String]) -> Result<Option<u32>, AllocError>
+    ensures { IfOk result (λ read. (scans : ℕ)
+        → (read ≡ Some scans) ↔ SpellsLive (map string_bytes words.now) scans) }
+{
+    match words {
+        [name, behind @ ..] => live_named(alloc, name.as_str(), behind),
+        [] => Ok(None),
+    }
+}
+
+/// The journal and the panel of a live run of a plant.
+fn show_live<M: Meet + Sync, R: Threads + Wait + Sync>(
+    rt: &R,
+    alloc: Global,
+    scans: u32,
+    plant: &Plant,
+    meet: &M,
+) -> Result<Answer, AllocError>
+    requires scans { IsNumberOfScans scans }
+    requires plant { CanRunPlant plant.now }
+    ensures { IfOk result (λ answer. IsLiveShown scans plant.now (told answer)) }
+{
+    let joint = live(rt, alloc, plant, scans, meet)?;
+    let text = trace_text(alloc, plant, &joint)?;
+    Ok(Answer {
+        status: Status::Ok,
+        text,
+    })
+}
+
+/// The answer to a live run of the plant of a file.
+fn answer_live<M: Meet + Sync, R: Threads + Wait + Sync>(
+    rt: &R,
+    alloc: Global,
+    scans: u32,
+    input: &[u8],
+    meet: &M,
+) -> Result<Answer, AllocError>
+    requires { IsNumberOfScans scans }
+    ensures { IfOk result (λ answer. IsLiveDueOf scans (plant_of input.now) (told answer)) }
+{
+    match load(alloc, input) {
+        Ok(plant) => show_live(rt, alloc, scans, &plant, meet),
+        Err(LoadEnd::Refused(fault, place)) => refused(alloc, fault, place),
+        Err(LoadEnd::NoMemory) => Err(AllocError),
+    }
+}
+
+/// Runs the plant of an input, and writes what is due.
+fn write_live<K: Sink, M: Meet + Sync, R: Threads + Wait + Sync>(
+    rt: &R,
+    alloc: Global,
+    scans: u32,
+    input: &[u8],
+    sink: &mut K,
+    meet: &M,
+) -> Status
+    requires { IsNumberOfScans scans }
+    ensures answers { Answers (IsLiveDue scans input.now)
+        (side (K.taken sink.old) (K.faults sink.old))
+        (side (K.taken sink.new) (K.faults sink.new)) result }
+    ensures later { K.faults sink.old ≤ K.faults sink.new }
+    ensures nothing_written { WritesNothing result → sink.new ≡ sink.old }
+{
+    match answer_live(rt, alloc, scans, input, meet) {
+        Err(_) => Status::NoMemory,
+        Ok(Answer { status, text }) => match write_all(sink, text.as_slice()) {
+            Ok(()) => status,
+            Err(_) => Status::WriteFault,
+        },
+    }
+}
+
+/// Runs the plant of the input in threads, if the words say so, and writes its journal and its
+/// panel. It may wait; the outcome depends on the schedule.
+pub fn plant_live<S: Source, K: Sink, M: Meet + Sync, R: Threads + Wait + Sync>(
+    rt: &R,
+    alloc: Global,
+    words: &[String],
+    source: &mut S,
+    sink: &mut K,
+    meet: &M,
+) -> Status
+    ensures promised { PromisedLive result (map string_bytes words.now)
+        (side (S.left source.old) (S.faults source.old))
+        (side (S.left source.new) (S.faults source.new))
+        (side (K.taken sink.old) (K.faults sink.old))
+        (side (K.taken sink.new) (K.faults sink.new)) }
+    ensures reads_nothing { ¬ AsksInput SpellsLive always (map string_bytes words.now)
+        → source.new ≡ source.old }
+    ensures nothing_written { WritesNothing result → sink.new ≡ sink.old }
+{
+    let Ok(asked) = live_scans(alloc, words) else {
+        return Status::NoMemory;
+    };
+    let Some(scans) = asked else {
+        return Status::Usage;
+    };
+    match read_all(alloc, source, INPUT_LIMIT) {
+        Err(ReadEnd::Fault) => Status::ReadFault,
+        Err(ReadEnd::TooLong) => Status::TooLong,
+        Err(ReadEnd::NoMemory) => Status::NoMemory,
+        Ok(input) => write_live(rt, alloc, scans, input.as_slice(), sink, meet),
+    }
+}
