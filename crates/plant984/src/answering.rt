@@ -37,6 +37,7 @@ fn refusal_text(alloc: Global, fault: PlantFault, place: Place) -> Result<String
     format!(in alloc; "refused {fault} {place}\n")
 }
 
+/// The line that names a fault and its place, with the status Refused.
 pub fn refused(alloc: Global, fault: PlantFault, place: Place) -> Result<Answer, AllocError>
     ensures { IfOk result (λ answer. told answer ≡ refused (fault, place)) }
 {
