@@ -20,6 +20,7 @@ pub mod HostLists
 pub mod HostTurning
 pub mod HostAsks
 pub mod Read2
+pub mod CallBlocks
 pub mod Collected
 pub mod Visited
 pub mod Parts
@@ -34,5 +35,7 @@ pub mod Turned
 pub mod Visits
 pub mod TurnLaws
 pub mod Standings
+pub mod Stands
 pub mod Allowed
 pub mod HostBoxes
+pub mod HostAndRing

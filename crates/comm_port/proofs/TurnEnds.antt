@@ -226,3 +226,41 @@ passed-on {Q} side side' side'' n done budget alone a b c d spent ended same nex
     (subst (λ (s : RingSideIs Q). ended ≡ (done && is_due s.net (ring_after s.net b) n Ended)) same two)
     (subst (λ (s : RingSideIs Q). LeftOrStood alone s.net n Ended b c ended) same did_two) not_two w
     (on-ring side a d n turn (subst (λ (s : RingSideIs Q). IsLegal s.net d) (next_same ∙ same) legal))
+
+-- ---- a turn whose node leaves since it is done
+
+ended-due : (spent ended : Bool) → spent ≡ false → ended ≡ true → (if spent then Some Spent else (if ended then Some Ended else None)) ≡ Some Ended
+ended-due spent ended one two = ap (λ b. if b then Some Spent else (if ended then Some Ended else None)) one ∙ ap (λ b. if b then Some Ended else None) two
+
+left : (net : NetPlan) (n : ℕ) (cause : LeaveCause) (alone : Bool) (old new : List RingEntry) (gone : Bool) → gone ≡ true →
+    LeftOrStood alone net n cause old new gone → LeftRing alone net n cause old new
+left net n cause alone old new true is did = did
+left net n cause alone old new false is did = absurd cc
+
+ended-at : (net : NetPlan) (n : ℕ) (done budget alone : Bool) (words : List ℕ) (a b c : List RingEntry) (spent ended : Bool)
+    → spent ≡ (budget && is_due net (ring_after net a) n Spent) → LeftOrStood alone net n Spent a b spent → spent ≡ false
+    → ended ≡ (done && is_due net (ring_after net b) n Ended) → LeftOrStood alone net n Ended b c ended → ended ≡ true
+    → HandedOn alone net n done words (cause_due net (ring_after net a) n done budget) a c
+ended-at net n done budget alone words a b c spent ended one did_one not_one two did_two is_two =
+    let s = stood net n Spent alone a b spent not_one did_one in
+    let l = left net n Ended alone b c ended is_two did_two in
+    let second : (done && is_due net (ring_after net a) n Ended) ≡ true =
+    ap (λ x. done && x) (sym (due-as net (ring_after net a) (ring_after net b) n Ended s.part s.quiet)) ∙ sym two ∙ is_two in
+    let why : cause_due net (ring_after net a) n done budget ≡ Some Ended = ended-due _ _ (sym one ∙ not_one) second in
+    let all : Grew alone (is_of n) a (Leave n Ended ∷ []) c = grew-more alone (is_of n) a b c [] (Leave n Ended ∷ []) s.grew l.grew in
+    record {
+      grew = subst (λ o. Grew alone (is_of n) a (last_entry n done words o ∷ []) c) (sym why) all;
+      gone = λ _ _. l.gone;
+      stays = λ is. let no' : Some Ended ≡ None = sym why ∙ is in absurd cc;
+    }
+
+-- the same, where the second attempt speaks of a side that stayed the same
+pub ended-on : {Q : Type 0} (side side' : RingSideIs Q) (n : ℕ) (done budget alone : Bool) (words : List ℕ) (a b c : List RingEntry)
+    (spent ended : Bool) → side' ≡ side
+    → spent ≡ (budget && is_due side.net (ring_after side.net a) n Spent) → LeftOrStood alone side.net n Spent a b spent → spent ≡ false
+    → ended ≡ (done && is_due side'.net (ring_after side'.net b) n Ended) → LeftOrStood alone side'.net n Ended b c ended → ended ≡ true
+    → HandedOn alone side.net n done words (cause_due side.net (ring_after side.net a) n done budget) a c
+ended-on {Q} side side' n done budget alone words a b c spent ended same one did_one not_one two did_two is_two =
+    ended-at side.net n done budget alone words a b c spent ended one did_one not_one
+    (subst (λ (s : RingSideIs Q). ended ≡ (done && is_due s.net (ring_after s.net b) n Ended)) same two)
+    (subst (λ (s : RingSideIs Q). LeftOrStood alone s.net n Ended b c ended) same did_two) is_two

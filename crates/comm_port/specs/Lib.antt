@@ -8,8 +8,10 @@ pub mod Leaving
 pub mod Sending
 pub mod Ending
 pub mod Worker
+pub mod Stands
 pub mod HostTurns
 pub mod HostStands
+pub mod HostAndRing
 pub mod Effects
 pub mod JointLaws
 pub mod Complete

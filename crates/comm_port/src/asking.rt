@@ -8,6 +8,7 @@ ghost use Rattle.tied_lists.specs.Own.{is_of, WentOn};
 ghost use Rattle.tied_lists.specs.Waits.{Holds};
 ghost use Rattle.comm_port.specs.Giving.{part_at, part_no};
 ghost use Rattle.comm_port.specs.Turns.{IsOwnTurn};
+ghost use Rattle.comm_port.specs.Stands.{RingStands};
 
 use crate::ring_side::RingSide;
 use crate::short::Short;
@@ -26,6 +27,8 @@ pub(crate) fn post_frame<R: RingSide>(node: u8, frame: Frame, ring: &mut R) -> R
         (Post node frame ∷ []) (R.known ring.new)) }
     ensures legal { IsLegal (R.side ring.old).net (R.known ring.new) }
     ensures same { R.side ring.new ≡ R.side ring.old }
+    ensures stands { RingStands R.alone (R.side ring.old).net node (R.known ring.old)
+        (R.known ring.new) }
 {
     match ring.post(node, frame) {
         Ok(()) => Ok(()),
@@ -46,6 +49,8 @@ pub(crate) fn do_local<R: RingSide>(
         (Local node id op given ∷ []) (R.known ring.new)) }
     ensures legal { IsLegal (R.side ring.old).net (R.known ring.new) }
     ensures same { R.side ring.new ≡ R.side ring.old }
+    ensures stands { RingStands R.alone (R.side ring.old).net node (R.known ring.old)
+        (R.known ring.new) }
 {
     match ring.local(node, id, op) {
         Ok(given) => Ok(given),
@@ -63,6 +68,8 @@ pub(crate) fn pass_on<R: RingSide>(node: u8, done: bool, ring: &mut R) -> Result
         (Pass node done (words_put node (R.known ring.old)) ∷ []) (R.known ring.new)) }
     ensures legal { IsLegal (R.side ring.old).net (R.known ring.new) }
     ensures same { R.side ring.new ≡ R.side ring.old }
+    ensures stands { RingStands R.alone (R.side ring.old).net node (R.known ring.old)
+        (R.known ring.new) }
 {
     match ring.pass(node, done) {
         Ok(()) => Ok(()),
@@ -80,6 +87,8 @@ pub(crate) fn give_up_now<R: RingSide>(id: CallId, ring: &mut R) -> Result<u16, 
         (GiveUp id word ∷ []) (R.known ring.new)) }
     ensures legal { IsLegal (R.side ring.old).net (R.known ring.new) }
     ensures same { R.side ring.new ≡ R.side ring.old }
+    ensures stands { RingStands R.alone (R.side ring.old).net id.node (R.known ring.old)
+        (R.known ring.new) }
 {
     match ring.give_up(id) {
         Ok(word) => Ok(word),

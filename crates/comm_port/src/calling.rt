@@ -14,6 +14,7 @@ ghost use Rattle.comm_port.specs.Parts.{PartOf};
 ghost use Rattle.comm_port.specs.Reading.{items_of, is_ours};
 ghost use Rattle.comm_port.specs.Turns.{IsOwnTurn, KeepsInbox, Turning};
 ghost use Rattle.comm_port.specs.Making.{request_frame, Does, Owing, calls_from};
+ghost use Rattle.comm_port.specs.Stands.{RingStands, BothStand};
 
 use crate::asking::{do_local, post_frame};
 use crate::ram_side::RamSide;
@@ -61,6 +62,8 @@ pub(crate) fn post_call<R: RingSide>(
     ensures waits { OnOk result (waiting.new ≡ set waiting.old frame.id.path (Some frame)) }
     ensures legal { IsLegal (R.side ring.old).net (R.known ring.new) }
     ensures same { R.side ring.new ≡ R.side ring.old }
+    ensures stands { RingStands R.alone (R.side ring.old).net node (R.known ring.old)
+        (R.known ring.new) }
 {
     let kept = frame.copied(alloc)?;
     post_frame(node, frame, ring)?;
@@ -86,6 +89,8 @@ fn do_call<M: RamSide, R: RingSide>(
     ensures legal { IsLegal (R.side ring.old).net (R.known ring.new) }
     ensures ram_same { M.side ram.new ≡ M.side ram.old }
     ensures ring_same { R.side ring.new ≡ R.side ring.old }
+    ensures stands { BothStand M.alone R.alone (M.side ram.old).fixed (R.side ring.old).net node
+        (M.known ram.old) (M.known ram.new) (R.known ring.old) (R.known ring.new) }
 {
     let outcome = do_local(node, id, op, ring)?;
     ram.finish(id, outcome)?;
@@ -118,6 +123,8 @@ pub(crate) fn make_call<M: RamSide, R: RingSide>(
     ensures made { OnOk result (PartOf M.alone R.alone is_ours node
         (IsDueAt (IsMade node) calls.now at)
         (M.known ram.old) (M.known ram.new) (R.known ring.old) (R.known ring.new)) }
+    ensures stands { BothStand M.alone R.alone (M.side ram.old).fixed (R.side ring.old).net node
+        (M.known ram.old) (M.known ram.new) (R.known ring.old) (R.known ring.new) }
 {
     let call = &calls[at];
     match &call.kind {
@@ -152,6 +159,8 @@ pub(crate) fn make_calls<M: RamSide, R: RingSide>(
         (M.known ram.old) (M.known ram.new)) }
     ensures made { OnOk result (Collects M.alone R.alone (M.side ram.old).fixed node (IsMade node)
         (M.known ram.old) (M.known ram.new) (R.known ring.old) (R.known ring.new)) }
+    ensures stands { BothStand M.alone R.alone (M.side ram.old).fixed (R.side ring.old).net node
+        (M.known ram.old) (M.known ram.new) (R.known ring.old) (R.known ring.new) }
 {
     if !ram.has_started() {
         return Ok(());

@@ -5,6 +5,7 @@ ghost use Rattle.comm_port.specs.Turns.{Turning, Rested};
 ghost use Rattle.comm_port.specs.Ending.{AsksDone};
 ghost use Rattle.comm_port.specs.Giving.{IsAtRest};
 ghost use Rattle.comm_port.specs.HoldTurn.{inbox_of, Ends};
+ghost use Rattle.comm_port.specs.Stands.{RamStands, BothStand};
 
 use crate::giving::give_up_where;
 use crate::leaving::hand_on;
@@ -20,6 +21,7 @@ fn is_done<M: RamSide>(waiting: &Waiting, ram: &mut M) -> bool
     ensures asked { AsksDone M.alone (M.side ram.old).fixed waiting.now (M.known ram.old)
         (M.known ram.new) result }
     ensures same { M.side ram.new ≡ M.side ram.old }
+    ensures stands { RamStands M.alone (M.side ram.old).fixed (M.known ram.old) (M.known ram.new) }
 {
     if !ram.has_ended() {
         return false;
@@ -51,6 +53,8 @@ pub(crate) fn end_turn<M: RamSide, R: RingSide>(
         (R.known ring.old) (R.known ring.new)) }
     ensures ram_same { M.side ram.new ≡ M.side ram.old }
     ensures ring_same { R.side ring.new ≡ R.side ring.old }
+    ensures stands { BothStand M.alone R.alone (M.side ram.old).fixed (R.side ring.old).net node
+        (M.known ram.old) (M.known ram.new) (R.known ring.old) (R.known ring.new) }
 {
     let done = is_done(waiting, ram);
     let left = hand_on(node, done, budget, ring)?;

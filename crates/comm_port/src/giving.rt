@@ -11,6 +11,7 @@ ghost use Rattle.comm_port.specs.Order.{IsSending, IsGivingUp, IsFinish};
 ghost use Rattle.comm_port.specs.Reading.{is_ours};
 ghost use Rattle.comm_port.specs.Turns.{KeepsInbox, Turning};
 ghost use Rattle.comm_port.specs.Sending.{sends_left};
+ghost use Rattle.comm_port.specs.Stands.{BothStand};
 
 use crate::ram_side::RamSide;
 use crate::ring_side::RingSide;
@@ -48,6 +49,8 @@ pub(crate) fn give_up_path<M: RamSide, R: RingSide>(
         (M.known ram.old) (M.known ram.new) (R.known ring.old) (R.known ring.new)) }
     ensures part { OnOk result
         (GivesOnPath (R.side ring.old).net node path (R.known ring.old) (R.known ring.new)) }
+    ensures stands { BothStand M.alone R.alone (M.side ram.old).fixed (R.side ring.old).net node
+        (M.known ram.old) (M.known ram.new) (R.known ring.old) (R.known ring.new) }
 {
     let Some(id) = waiting.id_on(path) else {
         return Ok(());
@@ -87,6 +90,8 @@ pub(crate) fn give_up_where<M: RamSide, R: RingSide>(
         (M.known ram.old) (M.known ram.new) (R.known ring.old) (R.known ring.new)) }
     ensures part { OnOk result
         (GivesWhere (R.side ring.old).net node chosen.now 5 (R.known ring.old) (R.known ring.new)) }
+    ensures stands { BothStand M.alone R.alone (M.side ram.old).fixed (R.side ring.old).net node
+        (M.known ram.old) (M.known ram.new) (R.known ring.old) (R.known ring.new) }
 {
     for path in 1..5 {
         if !chosen[path as usize] {
@@ -124,6 +129,8 @@ pub(crate) fn send_all<M: RamSide, R: RingSide>(
         (M.known ram.old) (M.known ram.new)) }
     ensures sent { OnOk result (SendsAll M.alone R.alone (R.side ring.old).net node
         (M.known ram.old) (M.known ram.new) (R.known ring.old) (R.known ring.new)) }
+    ensures stands { BothStand M.alone R.alone (M.side ram.old).fixed (R.side ring.old).net node
+        (M.known ram.old) (M.known ram.new) (R.known ring.old) (R.known ring.new) }
 {
     while let Some(heard) = send_next(node, ring)? {
         if heard == Heard::Acked {

@@ -1,5 +1,6 @@
 //! A host's hold turn.
-ghost use Rattle.std.specs.Prelude.{◌≡◌, ◌<◌, ◌≤◌, min, true, false, None, [], ◌∷◌, OnOk, IfOk};
+ghost use Rattle.std.specs.Prelude.{◌≡◌, ◌<◌, ◌≤◌, min, true, false, None, [], ◌∷◌, OnOk, OnErr};
+ghost use Rattle.std.specs.Prelude.{IfOk};
 ghost use Rattle.mstr_block.specs.Table.{network_paths};
 ghost use Rattle.ring_core.specs.Legal.{IsLegal, IsPath};
 ghost use Rattle.ring_core.specs.Machine.{ring_after, ring_node};
@@ -12,6 +13,7 @@ ghost use Rattle.comm_port.specs.Turns.{KeepsInbox};
 ghost use Rattle.comm_port.specs.Leaving.{IsHere};
 ghost use Rattle.comm_port.specs.Giving.{part_at, BoxesEmpty};
 ghost use Rattle.comm_port.specs.Sending.{sends_left};
+ghost use Rattle.comm_port.specs.HostAndRing.{HostAndRingStand};
 ghost use Rattle.comm_port.specs.HostTurns.{after_turn, AreNew, AskedAll, AskedNext, chosen};
 ghost use Rattle.comm_port.specs.HostTurns.{chosen_paths, CountsPasses, EndsHostTurn, EndsWithPass};
 ghost use Rattle.comm_port.specs.HostTurns.{GivesUpDue, hold_of, HoldsHostTurn, HostTaking};
@@ -43,6 +45,8 @@ fn end_call<R: RingSide>(node: u8, reply: Frame, host: &mut Host, ring: &R) -> R
     ensures turning { OnOk result (HostTurning node host.new (R.side ring.now) (R.known ring.now)) }
     ensures served { OnOk result (ServesTaken R.alone node reply host.old.history host.new.history
         (R.known ring.now) (R.known ring.now)) }
+    ensures stands { HostAndRingStand R.alone (R.side ring.now).net node host.old.history
+        host.new.history (R.known ring.now) (R.known ring.now) }
     ensures legal_list { IsHostHistory host.new.plan host.new.history }
     ensures plan { host.new.plan ≡ host.old.plan }
 {
@@ -65,6 +69,8 @@ fn answer_request<R: RingSide>(
         (KeepsInbox (R.side ring.old).net node (R.known ring.old) (R.known ring.new)) }
     ensures served { OnOk result (ServesTaken R.alone node request.now host.old.history
         host.new.history (R.known ring.old) (R.known ring.new)) }
+    ensures stands { HostAndRingStand R.alone (R.side ring.old).net node host.old.history
+        host.new.history (R.known ring.old) (R.known ring.new) }
     ensures legal { IsLegal (R.side ring.old).net (R.known ring.new) }
     ensures legal_list { IsHostHistory host.new.plan host.new.history }
     ensures plan { host.new.plan ≡ host.old.plan }
@@ -91,6 +97,8 @@ fn answer_port<R: RingSide>(
         (KeepsInbox (R.side ring.old).net node (R.known ring.old) (R.known ring.new)) }
     ensures served { OnOk result (ServesTaken R.alone node request.now host.now.history
         host.now.history (R.known ring.old) (R.known ring.new)) }
+    ensures stands { HostAndRingStand R.alone (R.side ring.old).net node host.now.history
+        host.now.history (R.known ring.old) (R.known ring.new) }
     ensures legal { IsLegal (R.side ring.old).net (R.known ring.new) }
     ensures same { R.side ring.new ≡ R.side ring.old }
 {
@@ -112,6 +120,8 @@ fn serve<R: RingSide>(
         (KeepsInbox (R.side ring.old).net node (R.known ring.old) (R.known ring.new)) }
     ensures served { OnOk result (ServesTaken R.alone node frame host.old.history host.new.history
         (R.known ring.old) (R.known ring.new)) }
+    ensures stands { HostAndRingStand R.alone (R.side ring.old).net node host.old.history
+        host.new.history (R.known ring.old) (R.known ring.new) }
     ensures legal { IsLegal (R.side ring.old).net (R.known ring.new) }
     ensures legal_list { IsHostHistory host.new.plan host.new.history }
     ensures plan { host.new.plan ≡ host.old.plan }
@@ -142,6 +152,8 @@ fn serve_inbox<R: RingSide>(
     ensures holds { OnOk result (Holds (R.side ring.old).net (R.known ring.new) node) }
     ensures served { OnOk result (ServesInbox R.alone (R.side ring.old).net node host.old.history
         host.new.history (R.known ring.old) (R.known ring.new)) }
+    ensures stands { HostAndRingStand R.alone (R.side ring.old).net node host.old.history
+        host.new.history (R.known ring.old) (R.known ring.new) }
     ensures legal { IsLegal (R.side ring.old).net (R.known ring.new) }
     ensures legal_list { IsHostHistory host.new.plan host.new.history }
     ensures plan { host.new.plan ≡ host.old.plan }
@@ -167,6 +179,8 @@ fn ask_next<R: RingSide>(
         (KeepsInbox (R.side ring.old).net node (R.known ring.old) (R.known ring.new)) }
     ensures asked { IfOk result (AskedNext R.alone (R.side ring.old).net node hold host.old host.new
         (R.known ring.old) (R.known ring.new)) }
+    ensures stands { HostAndRingStand R.alone (R.side ring.old).net node host.old.history
+        host.new.history (R.known ring.old) (R.known ring.new) }
     ensures legal { IsLegal (R.side ring.old).net (R.known ring.new) }
     ensures legal_list { IsHostHistory host.new.plan host.new.history }
     ensures plan { host.new.plan ≡ host.old.plan }
@@ -195,6 +209,8 @@ fn ask_all<R: RingSide>(
     ensures holds { OnOk result (Holds (R.side ring.old).net (R.known ring.new) node) }
     ensures asked { IfOk result (AskedAll R.alone (R.side ring.old).net node host.old.plan hold
         host.old.history host.new.history (R.known ring.old) (R.known ring.new)) }
+    ensures stands { HostAndRingStand R.alone (R.side ring.old).net node host.old.history
+        host.new.history (R.known ring.old) (R.known ring.new) }
     ensures legal { IsLegal (R.side ring.old).net (R.known ring.new) }
     ensures legal_list { IsHostHistory host.new.plan host.new.history }
     ensures plan { host.new.plan ≡ host.old.plan }
@@ -220,6 +236,8 @@ fn give_up_path<R: RingSide>(node: u8, path: u8, host: &mut Host, ring: &mut R) 
         → HasLeft (R.side ring.old).net (R.known ring.new) node) }
     ensures gives_up { OnOk result (GivesUpDue R.alone (R.side ring.old).net node (path ∷ [])
         host.old.history host.new.history (R.known ring.old) (R.known ring.new)) }
+    ensures stands { HostAndRingStand R.alone (R.side ring.old).net node host.old.history
+        host.new.history (R.known ring.old) (R.known ring.new) }
     ensures legal { IsLegal (R.side ring.old).net (R.known ring.new) }
     ensures legal_list { IsHostHistory host.new.plan host.new.history }
     ensures plan { host.new.plan ≡ host.old.plan }
@@ -257,6 +275,8 @@ fn give_up_if<R: RingSide>(
     ensures gives_up { OnOk result (GivesUpDue R.alone (R.side ring.old).net node
         (wanted_path wanted path) host.old.history host.new.history (R.known ring.old)
         (R.known ring.new)) }
+    ensures stands { HostAndRingStand R.alone (R.side ring.old).net node host.old.history
+        host.new.history (R.known ring.old) (R.known ring.new) }
     ensures legal { IsLegal (R.side ring.old).net (R.known ring.new) }
     ensures legal_list { IsHostHistory host.new.plan host.new.history }
     ensures plan { host.new.plan ≡ host.old.plan }
@@ -287,6 +307,8 @@ fn give_up_where<R: RingSide>(
     ensures gives_up { OnOk result (GivesUpDue R.alone (R.side ring.old).net node
         (chosen_paths which) host.old.history host.new.history (R.known ring.old)
         (R.known ring.new)) }
+    ensures stands { HostAndRingStand R.alone (R.side ring.old).net node host.old.history
+        host.new.history (R.known ring.old) (R.known ring.new) }
     ensures legal { IsLegal (R.side ring.old).net (R.known ring.new) }
     ensures legal_list { IsHostHistory host.new.plan host.new.history }
     ensures plan { host.new.plan ≡ host.old.plan }
@@ -330,6 +352,8 @@ fn send_one<R: RingSide>(
         (ring_node (ring_after (R.side ring.old).net (R.known ring.new)) node)) }
     ensures empty { IfOk result
         (λ sent. sent ≡ false → outbox_of (R.side ring.old).net (R.known ring.new) node ≡ []) }
+    ensures stands { HostAndRingStand R.alone (R.side ring.old).net node host.old.history
+        host.new.history (R.known ring.old) (R.known ring.new) }
     ensures legal { IsLegal (R.side ring.old).net (R.known ring.new) }
     ensures legal_list { IsHostHistory host.new.plan host.new.history }
     ensures plan { host.new.plan ≡ host.old.plan }
@@ -357,6 +381,8 @@ fn send_all<R: RingSide>(
     ensures holds { OnOk result (Holds (R.side ring.old).net (R.known ring.new) node) }
     ensures sends { OnOk result (SendsOut R.alone (R.side ring.old).net node (chosen fresh)
         host.old.history host.new.history (R.known ring.old) (R.known ring.new)) }
+    ensures stands { HostAndRingStand R.alone (R.side ring.old).net node host.old.history
+        host.new.history (R.known ring.old) (R.known ring.new) }
     ensures legal { IsLegal (R.side ring.old).net (R.known ring.new) }
     ensures legal_list { IsHostHistory host.new.plan host.new.history }
     ensures plan { host.new.plan ≡ host.old.plan }
@@ -385,6 +411,8 @@ fn end_turn<R: RingSide>(
         host.old.history host.new.history (R.known ring.old) (R.known ring.new)) }
     ensures stays { IfOk result (λ left. left ≡ false
         → IsHere (R.side ring.old).net (R.known ring.new) node) }
+    ensures stands { HostAndRingStand R.alone (R.side ring.old).net node host.old.history
+        host.new.history (R.known ring.old) (R.known ring.new) }
     ensures legal { IsLegal (R.side ring.old).net (R.known ring.new) }
     ensures legal_list { IsHostHistory host.new.plan host.new.history }
     ensures plan { host.new.plan ≡ host.old.plan }
@@ -420,6 +448,8 @@ fn turn<R: RingSide>(
         budget host.old.history host.new.history (R.known ring.old) (R.known ring.new)) }
     ensures stays { IfOk result (λ left. left ≡ false
         → IsHere (R.side ring.old).net (R.known ring.new) node) }
+    ensures stands { HostAndRingStand R.alone (R.side ring.old).net node host.old.history
+        host.new.history (R.known ring.old) (R.known ring.new) }
     ensures legal { IsLegal (R.side ring.old).net (R.known ring.new) }
     ensures legal_list { IsHostHistory host.new.plan host.new.history }
     ensures plan { host.new.plan ≡ host.old.plan }
@@ -467,7 +497,8 @@ impl HostWorker {
 
     /// One hold of the token: takes what came, makes the requests that are due, sends, gives up
     /// the calls whose time has come, and then leaves the ring or passes the token on. The answer
-    /// is whether the node left.
+    /// is whether the node left. Only memory can want: then the entries made so far stand, both
+    /// lists are legal and the hold is not counted, but nothing is said of the laws.
     pub fn hold_turn<R: RingSide>(
         &mut self,
         host: &mut Host,
@@ -483,12 +514,15 @@ impl HostWorker {
         ensures gone { IfOk result (λ left. left ≡ true
             → HasLeft (R.side ring.new).net (R.known ring.new) self.old.node) }
         ensures worker { IfOk result (λ left. self.new ≡ after_turn self.old left) }
+        ensures worker_err { OnErr result (self.new ≡ self.old) }
         ensures counts { OnOk result (CountsPasses self.new (R.known ring.new)) }
         ensures stays { IfOk result (λ left. left ≡ false
             → IsHere (R.side ring.new).net (R.known ring.new) self.old.node) }
         ensures held { IfOk result (HoldsHostTurn R.alone (R.side ring.old).net self.old.node
             host.old.plan self.old.budget host.old.history host.new.history (R.known ring.old)
             (R.known ring.new)) }
+        ensures stands { HostAndRingStand R.alone (R.side ring.old).net self.old.node
+            host.old.history host.new.history (R.known ring.old) (R.known ring.new) }
         ensures legal { IsLegal (R.side ring.old).net (R.known ring.new) }
         ensures legal_list { IsHostHistory host.new.plan host.new.history }
         ensures plan { host.new.plan ≡ host.old.plan }

@@ -6,6 +6,7 @@ ghost use Rattle.ring_core.specs.Scratch.{words_put};
 ghost use Rattle.tied_lists.specs.Waits.{Holds};
 ghost use Rattle.comm_port.specs.Turns.{IsOwnTurn};
 ghost use Rattle.comm_port.specs.Leaving.{cause_due, is_due, HandedOn, LeftOrStood};
+ghost use Rattle.comm_port.specs.Stands.{RingStands};
 
 use crate::asking::pass_on;
 use crate::ring_side::RingSide;
@@ -26,6 +27,8 @@ fn leave_if_due<R: RingSide>(node: u8, cause: LeaveCause, ring: &mut R) -> Resul
         (R.known ring.old) (R.known ring.new)) }
     ensures legal { IsLegal (R.side ring.old).net (R.known ring.new) }
     ensures same { R.side ring.new ≡ R.side ring.old }
+    ensures stands { RingStands R.alone (R.side ring.old).net node (R.known ring.old)
+        (R.known ring.new) }
 {
     match ring.leave(node, cause) {
         Ok(()) => Ok(true),
@@ -55,6 +58,8 @@ fn leave_if<R: RingSide>(
         (R.known ring.old) (R.known ring.new)) }
     ensures legal { IsLegal (R.side ring.old).net (R.known ring.new) }
     ensures same { R.side ring.new ≡ R.side ring.old }
+    ensures stands { RingStands R.alone (R.side ring.old).net node (R.known ring.old)
+        (R.known ring.new) }
 {
     if wants {
         leave_if_due(node, cause, ring)
@@ -86,6 +91,8 @@ pub(crate) fn hand_on<R: RingSide>(
         (R.known ring.old) (R.known ring.new)) }
     ensures legal { IsLegal (R.side ring.old).net (R.known ring.new) }
     ensures same { R.side ring.new ≡ R.side ring.old }
+    ensures stands { RingStands R.alone (R.side ring.old).net node (R.known ring.old)
+        (R.known ring.new) }
 {
     let spent = leave_if(node, budget, LeaveCause::Spent, ring)?;
     if spent {

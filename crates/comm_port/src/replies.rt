@@ -9,6 +9,7 @@ ghost use Rattle.tied_lists.specs.Own.{is_of, Grew};
 ghost use Rattle.tied_lists.specs.Items.{request_of, words_told};
 ghost use Rattle.comm_port.specs.Turns.{IsOwnTurn, KeepsInbox};
 ghost use Rattle.comm_port.specs.Replies.{reply_frame, Tells};
+ghost use Rattle.comm_port.specs.Stands.{RingStands};
 
 use crate::asking::{do_local, post_frame};
 use crate::ring_side::RingSide;
@@ -45,6 +46,8 @@ pub(crate) fn post_reply<R: RingSide>(
         (KeepsInbox (R.side ring.old).net node (R.known ring.old) (R.known ring.new)) }
     ensures legal { IsLegal (R.side ring.old).net (R.known ring.new) }
     ensures same { R.side ring.new ≡ R.side ring.old }
+    ensures stands { RingStands R.alone (R.side ring.old).net node (R.known ring.old)
+        (R.known ring.new) }
 {
     post_frame(node, reply_frame(id, pdu), ring)?;
     Ok(())
@@ -97,6 +100,8 @@ pub(crate) fn tell_statistics<R: RingSide>(
         (KeepsInbox (R.side ring.old).net node (R.known ring.old) (R.known ring.new)) }
     ensures legal { IsLegal (R.side ring.old).net (R.known ring.new) }
     ensures same { R.side ring.new ≡ R.side ring.old }
+    ensures stands { RingStands R.alone (R.side ring.old).net node (R.known ring.old)
+        (R.known ring.new) }
 {
     let op = operation_for(&request.pdu);
     let result = do_local(node, request.id, op, ring)?;

@@ -36,8 +36,8 @@ pub trait RingSide {
         requires serves { Serves (side self.old).writer node }
         requires member { IsMember (side self.old).net node }
         requires from { IsFrom node frame.kind frame }
-        requires next { IsNextNumber (ring_node (ring_after (side self.old).net (known self.old)) node)
-            frame.kind frame.id }
+        requires next { IsNextNumber
+            (ring_node (ring_after (side self.old).net (known self.old)) node) frame.kind frame.id }
         ensures went { WentOn alone (is_of node) (known self.old)
             (added_if result (λ _. Post node frame ∷ [])) (known self.new) }
         ensures legal { IsLegal (side self.old).net (known self.new) }
@@ -87,7 +87,8 @@ pub trait RingSide {
             (added_if result (λ word. GiveUp id word ∷ [])) (known self.new) }
         ensures legal { IsLegal (side self.old).net (known self.new) }
         ensures refused { IsRefusedFor
-            (give_up_no (side self.old).net (ring_after (side self.old).net (known self.new)) id) result }
+            (give_up_no (side self.old).net (ring_after (side self.old).net (known self.new)) id)
+            result }
         ensures same { side self.new ≡ side self.old };
 
     /// The number that a path of a node awaits, or 0.
@@ -95,8 +96,8 @@ pub trait RingSide {
         requires serves { Serves (side self.old).writer node }
         requires member { IsMember (side self.old).net node }
         requires path { IsPath path }
-        ensures answer { result ≡ awaited_number
-            (path_of (ring_node (ring_after (side self.old).net (known self.new)) node) path).awaits }
+        ensures answer { result ≡ awaited_number (path_of
+            (ring_node (ring_after (side self.old).net (known self.new)) node) path).awaits }
         ensures went { WentOn alone (is_of node) (known self.old) [] (known self.new) }
         ensures legal { IsLegal (side self.old).net (known self.new) }
         ensures same { side self.new ≡ side self.old };
@@ -136,8 +137,8 @@ pub trait RingSide {
             (added_if result (λ _. Leave node cause ∷ [])) (known self.new) }
         ensures legal { IsLegal (side self.old).net (known self.new) }
         ensures refused { IsRefusedOrShort
-            (leave_no (side self.old).net (ring_after (side self.old).net (known self.new)) node cause)
-            result }
+            (leave_no (side self.old).net (ring_after (side self.old).net (known self.new)) node
+            cause) result }
         ensures same { side self.new ≡ side self.old };
 }
 

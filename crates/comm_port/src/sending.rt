@@ -6,6 +6,7 @@ ghost use Rattle.ring_core.specs.Refusals.{give_up_no};
 ghost use Rattle.tied_lists.specs.Waits.{Holds};
 ghost use Rattle.comm_port.specs.Turns.{IsOwnTurn};
 ghost use Rattle.comm_port.specs.Sending.{GaveUp, SentOrAll};
+ghost use Rattle.comm_port.specs.Stands.{RingStands};
 
 use crate::ring_side::RingSide;
 use crate::short::Short;
@@ -20,6 +21,8 @@ pub(crate) fn send_next<R: RingSide>(node: u8, ring: &mut R) -> Result<Option<He
         (R.known ring.old) (R.known ring.new)) }
     ensures legal { IsLegal (R.side ring.old).net (R.known ring.new) }
     ensures same { R.side ring.new ≡ R.side ring.old }
+    ensures stands { RingStands R.alone (R.side ring.old).net node (R.known ring.old)
+        (R.known ring.new) }
 {
     match ring.send(node) {
         Ok(heard) => Ok(Some(heard)),
@@ -47,6 +50,8 @@ pub(crate) fn give_up_on<R: RingSide>(id: CallId, ring: &mut R) -> Result<Option
     ensures same { R.side ring.new ≡ R.side ring.old }
     ensures not_due { IfOk result (λ word. word ≡ None → is_none (give_up_no
         (R.side ring.old).net (ring_after (R.side ring.old).net (R.known ring.new)) id) ≡ false) }
+    ensures stands { RingStands R.alone (R.side ring.old).net id.node (R.known ring.old)
+        (R.known ring.new) }
 {
     match ring.give_up(id) {
         Ok(word) => Ok(Some(word)),

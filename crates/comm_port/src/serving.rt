@@ -9,6 +9,7 @@ ghost use Rattle.comm_port.specs.Parts.{InOrder, PartOf};
 ghost use Rattle.comm_port.specs.Reading.{is_ours};
 ghost use Rattle.comm_port.specs.Serving.{IsAnswered};
 ghost use Rattle.comm_port.specs.Turns.{Turning, Taking, KeepsInbox};
+ghost use Rattle.comm_port.specs.Stands.{RamStands, BothStand, RingStands};
 
 use crate::ram_side::RamSide;
 use crate::replies::{post_reply, tell_statistics};
@@ -38,6 +39,7 @@ fn end_call<M: RamSide, R: RingSide>(
         (M.known ram.old) (M.known ram.new)) }
     ensures served { OnOk result (PartOf M.alone R.alone is_ours node (IsAnswered node reply.now)
         (M.known ram.old) (M.known ram.new) (R.known ring.now) (R.known ring.now)) }
+    ensures stands { RamStands M.alone (M.side ram.old).fixed (M.known ram.old) (M.known ram.new) }
 {
     let ask = waiting.end(reply.id.path).unwrap();
     ram.finish(reply.id, result_of(&ask.pdu, &reply.pdu))?;
@@ -68,6 +70,8 @@ fn answer_request<M: RamSide, R: RingSide>(
         (M.known ram.old) (M.known ram.new)) }
     ensures served { OnOk result (PartOf M.alone R.alone is_ours node (IsAnswered node request.now)
         (M.known ram.old) (M.known ram.new) (R.known ring.old) (R.known ring.new)) }
+    ensures stands { BothStand M.alone R.alone (M.side ram.old).fixed (R.side ring.old).net node
+        (M.known ram.old) (M.known ram.new) (R.known ring.old) (R.known ring.new) }
 {
     let reply = ram.peer(request.id, &request.pdu)?;
     post_reply(node, request.id, reply, ring)?;
@@ -96,6 +100,8 @@ fn answer_port<M: RamSide, R: RingSide>(
         (R.known ring.old) (R.known ring.new)) }
     ensures served { OnOk result (PartOf M.alone R.alone is_ours node (IsAnswered node request.now)
         (M.known ram.now) (M.known ram.now) (R.known ring.old) (R.known ring.new)) }
+    ensures stands { RingStands R.alone (R.side ring.old).net node (R.known ring.old)
+        (R.known ring.new) }
 {
     tell_statistics(alloc, node, request, ring)?;
     Ok(())
@@ -125,6 +131,8 @@ fn serve<M: RamSide, R: RingSide>(
         (M.known ram.old) (M.known ram.new)) }
     ensures served { OnOk result (PartOf M.alone R.alone is_ours node (IsAnswered node frame.now)
         (M.known ram.old) (M.known ram.new) (R.known ring.old) (R.known ring.new)) }
+    ensures stands { BothStand M.alone R.alone (M.side ram.old).fixed (R.side ring.old).net node
+        (M.known ram.old) (M.known ram.new) (R.known ring.old) (R.known ring.new) }
 {
     match frame.kind {
         FrameKind::Reply => end_call(node, waiting, frame, ram, ring)?,
@@ -164,6 +172,8 @@ pub(crate) fn serve_inbox<M: RamSide, R: RingSide>(
         (M.known ram.old) (M.known ram.new) (R.known ring.old) (R.known ring.new)) }
     ensures empty { OnOk result
         (inbox_of (R.side ring.old).net node (R.known ring.new) ≡ []) }
+    ensures stands { BothStand M.alone R.alone (M.side ram.old).fixed (R.side ring.old).net node
+        (M.known ram.old) (M.known ram.new) (R.known ring.old) (R.known ring.new) }
 {
     while let Some(frame) = take_next(node, ring)? {
         serve(alloc, node, waiting, &frame, ram, ring)?;

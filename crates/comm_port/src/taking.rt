@@ -6,6 +6,7 @@ ghost use Rattle.tied_lists.specs.Own.{added_if, is_of, WentOn};
 ghost use Rattle.tied_lists.specs.Waits.{Holds};
 ghost use Rattle.comm_port.specs.Sides.{taken_entries};
 ghost use Rattle.comm_port.specs.Turns.{IsOwnTurn};
+ghost use Rattle.comm_port.specs.Stands.{RingStands};
 
 use crate::ring_side::RingSide;
 use crate::short::Short;
@@ -21,6 +22,8 @@ pub(crate) fn take_next<R: RingSide>(node: u8, ring: &mut R) -> Result<Option<Fr
         (ring_after (R.side ring.old).net (R.known ring.new)) node).inbox ≡ []) }
     ensures legal { IsLegal (R.side ring.old).net (R.known ring.new) }
     ensures same { R.side ring.new ≡ R.side ring.old }
+    ensures stands { RingStands R.alone (R.side ring.old).net node (R.known ring.old)
+        (R.known ring.new) }
 {
     match ring.take(node) {
         Ok(taken) => Ok(taken),

@@ -9,6 +9,7 @@ ghost use Rattle.comm_port.specs.Parts.{PartOf, calls_waiting};
 ghost use Rattle.comm_port.specs.Reading.{is_ours};
 ghost use Rattle.comm_port.specs.Turns.{Turning};
 ghost use Rattle.comm_port.specs.Visiting.{WaitsFor, GivesCall};
+ghost use Rattle.comm_port.specs.Stands.{BothStand};
 
 use crate::asking::give_up_now;
 use crate::calling::make_call;
@@ -42,6 +43,8 @@ fn give_up_between<M: RamSide, R: RingSide>(
         (GivesCall (R.side ring.old).net node id (R.known ring.old) (R.known ring.new)) }
     ensures ram_same { M.side ram.new ≡ M.side ram.old }
     ensures ring_same { R.side ring.new ≡ R.side ring.old }
+    ensures stands { BothStand M.alone R.alone (M.side ram.old).fixed (R.side ring.old).net node
+        (M.known ram.old) (M.known ram.new) (R.known ring.old) (R.known ring.new) }
 {
     let _ = calls;
     let _ = next;
@@ -77,6 +80,8 @@ fn end_call<M: RamSide, R: RingSide>(
         (calls_waiting node (R.known ring.new) ≡ calls_waiting node (R.known ring.old)) }
     ensures ram_same { M.side ram.new ≡ M.side ram.old }
     ensures ring_same { R.side ring.new ≡ R.side ring.old }
+    ensures stands { BothStand M.alone R.alone (M.side ram.old).fixed (R.side ring.old).net node
+        (M.known ram.old) (M.known ram.new) (R.known ring.old) (R.known ring.new) }
 {
     make_call(alloc, node, waiting, calls, at, ram, ring)?;
     let call = &calls[at];
@@ -109,6 +114,8 @@ pub(crate) fn visit<M: RamSide, R: RingSide>(
         (R.known ring.new)) }
     ensures ram_same { M.side ram.new ≡ M.side ram.old }
     ensures ring_same { R.side ring.new ≡ R.side ring.old }
+    ensures stands { BothStand M.alone R.alone (M.side ram.old).fixed (R.side ring.old).net node
+        (M.known ram.old) (M.known ram.new) (R.known ring.old) (R.known ring.new) }
 {
     if !ram.has_started() {
         return Ok(());

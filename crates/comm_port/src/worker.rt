@@ -7,6 +7,7 @@ ghost use Rattle.comm_port.specs.Turns.{Turning, Rested};
 ghost use Rattle.comm_port.specs.Giving.{IsAtRest};
 ghost use Rattle.comm_port.specs.HoldTurn.{HoldsTurn, VisitsEnd};
 ghost use Rattle.comm_port.specs.Worker.{Standing};
+ghost use Rattle.comm_port.specs.Stands.{BothStand};
 
 use crate::calling::make_calls;
 use crate::ending::end_turn;
@@ -74,6 +75,8 @@ fn turn<M: RamSide, R: RingSide>(
         (R.known ring.new)) }
     ensures ram_same { M.side ram.new ≡ M.side ram.old }
     ensures ring_same { R.side ring.new ≡ R.side ring.old }
+    ensures stands { BothStand M.alone R.alone (M.side ram.old).fixed (R.side ring.old).net node
+        (M.known ram.old) (M.known ram.new) (R.known ring.old) (R.known ring.new) }
 {
     serve_inbox(alloc, node, waiting, ram, ring)?;
     let posted = waiting.free_paths();
@@ -116,7 +119,8 @@ impl CommWorker {
 
     /// One hold of the token: takes and serves, makes the calls that the controller started, sends,
     /// gives up what waited for too long, and leaves or passes on; whether it left. Only memory can
-    /// want, and then nothing is said of the laws.
+    /// want: then the entries made so far stand and both lists are legal as before, but nothing is
+    /// said of the laws.
     pub fn hold_turn<M: RamSide, R: RingSide>(
         &mut self,
         ram: &mut M,
@@ -133,6 +137,9 @@ impl CommWorker {
         ensures worker { self.new ≡ record self.old { waiting = self.new.waiting } }
         ensures ram_same { M.side ram.new ≡ M.side ram.old }
         ensures ring_same { R.side ring.new ≡ R.side ring.old }
+        ensures stands { BothStand M.alone R.alone (M.side ram.old).fixed (R.side ring.old).net
+            self.old.node (M.known ram.old) (M.known ram.new) (R.known ring.old)
+            (R.known ring.new) }
     {
         let waiting = &mut self.waiting;
         match turn(self.alloc, self.node, self.budget, waiting, ram, ring) {
@@ -141,7 +148,9 @@ impl CommWorker {
         }
     }
 
-    /// Ends each call that the controller started since its node left. Only memory can want.
+    /// Ends each call that the controller started since its node left. Only memory can want: then
+    /// the entries made so far stand and both lists are legal as before, but nothing is said of the
+    /// laws.
     pub fn visit_end<M: RamSide, R: RingSide>(
         &mut self,
         ram: &mut M,
@@ -158,6 +167,9 @@ impl CommWorker {
         ensures worker { self.new ≡ record self.old { waiting = self.new.waiting } }
         ensures ram_same { M.side ram.new ≡ M.side ram.old }
         ensures ring_same { R.side ring.new ≡ R.side ring.old }
+        ensures stands { BothStand M.alone R.alone (M.side ram.old).fixed (R.side ring.old).net
+            self.old.node (M.known ram.old) (M.known ram.new) (R.known ring.old)
+            (R.known ring.new) }
     {
         match visit(self.alloc, self.node, &mut self.waiting, ram, ring) {
             Ok(()) => Ok(()),

@@ -29,7 +29,7 @@ use Rattle.controller_core.specs.declared.machine.Machine.{Machine}
 use Rattle.controller_core.specs.Replay.{State, apply, control_is_on, read_in, replay}
 use Rattle.controller_core.specs.Replay.{segment_solved, solved, start, table_of, watchdog_stop}
 use Rattle.controller_core.specs.Event.{entry_of, maker_of, scan_steps, step_of}
-use Rattle.controller_core.specs.Machine.{state_is, CanSolve, Does, IsSound, IsTimely, Tells}
+use Rattle.controller_core.specs.Machine.{state_is, CanSolve, Does, IsSound, IsTimely, Tells, most_steps}
 use Rattle.controller_core.specs.Scans.{all_due, closes_scan, ended_after, is_done, is_over}
 use Rattle.controller_core.specs.Scans.{remaining, scans_at, scans_from}
 use Rattle.controller_core.specs.Controller.{ControllerIs, EachFits, Fits, GoesOn, IsLegal, WentOn}
@@ -315,7 +315,7 @@ legal_of f m h at k = record { each = k.each; due = (remaining f m.ended at, k.s
 
 -- a history of all scans is short enough for the counts of a machine
 pub timely_enough : (f : Fixed) (m : Machine) (h : List Entry) (at : ScanPlace) → IsKept f m h at → f.scans ≤ 2000 → length f.plan.orders ≤ 32
-    → IsTimely m 196000
+    → IsTimely m most_steps
 timely_enough f m h at k scans rows =
     let few = scans_few f 1 f.scans rows in
     let all = ap length k.steps in

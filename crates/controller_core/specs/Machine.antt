@@ -69,6 +69,10 @@ pub record IsSound (machine : Machine) : Type 0 where
   pub few : length machine.bank.blocks ≤ message_limit
   pub exchanges : length machine.exchanges.items ≡ 32
 
+-- The most steps that scans make: 98 in each of 2000. This project's own.
+abbrev pub most_steps : ℕ
+most_steps = 196000
+
 -- After so many steps the clock and the counts are no further than these can bring them. This
 -- project's own.
 pub record IsTimely (machine : Machine) (steps : ℕ) : Type 0 where

@@ -7,6 +7,7 @@ ghost use Rattle.controller_core.specs.Replay.{control_is_on, start};
 ghost use Rattle.traffic_cop.specs.Rows.{HasControl, HasDrop};
 ghost use Rattle.controller_core.specs.Machine.{state_is, Does, Exchanges};
 ghost use Rattle.controller_core.specs.Machine.{CanSolve, IsRunnable, IsSound, IsTimely};
+ghost use Rattle.controller_core.specs.Machine.{most_steps};
 ghost use Rattle.controller_core.specs.Calls.{calls_of};
 ghost use Rattle.controller_core.specs.Machine.{Serves, Solves, Tells, stop_by};
 ghost use Rattle.mstr_block.specs.Laws.{collected};
@@ -122,7 +123,7 @@ impl Machine {
 
     fn begin(&mut self)
         requires sound { IsSound self.old }
-        requires timely { IsTimely self.old 196000 }
+        requires timely { IsTimely self.old most_steps }
         ensures { Does Entry.Begin self.old self.new }
     {
         self.clock = Clock {
@@ -137,7 +138,7 @@ impl Machine {
     /// The next input exchange of a drop.
     fn exchange(&mut self, drop: u8)
         requires sound { IsSound self.old }
-        requires timely { IsTimely self.old 196000 }
+        requires timely { IsTimely self.old most_steps }
         requires there { HasDrop self.old.fixed.plan drop }
         ensures { Exchanges drop self.old self.new }
     {
@@ -149,7 +150,7 @@ impl Machine {
 
     fn input(&mut self, row: u16)
         requires sound { IsSound self.old }
-        requires timely { IsTimely self.old 196000 }
+        requires timely { IsTimely self.old most_steps }
         requires row { IsRow self.old.fixed.plan row }
         ensures { Does (Entry.Input row) self.old self.new }
     {
@@ -228,7 +229,7 @@ impl Machine {
 
     fn end(&mut self)
         requires sound { IsSound self.old }
-        requires timely { IsTimely self.old 196000 }
+        requires timely { IsTimely self.old most_steps }
         ensures { Does Entry.End self.old self.new }
     {
         discretes_follow();
@@ -297,7 +298,7 @@ impl Machine {
     /// Makes an event, and answers its entry. Takes no memory.
     pub(crate) fn perform(&mut self, step: ScanStep) -> Entry
         requires sound { IsSound self.old }
-        requires timely { IsTimely self.old 196000 }
+        requires timely { IsTimely self.old most_steps }
         requires step { IsStep self.old.fixed.plan step }
         requires watch { CanSolve step self.old }
         ensures entry { result ≡ entry_of self.old.fixed (state_is self.old) step }

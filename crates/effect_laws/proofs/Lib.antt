@@ -8,4 +8,5 @@ pub mod Once
 pub mod Sources
 pub mod Reports
 pub mod Words
+pub mod Targets
 mod Example

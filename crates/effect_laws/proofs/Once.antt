@@ -145,7 +145,7 @@ posted-own net id (GiveUp name word) law is = absurd cc
 posted-own net id (Pass n done words) law is = absurd cc
 posted-own net id (Leave n cause) law is = absurd cc
 
-posted-owns : (net : NetPlan) (past es : List RingEntry) (id : CallId) → IsRun net past es
+pub posted-owns : (net : NetPlan) (past es : List RingEntry) (id : CallId) → IsRun net past es
     → Each (λ e. posts id e ≡ true → (maker e == id.node) ≡ true) es
 posted-owns net past [] id run = tt
 posted-owns net past (e ∷ es) id run = (posted-own net id e run.0.0, posted-owns net (past ++ e ∷ []) es id run.1)

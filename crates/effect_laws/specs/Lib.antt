@@ -1,3 +1,4 @@
 pub mod Served
 pub mod Success
 pub mod Effects
+pub mod Targets

@@ -2,6 +2,7 @@
 ghost use Rattle.effect_laws.specs.Served.{ServedAtMostOnce};
 ghost use Rattle.effect_laws.specs.Effects.{TakesEffectAtMostOnce, SuccessTakesEffectOnce};
 ghost use Rattle.effect_laws.specs.Effects.{NoFinishHas3000, AllEffectsAreRight};
+ghost use Rattle.effect_laws.specs.Targets.{AllEffectsAreAtTheirTarget};
 
 use ladder_solver::segments_keep_calls;
 use mstr_block::{calls_are_taken_in_order, finishes_end_one_call, stays_table};
@@ -56,4 +57,16 @@ pub fn effects_are_right()
     takes_effect_at_most_once();
     success_takes_effect_once();
     no_finish_has_3000();
+}
+
+/// Each effect of a call is at its target: at the node that its Request was posted to, and at the
+/// caller's own where none was posted. So is the one effect of a call that reports success.
+pub fn effects_are_at_their_target()
+    ensures { AllEffectsAreAtTheirTarget }
+{
+    segments_keep_calls();
+    calls_are_taken_in_order();
+    finishes_end_one_call();
+    stays_table();
+    success_takes_effect_once();
 }

@@ -3,7 +3,7 @@ use Rattle.std.proofs.Common.{◌≡◌, ℕ, ◌+◌, ◌-◌, ◌*◌, ◌/◌
 use Rattle.std.proofs.Common.{false, cond, ◌&&◌, ◌||◌, ◌==◌, List, [], ◌∷◌, ◌++◌, Option, Some}
 use Rattle.std.proofs.Common.{None, ◌⊎◌, inl, inr, length, refl, sym, ap, ◌∙◌, subst, arith}
 use Rattle.std.specs.Prelude.{find, map}
-use Rattle.std.specs.List.{AllByRecursion, list_any}
+use Rattle.std.specs.List.{AllByRecursion}
 use Rattle.std.proofs.lemmas.Bool.Decides.{nat_tests}
 use Rattle.std.proofs.lemmas.List.{append_assoc}
 use Rattle.std.proofs.lemmas.List.Folds.{list_any-append}
@@ -17,12 +17,12 @@ use Rattle.grid_compile.specs.declared.grid.Column.{Column}
 use Rattle.grid_compile.specs.declared.grid.Grid.{Grid}
 use Rattle.grid_compile.specs.Cells.{cell_at, before, cells_from, marks_of}
 use Rattle.grid_compile.specs.Masks.{row_on}
-use Rattle.grid_compile.specs.Layout.{op_of, column_of, columns_from, grid_of}
+use Rattle.grid_compile.specs.Layout.{op_of, columns_from, grid_of, grids_of}
 use Rattle.grid_compile.specs.Lists.{Rises}
 use Rattle.grid_compile.specs.Listed.{listed_cell, cells_in, short_if, shorts_of, shorts_at}
 use Rattle.grid_compile.specs.Listed.{shorts_in}
-use Rattle.grid_compile.specs.Listed.{listed_network, EachGridListed}
-use Rattle.grid_compile.specs.Bounds.{IsColumn}
+use Rattle.grid_compile.specs.Listed.{listed_network, listed_segments, EachGridListed}
+use Rattle.grid_compile.specs.Bounds.{IsColumn, IsGrid}
 
 -- what the first cells lack is found among the others
 lacks : (x : Cell) (b : Bool) (first all others : Option Cell) → (first ≡ None → all ≡ others) → cond b (Some x) first ≡ None
@@ -269,3 +269,12 @@ grid_listed grid formed =
       columns = (ap (columns_from (listed_network grid) 1) (sym formed.eleven)
           ∙ columns_listed [] [] 1 grid.columns (λ c r h. refl) (λ c r h. refl) formed.columns) i;
     }
+
+networks_listed : (grids : List Grid) → AllByRecursion IsGrid grids → map grid_of (map listed_network grids) ≡ grids
+networks_listed [] formed = refl
+networks_listed (grid ∷ grids) formed = λ i. grid_listed grid formed.0 i ∷ networks_listed grids formed.1 i
+
+-- the grids of segments are those of the segments that they list
+pub segments_listed : (segments : List (List Grid)) → AllByRecursion (AllByRecursion IsGrid) segments → grids_of (listed_segments segments) ≡ segments
+segments_listed [] formed = refl
+segments_listed (grids ∷ segments) formed = λ i. networks_listed grids formed.0 i ∷ segments_listed segments formed.1 i

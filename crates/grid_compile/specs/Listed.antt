@@ -3,6 +3,7 @@ use Rattle.std.specs.Prelude.{◌≡◌, ℕ, ◌+◌, Bool, if◌then◌else◌
 use Rattle.plant_types.specs.declared.network.Cell.{Cell}
 use Rattle.plant_types.specs.declared.network.Short.{Short}
 use Rattle.plant_types.specs.declared.network.Network.{Network}
+use Rattle.plant_types.specs.declared.network.Segment.{Segment}
 use Rattle.grid_compile.specs.declared.grid.Op.{Op}
 use Rattle.grid_compile.specs.declared.grid.Column.{Column}
 use Rattle.grid_compile.specs.declared.grid.Grid.{Grid}
@@ -46,6 +47,10 @@ shorts_in column (laid ∷ columns) =
 abbrev pub listed_network : Grid → Network
 listed_network grid =
     record { cells = cells_in 1 grid.columns; shorts = shorts_in 1 grid.columns }
+
+-- The segments whose networks grids list. This project's own.
+abbrev pub listed_segments : List (List Grid) → List Segment
+listed_segments segments = map (λ grids. record { networks = map listed_network grids }) segments
 
 -- A grid is that of the network that it lists. This project's own.
 abbrev pub EachGridListed : Type 0

@@ -34,6 +34,9 @@ fn by_wires(shorts: u8, power: u8) -> u8 {
 fn joins_are_those_of_the_wires(rt: HostRuntime) {
     assert_eq!(rt; column_join(63, 8), 127);
     assert_eq!(rt; column_join(1, 4), 4);
+    // Bits 6 and 7 join no rows, and bit 7 of the power is none.
+    assert_eq!(rt; column_join(255, 136), 127);
+    assert_eq!(rt; column_join(193, 132), 4);
     for shorts in 0..64u8 {
         for power in 0..128u8 {
             assert_eq!(rt;

@@ -207,7 +207,7 @@ kept_answer plan made paths h id result kept legal =
           (sym (on q ∙ any_agree (λ r. keeps id r && goes_on q r) (goes_on q) (others_stay id q apart) u)));
     }
 
--- ---- behind what is entry_served
+-- ---- behind what is served
 
 pub kept_served : (plan : HostPlan) (made : ℕ) (paths : List Path) (h : List HostEntry) (id : CallId) (request reply : List ℕ)
     → IsHostKept plan made paths h

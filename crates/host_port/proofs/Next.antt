@@ -41,7 +41,7 @@ each_more plan h e legal fits before after entry is = elim (split_last h e befor
   | inr q ↦ legal.each before q.0 entry q.1
 ]
 
--- ---- an Answer, and what is entry_served
+-- ---- an Answer, and what is served
 
 may_answer : (plan : HostPlan) (h : List HostEntry) (id : CallId) (result : HostResult) → IsHostHistory plan h → is_unanswered h id ≡ true
     → IsHostHistory plan (h ++ Answer id result ∷ [])

@@ -11,7 +11,7 @@ abbrev pub HostMayFollow : HostIs → HostEntry → Type 0
 HostMayFollow v entry = IsHostHistory v.plan (v.history ++ entry ∷ [])
 
 -- The same, by what stands there: an Ask is the next call, and asks what the plan asks next; an
--- Answer names a call that is out; and whatever is entry_served is refused.
+-- Answer names a call that is out; and what is served is refused.
 abbrev pub MayComeNext : HostIs → HostEntry → Type 0
 MayComeNext v (Ask id to pdu) =
     (next_host_call v.plan v.history ≡ Some id)
@@ -19,7 +19,7 @@ MayComeNext v (Ask id to pdu) =
 MayComeNext v (Answer id result) = is_unanswered v.history id ≡ true
 MayComeNext v (Served id request reply) = reply ≡ refusal_to request
 
--- A host after it host_followed an entry, if that may come next.
+-- A host after an entry, if that may come next.
 abbrev pub host_followed : HostIs → HostEntry → Bool → HostIs
 host_followed v entry true = record v { history = v.history ++ entry ∷ [] }
 host_followed v entry false = v

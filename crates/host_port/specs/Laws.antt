@@ -27,7 +27,7 @@ AnswersEndOneCall =
     → is_unanswered (history ++ Answer other result ∷ []) id
     ≡ (is_unanswered history id && not (is_same_call id other))
 
--- Whatever is entry_served changes nothing for any call.
+-- What is served changes nothing for any call.
 abbrev pub ServingKeepsCalls : Type 0
 ServingKeepsCalls = (history : List HostEntry) (id other : CallId) (request reply : List ℕ)
     → is_unanswered (history ++ Served other request reply ∷ []) id ≡ is_unanswered history id

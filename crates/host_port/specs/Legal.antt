@@ -34,7 +34,7 @@ abbrev pub refusal_to : List ℕ → List ℕ
 refusal_to request = reply_bytes (Exception (slice_index request 0) illegal_function)
 
 -- What an entry owes to those before it: an Ask has the name of the next call, an Answer names a
--- call that is out, and whatever is entry_served is refused.
+-- call that is out, and what is served is refused.
 abbrev pub FitsHost : HostPlan → List HostEntry → HostEntry → Type 0
 FitsHost plan before (Ask id to pdu) = next_host_call plan before ≡ Some id
 FitsHost plan before (Answer id result) = is_unanswered before id ≡ true

@@ -33,7 +33,7 @@ use Rattle.joint_law.specs.Bound.{Bound, Breaks, Keeps, bounds_of, controller_bo
 use Rattle.joint_law.specs.Differing.{BreaksAt, DifferAt}
 use Rattle.joint_law.specs.LawEnds.{AllKeep, IsFirstBreak, IsLawsEnd}
 use Rattle.joint_law.specs.Spots.{AreLegalHostLogs, AreLegalLogs, HasSections, IsCompleteAt}
-use Rattle.joint_law.specs.Spots.{IsSpot, IsVerdict, IsWholeRun}
+use Rattle.joint_law.specs.Spots.{IsFirstSpot, IsSpot, IsVerdict, IsWholeRun}
 use Rattle.joint_law.specs.declared.law.Law.{Law}
 use Rattle.joint_law.specs.declared.law.Law.TheVariants.{Asks, Answers, Replies, Ends}
 use Rattle.joint_law.specs.declared.verdict.Spot.{Spot}
@@ -136,16 +136,16 @@ laws-joint plant scans joint sound legal all =
 
 -- ---- the stations that were done
 
-pub end-verdict : (plant : Plant) (scans : ℕ) (joint : Joint) → IsPlant plant → IsLegalJoint plant scans joint → IsJoint joint → IsFirstIncomplete plant scans joint None → IsVerdict plant scans joint Legal
-end-verdict plant scans joint sound legal tied each = record {
+pub end-spot : (plant : Plant) (scans : ℕ) (joint : Joint) → IsPlant plant → IsLegalJoint plant scans joint → IsJoint joint → IsFirstIncomplete plant scans joint None → IsFirstSpot plant scans joint None
+end-spot plant scans joint sound legal tied each = record {
   legal = legal;
   tied = tied;
   complete = all-complete plant scans joint sound (legal-sections plant scans joint legal.controllers legal.hosts) each;
 }
 
-pub incomplete-verdict : (plant : Plant) (scans : ℕ) (joint : Joint) (node : ℕ) → IsLegalJoint plant scans joint → IsJoint joint → IsFirstIncomplete plant scans joint (Some node)
-    → IsVerdict plant scans joint (Illegal (spots.Incomplete node))
-incomplete-verdict plant scans joint node legal tied first = record { legal = legal; tied = tied; earlier = first.0; here = first.1 }
+pub incomplete-spot : (plant : Plant) (scans : ℕ) (joint : Joint) (node : ℕ) → IsLegalJoint plant scans joint → IsJoint joint → IsFirstIncomplete plant scans joint (Some node)
+    → IsFirstSpot plant scans joint (Some (spots.Incomplete node))
+incomplete-spot plant scans joint node legal tied first = record { legal = legal; tied = tied; earlier = first.0; here = first.1 }
 
 -- ---- a whole run has no spot
 

@@ -1,5 +1,5 @@
 -- What a judge's verdict says of a joint history. This project's own.
-use Rattle.std.specs.Prelude.{◌≡◌, ℕ, ◌<◌, List, map}
+use Rattle.std.specs.Prelude.{◌≡◌, ℕ, ◌<◌, List, map, Option, Some, None}
 use Rattle.std.specs.List.{All, AllZip, Any, zip}
 use Rattle.plant_types.specs.declared.net.HostPlan.{HostPlan}
 use Rattle.plant_types.specs.declared.plan.ControllerPlan.{ControllerPlan}
@@ -118,6 +118,11 @@ IsSpot plant scans joint (spots.Ring entry) = RingSpot plant scans joint entry
 IsSpot plant scans joint (spots.Law number node place) =
     (law : Law) × (number_of law ≡ number) × LawSpot plant scans joint law node place
 IsSpot plant scans joint (spots.Incomplete node) = IncompleteSpot plant scans joint node
+
+-- The first spot of a joint history; none where it is a whole run.
+abbrev pub IsFirstSpot : Plant → ℕ → Joint → Option Spot → Type 0
+IsFirstSpot plant scans joint None = IsWholeRun plant scans joint
+IsFirstSpot plant scans joint (Some spot) = IsSpot plant scans joint spot
 
 -- What a verdict says.
 abbrev pub IsVerdict : Plant → ℕ → Joint → Verdict → Type 0

@@ -1,5 +1,5 @@
 //! The first law that is broken, and where.
-ghost use Rattle.std.specs.Prelude.{◌≡◌, ◌+◌, IfOk, length, map};
+ghost use Rattle.std.specs.Prelude.{◌≡◌, ◌+◌, ◌^◌, ◌≤◌, ◌↔◌, IfOk, IsErr, length, map};
 ghost use Rattle.joint_law.specs.Bound.{bounds_of, controller_bound, host_bound, number_of};
 ghost use Rattle.joint_law.specs.LawEnds.{IsLawsEnd, IsLogEnd, IsLogsEnd, IsNodesEnd};
 ghost use Rattle.joint_law.specs.Split.{IsSplit};
@@ -120,7 +120,8 @@ fn node_breaks(
 
 /// A place, counted from 1. A spot has no number for more of them, and then memory is wanting.
 pub(crate) fn number(place: usize) -> Result<u32, AllocError>
-    ensures { IfOk result (λ number. number ≡ place + 1) }
+    ensures number { IfOk result (λ number. number ≡ place + 1) }
+    ensures wants { IsErr result ↔ (2 ^ 32 ≤ place + 1) }
 {
     if place >= u32::MAX as usize {
         return Err(AllocError);

@@ -133,62 +133,43 @@ fn target(alloc: Global) -> Result<ControllerLog, Fail> {
     })
 }
 
+fn post(node: u8, frame: Frame) -> RingEntry {
+    RingEntry::Post { node, frame }
+}
+
+fn send(node: u8, heard: Heard) -> RingEntry {
+    RingEntry::Send { node, heard }
+}
+
+fn take(node: u8, frame: Frame) -> RingEntry {
+    RingEntry::Take { node, frame }
+}
+
+fn pass(node: u8, done: bool, words: Words) -> RingEntry {
+    RingEntry::Pass { node, done, words }
+}
+
+fn leave(node: u8, cause: LeaveCause) -> RingEntry {
+    RingEntry::Leave { node, cause }
+}
+
 fn turns(alloc: Global) -> Result<List<RingEntry>, Fail> {
-    let asked = frame(alloc, FrameKind::Request, 5, &READS)?;
-    let taken = frame(alloc, FrameKind::Request, 5, &READS)?;
-    let told = frame(alloc, FrameKind::Reply, 2, &TELLS)?;
-    let got = frame(alloc, FrameKind::Reply, 2, &TELLS)?;
     let mut entries = List::new(alloc);
-    entries.push(RingEntry::Post {
-        node: 2,
-        frame: asked,
-    })?;
-    entries.push(RingEntry::Send {
-        node: 2,
-        heard: Heard::Acked,
-    })?;
-    entries.push(RingEntry::Pass {
-        node: 2,
-        done: false,
-        words: Words::of(alloc, &[])?,
-    })?;
-    entries.push(RingEntry::Take {
-        node: 5,
-        frame: taken,
-    })?;
-    entries.push(RingEntry::Post {
-        node: 5,
-        frame: told,
-    })?;
-    entries.push(RingEntry::Send {
-        node: 5,
-        heard: Heard::Silent,
-    })?;
-    entries.push(RingEntry::Send {
-        node: 5,
-        heard: Heard::Busy,
-    })?;
-    entries.push(RingEntry::Take {
-        node: 2,
-        frame: got,
-    })?;
+    entries.push(post(2, frame(alloc, FrameKind::Request, 5, &READS)?))?;
+    entries.push(send(2, Heard::Acked))?;
+    entries.push(pass(2, false, Words::of(alloc, &[])?))?;
+    entries.push(take(5, frame(alloc, FrameKind::Request, 5, &READS)?))?;
+    entries.push(post(5, frame(alloc, FrameKind::Reply, 2, &TELLS)?))?;
+    entries.push(send(5, Heard::Silent))?;
+    entries.push(send(5, Heard::Busy))?;
+    entries.push(take(2, frame(alloc, FrameKind::Reply, 2, &TELLS)?))?;
     entries.push(RingEntry::GiveUp {
         id: id(2, 1, 2),
         word: 0x6101,
     })?;
-    entries.push(RingEntry::Pass {
-        node: 2,
-        done: true,
-        words: Words::of(alloc, &[7, 8])?,
-    })?;
-    entries.push(RingEntry::Leave {
-        node: 2,
-        cause: LeaveCause::Ended,
-    })?;
-    entries.push(RingEntry::Leave {
-        node: 5,
-        cause: LeaveCause::Spent,
-    })?;
+    entries.push(pass(2, true, Words::of(alloc, &[7, 8])?))?;
+    entries.push(leave(2, LeaveCause::Ended))?;
+    entries.push(leave(5, LeaveCause::Spent))?;
     Ok(entries)
 }
 

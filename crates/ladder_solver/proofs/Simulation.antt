@@ -15,7 +15,6 @@ use Rattle.ladder_solver.specs.Flow.{Flow, Setting, Left, solved_element}
 use Rattle.ladder_solver.specs.Network.{Power, Place, Site, is_live, is_fed, inputs_at, place_in}
 use Rattle.ladder_solver.specs.Network.{with_output, with_outputs, element_at}
 use Rattle.grid_compile.specs.Cells.{marks_of}
-use Rattle.grid_compile.proofs.Listing.{marks-small}
 use Rattle.ladder_solver.specs.Rows.{flag_of, flags_at, reaches_of, three_from, fed_rows}
 use Rattle.ladder_solver.specs.Rows.{output_reaches, FeedsAll}
 use Rattle.grid_compile.specs.Masks.{are_linked}
@@ -196,9 +195,9 @@ spot-done setting spot site live next s after solved first within low high does 
     let was = get_or live column 0 in
     let place = place_in site column row in
     let is : next ≡ bit_or was (fed_rows outputs (three_from (reaches_of marks) row)) = fed ∙ ap (λ xs. bit_or was (fed_rows outputs xs)) same in
-    let small : next < 128 = subst (λ n. n < 128) (sym is) (fed_rows-small outputs marks row was (marks-small shorts column) low high (power.small column)) in
+    let small : next < 128 = subst (λ n. n < 128) (sym is) (fed_rows-small outputs marks row was low high (power.small column)) in
     let feeds : FeedsAll outputs marks row was next = subst (λ n. FeedsAll outputs marks row was n) (sym is)
-    (fed_rows-feeds outputs marks row was (marks-small shorts column) low high) in
+    (fed_rows-feeds outputs marks row was low high) in
     let done : solved_element setting spot.element place (inputs_at shorts p.on column row) p.state ≡ ((outputs, after), solved.flow) =
     (λ i. solved_element setting spot.element place (inputs_at-flags shorts column row live p first low power i) (state i)) ∙ does in
     let e : element_at setting shorts site column row spot.element p

@@ -27,7 +27,6 @@ pub(crate) struct Spot {
 }
 
 fn reaches_of(shorts: u8) -> Reaches
-    requires { shorts < 64 }
     ensures { result ≡ reaches_of shorts }
 {
     [

@@ -89,8 +89,8 @@ fn last_spans(segments: &[List<Grid>]) -> Spans
     spans_of(segments[segments.len() - 1].as_slice())
 }
 
-/// The grids of all segments, their cells as solving walks them, how many MSTR blocks they have, and
-/// their subroutines.
+/// The grids of all segments, their cells as solving walks them, how many MSTR blocks they have,
+/// and their subroutines.
 #[derive(Drop)]
 pub(crate) struct Program {
     grids: List<List<Grid>>,

@@ -1,3 +1,4 @@
+pub mod Raising
 pub mod Stays
 pub mod Scans
 pub mod Members

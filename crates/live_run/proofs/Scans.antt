@@ -1,9 +1,12 @@
 -- What a scan worker adds behind the gate.
 use Rattle.std.proofs.Common.{◌≡◌, zero, suc, List, [], ◌∷◌, All, Result, Ok, Err, IfOk}
-use Rattle.std.proofs.Common.{OnErr, sym, ap, ◌∙◌, arith, append-nil}
+use Rattle.std.proofs.Common.{OnErr, sym, ap, ◌∙◌, arith, append-nil, ◌+◌, ◌≤◌, ◌++◌, drop, length}
+use Rattle.std.proofs.Math.Seq.{drop-append_seam}
+use Rattle.std.proofs.lemmas.List.{length-append}
 use Rattle.turn_gate.specs.Known.{PassFacts, Adds as GateAdds}
 use Rattle.controller_core.specs.declared.entry.Entry.{Entry}
 use Rattle.controller_core.specs.declared.entry.StepEnd.{StepEnd}
+use Rattle.controller_core.specs.declared.entry.StepEnd.TheVariants.{Did, Ended, Stopped}
 use Rattle.controller_core.specs.declared.entry.Maker.TheVariants.{Scan}
 use Rattle.controller_core.specs.Controller.{AreOf, ControllerIs, WentOn, step_entries}
 use Rattle.live_run.specs.Cells.{maker_number, number_of_maker}
@@ -24,3 +27,25 @@ step-adds (Ok end) old new q entered number seen same went err =
 step-adds (Err why) old new q entered number seen same went err =
     adds maker_number q 1 old.history [] new.history number (seen ∙ sym same)
     (ap (λ (v : ControllerIs). v.history) err ∙ sym (append-nil old.history)) (λ k d low. absurd (omega arith))
+
+-- a step makes one event at most
+one-event : (v : ControllerIs) (end : StepEnd) → length (step_entries v end) ≤ 1
+one-event v (Did step) = omega arith
+one-event v Ended = omega arith
+one-event v (Stopped code) = omega arith
+
+-- what a stay adds is what its step made
+stay-mine : (mine seen added list : List Entry) → list ≡ seen ++ added → length added ≤ 1 → length (mine ++ drop (length seen) list) ≤ length mine + 1
+stay-mine mine seen added list is few =
+    let behind : drop (length seen) list ≡ added = ap (λ (l : List Entry). drop (length seen) l) is ∙ drop-append_seam seen added in
+    let size : length (mine ++ drop (length seen) list) ≡ length mine + length (drop (length seen) list) = length-append mine (drop (length seen) list) in
+    omega (arith, size, ap (λ (l : List Entry). length l) behind, few)
+
+-- a stay of the scan adds one event at most
+pub stay-adds-one : {X : Type 0} (r : Result StepEnd X) (old new : ControllerIs) (mine entered : List Entry) → old.history ≡ entered
+    → IfOk r (λ end. WentOn Scan (step_entries old end) old new) → OnErr r (new ≡ old)
+    → length (mine ++ drop (length entered) new.history) ≤ length mine + 1
+stay-adds-one (Ok end) old new mine entered same went err =
+    stay-mine mine entered (step_entries old end) new.history (went.history ∙ ap (λ (l : List Entry). l ++ step_entries old end) same) (one-event old end)
+stay-adds-one (Err why) old new mine entered same went err =
+    stay-mine mine entered [] new.history (ap (λ (v : ControllerIs). v.history) err ∙ (same ∙ sym (append-nil entered))) (omega arith)

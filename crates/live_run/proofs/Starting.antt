@@ -24,7 +24,7 @@ use Rattle.turn_laws.proofs.Passes.{nil-cons}
 use Rattle.turn_laws.proofs.Stands.{stands-start}
 use Rattle.live_run.specs.Stations.{IsUnused}
 use Rattle.live_run.specs.Talking.{AttendsOn, TalksOn}
-use Rattle.live_run.proofs.Members.{member-there}
+use Rattle.turn_laws.proofs.Holders.{member-there}
 
 low-members : (net : NetPlan) → IsNetPlan net → All (λ m. m < addresses) net.members
 low-members net s k d within = let high = (s.members k d within).to in omega (arith, high)

@@ -39,6 +39,7 @@ pub record IsThrough (plant : Plant) (scans : ℕ) (gate : GateFacts RingEntry N
   pub is_zero : p.number ≡ 0
   pub all_back : HasAllBack p
   pub ran : done ≡ true
-      → AreBrought p.joined p.heard (λ plan. plan.node) (CameToEnd plant scans) plant.controllers logs
+      → AreBrought p.joined p.heard (λ plan. plan.node) (CameToEnd plant scans)
+      plant.controllers logs
   pub served : done ≡ true
       → AreBrought p.joined p.heard (λ plan. plan.node) (HostCameToEnd plant) plant.hosts host_logs

@@ -6,18 +6,20 @@ ghost use Rattle.turn_gate.specs.Known.{IsReady};
 
 use crate::cells::RingCell;
 use crate::meets::Meet;
+use crate::tallies::{Outside, Tally};
 use comm_port::RingSide;
 use mstr_block::{CallId, MstrResult};
 use ring_core::{Frame, Heard, LeaveCause, LocalOp, Ring, RingNo};
 use std::marker::Model;
 use std::sync::Wait;
+use std::sync::atomic::AtomicU64;
 use turn_gate::{Gate, Pass};
 
-/// The side of the ring over its gate: each call is one stay, and adds at most its own entry, in the
-/// name of the node that is the number of the pass.
+/// The side of the ring over its gate: each call is one stay, and adds at most its own entry, in
+/// the name of the node that is the number of the pass.
 pub struct GatedRing<'a, M: Meet, R: Wait> {
     rt: &'a R,
-    meet: &'a M,
+    tally: Tally<'a, M>,
     gate: &'a Gate<RingCell>,
     pass: Pass<RingCell>,
 }
@@ -33,10 +35,12 @@ impl<'a, M: Meet, R: Wait> Model for GatedRing<'a, M, R> {
 }
 
 impl<'a, M: Meet, R: Wait> GatedRing<'a, M, R> {
-    /// A side with a pass whose number is the node in whose name it writes.
+    /// A side with a pass whose number is the node in whose name it writes. All sides of a ring
+    /// share one word, which tells outside the gate who was given the token last.
     pub fn new(
         rt: &'a R,
         meet: &'a M,
+        token: &'a AtomicU64,
         gate: &'a Gate<RingCell>,
         pass: Pass<RingCell>,
     ) -> GatedRing<'a, M, R>
@@ -46,7 +50,7 @@ impl<'a, M: Meet, R: Wait> GatedRing<'a, M, R> {
     {
         GatedRing {
             rt,
-            meet,
+            tally: Tally::new(meet, token),
             gate,
             pass,
         }
@@ -59,11 +63,21 @@ impl<'a, M: Meet, R: Wait> GatedRing<'a, M, R> {
     {
         let GatedRing {
             rt: _,
-            meet: _,
+            tally: _,
             gate: _,
             pass,
         } = self;
         pass
+    }
+}
+
+impl<'a, M: Meet, R: Wait> Outside for GatedRing<'a, M, R> {
+    fn entries(&self) -> u64 {
+        self.tally.entries()
+    }
+
+    fn may_hold(&self, node: u8) -> bool {
+        self.tally.may_hold(node)
     }
 }
 
@@ -85,7 +99,7 @@ impl<'a, M: Meet, R: Wait> RingSide for GatedRing<'a, M, R> {
         let answer = RingSide::post(ring, node, frame);
         self.gate.leave(&mut self.pass, held);
         if answer.is_ok() {
-            self.meet.ring_entry(node);
+            self.tally.tell(node);
         }
         answer
     }
@@ -96,7 +110,7 @@ impl<'a, M: Meet, R: Wait> RingSide for GatedRing<'a, M, R> {
         let answer = RingSide::send(ring, node);
         self.gate.leave(&mut self.pass, held);
         if answer.is_ok() {
-            self.meet.ring_entry(node);
+            self.tally.tell(node);
         }
         answer
     }
@@ -107,7 +121,7 @@ impl<'a, M: Meet, R: Wait> RingSide for GatedRing<'a, M, R> {
         let answer = RingSide::take(ring, node);
         self.gate.leave(&mut self.pass, held);
         if matches!(&answer, Ok(Some(_))) {
-            self.meet.ring_entry(node);
+            self.tally.tell(node);
         }
         answer
     }
@@ -118,7 +132,7 @@ impl<'a, M: Meet, R: Wait> RingSide for GatedRing<'a, M, R> {
         let answer = RingSide::local(ring, node, id, op);
         self.gate.leave(&mut self.pass, held);
         if answer.is_ok() {
-            self.meet.ring_entry(node);
+            self.tally.tell(node);
         }
         answer
     }
@@ -129,7 +143,7 @@ impl<'a, M: Meet, R: Wait> RingSide for GatedRing<'a, M, R> {
         let answer = RingSide::give_up(ring, id);
         self.gate.leave(&mut self.pass, held);
         if answer.is_ok() {
-            self.meet.ring_entry(id.node);
+            self.tally.tell(id.node);
         }
         answer
     }
@@ -163,9 +177,10 @@ impl<'a, M: Meet, R: Wait> RingSide for GatedRing<'a, M, R> {
         let ring = held.value().get_mut();
         let _ = ring.history();
         let answer = RingSide::pass(ring, node, done);
+        self.tally.note(Ring::holder(ring));
         self.gate.leave(&mut self.pass, held);
         if answer.is_ok() {
-            self.meet.ring_entry(node);
+            self.tally.tell(node);
         }
         answer
     }
@@ -174,9 +189,10 @@ impl<'a, M: Meet, R: Wait> RingSide for GatedRing<'a, M, R> {
         let mut held = self.gate.enter(self.rt, &mut self.pass);
         let ring = held.value().get_mut();
         let answer = RingSide::leave(ring, node, cause);
+        self.tally.note(Ring::holder(ring));
         self.gate.leave(&mut self.pass, held);
         if answer.is_ok() {
-            self.meet.ring_entry(node);
+            self.tally.tell(node);
         }
         answer
     }

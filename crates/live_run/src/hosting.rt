@@ -4,16 +4,17 @@ ghost use Rattle.plant_types.specs.Plans.{IsHostPlan};
 ghost use Rattle.live_run.specs.Stations.{IsUnused, HostCameToEnd};
 ghost use Rattle.live_run.specs.Talking.{AttendsOn};
 
-use crate::flags::Flag;
+use crate::crews::Crew;
+use crate::pauses::Pause;
+use crate::tallies::Outside;
 use comm_port::{HostLog, HostWorker, RingSide};
-use crossbeam_utils::Backoff;
 use host_port::Host;
 use plant_types::{HostPlan, Plant};
 use std::alloc::{AllocError, Global};
 use std::sync::Wait;
 
 /// Makes a hold turn, where the node holds the token; whether it left.
-fn take_turn<G: RingSide>(
+fn take_turn<G: RingSide + Outside>(
     node: u8,
     worker: &mut HostWorker,
     host: &mut Host,
@@ -27,6 +28,9 @@ fn take_turn<G: RingSide>(
     ensures plan { host.new.plan ≡ host.old.plan }
     ensures ring_same { G.side ring.new ≡ G.side ring.old }
 {
+    if !ring.may_hold(node) {
+        return Ok(false);
+    }
     if ring.holder() != node {
         return Ok(false);
     }
@@ -34,9 +38,9 @@ fn take_turn<G: RingSide>(
 }
 
 /// Makes hold turns until the node has left; whether it came so far.
-pub(crate) fn attend<G: RingSide, R: Wait>(
+pub(crate) fn attend<G: RingSide + Outside, R: Wait>(
     rt: &R,
-    flag: &Flag,
+    crew: &Crew,
     node: u8,
     worker: &mut HostWorker,
     host: &mut Host,
@@ -49,16 +53,17 @@ pub(crate) fn attend<G: RingSide, R: Wait>(
     ensures plan { host.new.plan ≡ host.old.plan }
     ensures ring_same { G.side ring.new ≡ G.side ring.old }
 {
-    let backoff = Backoff::new();
+    let mut watch = crew.begin();
+    let mut pause = Pause::new();
     for _ in rt.forever() {
-        if flag.is_raised() {
+        if watch.is_raised() {
             return false;
         }
         match take_turn(node, worker, host, ring) {
             Ok(true) => return true,
-            Ok(false) => backoff.snooze(),
+            Ok(false) => pause.rest(crew, &mut watch, ring.entries()),
             Err(_) => {
-                flag.raise();
+                watch.raise();
                 return false;
             }
         }
@@ -67,9 +72,9 @@ pub(crate) fn attend<G: RingSide, R: Wait>(
 }
 
 /// The history of a host that ran to its end.
-pub(crate) fn run_host<G: RingSide, R: Wait>(
+pub(crate) fn run_host<G: RingSide + Outside, R: Wait>(
     rt: &R,
-    flag: &Flag,
+    crew: &Crew,
     plant: &Plant,
     plan: &HostPlan,
     ring: &mut G,
@@ -82,7 +87,7 @@ pub(crate) fn run_host<G: RingSide, R: Wait>(
 {
     let mut host = Host::new(alloc, plan, &plant.net)?;
     let mut worker = HostWorker::new(alloc, plan.node, &plant.net, false)?;
-    if !attend(rt, flag, plan.node, &mut worker, &mut host, ring) {
+    if !attend(rt, crew, plan.node, &mut worker, &mut host, ring) {
         return Err(AllocError);
     }
     Ok(HostLog {

@@ -2,16 +2,21 @@
 #![tactic(auto)]
 
 mod cells;
+mod crews;
 mod flags;
 mod gated_ram;
 mod gated_ring;
 mod hosting;
 mod meets;
 mod pairs;
+mod pauses;
 mod runs;
 mod scanning;
 mod stations;
 mod talking;
+mod tallies;
+#[cfg(test)]
+mod tests;
 
 pub use cells::{RamCell, RingCell};
 pub use gated_ram::GatedRam;

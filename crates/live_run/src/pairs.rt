@@ -10,11 +10,12 @@ ghost use Rattle.live_run.specs.Stations.{IsUnused, CameToEnd};
 ghost use Rattle.live_run.specs.Talking.{TalksOn};
 
 use crate::cells::RamCell;
-use crate::flags::Flag;
+use crate::crews::Crew;
 use crate::gated_ram::GatedRam;
 use crate::meets::Meet;
 use crate::scanning::scan_all;
 use crate::talking::talk;
+use crate::tallies::Outside;
 use comm_port::{CommWorker, ControllerLog, RingSide};
 use controller_core::Controller;
 use plant_types::{ControllerPlan, Plant};
@@ -24,9 +25,9 @@ use std::thread::{Threads, join_mut};
 use turn_gate::{Gate, Pass};
 
 /// Runs the scan worker and the communication worker, each in a thread where one can be made.
-fn run_pair<'a, G: RingSide + Send, M: Meet + Sync, R: Threads + Wait + Sync>(
+fn run_pair<'a, G: RingSide + Outside + Send, M: Meet + Sync, R: Threads + Wait + Sync>(
     rt: &R,
-    flag: &Flag,
+    crew: &Crew,
     meet: &M,
     gate: &Gate<RamCell>,
     one: &mut Pass<RamCell>,
@@ -48,12 +49,9 @@ fn run_pair<'a, G: RingSide + Send, M: Meet + Sync, R: Threads + Wait + Sync>(
     ensures side { G.side ring.new ≡ G.side ring.old }
 {
     let own = node;
-    join_mut(
+    // Where no thread can be made the first comes last: a worker talks until the scans have ended.
+    let (talked, scanned) = join_mut(
         rt,
-        &mut || -> bool
-            requires { IsSync R.row × IsSync M.row × IsReady maker_number 1 gate.now.name one.now }
-            ensures { IsReady maker_number 1 gate.entry.now.name one.exit.now }
-        { scan_all(rt, flag, meet, gate, one, own) },
         &mut || -> bool
             requires { IsSync R.row × (worker.now.node ≡ node)
                 × TalksOn worker.now (ram_side ram.now.gate) ram.now.seen (G.side ring.now)
@@ -63,14 +61,19 @@ fn run_pair<'a, G: RingSide + Send, M: Meet + Sync, R: Threads + Wait + Sync>(
                 × (ram_side ram.exit.now.gate ≡ ram_side ram.entry.now.gate)
                 × (worker.exit.now.node ≡ worker.entry.now.node)
                 × (G.side ring.exit.now ≡ G.side ring.entry.now) }
-        { talk(rt, flag, node, worker, ram, ring) },
-    )
+        { talk(rt, crew, node, worker, ram, ring) },
+        &mut || -> bool
+            requires { IsSync R.row × IsSync M.row × IsReady maker_number 1 gate.now.name one.now }
+            ensures { IsReady maker_number 1 gate.entry.now.name one.exit.now }
+        { scan_all(rt, crew, meet, gate, one, own) },
+    );
+    (scanned, talked)
 }
 
 /// Splits two passes off, runs the workers, and joins the passes.
-fn through_gate<G: RingSide + Send, M: Meet + Sync, R: Threads + Wait + Sync>(
+fn through_gate<G: RingSide + Outside + Send, M: Meet + Sync, R: Threads + Wait + Sync>(
     rt: &R,
-    flag: &Flag,
+    crew: &Crew,
     meet: &M,
     gate: &Gate<RamCell>,
     zero: Pass<RamCell>,
@@ -82,23 +85,28 @@ fn through_gate<G: RingSide + Send, M: Meet + Sync, R: Threads + Wait + Sync>(
     requires node { worker.old.node ≡ node }
     requires talks { TalksOn worker.old (ram_side gate.now) gate.now.name.opening (G.side ring.old)
         (G.known ring.old) false }
-    ensures back { IsBack gate.now worker.new (G.side ring.new) (G.known ring.new) result.0 result.1 }
+    ensures back { IsBack gate.now worker.new (G.side ring.new) (G.known ring.new)
+        result.0 result.1 }
     ensures node { worker.new.node ≡ node }
     ensures side { G.side ring.new ≡ G.side ring.old }
 {
     let (zero, mut one) = gate.split(zero, 1);
     let (zero, two) = gate.split(zero, 2);
     let mut ram = GatedRam::new(rt, gate, two);
-    let (scanned, talked) = run_pair(rt, flag, meet, gate, &mut one, worker, &mut ram, ring, node);
+    let (scanned, talked) = run_pair(rt, crew, meet, gate, &mut one, worker, &mut ram, ring, node);
     let zero = gate.join(zero, one);
     let zero = gate.join(zero, ram.into_pass());
     (zero, scanned & talked)
 }
 
 /// The history of a controller that ran behind a gate to its end.
-pub(crate) fn run_controller<G: RingSide + Send, M: Meet + Sync, R: Threads + Wait + Sync>(
+pub(crate) fn run_controller<
+    G: RingSide + Outside + Send,
+    M: Meet + Sync,
+    R: Threads + Wait + Sync,
+>(
     rt: &R,
-    flag: &Flag,
+    crew: &Crew,
     meet: &M,
     plant: &Plant,
     plan: &ControllerPlan,
@@ -114,7 +122,7 @@ pub(crate) fn run_controller<G: RingSide + Send, M: Meet + Sync, R: Threads + Wa
     let controller = Controller::new(alloc, plan, plant.scan_time, plant.watchdog, scans)?;
     let mut worker = CommWorker::new(alloc, plan.node, &plant.net, false)?;
     let (gate, zero) = Gate::new(alloc, RamCell::new(controller))?;
-    let (zero, done) = through_gate(rt, flag, meet, &gate, zero, &mut worker, ring, plan.node);
+    let (zero, done) = through_gate(rt, crew, meet, &gate, zero, &mut worker, ring, plan.node);
     let controller = gate.close(zero).into_inner();
     if !done {
         return Err(AllocError);

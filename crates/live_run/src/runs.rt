@@ -16,7 +16,7 @@ ghost use Rattle.live_run.specs.Stations.{CanRunAll, CanServeAll};
 ghost use Rattle.live_run.specs.Runs.{CanRunPlant, IsThrough};
 
 use crate::cells::RingCell;
-use crate::flags::Flag;
+use crate::crews::Crew;
 use crate::gated_ring::GatedRing;
 use crate::meets::Meet;
 use crate::stations::{Station, run_all};
@@ -60,6 +60,7 @@ impl HasNode for HostPlan {
 fn deal<'a, P: HasNode, L, M: Meet, R: Wait>(
     rt: &'a R,
     meet: &'a M,
+    crew: &'a Crew,
     gate: &'a Gate<RingCell>,
     mut pass: Pass<RingCell>,
     plans: &[P],
@@ -68,7 +69,8 @@ fn deal<'a, P: HasNode, L, M: Meet, R: Wait>(
     requires pass { pass ≡ record (first_pass gate.now.name) { given = pass.given } }
     requires members { All (λ m. m < addresses) gate.now.fixed.members }
     requires new { AreNew pass.given (map P.node_of plans.now) }
-    requires room { (room.items ≡ []) × (vec_len room ≡ 0) × (vec_capacity room ≡ length plans.now) }
+    requires room { (room.items ≡ []) × (vec_len room ≡ 0)
+        × (vec_capacity room ≡ length plans.now) }
     ensures pass { result.0
         ≡ record pass { given = reverse (map P.node_of plans.now) ++ pass.given } }
     ensures stations { result.1.items
@@ -78,7 +80,7 @@ fn deal<'a, P: HasNode, L, M: Meet, R: Wait>(
         let (zero, other) = gate.split(pass, u32::from(plans[index].node()));
         pass = zero;
         room.push_reserved(Station {
-            ring: GatedRing::new(rt, meet, gate, other),
+            ring: GatedRing::new(rt, meet, crew.token(), gate, other),
             log: None,
         });
     }
@@ -129,6 +131,7 @@ fn through_ring<M: Meet + Sync, R: Threads + Wait + Sync>(
     plant: &Plant,
     gate: &Gate<RingCell>,
     pass: Pass<RingCell>,
+    crew: &Crew,
     scans: u32,
 ) -> (Pass<RingCell>, Vec<ControllerLog>, Vec<HostLog>, bool)
     requires plant { IsPlant plant.now }
@@ -148,12 +151,11 @@ fn through_ring<M: Meet + Sync, R: Threads + Wait + Sync>(
         room.destroy_empty();
         return (pass, Vec::new(alloc), Vec::new(alloc), false);
     };
-    let flag = Flag::new();
-    let (pass, mut stations) = deal(rt, meet, gate, pass, plans, room);
-    let (pass, mut hosts) = deal(rt, meet, gate, pass, host_plans, host_room);
+    let (pass, mut stations) = deal(rt, meet, crew, gate, pass, plans, room);
+    let (pass, mut hosts) = deal(rt, meet, crew, gate, pass, host_plans, host_room);
     run_all(
         rt,
-        &flag,
+        crew,
         meet,
         plant,
         plans,
@@ -189,8 +191,11 @@ pub fn live<M: Meet + Sync, R: Threads + Wait + Sync>(
     effects_are_right();
     runs_complete();
     let ring = Ring::new(alloc, &plant.net)?;
+    let crew = Crew::new(alloc, plant, ring.holder())?;
     let (gate, pass) = Gate::new(alloc, RingCell::new(ring))?;
-    let (pass, controllers, hosts, done) = through_ring(rt, meet, alloc, plant, &gate, pass, scans);
+    let (pass, controllers, hosts, done) = through_ring(
+        rt, meet, alloc, plant, &gate, pass, &crew, scans,
+    );
     let ring = gate.close(pass).into_inner();
     if !done {
         return Err(AllocError);

@@ -1,5 +1,5 @@
 //! The scan worker of a controller.
-ghost use Rattle.std.specs.Prelude.{◌≡◌, true, IfOk, OnErr};
+ghost use Rattle.std.specs.Prelude.{◌≡◌, ◌≤◌, ◌+◌, true, length, IfOk, OnErr};
 ghost use Rattle.turn_gate.specs.Known.{IsReady};
 ghost use Rattle.controller_core.specs.Controller.{WentOn, has_ended, step_entries};
 ghost use Rattle.comm_port.specs.Reading.{has_ended_at};
@@ -7,12 +7,13 @@ ghost use Rattle.live_run.specs.Cells.{maker_number};
 ghost use Rattle.live_run.specs.Scanning.{IsOver};
 
 use crate::cells::RamCell;
-use crate::flags::Flag;
+use crate::crews::Crew;
 use crate::meets::Meet;
 use controller_core::{Controller, Maker, StepEnd};
 use scan_order::ScanStep;
 use std::alloc::AllocError;
 use std::sync::Wait;
+use std::thread::yield_now;
 use turn_gate::{Gate, Pass};
 
 /// Makes the next event of the scan, for which it reserves memory where a scan begins.
@@ -28,7 +29,7 @@ fn step_reserved(controller: &mut Controller) -> Result<StepEnd, AllocError>
     Ok(controller.step())
 }
 
-/// Makes one event in one stay behind the gate.
+/// Makes one event, or none, in one stay behind the gate.
 fn step_in<M: Meet, R: Wait>(
     rt: &R,
     meet: &M,
@@ -38,6 +39,7 @@ fn step_in<M: Meet, R: Wait>(
 ) -> Result<StepEnd, AllocError>
     requires ready { IsReady maker_number 1 gate.now.name pass.old }
     ensures ready { IsReady maker_number 1 gate.now.name pass.new }
+    ensures one { length pass.new.mine ≤ length pass.old.mine + 1 }
     ensures over { IfOk result (λ end. IsOver end
         → has_ended_at gate.now.fixed pass.new.seen ≡ true) }
 {
@@ -53,7 +55,7 @@ fn step_in<M: Meet, R: Wait>(
 /// Makes events until all scans have ended or the controller has stopped; whether it came so far.
 pub(crate) fn scan_all<M: Meet, R: Wait>(
     rt: &R,
-    flag: &Flag,
+    crew: &Crew,
     meet: &M,
     gate: &Gate<RamCell>,
     pass: &mut Pass<RamCell>,
@@ -63,15 +65,17 @@ pub(crate) fn scan_all<M: Meet, R: Wait>(
     ensures ready { IsReady maker_number 1 gate.now.name pass.new }
     ensures ended { result ≡ true → has_ended_at gate.now.fixed pass.new.seen ≡ true }
 {
+    let mut watch = crew.begin();
     for _ in rt.forever() {
-        if flag.is_raised() {
+        if watch.is_raised() {
             return false;
         }
         match step_in(rt, meet, gate, pass, node) {
+            Ok(StepEnd::Did(ScanStep::End)) => yield_now(),
             Ok(StepEnd::Did(_)) => {}
             Ok(_) => return true,
             Err(_) => {
-                flag.raise();
+                watch.raise();
                 return false;
             }
         }

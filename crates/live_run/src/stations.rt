@@ -7,10 +7,11 @@ ghost use Rattle.comm_port.specs.JointLaws.{fixed_of};
 ghost use Rattle.live_run.specs.Stations.{IsFresh, AreFresh, HasRun, HostHasRun, RanEach};
 ghost use Rattle.live_run.specs.Stations.{CanRunAll, CanServeAll};
 
-use crate::flags::Flag;
+use crate::crews::Crew;
 use crate::hosting::run_host;
 use crate::meets::Meet;
 use crate::pairs::run_controller;
+use crate::tallies::Outside;
 use comm_port::{ControllerLog, HostLog, RingSide};
 use plant_types::{ControllerPlan, HostPlan, Plant};
 use std::alloc::Global;
@@ -25,9 +26,13 @@ pub(crate) struct Station<G, L> {
 
 /// Runs the controllers of these plans, each at the station beside its plan.
 #[cycle(controllers)]
-pub(crate) fn run_controllers<G: RingSide + Send, M: Meet + Sync, R: Threads + Wait + Sync>(
+pub(crate) fn run_controllers<
+    G: RingSide + Outside + Send,
+    M: Meet + Sync,
+    R: Threads + Wait + Sync,
+>(
     rt: &R,
-    flag: &Flag,
+    crew: &Crew,
     meet: &M,
     plant: &Plant,
     plans: &[ControllerPlan],
@@ -45,7 +50,7 @@ pub(crate) fn run_controllers<G: RingSide + Send, M: Meet + Sync, R: Threads + W
     if stations.len() == 1 {
         run_one(
             rt,
-            flag,
+            crew,
             meet,
             plant,
             &plans[0],
@@ -59,14 +64,14 @@ pub(crate) fn run_controllers<G: RingSide + Send, M: Meet + Sync, R: Threads + W
     let (first, second) = plans.split_at(half);
     let (front, back) = stations.split_at_mut(half);
     run_halves(
-        rt, flag, meet, plant, first, second, front, back, alloc, scans,
+        rt, crew, meet, plant, first, second, front, back, alloc, scans,
     );
 }
 
 /// Runs the controller of a plan at its station.
-fn run_one<G: RingSide + Send, M: Meet + Sync, R: Threads + Wait + Sync>(
+fn run_one<G: RingSide + Outside + Send, M: Meet + Sync, R: Threads + Wait + Sync>(
     rt: &R,
-    flag: &Flag,
+    crew: &Crew,
     meet: &M,
     plant: &Plant,
     plan: &ControllerPlan,
@@ -79,16 +84,16 @@ fn run_one<G: RingSide + Send, M: Meet + Sync, R: Threads + Wait + Sync>(
     ensures ran { HasRun G.known plant.now scans plan.now station.new }
     ensures side { G.side station.new.ring ≡ G.side station.old.ring }
 {
-    match run_controller(rt, flag, meet, plant, plan, &mut station.ring, alloc, scans) {
+    match run_controller(rt, crew, meet, plant, plan, &mut station.ring, alloc, scans) {
         Ok(log) => station.log = Some(log),
-        Err(_) => flag.raise(),
+        Err(_) => crew.raise(),
     }
 }
 
 #[cycle(controllers)]
-fn run_halves<G: RingSide + Send, M: Meet + Sync, R: Threads + Wait + Sync>(
+fn run_halves<G: RingSide + Outside + Send, M: Meet + Sync, R: Threads + Wait + Sync>(
     rt: &R,
-    flag: &Flag,
+    crew: &Crew,
     meet: &M,
     plant: &Plant,
     first: &[ControllerPlan],
@@ -112,21 +117,21 @@ fn run_halves<G: RingSide + Send, M: Meet + Sync, R: Threads + Wait + Sync>(
                 × AreFresh G.side G.known plant.now (λ plan. plan.node) first.now front.now }
             ensures { RanEach G.side (HasRun G.known plant.entry.now scans) first.entry.now
                 front.entry.now front.exit.now }
-        { run_controllers(rt, flag, meet, plant, first, front, alloc, scans) },
+        { run_controllers(rt, crew, meet, plant, first, front, alloc, scans) },
         &mut ||
             requires { IsSync R.row × IsSync M.row × CanRunAll plant.now scans second.now
                 × AreFresh G.side G.known plant.now (λ plan. plan.node) second.now back.now }
             ensures { RanEach G.side (HasRun G.known plant.entry.now scans) second.entry.now
                 back.entry.now back.exit.now }
-        { run_controllers(rt, flag, meet, plant, second, back, alloc, scans) },
+        { run_controllers(rt, crew, meet, plant, second, back, alloc, scans) },
     );
 }
 
 /// Runs the hosts of these plans, each at the station beside its plan.
 #[cycle(hosts)]
-pub(crate) fn run_hosts<G: RingSide + Send, M: Meet + Sync, R: Threads + Wait + Sync>(
+pub(crate) fn run_hosts<G: RingSide + Outside + Send, M: Meet + Sync, R: Threads + Wait + Sync>(
     rt: &R,
-    flag: &Flag,
+    crew: &Crew,
     meet: &M,
     plant: &Plant,
     plans: &[HostPlan],
@@ -141,19 +146,19 @@ pub(crate) fn run_hosts<G: RingSide + Send, M: Meet + Sync, R: Threads + Wait + 
         return;
     }
     if stations.len() == 1 {
-        serve_one(rt, flag, meet, plant, &plans[0], &mut stations[0], alloc);
+        serve_one(rt, crew, meet, plant, &plans[0], &mut stations[0], alloc);
         return;
     }
     let half = stations.len() / 2;
     let (first, second) = plans.split_at(half);
     let (front, back) = stations.split_at_mut(half);
-    run_host_halves(rt, flag, meet, plant, first, second, front, back, alloc);
+    run_host_halves(rt, crew, meet, plant, first, second, front, back, alloc);
 }
 
 /// Runs the host of a plan at its station.
-fn serve_one<G: RingSide + Send, M: Meet + Sync, R: Threads + Wait + Sync>(
+fn serve_one<G: RingSide + Outside + Send, M: Meet + Sync, R: Threads + Wait + Sync>(
     rt: &R,
-    flag: &Flag,
+    crew: &Crew,
     meet: &M,
     plant: &Plant,
     plan: &HostPlan,
@@ -165,16 +170,16 @@ fn serve_one<G: RingSide + Send, M: Meet + Sync, R: Threads + Wait + Sync>(
     ensures ran { HostHasRun G.known plant.now plan.now station.new }
     ensures side { G.side station.new.ring ≡ G.side station.old.ring }
 {
-    match run_host(rt, flag, plant, plan, &mut station.ring, alloc) {
+    match run_host(rt, crew, plant, plan, &mut station.ring, alloc) {
         Ok(log) => station.log = Some(log),
-        Err(_) => flag.raise(),
+        Err(_) => crew.raise(),
     }
 }
 
 #[cycle(hosts)]
-fn run_host_halves<G: RingSide + Send, M: Meet + Sync, R: Threads + Wait + Sync>(
+fn run_host_halves<G: RingSide + Outside + Send, M: Meet + Sync, R: Threads + Wait + Sync>(
     rt: &R,
-    flag: &Flag,
+    crew: &Crew,
     meet: &M,
     plant: &Plant,
     first: &[HostPlan],
@@ -197,20 +202,20 @@ fn run_host_halves<G: RingSide + Send, M: Meet + Sync, R: Threads + Wait + Sync>
                 × AreFresh G.side G.known plant.now (λ plan. plan.node) first.now front.now }
             ensures { RanEach G.side (HostHasRun G.known plant.entry.now) first.entry.now
                 front.entry.now front.exit.now }
-        { run_hosts(rt, flag, meet, plant, first, front, alloc) },
+        { run_hosts(rt, crew, meet, plant, first, front, alloc) },
         &mut ||
             requires { IsSync R.row × IsSync M.row × CanServeAll second.now
                 × AreFresh G.side G.known plant.now (λ plan. plan.node) second.now back.now }
             ensures { RanEach G.side (HostHasRun G.known plant.entry.now) second.entry.now
                 back.entry.now back.exit.now }
-        { run_hosts(rt, flag, meet, plant, second, back, alloc) },
+        { run_hosts(rt, crew, meet, plant, second, back, alloc) },
     );
 }
 
 /// Runs all controllers and all hosts.
-pub(crate) fn run_all<G: RingSide + Send, M: Meet + Sync, R: Threads + Wait + Sync>(
+pub(crate) fn run_all<G: RingSide + Outside + Send, M: Meet + Sync, R: Threads + Wait + Sync>(
     rt: &R,
-    flag: &Flag,
+    crew: &Crew,
     meet: &M,
     plant: &Plant,
     plans: &[ControllerPlan],
@@ -236,12 +241,12 @@ pub(crate) fn run_all<G: RingSide + Send, M: Meet + Sync, R: Threads + Wait + Sy
                 × AreFresh G.side G.known plant.now (λ plan. plan.node) plans.now controllers.now }
             ensures { RanEach G.side (HasRun G.known plant.entry.now scans) plans.entry.now
                 controllers.entry.now controllers.exit.now }
-        { run_controllers(rt, flag, meet, plant, plans, controllers, own, scans) },
+        { run_controllers(rt, crew, meet, plant, plans, controllers, own, scans) },
         &mut ||
             requires { IsSync R.row × IsSync M.row × CanServeAll host_plans.now
                 × AreFresh G.side G.known plant.now (λ plan. plan.node) host_plans.now hosts.now }
             ensures { RanEach G.side (HostHasRun G.known plant.entry.now) host_plans.entry.now
                 hosts.entry.now hosts.exit.now }
-        { run_hosts(rt, flag, meet, plant, host_plans, hosts, alloc) },
+        { run_hosts(rt, crew, meet, plant, host_plans, hosts, alloc) },
     );
 }

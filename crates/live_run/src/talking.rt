@@ -2,15 +2,16 @@
 ghost use Rattle.std.specs.Prelude.{◌≡◌, true, false, IfOk};
 ghost use Rattle.live_run.specs.Talking.{TalksOn};
 
-use crate::flags::Flag;
+use crate::crews::Crew;
+use crate::pauses::Pause;
+use crate::tallies::Outside;
 use comm_port::{CommWorker, RamSide, RingSide};
-use crossbeam_utils::Backoff;
 use std::alloc::AllocError;
 use std::sync::Wait;
 use turn_laws::turns_keep_on;
 
 /// Makes a hold turn, where the node holds the token; whether it left.
-fn take_turn<M: RamSide, G: RingSide>(
+fn take_turn<M: RamSide, G: RingSide + Outside>(
     node: u8,
     worker: &mut CommWorker,
     ram: &mut M,
@@ -26,6 +27,9 @@ fn take_turn<M: RamSide, G: RingSide>(
     ensures ring_same { G.side ring.new ≡ G.side ring.old }
 {
     turns_keep_on();
+    if !ring.may_hold(node) {
+        return Ok(false);
+    }
     if ring.holder() != node {
         return Ok(false);
     }
@@ -34,9 +38,9 @@ fn take_turn<M: RamSide, G: RingSide>(
 
 /// Makes hold turns until the node has left; whether it came so far. A worker without a budget
 /// leaves no call uncollected.
-pub(crate) fn talk<M: RamSide, G: RingSide, R: Wait>(
+pub(crate) fn talk<M: RamSide, G: RingSide + Outside, R: Wait>(
     rt: &R,
-    flag: &Flag,
+    crew: &Crew,
     node: u8,
     worker: &mut CommWorker,
     ram: &mut M,
@@ -51,16 +55,17 @@ pub(crate) fn talk<M: RamSide, G: RingSide, R: Wait>(
     ensures ram_same { M.side ram.new ≡ M.side ram.old }
     ensures ring_same { G.side ring.new ≡ G.side ring.old }
 {
-    let backoff = Backoff::new();
+    let mut watch = crew.begin();
+    let mut pause = Pause::new();
     for _ in rt.forever() {
-        if flag.is_raised() {
+        if watch.is_raised() {
             return false;
         }
         match take_turn(node, worker, ram, ring) {
             Ok(true) => return true,
-            Ok(false) => backoff.snooze(),
+            Ok(false) => pause.rest(crew, &mut watch, ring.entries()),
             Err(_) => {
-                flag.raise();
+                watch.raise();
                 return false;
             }
         }

@@ -84,7 +84,8 @@ impl MstrBank {
     /// The k-th, from 1 on, of the started calls that were not taken yet, by block. Takes no
     /// memory.
     pub fn started(&self, k: u32) -> Option<MstrCall>
-        ensures call { result ≡ (if k == 0 then None else slice_get (started_calls self.now) (k - 1)) }
+        ensures call { result ≡
+            (if k == 0 then None else slice_get (started_calls self.now) (k - 1)) }
         ensures named { IfSome result (IsCall self.now.node) }
     {
         self.blocks.started(k)

@@ -286,8 +286,9 @@ impl Blocks {
     fn abort<R: RefStore>(&mut self, block: u16, site: Site, ram: &mut R) -> u8
         requires block { IsBlock self.old block }
         requires control { HasRegisters (R.contents ram.old) site.control control_block }
-        ensures { SolvesBlock (ended_with user_abort (given_up (block_state self.old block)) self.old
-            block site (R.contents ram.old))
+        ensures { SolvesBlock
+            (ended_with user_abort (given_up (block_state self.old block)) self.old block site
+            (R.contents ram.old))
             self.new result (R.contents ram.old) (R.contents ram.new) }
     {
         ram.set_word(status_register(site.control), USER_ABORT);

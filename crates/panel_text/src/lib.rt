@@ -9,5 +9,4 @@ mod scans;
 #[cfg(test)]
 mod tests;
 
-pub use lines::{Reading, push_line, readings_of};
 pub use panel::panel_text;

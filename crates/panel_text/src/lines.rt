@@ -16,7 +16,7 @@ use std::fmt::Write;
 
 /// A reference of a panel, with the text that stands before its value.
 #[derive(Drop)]
-pub struct Reading {
+pub(crate) struct Reading {
     at: Ref,
     label: String,
     ghost labelled: { string_bytes label ≡ label_of at },
@@ -30,7 +30,7 @@ fn reading_of(alloc: Global, at: Ref) -> Result<Reading, AllocError>
 }
 
 /// The references of a panel, in its order.
-pub fn readings_of(alloc: Global, panel: &[Ref]) -> Result<Vec<Reading>, AllocError>
+pub(crate) fn readings_of(alloc: Global, panel: &[Ref]) -> Result<Vec<Reading>, AllocError>
     ensures { IfOk result (λ readings. map (λ reading. reading.at) readings.items ≡ panel.now) }
 {
     let mut readings = Vec::new(alloc);
@@ -98,7 +98,7 @@ fn push_told(
 }
 
 /// Adds the line of a scan that is over.
-pub fn push_line(
+pub(crate) fn push_line(
     text: &mut String,
     node: u8,
     readings: &[Reading],

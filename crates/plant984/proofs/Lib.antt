@@ -1,6 +1,7 @@
 mod CutLemmas
 mod DueLemmas
 mod MoreScans
+mod OneDue
 mod OneNumber
 mod Positionals
 mod Runs

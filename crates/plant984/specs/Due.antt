@@ -145,8 +145,8 @@ pub record IsDue (command : Command) (input : List ℕ) (what : Due) : Type 0 wh
   pub parts : IsFile command input file behind
   pub due : IsDueOf command behind (plant_of file) what
 
--- The joint history of a live run: that of some run in threads, which is a whole one, in which no
--- node left because its Passes were spent.
+-- What a live run shows: a joint history that is that of a whole run, in which no node left because
+-- its Passes were spent.
 pub record IsLiveShown (scans : ℕ) (plant : Plant) (what : Due) : Type 0 where
   pub joint : Joint
   pub whole : IsWholeRun plant scans joint

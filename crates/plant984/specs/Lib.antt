@@ -3,4 +3,5 @@ pub mod Words
 pub mod Cut
 pub mod Judged
 pub mod Due
+pub mod OneDue
 pub mod Promise

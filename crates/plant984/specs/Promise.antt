@@ -148,6 +148,11 @@ abbrev pub StartsLive : List (List ℕ) → Type 0
 StartsLive [] = ⊥
 StartsLive (name ∷ behind) = name ≡ codes "live"
 
+-- The words ask for no input, so none is read: they are no command, or one that reads none.
+pub record AsksNothing (words : List (List ℕ)) : Type 0 where
+  pub live : StartsLive words → ¬ AsksInput SpellsLive always words
+  pub other : ¬ StartsLive words → ¬ AsksInput SpellsCommand reads_input words
+
 pub record PromisedAll (status : Status) (words : List (List ℕ))
     (source source_now sink sink_now : Side) : Type 0 where
   pub live : StartsLive words → PromisedLive status words source source_now sink sink_now

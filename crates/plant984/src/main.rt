@@ -5,6 +5,7 @@ mod answering;
 mod arguments;
 mod cutting;
 mod judging;
+mod laws;
 mod live;
 #[cfg(test)]
 mod nets;
@@ -14,6 +15,8 @@ mod serial;
 mod status;
 #[cfg(test)]
 mod tests;
+#[cfg(test)]
+mod threads;
 mod top;
 mod words;
 

@@ -10,7 +10,7 @@ use std::str;
 use std::test::Fail;
 
 // Node 2 reads two registers of node 5, which are 42 and 43.
-fn read2() -> &'static str {
+pub fn read2() -> &'static str {
     r#"version = 1
 [net]
 rotations = 2
@@ -80,7 +80,7 @@ S 2 N 5
 }
 
 // Two pumps' controllers that read each other's registers, and a host that reads them.
-fn pumps() -> &'static str {
+pub fn pumps() -> &'static str {
     r#"version = 1
 scan_time = 50
 [net]

@@ -22,7 +22,8 @@ fn reads_input(command: Command) -> bool
 /// Answers a command over an input, and writes the answer.
 fn write_answer<K: Sink>(alloc: Global, command: Command, input: &[u8], sink: &mut K) -> Status
     requires { IsCommandInRange command }
-    ensures answers { Answers (IsDue command input.now) (side (K.taken sink.old) (K.faults sink.old))
+    ensures answers { Answers (IsDue command input.now)
+        (side (K.taken sink.old) (K.faults sink.old))
         (side (K.taken sink.new) (K.faults sink.new)) result }
     ensures later { K.faults sink.old ≤ K.faults sink.new }
     ensures nothing_written { WritesNothing result → sink.new ≡ sink.old }

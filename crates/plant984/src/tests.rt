@@ -85,13 +85,13 @@ pub fn words_of(alloc: Global, line: &str) -> Result<Vec<String>, AllocError> {
     Ok(words)
 }
 
-fn source_of(alloc: Global, input: &str, fails: &[u64]) -> Result<MemSource, AllocError> {
+pub fn source_of(alloc: Global, input: &str, fails: &[u64]) -> Result<MemSource, AllocError> {
     let fails = Vec::from_slice(alloc, fails)?;
     let bytes = Vec::from_slice(alloc, input.as_bytes())?;
     Ok(MemSource::new(bytes, 7, fails))
 }
 
-fn sink_of(alloc: Global, fails: &[u64]) -> Result<MemSink, AllocError> {
+pub fn sink_of(alloc: Global, fails: &[u64]) -> Result<MemSink, AllocError> {
     Ok(MemSink::new(alloc, 7, Vec::from_slice(alloc, fails)?))
 }
 

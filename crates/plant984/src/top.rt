@@ -3,7 +3,7 @@ ghost use Rattle.std.specs.Prelude.{◌≡◌, IsTrue, ◌↔◌, codes, map, st
 ghost use Rattle.std.specs.Process.{exit_status};
 ghost use Rattle.plant984.specs.Status.{exit_number};
 ghost use Rattle.plant984.specs.declared.status.Status.{Status as AnyStatus};
-ghost use Rattle.plant984.specs.Promise.{PromisedAll, StartsLive, WritesNothing, side};
+ghost use Rattle.plant984.specs.Promise.{AsksNothing, PromisedAll, StartsLive, WritesNothing, side};
 
 use crate::live::plant_live;
 use crate::serial::plant_serial;
@@ -46,6 +46,7 @@ pub fn plant_top<S: Source, K: Sink, M: Meet + Sync, R: Threads + Wait + Sync>(
         (side (S.left source.new) (S.faults source.new))
         (side (K.taken sink.old) (K.faults sink.old))
         (side (K.taken sink.new) (K.faults sink.new)) }
+    ensures reads_nothing { AsksNothing (map string_bytes words.now) → source.new ≡ source.old }
     ensures nothing_written { WritesNothing result → sink.new ≡ sink.old }
 {
     if starts_live(words) {
@@ -64,12 +65,14 @@ pub fn exit_of<S: Source, K: Sink, M: Meet + Sync, R: Threads + Wait + Sync>(
     sink: &mut K,
     meet: &M,
 ) -> ExitCode
-    ensures { (status : AnyStatus) × (exit_status result ≡ exit_number status)
+    ensures promised { (status : AnyStatus) × (exit_status result ≡ exit_number status)
+        × (WritesNothing status → sink.new ≡ sink.old)
         × PromisedAll status (map string_bytes words.now)
         (side (S.left source.old) (S.faults source.old))
         (side (S.left source.new) (S.faults source.new))
         (side (K.taken sink.old) (K.faults sink.old))
         (side (K.taken sink.new) (K.faults sink.new)) }
+    ensures reads_nothing { AsksNothing (map string_bytes words.now) → source.new ≡ source.old }
 {
     ExitCode::from(plant_top(rt, alloc, words, source, sink, meet))
 }

@@ -30,7 +30,8 @@ pub struct NetPlan {
     pub rotations: u32,
     /// How many Passes in a row every member has to be done before a node leaves, 1 to 100.
     pub rounds: u32,
-    /// After how many Passes a node leaves in any case, 1 to 100,000.
+    /// After how many Passes a node with a budget leaves in any case, 1 to 100,000. A live run has
+    /// no budgets.
     pub holds: u32,
 }
 

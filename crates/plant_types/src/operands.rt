@@ -3,8 +3,9 @@ ghost use Rattle.std.specs.Prelude.{◌≡◌, ◌≤◌, ◌<◌, [], ◌∷◌
 ghost use Rattle.plant_types.specs.Elements.{operands_of, reference_in, constant_in, one_reference};
 ghost use Rattle.plant_types.specs.Elements.{one_operand, without_operands, preset_and_acc};
 ghost use Rattle.plant_types.specs.Elements.{numbers_and_low, table_operands, element_of};
+ghost use Rattle.plant_types.specs.declared.name.ElementName.TheVariants as names;
 
-use crate::element::{Element, Operand};
+use crate::element::{Element, MatrixOp, MoveOp, Operand};
 use crate::name::ElementName;
 use crate::reference::Ref;
 use std::marker::Model;
@@ -189,6 +190,43 @@ fn table_operands(operands: &[Operand]) -> Option<(Operand, Ref, u16)>
     Some((*top, reference_in(*mid)?, constant_in(*length)?))
 }
 
+fn move_of(op: MoveOp, operands: &[Operand]) -> Option<Element>
+    ensures { result ≡ element_of (names.Move op) operands.now }
+{
+    let (top, mid, length) = table_operands(operands)?;
+    let top = reference_in(top)?;
+    Some(Element::Move {
+        op,
+        top,
+        mid,
+        length,
+    })
+}
+
+fn matrix_of(op: MatrixOp, operands: &[Operand]) -> Option<Element>
+    ensures { result ≡ element_of (names.Matrix op) operands.now }
+{
+    let (top, mid, length) = table_operands(operands)?;
+    Some(Element::Matrix {
+        op,
+        top,
+        mid,
+        length,
+    })
+}
+
+fn message_of(operands: &[Operand]) -> Option<Element>
+    ensures { result ≡ element_of names.Mstr operands.now }
+{
+    let (control, area, length) = table_operands(operands)?;
+    let control = reference_in(control)?;
+    Some(Element::Mstr {
+        control,
+        area,
+        length,
+    })
+}
+
 /// The element of a name and operands; none where the operands are not those of the name.
 pub fn element_of(name: ElementName, operands: &[Operand]) -> Option<Element>
     ensures { result ≡ element_of name operands.now }
@@ -214,36 +252,11 @@ pub fn element_of(name: ElementName, operands: &[Operand]) -> Option<Element>
             let (top, mid, low) = numbers_and_low(operands)?;
             Some(Element::Math { op, top, mid, low })
         }
-        ElementName::Move(op) => {
-            let (top, mid, length) = table_operands(operands)?;
-            let top = reference_in(top)?;
-            Some(Element::Move {
-                op,
-                top,
-                mid,
-                length,
-            })
-        }
-        ElementName::Matrix(op) => {
-            let (top, mid, length) = table_operands(operands)?;
-            Some(Element::Matrix {
-                op,
-                top,
-                mid,
-                length,
-            })
-        }
+        ElementName::Move(op) => move_of(op, operands),
+        ElementName::Matrix(op) => matrix_of(op, operands),
         ElementName::Skip => Some(Element::Skip(one_operand(operands)?)),
         ElementName::Call => Some(Element::Call(one_operand(operands)?)),
         ElementName::Label => Some(Element::Label(constant_in(one_operand(operands)?)?)),
-        ElementName::Mstr => {
-            let (control, area, length) = table_operands(operands)?;
-            let control = reference_in(control)?;
-            Some(Element::Mstr {
-                control,
-                area,
-                length,
-            })
-        }
+        ElementName::Mstr => message_of(operands),
     }
 }

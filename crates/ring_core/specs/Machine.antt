@@ -29,7 +29,7 @@ pub record RingIs : Type 0 where
   pub sent : ℕ
   pub nodes : List NodeIs
 
--- Addresses are 1 to 64.
+-- Addresses are 1 to 64, below this number.
 abbrev pub addresses : ℕ
 addresses = 65
 

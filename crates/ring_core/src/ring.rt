@@ -95,7 +95,8 @@ impl Ring {
     pub fn awaits(&self, node: u8, path: u8) -> u32
         requires member { IsMember self.now.net node }
         requires path { IsPath path }
-        ensures { result ≡ awaited_number (path_of (ring_node (ring_of self.now) node) path).awaits }
+        ensures { result ≡
+            awaited_number (path_of (ring_node (ring_of self.now) node) path).awaits }
     {
         self.nodes[node as usize].awaits(path).seq()
     }
@@ -391,7 +392,8 @@ impl Ring {
         requires member { IsMember self.old.net id.node }
         requires path { IsPath id.path }
         ensures word { IfOk result (λ word. word ≡ word_of (ring_of self.old) id) }
-        ensures ok { IfOk result (λ word. self.new ≡ with_entry self.old (RingEntry.GiveUp id word)) }
+        ensures ok { IfOk result (λ word.
+            self.new ≡ with_entry self.old (RingEntry.GiveUp id word)) }
         ensures err { OnErr result (self.new ≡ self.old) }
         ensures answer { RefusedAs result (give_up_no self.old.net (ring_of self.old) id) }
     {
@@ -481,7 +483,8 @@ impl Ring {
     pub fn leave(&mut self, node: u8, cause: LeaveCause) -> Result<(), RingNo>
         requires member { IsMember self.old.net node }
         requires spare { 1 ≤ self.old.spare }
-        ensures ok { OnOk result (self.new ≡ with_spare_entry self.old (RingEntry.Leave node cause)) }
+        ensures ok { OnOk result
+            (self.new ≡ with_spare_entry self.old (RingEntry.Leave node cause)) }
         ensures err { IfErr result (λ why.
             (leave_no self.old.net (ring_of self.old) node cause ≡ Some why)
             × (self.new ≡ self.old)) }

@@ -16,9 +16,8 @@ pub record GateFacts (E F : Type 0) : Type 0 where
   pub fixed : F
 
 -- what a pass knows: its gate, its number, the entries that it has seen, those of them that it
--- made,
--- the numbers and own entries of the passes that were joined into it, what each of those had seen,
--- the numbers that it gave, and the ticket of its stay while it is inside
+-- made, the numbers and own entries of the passes that were joined into it, what each of those had
+-- seen, the numbers that it gave, and the ticket of its stay while it is inside
 pub record PassFacts (E : Type 0) : Type 0 where
   pub gate : GateName E
   pub number : ℕ

@@ -1,6 +1,5 @@
 -- The steps of a pass, and what each tells the pass that makes it. Taking the value out of the
--- slot and
--- putting it back change no view. All of it is this project's own.
+-- slot and putting it back change no view. All of it is this project's own.
 use Rattle.std.specs.Prelude.{◌≡◌, ◌≢◌, ℕ, ◌%◌, ◌^◌, List, [], ◌∷◌, ◌++◌, length, drop, Option}
 use Rattle.std.specs.Prelude.{Some, None}
 use mathlib.Core.Option.{some}
@@ -70,9 +69,8 @@ module _ {S E : Type 0} where
   Drawn st m r m' = (t : ℕ) × (r ≡ t % 2 ^ 64) × (m' ≡ (in_phase m.0 (Waiting t), m.1))
 
 module _ {E : Type 0} (maker : E → ℕ) where
-  -- of these entries, those made after the opening ones that name a number of the view are
-  -- exactly the
-  -- list that it keeps under that number
+  -- of these entries, those made after the opening ones that name a number of the view are exactly
+  -- the list that it keeps under that number
   pub record Exact (v : View E) (all : List E) : Type 0 where
     pub made : List E
     pub all_is : all ≡ v.opening ++ made
@@ -86,10 +84,8 @@ module _ {S E : Type 0} (maker : E → ℕ) where
 module _ {V E F : Type 0} (entries : V → List E) (fixed : V → F) (maker : E → ℕ)
     (about : Option F) where
   -- what a pass with the view v learns of the value x that it is handed: its entries begin with
-  -- those
-  -- seen, what was added since names none of its numbers, the fixed part is the opening one, and
-  -- its
-  -- own lists are exact
+  -- those seen, what was added since names none of its numbers, the fixed part is the opening one,
+  -- and its own lists are exact
   pub record Handed (v : View E) (x : V) : Type 0 where
     pub between : List E
     pub begins : entries x ≡ v.seen ++ between
@@ -111,8 +107,7 @@ module _ {V E F : Type 0} (entries : V → List E) (fixed : V → F) (maker : E 
 
 module _ {V E : Type 0} (entries : V → List E) (maker : E → ℕ) where
   -- what a pass with the view v may leave: the entries that it has seen, and then some that name
-  -- its
-  -- own number
+  -- its own number
   pub record MayLeave (v : View E) (x : V) : Type 0 where
     pub by : ℕ
     pub mine : List E

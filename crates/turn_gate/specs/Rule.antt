@@ -1,6 +1,5 @@
--- The rule of a gate's table. Word 0 is the next ticket, word 1 the ticket that is served, and
--- the one
--- slot has the value. All of it is this project's own.
+-- The rule of a gate's table. Word 0 is the next ticket, word 1 the ticket that is served, and the
+-- one slot has the value. All of it is this project's own.
 use Rattle.std.specs.Prelude.{◌≡◌, ℕ, ◌+◌, ◌%◌, ◌^◌, ◌<◌, ◌≤◌, ◌⊎◌, nat_eq, List, [], ◌∷◌, ◌++◌}
 use Rattle.std.specs.Prelude.{length, map, Option, Some, None, true}
 use Rattle.std.specs.List.{IsDistinct}
@@ -54,8 +53,7 @@ HasTicket (Inside u) t = u ≡ t
 
 -- what there is behind words, slot and views: the entries made after the opening ones, the next
 -- ticket and the one that is served as whole numbers, which seat holds a ticket, which keeps a
--- number,
--- the numbers given by the pass that keeps 0, and the value where it is at home
+-- number, the numbers given by the pass that keeps 0, and the value where it is at home
 pub record Account (V E : Type 0) : Type 0 where
   pub made : List E
   pub ticket : ℕ
@@ -83,8 +81,8 @@ module _ {V E : Type 0} (a : Account V E) (all : List E) (j : ℕ) (seen : List 
 module _ {E : Type 0} (maker : E → ℕ) (start made : List E) (owner : ℕ → ℕ) (given : List ℕ) where
   -- what the rule says of each number n that the view of the seat j keeps: its list is exactly the
   -- entries made that name it, none of those that the pass has not seen names it, no other seat
-  -- keeps
-  -- it, it is 0 or was given by the pass that keeps 0, and the view knows the opening entries
+  -- keeps it, it is 0 or was given by the pass that keeps 0, and the view knows the opening
+  -- entries
   pub record OwnsNumber (j : ℕ) (opening rest : List E) (n : ℕ) (es : List E) : Type 0 where
     pub exact : es ≡ own maker n made
     pub owner_is : owner n ≡ j
@@ -94,10 +92,8 @@ module _ {E : Type 0} (maker : E → ℕ) (start made : List E) (owner : ℕ →
 
 module _ {V E : Type 0} (maker : E → ℕ) (start : List E) (a : Account V E) (j : ℕ) where
   -- what the rule says of the view v of the seat j: what it has seen begins all entries, and so
-  -- does
-  -- what each pass had seen that was joined into it; of the entries made it has seen the early
-  -- ones;
-  -- its phase fits; the numbers that it keeps differ
+  -- does what each pass had seen that was joined into it; of the entries made it has seen the
+  -- early ones; its phase fits; the numbers that it keeps differ
   pub record Fits (v : View E) : Type 0 where
     pub begins : StartsWith (start ++ a.made) v.seen
     pub heard : (k : ℕ) (s : List E) → get_elem? v.heard k ≡ some s → StartsWith (start ++ a.made) s
@@ -127,14 +123,10 @@ home_of None = none
 
 module _ {V E F : Type 0} (entries : V → List E) (fixed : V → F) (maker : E → ℕ) (first : V) where
   -- The rule, over the opening value `first`: the words are the two tickets modulo 2 ^ 64; the
-  -- tickets
-  -- from the one that is served up to the next are each held by one pass; the value is at home
-  -- where no
-  -- pass is inside; each view fits, and one of them has seen all entries; each entry made names a
-  -- number
-  -- that a view keeps; one view keeps 0 and has the list of the numbers given, which differ, are
-  -- below
-  -- 2 ^ 32, and are as many as the further seats
+  -- tickets from the one that is served up to the next are each held by one pass; the value is at
+  -- home where no pass is inside; each view fits, and one of them has seen all entries; each entry
+  -- made names a number that a view keeps; one view keeps 0 and has the list of the numbers given,
+  -- which differ, are below 2 ^ 32, and are as many as the further seats
   pub record Rule (s : State (Option V) (View E)) : Type 0 where
     pub account : Account V E
     pub words : s.words ≡ account.ticket % 2 ^ 64 ∷ account.serving % 2 ^ 64 ∷ []

@@ -20,6 +20,7 @@ use Rattle.comm_port.specs.Making.{request_frame, Does, Owing, calls_from}
 use Rattle.ring_core.specs.declared.path.Await.TheVariants.{Nothing}
 use Rattle.comm_port.proofs.GivesUp.{waits-nothing}
 use Rattle.comm_port.proofs.Made.{owing-next, may-post, may-do, posted-lead, done-lead}
+use Rattle.comm_port.proofs.Stands.{both-stay, both-ring}
 use Rattle.comm_port.proofs.calling.make_call.Goals as goal
 
 pub post_call-requires-clause-next : goal.post_call-requires-clause-next
@@ -132,3 +133,19 @@ post_call-requires-clause-free g c =
     subst (λ (f : Frame). (path_of (ring_node (ring_after (g.R.RingSide.side c.args.ring.now).net (g.R.RingSide.known
     c.args.ring.now)) n) f.id.path).awaits ≡ Nothing) (sym c.request_frame-frame.ensures)
     (waits-nothing n call.id.path _ _ _ _ _ c.args.waiting.now m.free o.turning)
+
+pub returns-in_err-copied-in-Net-clause-stands : goal.returns-in_err-copied-in-Net-clause-stands
+returns-in_err-copied-in-Net-clause-stands g c =
+    both-stay g.M.RamSide.alone g.R.RingSide.alone _ _ c.args.node _ _ c.requires.owing.turning.own_turn.on.legal
+
+pub returns-in_err-post_call-in-Net-clause-stands : goal.returns-in_err-post_call-in-Net-clause-stands
+returns-in_err-post_call-in-Net-clause-stands g c =
+    both-ring g.M.RamSide.alone g.R.RingSide.alone _ _ c.args.node _ _ _ c.in_err-post_call-in-Net.ensures.stands
+
+pub returns-in_ok-post_call-in-Net-clause-stands : goal.returns-in_ok-post_call-in-Net-clause-stands
+returns-in_ok-post_call-in-Net-clause-stands g c =
+    both-ring g.M.RamSide.alone g.R.RingSide.alone _ _ c.args.node _ _ _ c.in_ok-post_call-in-Net.ensures.stands
+
+pub returns-in_err-copied-in-Local-clause-stands : goal.returns-in_err-copied-in-Local-clause-stands
+returns-in_err-copied-in-Local-clause-stands g c =
+    both-stay g.M.RamSide.alone g.R.RingSide.alone _ _ c.args.node _ _ c.requires.owing.turning.own_turn.on.legal

@@ -7,6 +7,7 @@ use Rattle.comm_port.specs.Order.{IsCalling, IsFinish}
 use Rattle.std.proofs.Common.{◌≡◌}
 use Rattle.comm_port.specs.Turns.{KeepsInbox}
 use Rattle.comm_port.specs.Making.{Owing, calls_from}
+use Rattle.comm_port.specs.Stands.{BothStand}
 use Rattle.comm_port.proofs.calling.make_calls.Given as goal
 
 abbrev pub invariant-loop-at : goal.invariant-loop-at
@@ -20,4 +21,6 @@ invariant-loop-at g l = record {
       (g.M.RamSide.known l.initial.ram) (g.M.RamSide.known l.ram) (g.R.RingSide.known l.initial.ring) (g.R.RingSide.known l.ring);
   ram_same : g.M.RamSide.side l.ram ≡ g.M.RamSide.side l.initial.ram;
   ring_same : g.R.RingSide.side l.ring ≡ g.R.RingSide.side l.initial.ring;
+  stands : BothStand g.M.RamSide.alone g.R.RingSide.alone (g.M.RamSide.side l.initial.ram).fixed (g.R.RingSide.side l.initial.ring).net l.node
+      (g.M.RamSide.known l.initial.ram) (g.M.RamSide.known l.ram) (g.R.RingSide.known l.initial.ring) (g.R.RingSide.known l.ring);
 }

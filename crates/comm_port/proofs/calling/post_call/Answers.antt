@@ -3,6 +3,7 @@ use Rattle.comm_port.proofs.Allowed.{free-path-no}
 use Rattle.std.proofs.Common.{refl}
 use Rattle.ring_core.specs.declared.entry.RingEntry.TheVariants.{Post}
 use Rattle.comm_port.proofs.RingTurns.{own-moved, kept-post}
+use Rattle.comm_port.proofs.Stands.{ring-stays}
 use Rattle.comm_port.proofs.calling.post_call.Goals as goal
 
 pub returns-clause-kept : goal.returns-clause-kept
@@ -13,3 +14,7 @@ returns-clause-kept g c =
 
 pub post_frame-requires-clause-free : goal.post_frame-requires-clause-free
 post_frame-requires-clause-free g c = free-path-no (part_at (g.R.RingSide.side c.args.ring.now).net c.args.node (g.R.RingSide.known c.args.ring.now)) c.args.frame.kind c.args.frame.id.path c.requires.free
+
+pub returns-in_err-kept-clause-stands : goal.returns-in_err-kept-clause-stands
+returns-in_err-kept-clause-stands g c =
+    ring-stays g.R.RingSide.alone _ c.args.node _ c.requires.turn.on.legal

@@ -23,6 +23,7 @@ use Rattle.comm_port.proofs.Leaves.{ending-too, all-paths, all-on, turn-side}
 use Rattle.comm_port.proofs.Through.{IsEnding, rest-through}
 use Rattle.std.proofs.Common.{sym, ◌∙◌}
 use Rattle.comm_port.proofs.TurnsEnded.{handed-lead, left-lead, left-at, asked-lead, some-of}
+use Rattle.comm_port.proofs.Stands.{both-on}
 use Rattle.comm_port.proofs.ending.end_turn.Goals as goal
 
 pub hand_on-requires-clause-sent : goal.hand_on-requires-clause-sent
@@ -120,3 +121,23 @@ returns-then-left-clause-rest g c =
     rest-through g.R.RingSide.alone _ n _ _ c.requires.turning.own_turn.on now
     (adds-both g.R.RingSide.alone (is_of n) IsEnding _ _ _ (handed-ends g.R.RingSide.alone _ n _ _ _ _ _ o.handed)
     (adds-weaker g.R.RingSide.alone (is_of n) IsGivingUp IsEnding _ _ ending-too e.ring_adds)) c.requires.rest
+
+pub returns-in_err-left-clause-stands : goal.returns-in_err-left-clause-stands
+returns-in_err-left-clause-stands g c =
+    record { station = c.is_done-done.ensures.stands; node = c.in_err-left.ensures.stands }
+
+pub returns-in_err-give_up_where-clause-stands : goal.returns-in_err-give_up_where-clause-stands
+returns-in_err-give_up_where-clause-stands g c =
+    let d = c.is_done-done.ensures in
+    let o = c.in_ok-left.ensures in
+    both-on g.M.RamSide.alone g.R.RingSide.alone c.args.node _ _ _ _ _ _ _ _ _ _ d.same o.same (record { station = d.stands; node = o.stands }) c.in_err-give_up_where.ensures.stands
+
+pub returns-then-left-clause-stands : goal.returns-then-left-clause-stands
+returns-then-left-clause-stands g c =
+    let d = c.is_done-done.ensures in
+    let o = c.in_ok-left.ensures in
+    both-on g.M.RamSide.alone g.R.RingSide.alone c.args.node _ _ _ _ _ _ _ _ _ _ d.same o.same (record { station = d.stands; node = o.stands }) c.in_ok-give_up_where.ensures.stands
+
+pub returns-clause-stands : goal.returns-clause-stands
+returns-clause-stands g c =
+    record { station = c.is_done-done.ensures.stands; node = c.in_ok-left.ensures.stands }

@@ -15,6 +15,7 @@ use Rattle.tied_lists.specs.Items.{NetCall}
 use Rattle.comm_port.specs.Sending.{GaveUp}
 use Rattle.comm_port.specs.Turns.{KeepsInbox, Turning}
 use Rattle.comm_port.proofs.Given.{waits-at, given-lead, not-given}
+use Rattle.comm_port.proofs.Stands.{ram-went, ring-of, both-stay, both-ring}
 use Rattle.comm_port.proofs.giving.give_up_path.Goals as goal
 
 pub returns-in_default-2-clause-turning : goal.returns-in_default-2-clause-turning
@@ -154,3 +155,36 @@ returns-clause-part g c =
     let k = waits-at n p id _ _ _ _ c.args.waiting.now (sym c.id_on.ensures ∙ c.in-Some.is) c.requires.turning in
     let j = judged-on n p id [] _ _ _ _ c.args.waiting.now k c.requires.turning in
     on-given g.R.RingSide.alone _ n p id c.in-Some-2.word _ _ k.own_is k.path_is j _ c.in-Some-2.is o.given
+
+pub returns-in_default-clause-stands : goal.returns-in_default-clause-stands
+returns-in_default-clause-stands g c =
+    both-stay g.M.RamSide.alone g.R.RingSide.alone _ _ c.args.node _ _ c.requires.turning.own_turn.on.legal
+
+pub returns-in_err-word-clause-stands : goal.returns-in_err-word-clause-stands
+returns-in_err-word-clause-stands g c =
+    let id = c.in-Some.id in
+    let k = waits-at c.args.node c.args.path id _ _ _ _ c.args.waiting.now (sym c.id_on.ensures ∙ c.in-Some.is) c.requires.turning in
+    both-ring g.M.RamSide.alone g.R.RingSide.alone _ _ c.args.node _ _ _ (ring-of g.R.RingSide.alone _ id.node c.args.node _ _ k.own_is c.in_err-word.ensures.stands)
+
+pub returns-in_default-2-clause-stands : goal.returns-in_default-2-clause-stands
+returns-in_default-2-clause-stands g c =
+    let id = c.in-Some.id in
+    let k = waits-at c.args.node c.args.path id _ _ _ _ c.args.waiting.now (sym c.id_on.ensures ∙ c.in-Some.is) c.requires.turning in
+    both-ring g.M.RamSide.alone g.R.RingSide.alone _ _ c.args.node _ _ _ (ring-of g.R.RingSide.alone _ id.node c.args.node _ _ k.own_is c.in_ok-word.ensures.stands)
+
+pub returns-in_err-finish-clause-stands : goal.returns-in_err-finish-clause-stands
+returns-in_err-finish-clause-stands g c =
+    let id = c.in-Some.id in
+    let k = waits-at c.args.node c.args.path id _ _ _ _ c.args.waiting.now (sym c.id_on.ensures ∙ c.in-Some.is) c.requires.turning in
+    let f = c.in_err-finish.ensures in
+    record { station = ram-went g.M.RamSide.alone _ _ [] _ refl f.legal f.went; node = ring-of g.R.RingSide.alone _ id.node c.args.node _ _ k.own_is c.in_ok-word.ensures.stands }
+
+pub returns-clause-stands : goal.returns-clause-stands
+returns-clause-stands g c =
+    let id = c.in-Some.id in
+    let k = waits-at c.args.node c.args.path id _ _ _ _ c.args.waiting.now (sym c.id_on.ensures ∙ c.in-Some.is) c.requires.turning in
+    let f = c.in_ok-finish.ensures in
+    record {
+      station = ram-went g.M.RamSide.alone _ _ (Finish id (Bad c.in-Some-2.word) ∷ []) _ refl f.legal f.went;
+      node = ring-of g.R.RingSide.alone _ id.node c.args.node _ _ k.own_is c.in_ok-word.ensures.stands;
+    }

@@ -15,6 +15,7 @@ use Rattle.comm_port.specs.Reading.{is_ours}
 use Rattle.comm_port.specs.Order.{IsGivingUp, IsFinish}
 use Rattle.comm_port.proofs.RingTurns.{kept-both, kept-same}
 use Rattle.comm_port.proofs.Given.{less-both}
+use Rattle.comm_port.proofs.Stands.{both-stay, both-on}
 use Rattle.comm_port.proofs.giving.give_up_where.Goals as goal
 
 the-last : (k : ℕ) → k ≤ 5 → 5 ≤ k → k ≡ 5
@@ -43,6 +44,7 @@ loop-path-preserved g c =
           (g.R.RingSide.known c.give_up_path.new.ring)) _ _ i.ring_same e.part);
       ram_same = e.ram_same ∙ i.ram_same;
       ring_same = e.ring_same ∙ i.ring_same;
+      stands = both-on g.M.RamSide.alone g.R.RingSide.alone n _ _ _ _ _ _ _ _ _ _ i.ram_same i.ring_same i.stands e.stands;
     }
 
 pub loop-path-init : goal.loop-path-init
@@ -56,6 +58,7 @@ loop-path-init g c = record {
   part = where-none (g.R.RingSide.side c.args.ring.now).net c.args.node c.args.chosen.now (g.R.RingSide.known c.args.ring.now);
   ram_same = refl;
   ring_same = refl;
+  stands = both-stay g.M.RamSide.alone g.R.RingSide.alone _ _ c.args.node _ _ c.requires.turning.own_turn.on.legal;
 }
 
 pub loop-path-preserved-then-not-chosen-path : goal.loop-path-preserved-then-not-chosen-path
@@ -74,6 +77,7 @@ loop-path-preserved-then-not-chosen-path g c =
       part = where-skip net n c.args.chosen.now c.loop-path.path _ _ c.if-not-chosen-path.true i.part;
       ram_same = i.ram_same;
       ring_same = i.ring_same;
+      stands = i.stands;
     }
 
 pub returns-clause-given : goal.returns-clause-given
@@ -88,3 +92,8 @@ returns-clause-part g c =
     subst (λ (k : ℕ). GivesWhere (g.R.RingSide.side c.args.ring.now).net c.args.node c.args.chosen.now k (g.R.RingSide.known
     c.args.ring.now) (g.R.RingSide.known c.loop-path.ring))
     (the-last c.loop-path.path (c.loop-path.auto.path-end (omega arith)) c.loop-path-test.false) c.loop-path.invariant.part
+
+pub returns-in_err-give_up_path-clause-stands : goal.returns-in_err-give_up_path-clause-stands
+returns-in_err-give_up_path-clause-stands g c =
+    let i = c.loop-path.invariant in
+    both-on g.M.RamSide.alone g.R.RingSide.alone c.args.node _ _ _ _ _ _ _ _ _ _ i.ram_same i.ring_same i.stands c.in_err-give_up_path.ensures.stands

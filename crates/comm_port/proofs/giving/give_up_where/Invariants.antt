@@ -7,6 +7,7 @@ use Rattle.comm_port.specs.Order.{IsGivingUp, IsFinish}
 use Rattle.std.proofs.Common.{◌≡◌, ◌≤◌, []}
 use Rattle.comm_port.specs.Turns.{KeepsInbox, Turning}
 use Rattle.comm_port.specs.Sending.{sends_left}
+use Rattle.comm_port.specs.Stands.{BothStand}
 use Rattle.comm_port.proofs.giving.give_up_where.Given as goal
 
 abbrev pub invariant-loop-path : goal.invariant-loop-path
@@ -23,4 +24,6 @@ invariant-loop-path g l = record {
   part : GivesWhere (g.R.RingSide.side l.initial.ring).net l.node l.chosen l.path (g.R.RingSide.known l.initial.ring) (g.R.RingSide.known l.ring);
   ram_same : g.M.RamSide.side l.ram ≡ g.M.RamSide.side l.initial.ram;
   ring_same : g.R.RingSide.side l.ring ≡ g.R.RingSide.side l.initial.ring;
+  stands : BothStand g.M.RamSide.alone g.R.RingSide.alone (g.M.RamSide.side l.initial.ram).fixed (g.R.RingSide.side l.initial.ring).net l.node
+      (g.M.RamSide.known l.initial.ram) (g.M.RamSide.known l.ram) (g.R.RingSide.known l.initial.ring) (g.R.RingSide.known l.ring);
 }

@@ -24,6 +24,7 @@ use Rattle.comm_port.specs.Sending.{SentOrAll}
 use Rattle.comm_port.proofs.RingTurns.{kept-both, kept-same}
 use Rattle.comm_port.proofs.Served.{holds-kept}
 use Rattle.comm_port.proofs.Given.{sent-lead, stays-lead, holds-at, sending-too}
+use Rattle.comm_port.proofs.Stands.{both-stay, both-on, both-ring}
 use Rattle.comm_port.proofs.giving.send_all.Goals as goal
 
 sent-here : {Q : Type 0} (alone : Bool) (n : ℕ) (heard : Heard) (side side' : RingSideIs Q) (ring ring' : List RingEntry) → side' ≡ side →
@@ -47,6 +48,7 @@ loop-heard-init g c = record {
   each = each-none c.args.node _ _;
   ram_same = refl;
   ring_same = refl;
+  stands = both-stay g.M.RamSide.alone g.R.RingSide.alone _ _ c.args.node _ _ c.requires.turning.own_turn.on.legal;
 }
 
 pub give_up_where-requires : goal.give_up_where-requires
@@ -79,6 +81,8 @@ loop-heard-preserved-then-eq g c =
           (sent-here g.R.RingSide.alone n c.in-Some.heard _ _ _ _ i.ring_same sent) i.may);
       ram_same = i.ram_same;
       ring_same = o.same ∙ i.ring_same;
+      stands = both-on g.M.RamSide.alone g.R.RingSide.alone n _ _ (g.R.RingSide.side c.args.ring.now) (g.R.RingSide.side c.loop-heard.ring) _ _ _ _ _ _ i.ram_same i.ring_same
+          i.stands (both-ring g.M.RamSide.alone g.R.RingSide.alone _ _ n _ _ _ o.stands);
     }
 
 pub loop-heard-preserved : goal.loop-heard-preserved
@@ -115,6 +119,9 @@ loop-heard-preserved g c =
           sent-now i.may) (given-each (g.R.RingSide.side c.args.ring.now).net n _ _ _ here gone-by given));
       ram_same = e.ram_same ∙ i.ram_same;
       ring_same = e.ring_same ∙ (o.same ∙ i.ring_same);
+      stands = both-on g.M.RamSide.alone g.R.RingSide.alone c.args.node _ _ _ _ _ _ _ _ _ _ i.ram_same i.ring_same i.stands
+          (both-on g.M.RamSide.alone g.R.RingSide.alone c.args.node (g.M.RamSide.side c.loop-heard.ram) (g.M.RamSide.side c.loop-heard.ram) _ _ _ _ _ _ _ _ refl o.same
+          (both-ring g.M.RamSide.alone g.R.RingSide.alone _ _ c.args.node _ _ _ o.stands) e.stands);
     }
 
 pub returns-clause-turning : goal.returns-clause-turning
@@ -143,3 +150,26 @@ returns-clause-sent g c =
     c.loop-heard.ring) (g.R.RingSide.known c.send_next.new.ring)) c.in_default.is o.sent in
     sent-all g.M.RamSide.alone g.R.RingSide.alone (g.R.RingSide.side c.args.ring.now).net n _ _ _ _ _ _
     (all-here g.R.RingSide.alone n _ _ _ _ i.ring_same sent) i.may i.finished i.each
+
+pub returns-in_err-heard-clause-stands : goal.returns-in_err-heard-clause-stands
+returns-in_err-heard-clause-stands g c =
+    let i = c.loop-heard.invariant in
+    let o = c.in_err-heard.ensures in
+    both-on g.M.RamSide.alone g.R.RingSide.alone c.args.node _ _ (g.R.RingSide.side c.args.ring.now) (g.R.RingSide.side c.loop-heard.ring) _ _ _ _ _ _ i.ram_same i.ring_same i.stands
+    (both-ring g.M.RamSide.alone g.R.RingSide.alone _ _ c.args.node _ _ _ o.stands)
+
+pub returns-in_err-give_up_where-clause-stands : goal.returns-in_err-give_up_where-clause-stands
+returns-in_err-give_up_where-clause-stands g c =
+    let i = c.loop-heard.invariant in
+    let o = c.in_ok-heard.ensures in
+    let s = c.in_err-give_up_where.ensures in
+    both-on g.M.RamSide.alone g.R.RingSide.alone c.args.node _ _ _ _ _ _ _ _ _ _ i.ram_same i.ring_same i.stands
+    (both-on g.M.RamSide.alone g.R.RingSide.alone c.args.node (g.M.RamSide.side c.loop-heard.ram) (g.M.RamSide.side c.loop-heard.ram) _ _ _ _ _ _ _ _ refl o.same
+    (both-ring g.M.RamSide.alone g.R.RingSide.alone _ _ c.args.node _ _ _ o.stands) s.stands)
+
+pub returns-clause-stands : goal.returns-clause-stands
+returns-clause-stands g c =
+    let i = c.loop-heard.invariant in
+    let o = c.in_ok-heard.ensures in
+    both-on g.M.RamSide.alone g.R.RingSide.alone c.args.node _ _ (g.R.RingSide.side c.args.ring.now) (g.R.RingSide.side c.loop-heard.ring) _ _ _ _ _ _ i.ram_same i.ring_same i.stands
+    (both-ring g.M.RamSide.alone g.R.RingSide.alone _ _ c.args.node _ _ _ o.stands)

@@ -10,6 +10,7 @@ use Rattle.std.proofs.Common.{◌≡◌, []}
 use Rattle.tied_lists.specs.Waits.{Holds}
 use Rattle.comm_port.specs.Turns.{KeepsInbox, Turning}
 use Rattle.comm_port.specs.Sending.{sends_left}
+use Rattle.comm_port.specs.Stands.{BothStand}
 use Rattle.comm_port.proofs.giving.send_all.Given as goal
 
 abbrev pub invariant-loop-heard : goal.invariant-loop-heard
@@ -26,6 +27,8 @@ invariant-loop-heard g l = record {
   each : EachNext l.node (IsNextSending (g.R.RingSide.side l.initial.ring).net l.node) (g.R.RingSide.known l.initial.ring) (g.R.RingSide.known l.ring);
   ram_same : g.M.RamSide.side l.ram ≡ g.M.RamSide.side l.initial.ram;
   ring_same : g.R.RingSide.side l.ring ≡ g.R.RingSide.side l.initial.ring;
+  stands : BothStand g.M.RamSide.alone g.R.RingSide.alone (g.M.RamSide.side l.initial.ram).fixed (g.R.RingSide.side l.initial.ring).net l.node
+      (g.M.RamSide.known l.initial.ram) (g.M.RamSide.known l.ram) (g.R.RingSide.known l.initial.ring) (g.R.RingSide.known l.ring);
 }
 
 abbrev pub decreases-loop-heard : goal.decreases-loop-heard

@@ -3,6 +3,7 @@ use Rattle.comm_port.proofs.HostAsks.{holds-at}
 use Rattle.comm_port.proofs.HostAsked.{asked-all-at, asked-at, asked-end, asked-next, asked-none}
 use Rattle.comm_port.proofs.HostAsked.{asked-some, asked-start}
 use Rattle.comm_port.proofs.HostTurning.{turning-side}
+use Rattle.comm_port.proofs.HostAndRing.{lists-on, lists-stay}
 use Rattle.comm_port.proofs.host_worker.ask_all.Goals as goal
 
 pub loop-path-init : goal.loop-path-init
@@ -12,6 +13,7 @@ loop-path-init g c = record {
   plan = refl;
   same = refl;
   asked = asked-start g.R.RingSide.alone _ c.args.node _ c.args.hold _ _;
+  stands = lists-stay g.R.RingSide.alone _ c.args.node _ _ c.requires.turning.own_turn.on.legal;
 }
 
 pub loop-path-smaller : goal.loop-path-smaller
@@ -31,6 +33,7 @@ loop-path-preserved g c =
       asked = asked-at g.R.RingSide.alone c.args.node _ c.args.hold _ _ _ _ _ _ _ s.same
           (asked-next g.R.RingSide.alone _ c.args.node _ c.args.hold c.in-Some.path _ c.loop-path.host c.ask_next.new.host _ _ _ _
           c.from.result c.from.ensures i.plan i.asked once);
+      stands = lists-on g.R.RingSide.alone c.args.node (g.R.RingSide.side c.args.ring.now) (g.R.RingSide.side c.loop-path.ring) _ _ _ _ _ _ i.same i.stands s.stands;
     }
 
 pub returns-clause-turning : goal.returns-clause-turning
@@ -50,3 +53,13 @@ returns-clause-asked g c =
     let none = asked-none g.R.RingSide.alone _ c.args.node c.args.hold _ _ _ _ _ c.in_default.is s.asked in
     asked-all-at g.R.RingSide.alone c.args.node _ c.args.hold _ _ _ _ _ _ _ (sym i.same)
     (asked-end g.R.RingSide.alone _ c.args.node _ c.args.hold _ c.loop-path.host c.ask_next.new.host _ _ _ _ (s.plan ∙ i.plan) i.asked none)
+
+pub returns-in_err-path-clause-stands : goal.returns-in_err-path-clause-stands
+returns-in_err-path-clause-stands g c =
+    let i = c.loop-path.invariant in
+    lists-on g.R.RingSide.alone c.args.node (g.R.RingSide.side c.args.ring.now) (g.R.RingSide.side c.loop-path.ring) _ _ _ _ _ _ i.same i.stands c.in_err-path.ensures.stands
+
+pub returns-clause-stands : goal.returns-clause-stands
+returns-clause-stands g c =
+    let i = c.loop-path.invariant in
+    lists-on g.R.RingSide.alone c.args.node (g.R.RingSide.side c.args.ring.now) (g.R.RingSide.side c.loop-path.ring) _ _ _ _ _ _ i.same i.stands c.in_ok-path.ensures.stands

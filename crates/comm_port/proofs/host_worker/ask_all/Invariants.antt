@@ -1,5 +1,6 @@
 use Rattle.std.proofs.Common.{◌≡◌}
 use Rattle.tied_lists.specs.Waits.{Holds}
+use Rattle.comm_port.specs.HostAndRing.{HostAndRingStand}
 use Rattle.comm_port.specs.HostTurns.{HostTurning, asks_left}
 use Rattle.comm_port.proofs.HostAsked.{AskedSoFar}
 use Rattle.comm_port.proofs.host_worker.ask_all.Given as goal
@@ -12,6 +13,8 @@ invariant-loop-path g l = record {
   same : g.R.RingSide.side l.ring ≡ g.R.RingSide.side l.initial.ring;
   asked : AskedSoFar g.R.RingSide.alone (g.R.RingSide.side l.ring).net l.node l.initial.host.plan l.hold l.initial.host.history
       l.host.history (g.R.RingSide.known l.initial.ring) (g.R.RingSide.known l.ring) l.fresh;
+  stands : HostAndRingStand g.R.RingSide.alone (g.R.RingSide.side l.initial.ring).net l.node l.initial.host.history l.host.history
+      (g.R.RingSide.known l.initial.ring) (g.R.RingSide.known l.ring);
 }
 
 abbrev pub decreases-loop-path : goal.decreases-loop-path

@@ -7,6 +7,7 @@ use Rattle.comm_port.proofs.HostTurning.{turning-side}
 use Rattle.mstr_block.specs.Table.{network_paths}
 use Rattle.comm_port.proofs.HostGives.{gives-at}
 use Rattle.comm_port.proofs.HostHolds.{ends-host, leaves-host, none-unanswered}
+use Rattle.comm_port.proofs.HostAndRing.{lists-on, lists-ring}
 use Rattle.comm_port.proofs.host_worker.end_turn.Goals as goal
 
 pub hand_on-requires-clause-sent : goal.hand_on-requires-clause-sent
@@ -64,3 +65,23 @@ pub returns-then-not-left-clause-stays : goal.returns-then-not-left-clause-stays
 returns-then-not-left-clause-stays g c =
     let o = c.in_ok-left.ensures in
     λ e. stays-with g.R.RingSide.alone _ c.args.node _ _ _ _ _ o.handed (sym c.if-not-left.true ∙ o.left)
+
+pub returns-in_err-left-clause-stands : goal.returns-in_err-left-clause-stands
+returns-in_err-left-clause-stands g c =
+    lists-ring g.R.RingSide.alone _ c.args.node _ _ _ c.in_err-left.ensures.stands
+
+pub returns-then-not-left-clause-stands : goal.returns-then-not-left-clause-stands
+returns-then-not-left-clause-stands g c =
+    lists-ring g.R.RingSide.alone _ c.args.node _ _ _ c.in_ok-left.ensures.stands
+
+pub returns-in_err-give_up_where-clause-stands : goal.returns-in_err-give_up_where-clause-stands
+returns-in_err-give_up_where-clause-stands g c =
+    let n = c.args.node in
+    let first = lists-ring g.R.RingSide.alone _ n _ _ _ c.in_ok-left.ensures.stands in
+    lists-on g.R.RingSide.alone n (g.R.RingSide.side c.args.ring.now) (g.R.RingSide.side c.hand_on.new.ring) _ _ _ _ _ _ c.in_ok-left.ensures.same first c.in_err-give_up_where.ensures.stands
+
+pub returns-clause-stands : goal.returns-clause-stands
+returns-clause-stands g c =
+    let n = c.args.node in
+    let first = lists-ring g.R.RingSide.alone _ n _ _ _ c.in_ok-left.ensures.stands in
+    lists-on g.R.RingSide.alone n (g.R.RingSide.side c.args.ring.now) (g.R.RingSide.side c.hand_on.new.ring) _ _ _ _ _ _ c.in_ok-left.ensures.same first c.in_ok-give_up_where.ensures.stands

@@ -1,8 +1,12 @@
 use Rattle.comm_port.proofs.HostAsks.{awaited-out, gave-at, gave-none, gave-some, looked, turn-at}
 use Rattle.comm_port.proofs.HostGives.{gives-kept, gives-word, gives-zero}
-use Rattle.std.proofs.Common.{Some, None}
+use Rattle.std.proofs.Common.{Some, None, [], ◌∷◌}
 use Rattle.mstr_block.specs.declared.call.CallId.{CallId}
 use Rattle.comm_port.proofs.HostRuns.{legal-at, not-due-at}
+use Rattle.host_port.specs.declared.entry.HostEntry.TheVariants.{Answer}
+use Rattle.host_port.specs.declared.entry.HostResult.TheVariants as results
+use Rattle.comm_port.proofs.HostAndRing.{lists-ring}
+use Rattle.comm_port.proofs.Stands.{ring-on, ring-waited}
 use Rattle.comm_port.proofs.host_worker.give_up_path.Goals as goal
 
 pub returns-then-seq-eq0-clause-turning : goal.returns-then-seq-eq0-clause-turning
@@ -128,3 +132,51 @@ returns-clause-gives_up g c =
     c.requires.turning o.legal o.went o.answer (gave-at g.R.RingSide.alone id _ _ _ _ _ (Some c.in-Some.word) o.same c.in-Some.is w.given)
     (legal-at (g.R.RingSide.side c.args.ring.now) (g.R.RingSide.side c.awaits-seq.new.self) _ o.same w.legal)
     c.in_ok-answer.ensures.went_on.history
+
+pub returns-then-seq-eq0-clause-stands : goal.returns-then-seq-eq0-clause-stands
+returns-then-seq-eq0-clause-stands g c =
+    let n = c.args.node in
+    let side = g.R.RingSide.side in
+    let o = c.awaits-seq.ensures in
+    let there = ring-waited g.R.RingSide.alone (side c.args.ring.now).net n _ _ o.legal o.went in
+    lists-ring g.R.RingSide.alone _ n _ _ _ there
+
+pub returns-in_err-word-clause-stands : goal.returns-in_err-word-clause-stands
+returns-in_err-word-clause-stands g c =
+    let n = c.args.node in
+    let side = g.R.RingSide.side in
+    let o = c.awaits-seq.ensures in
+    let there = ring-waited g.R.RingSide.alone (side c.args.ring.now).net n _ _ o.legal o.went in
+    lists-ring g.R.RingSide.alone _ n _ _ _ (ring-on g.R.RingSide.alone n (side c.args.ring.now) (side c.awaits-seq.new.self) _ _ _ o.same there c.in_err-word.ensures.stands)
+
+pub returns-in_default-clause-stands : goal.returns-in_default-clause-stands
+returns-in_default-clause-stands g c =
+    let n = c.args.node in
+    let side = g.R.RingSide.side in
+    let o = c.awaits-seq.ensures in
+    let there = ring-waited g.R.RingSide.alone (side c.args.ring.now).net n _ _ o.legal o.went in
+    lists-ring g.R.RingSide.alone _ n _ _ _ (ring-on g.R.RingSide.alone n (side c.args.ring.now) (side c.awaits-seq.new.self) _ _ _ o.same there c.in_ok-word.ensures.stands)
+
+pub returns-in_err-answer-clause-stands : goal.returns-in_err-answer-clause-stands
+returns-in_err-answer-clause-stands g c =
+    let n = c.args.node in
+    let side = g.R.RingSide.side in
+    let o = c.awaits-seq.ensures in
+    let there = ring-waited g.R.RingSide.alone (side c.args.ring.now).net n _ _ o.legal o.went in
+    record {
+      noted = [];
+      station = c.in_err-answer.ensures.went_on.history;
+      node = ring-on g.R.RingSide.alone n (side c.args.ring.now) (side c.awaits-seq.new.self) _ _ _ o.same there c.in_ok-word.ensures.stands;
+    }
+
+pub returns-clause-stands : goal.returns-clause-stands
+returns-clause-stands g c =
+    let n = c.args.node in
+    let side = g.R.RingSide.side in
+    let o = c.awaits-seq.ensures in
+    let there = ring-waited g.R.RingSide.alone (side c.args.ring.now).net n _ _ o.legal o.went in
+    record {
+      noted = Answer (record { node = n; path = c.args.path; seq = c.awaits-seq.result }) (results.Bad c.in-Some.word) ∷ [];
+      station = c.in_ok-answer.ensures.went_on.history;
+      node = ring-on g.R.RingSide.alone n (side c.args.ring.now) (side c.awaits-seq.new.self) _ _ _ o.same there c.in_ok-word.ensures.stands;
+    }

@@ -1,6 +1,7 @@
 use Rattle.std.proofs.Common.{◌≡◌, ◌≤◌}
 use Rattle.mstr_block.specs.Table.{network_paths}
 use Rattle.tied_lists.specs.Waits.{HasLeft}
+use Rattle.comm_port.specs.HostAndRing.{HostAndRingStand}
 use Rattle.comm_port.specs.HostTurns.{HostTurning}
 use Rattle.comm_port.specs.Turns.{KeepsInbox}
 use Rattle.comm_port.specs.Sending.{sends_left}
@@ -21,4 +22,6 @@ invariant-loop-path g l = record {
   same : g.R.RingSide.side l.ring ≡ g.R.RingSide.side l.initial.ring;
   gives_up : GivesUpDue g.R.RingSide.alone (g.R.RingSide.side l.initial.ring).net l.node (paths_to l.which l.path-index) l.initial.host.history
       l.host.history (g.R.RingSide.known l.initial.ring) (g.R.RingSide.known l.ring);
+  stands : HostAndRingStand g.R.RingSide.alone (g.R.RingSide.side l.initial.ring).net l.node l.initial.host.history l.host.history
+      (g.R.RingSide.known l.initial.ring) (g.R.RingSide.known l.ring);
 }

@@ -1,6 +1,7 @@
 use Rattle.std.proofs.Common.{◌≡◌}
 use Rattle.ring_core.specs.Machine.{ring_after, ring_node}
 use Rattle.tied_lists.specs.Waits.{Holds}
+use Rattle.comm_port.specs.HostAndRing.{HostAndRingStand}
 use Rattle.comm_port.specs.HostTurns.{AreNew, chosen, HostTurning, Sends}
 use Rattle.comm_port.specs.Sending.{sends_left}
 use Rattle.comm_port.proofs.host_worker.send_all.Given as goal
@@ -13,6 +14,8 @@ invariant-loop g l = record {
   plan : l.host.plan ≡ l.initial.host.plan;
   same : g.R.RingSide.side l.ring ≡ g.R.RingSide.side l.initial.ring;
   sends : Sends g.R.RingSide.alone (g.R.RingSide.side l.ring).net l.node (chosen l.fresh) l.initial.host.history l.host.history
+      (g.R.RingSide.known l.initial.ring) (g.R.RingSide.known l.ring);
+  stands : HostAndRingStand g.R.RingSide.alone (g.R.RingSide.side l.initial.ring).net l.node l.initial.host.history l.host.history
       (g.R.RingSide.known l.initial.ring) (g.R.RingSide.known l.ring);
 }
 

@@ -6,6 +6,7 @@ use Rattle.comm_port.proofs.HostGives.{gives-at}
 use Rattle.comm_port.proofs.HostRuns.{legal-at}
 use Rattle.comm_port.proofs.HostSends.{new-still, sends-none, sent-step}
 use Rattle.comm_port.proofs.RingTurns.{on-ring}
+use Rattle.comm_port.proofs.HostAndRing.{lists-on, lists-ring}
 use Rattle.comm_port.proofs.host_worker.send_one.Goals as goal
 
 pub give_up_where-requires : goal.give_up_where-requires
@@ -59,3 +60,23 @@ pub returns-in_default-clause-empty : goal.returns-in_default-clause-empty
 returns-in_default-clause-empty g c =
     let o = c.in_ok-heard.ensures in
     λ e. (sent-none g.R.RingSide.alone _ c.args.node _ _ _ c.in_default.is o.sent).empty
+
+pub returns-in_err-heard-clause-stands : goal.returns-in_err-heard-clause-stands
+returns-in_err-heard-clause-stands g c =
+    lists-ring g.R.RingSide.alone _ c.args.node _ _ _ c.in_err-heard.ensures.stands
+
+pub returns-in_default-clause-stands : goal.returns-in_default-clause-stands
+returns-in_default-clause-stands g c =
+    lists-ring g.R.RingSide.alone _ c.args.node _ _ _ c.in_ok-heard.ensures.stands
+
+pub returns-in_err-give_up_where-clause-stands : goal.returns-in_err-give_up_where-clause-stands
+returns-in_err-give_up_where-clause-stands g c =
+    let n = c.args.node in
+    let first = lists-ring g.R.RingSide.alone _ n _ _ _ c.in_ok-heard.ensures.stands in
+    lists-on g.R.RingSide.alone n (g.R.RingSide.side c.args.ring.now) (g.R.RingSide.side c.send_next.new.ring) _ _ _ _ _ _ c.in_ok-heard.ensures.same first c.in_err-give_up_where.ensures.stands
+
+pub returns-clause-stands : goal.returns-clause-stands
+returns-clause-stands g c =
+    let n = c.args.node in
+    let first = lists-ring g.R.RingSide.alone _ n _ _ _ c.in_ok-heard.ensures.stands in
+    lists-on g.R.RingSide.alone n (g.R.RingSide.side c.args.ring.now) (g.R.RingSide.side c.send_next.new.ring) _ _ _ _ _ _ c.in_ok-heard.ensures.same first c.in_ok-give_up_where.ensures.stands

@@ -9,6 +9,7 @@ use Rattle.comm_port.proofs.HostTurning.{taking-now, turning-side, turning-still
 use Rattle.std.proofs.Common.{refl}
 use Rattle.comm_port.proofs.HostServes.{serves-at, so-far-at, so-far-end, so-far-next, so-far-start}
 use Rattle.comm_port.proofs.RingTurns.{kept-same}
+use Rattle.comm_port.proofs.HostAndRing.{lists-on, lists-ring, lists-stay}
 use Rattle.comm_port.proofs.host_worker.serve_inbox.Goals as goal
 
 -- what a Take added
@@ -52,6 +53,9 @@ loop-frame-preserved g c =
       served = so-far-at g.R.RingSide.alone c.args.node (g.R.RingSide.side c.loop-frame.ring) _ _ _ _ _ (s.same ∙ o.same)
           (so-far-next g.R.RingSide.alone c.args.node f _ _ _ _ _ _ _ _ i.turning.own_turn i.served o.legal went
           (kept-same (g.R.RingSide.side c.loop-frame.ring) (g.R.RingSide.side c.take_next.new.ring) c.args.node _ _ (sym o.same) s.kept) s.served);
+      stands = lists-on g.R.RingSide.alone c.args.node (g.R.RingSide.side c.args.ring.now) (g.R.RingSide.side c.loop-frame.ring) _ _ _ _ _ _ i.same i.stands
+          (lists-on g.R.RingSide.alone c.args.node (g.R.RingSide.side c.loop-frame.ring) (g.R.RingSide.side c.take_next.new.ring) _ _ _ _ _ _ o.same
+          (lists-ring g.R.RingSide.alone _ c.args.node _ _ _ o.stands) s.stands);
     }
 
 pub returns-clause-turning : goal.returns-clause-turning
@@ -83,9 +87,35 @@ loop-frame-init g c = record {
   plan = refl;
   same = refl;
   served = so-far-start g.R.RingSide.alone _ c.args.node _ _;
+  stands = lists-stay g.R.RingSide.alone _ c.args.node _ _ c.requires.turning.own_turn.on.legal;
 }
 
 pub take_next-requires : goal.take_next-requires
 take_next-requires g c =
     let i = c.loop-frame.invariant in
     record { turn = i.turning.own_turn; holds = i.holds }
+
+pub returns-in_err-frame-clause-stands : goal.returns-in_err-frame-clause-stands
+returns-in_err-frame-clause-stands g c =
+    let i = c.loop-frame.invariant in
+    let n = c.args.node in
+    let side = g.R.RingSide.side in
+    let took = lists-ring g.R.RingSide.alone _ n _ _ _ c.in_err-frame.ensures.stands in
+    lists-on g.R.RingSide.alone n (side c.args.ring.now) (side c.loop-frame.ring) _ _ _ _ _ _ i.same i.stands took
+
+pub returns-in_err-serve-clause-stands : goal.returns-in_err-serve-clause-stands
+returns-in_err-serve-clause-stands g c =
+    let i = c.loop-frame.invariant in
+    let n = c.args.node in
+    let side = g.R.RingSide.side in
+    let took = lists-ring g.R.RingSide.alone _ n _ _ _ c.in_ok-frame.ensures.stands in
+    lists-on g.R.RingSide.alone n (side c.args.ring.now) (side c.loop-frame.ring) _ _ _ _ _ _ i.same i.stands
+    (lists-on g.R.RingSide.alone n (side c.loop-frame.ring) (side c.take_next.new.ring) _ _ _ _ _ _ c.in_ok-frame.ensures.same took c.in_err-serve.ensures.stands)
+
+pub returns-clause-stands : goal.returns-clause-stands
+returns-clause-stands g c =
+    let i = c.loop-frame.invariant in
+    let n = c.args.node in
+    let side = g.R.RingSide.side in
+    let took = lists-ring g.R.RingSide.alone _ n _ _ _ c.in_ok-frame.ensures.stands in
+    lists-on g.R.RingSide.alone n (side c.args.ring.now) (side c.loop-frame.ring) _ _ _ _ _ _ i.same i.stands took

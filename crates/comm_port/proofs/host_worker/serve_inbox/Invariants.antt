@@ -1,6 +1,7 @@
 use Rattle.std.proofs.Common.{◌≡◌, length}
 use Rattle.ring_core.specs.Machine.{ring_node, ring_after}
 use Rattle.tied_lists.specs.Waits.{Holds}
+use Rattle.comm_port.specs.HostAndRing.{HostAndRingStand}
 use Rattle.comm_port.specs.HostTurns.{HostTurning}
 use Rattle.comm_port.proofs.HostServes.{ServedSoFar}
 use Rattle.comm_port.proofs.host_worker.serve_inbox.Given as goal
@@ -12,6 +13,8 @@ invariant-loop-frame g l = record {
   plan : l.host.plan ≡ l.initial.host.plan;
   same : g.R.RingSide.side l.ring ≡ g.R.RingSide.side l.initial.ring;
   served : ServedSoFar g.R.RingSide.alone (g.R.RingSide.side l.ring).net l.node l.initial.host.history l.host.history
+      (g.R.RingSide.known l.initial.ring) (g.R.RingSide.known l.ring);
+  stands : HostAndRingStand g.R.RingSide.alone (g.R.RingSide.side l.initial.ring).net l.node l.initial.host.history l.host.history
       (g.R.RingSide.known l.initial.ring) (g.R.RingSide.known l.ring);
 }
 

@@ -11,6 +11,7 @@ use Rattle.comm_port.proofs.HostAsked.{asked-all-at}
 use Rattle.comm_port.proofs.HostGives.{gives-at}
 use Rattle.comm_port.proofs.HostHolds.{asks-of, ends-at, ok-then, sends-of}
 use Rattle.comm_port.proofs.HostSends.{sends-out-at}
+use Rattle.comm_port.proofs.HostAndRing.{lists-on}
 use Rattle.comm_port.proofs.host_worker.turn.Goals as goal
 
 pub returns-clause-held : goal.returns-clause-held
@@ -85,3 +86,57 @@ end_turn-requires-clause-boxes g c =
     (net-as (λ (m : NetPlan). IsLegal m asked) _ _ a.same b.legal) (net-as (λ (m : NetPlan). Holds m asked n) _ _ a.same b.holds)
     (net-as (λ (m : NetPlan). IsLegal m sent) _ _ same2 d.legal) (net-as (λ (m : NetPlan). Holds m sent n) _ _ same2 d.holds)
     (net-as (λ (m : NetPlan). IsLegal m given) _ _ same3 e.legal) a.served.empty all.all out gives)
+
+pub returns-in_err-fresh-clause-stands : goal.returns-in_err-fresh-clause-stands
+returns-in_err-fresh-clause-stands g c =
+    let alone = g.R.RingSide.alone in
+    let n = c.args.node in
+    let side = g.R.RingSide.side in
+    let before = side c.args.ring.now in
+    let a = c.in_ok-serve_inbox.ensures in
+    lists-on alone n before (side c.serve_inbox.new.ring) _ _ _ _ _ _ a.same a.stands c.in_err-fresh.ensures.stands
+
+pub returns-in_err-send_all-clause-stands : goal.returns-in_err-send_all-clause-stands
+returns-in_err-send_all-clause-stands g c =
+    let alone = g.R.RingSide.alone in
+    let n = c.args.node in
+    let side = g.R.RingSide.side in
+    let before = side c.args.ring.now in
+    let a = c.in_ok-serve_inbox.ensures in
+    let b = c.in_ok-fresh.ensures in
+    let same2 = b.same ∙ a.same in
+    let asked = lists-on alone n before (side c.serve_inbox.new.ring) _ _ _ _ _ _ a.same a.stands b.stands in
+    lists-on alone n before (side c.ask_all.new.ring) _ _ _ _ _ _ same2 asked c.in_err-send_all.ensures.stands
+
+pub returns-in_err-give_up_where-clause-stands : goal.returns-in_err-give_up_where-clause-stands
+returns-in_err-give_up_where-clause-stands g c =
+    let alone = g.R.RingSide.alone in
+    let n = c.args.node in
+    let side = g.R.RingSide.side in
+    let before = side c.args.ring.now in
+    let a = c.in_ok-serve_inbox.ensures in
+    let b = c.in_ok-fresh.ensures in
+    let d = c.in_ok-send_all.ensures in
+    let same2 = b.same ∙ a.same in
+    let same3 = d.same ∙ same2 in
+    let asked = lists-on alone n before (side c.serve_inbox.new.ring) _ _ _ _ _ _ a.same a.stands b.stands in
+    let sent = lists-on alone n before (side c.ask_all.new.ring) _ _ _ _ _ _ same2 asked d.stands in
+    lists-on alone n before (side c.send_all.new.ring) _ _ _ _ _ _ same3 sent c.in_err-give_up_where.ensures.stands
+
+pub returns-clause-stands : goal.returns-clause-stands
+returns-clause-stands g c =
+    let alone = g.R.RingSide.alone in
+    let n = c.args.node in
+    let side = g.R.RingSide.side in
+    let before = side c.args.ring.now in
+    let a = c.in_ok-serve_inbox.ensures in
+    let b = c.in_ok-fresh.ensures in
+    let d = c.in_ok-send_all.ensures in
+    let e = c.in_ok-give_up_where.ensures in
+    let same2 = b.same ∙ a.same in
+    let same3 = d.same ∙ same2 in
+    let same4 = e.same ∙ same3 in
+    let asked = lists-on alone n before (side c.serve_inbox.new.ring) _ _ _ _ _ _ a.same a.stands b.stands in
+    let sent = lists-on alone n before (side c.ask_all.new.ring) _ _ _ _ _ _ same2 asked d.stands in
+    let given = lists-on alone n before (side c.send_all.new.ring) _ _ _ _ _ _ same3 sent e.stands in
+    lists-on alone n before (side c.give_up_where.new.ring) _ _ _ _ _ _ same4 given c.end_turn.ensures.stands

@@ -1,5 +1,8 @@
 use Rattle.comm_port.proofs.Allowed.{leave-short}
 use Rattle.comm_port.proofs.TurnEnds.{did-leave, did-not}
+use Rattle.ring_core.specs.declared.entry.RingEntry.TheVariants.{Leave}
+use Rattle.std.proofs.Common.{refl}
+use Rattle.comm_port.proofs.Stands.{ring-added, ring-waited}
 use Rattle.comm_port.proofs.leaving.leave_if_due.Goals as goal
 
 pub returns-in-Ok-clause-due : goal.returns-in-Ok-clause-due
@@ -31,3 +34,18 @@ of-requires g c =
     let e = c.in-Err.ensures in
     leave-short g.R.RingSide.alone c.args.node c.args.cause _ _ _ c.in-Err.why e.legal e.went c.requires.turn c.requires.holds c.requires.sent c.requires.taken
     c.in_default.not-NotDue e.refused
+
+pub returns-in-Ok-clause-stands : goal.returns-in-Ok-clause-stands
+returns-in-Ok-clause-stands g c =
+    let o = c.in-Ok.ensures in
+    ring-added g.R.RingSide.alone _ c.args.node _ (Leave c.args.node c.args.cause) _ refl o.legal o.went
+
+pub returns-in-NotDue-clause-stands : goal.returns-in-NotDue-clause-stands
+returns-in-NotDue-clause-stands g c =
+    let e = c.in-Err.ensures in
+    ring-waited g.R.RingSide.alone _ c.args.node _ _ e.legal e.went
+
+pub returns-in_default-clause-stands : goal.returns-in_default-clause-stands
+returns-in_default-clause-stands g c =
+    let e = c.in-Err.ensures in
+    ring-waited g.R.RingSide.alone _ c.args.node _ _ e.legal e.went

@@ -9,6 +9,7 @@ use Rattle.modbus_pdu.specs.declared.reply.Reply.TheVariants as replies
 use Rattle.comm_port.specs.Replies.{reply_frame}
 use Rattle.comm_port.proofs.RingTurns.{own-moved, kept-local, kept-both, kept-same, turn-on, mine}
 use Rattle.comm_port.proofs.Statistics.{told-range}
+use Rattle.comm_port.proofs.Stands.{ring-on}
 use Rattle.comm_port.proofs.replies.tell_statistics.Goals as goal
 
 pub statistics_reply-requires : goal.statistics_reply-requires
@@ -53,3 +54,19 @@ returns-clause-kept g c =
     c.in_ok-result.result) _ refl c.requires.turn o.legal o.went in
     kept-both (g.R.RingSide.side c.args.ring.now).net c.args.node _ _ _ (kept-local _ c.args.node _ _ _ _ _ m)
     (kept-same _ _ c.args.node _ _ (sym o.same) c.in_ok-post_reply.ensures.kept)
+
+pub returns-in_err-pdu-clause-stands : goal.returns-in_err-pdu-clause-stands
+returns-in_err-pdu-clause-stands g c =
+    c.in_ok-result.ensures.stands
+
+pub returns-in_err-post_reply-clause-stands : goal.returns-in_err-post_reply-clause-stands
+returns-in_err-post_reply-clause-stands g c =
+    let one = c.in_ok-result.ensures in
+    let two = c.in_err-post_reply.ensures in
+    ring-on g.R.RingSide.alone c.args.node _ _ _ _ _ one.same one.stands two.stands
+
+pub returns-clause-stands : goal.returns-clause-stands
+returns-clause-stands g c =
+    let one = c.in_ok-result.ensures in
+    let two = c.in_ok-post_reply.ensures in
+    ring-on g.R.RingSide.alone c.args.node _ _ _ _ _ one.same one.stands two.stands

@@ -9,6 +9,7 @@ use Rattle.comm_port.specs.Reading.{is_ours}
 use Rattle.comm_port.specs.Replies.{reply_frame}
 use Rattle.comm_port.specs.Order.{IsServing, IsAnswering}
 use Rattle.comm_port.proofs.Served.{answer-lead}
+use Rattle.comm_port.proofs.Stands.{ram-went, both-ram}
 use Rattle.comm_port.proofs.serving.answer_request.Goals as goal
 
 pub returns-clause-turning : goal.returns-clause-turning
@@ -38,4 +39,25 @@ returns-clause-served g c =
       due = request-due c.args.node f reply c.requires.kind c.requires.plain;
       station = grew-one g.M.RamSide.alone is_ours _ (Peer f.id f.pdu reply ∷ []) _ refl c.in_ok-reply.ensures.went;
       node = c.in_ok-post_reply.ensures.grew;
+    }
+
+pub returns-in_err-reply-clause-stands : goal.returns-in_err-reply-clause-stands
+returns-in_err-reply-clause-stands g c =
+    let p = c.in_err-reply.ensures in
+    both-ram g.M.RamSide.alone g.R.RingSide.alone _ _ c.args.node _ _ _ c.requires.taking.own_turn.on.legal (ram-went g.M.RamSide.alone _ _ [] _ refl p.legal p.went)
+
+pub returns-in_err-post_reply-clause-stands : goal.returns-in_err-post_reply-clause-stands
+returns-in_err-post_reply-clause-stands g c =
+    let p = c.in_ok-reply.ensures in
+    record {
+      station = ram-went g.M.RamSide.alone _ _ (Peer c.args.request.now.id c.args.request.now.pdu c.in_ok-reply.reply ∷ []) _ refl p.legal p.went;
+      node = c.in_err-post_reply.ensures.stands;
+    }
+
+pub returns-clause-stands : goal.returns-clause-stands
+returns-clause-stands g c =
+    let p = c.in_ok-reply.ensures in
+    record {
+      station = ram-went g.M.RamSide.alone _ _ (Peer c.args.request.now.id c.args.request.now.pdu c.in_ok-reply.reply ∷ []) _ refl p.legal p.went;
+      node = c.in_ok-post_reply.ensures.stands;
     }

@@ -14,6 +14,7 @@ use Rattle.tied_lists.specs.Own.{WentOn}
 use Rattle.comm_port.specs.Reading.{is_ours}
 use Rattle.comm_port.specs.Turns.{Turning}
 use Rattle.comm_port.proofs.Served.{end-lead, reply-out}
+use Rattle.comm_port.proofs.Stands.{ram-went}
 use Rattle.comm_port.proofs.serving.end_call.Goals as goal
 
 pub finish-requires : goal.finish-requires
@@ -44,3 +45,13 @@ returns-clause-served g c = record {
   station = grew-one g.M.RamSide.alone is_ours _ (Finish c.args.reply.now.id c.result_of.result ∷ []) _ refl c.in_ok-finish.ensures.went;
   node = grew-none g.R.RingSide.alone (is_of c.args.node) _;
 }
+
+pub returns-in_err-finish-clause-stands : goal.returns-in_err-finish-clause-stands
+returns-in_err-finish-clause-stands g c =
+    let f = c.in_err-finish.ensures in
+    ram-went g.M.RamSide.alone _ _ [] _ refl f.legal f.went
+
+pub returns-clause-stands : goal.returns-clause-stands
+returns-clause-stands g c =
+    let f = c.in_ok-finish.ensures in
+    ram-went g.M.RamSide.alone _ _ (Finish c.args.reply.now.id c.result_of.result ∷ []) _ refl f.legal f.went

@@ -18,6 +18,7 @@ use Rattle.tied_lists.specs.Own.{is_of, WentOn}
 use Rattle.comm_port.specs.Sides.{taken_entries}
 use Rattle.comm_port.proofs.Served.{take-lead, ring-still, holds-still, holds-took, take-less}
 use Rattle.comm_port.proofs.Served.{less-kept, holds-kept}
+use Rattle.comm_port.proofs.Stands.{both-stay, both-on, both-ring}
 use Rattle.comm_port.proofs.serving.serve_inbox.Goals as goal
 
 -- what a Take added
@@ -73,6 +74,9 @@ loop-frame-preserved g c =
           (g.R.RingSide.known c.serve.new.ring)) _ _ (o.same ∙ i.ring_same) s.kept) i.served s.served;
       ram_same = s.ram_same ∙ i.ram_same;
       ring_same = s.ring_same ∙ (o.same ∙ i.ring_same);
+      stands = both-on g.M.RamSide.alone g.R.RingSide.alone c.args.node _ _ _ _ _ _ _ _ _ _ i.ram_same i.ring_same i.stands
+          (both-on g.M.RamSide.alone g.R.RingSide.alone c.args.node (g.M.RamSide.side c.loop-frame.ram) (g.M.RamSide.side c.loop-frame.ram) _ _ _ _ _ _ _ _ refl o.same
+          (both-ring g.M.RamSide.alone g.R.RingSide.alone _ _ c.args.node _ _ _ o.stands) s.stands);
     }
 
 pub returns-clause-turning : goal.returns-clause-turning
@@ -103,6 +107,7 @@ loop-frame-init g c = record {
   ram_adds = adds_none g.M.RamSide.alone is_ours IsAnswering _;
   served = part-none g.M.RamSide.alone g.R.RingSide.alone is_ours c.args.node _ _ _ ([], refl, (refl, refl));
   ring_same = refl;
+  stands = both-stay g.M.RamSide.alone g.R.RingSide.alone _ _ c.args.node _ _ c.requires.turning.own_turn.on.legal;
 }
 
 pub returns-clause-served : goal.returns-clause-served
@@ -121,3 +126,26 @@ returns-clause-empty g c =
     let o = c.in_ok-frame.ensures in
     let i = c.loop-frame.invariant in
     net-as (λ (m : NetPlan). inbox_of m c.args.node (g.R.RingSide.known c.take_next.new.ring) ≡ []) _ _ i.ring_same (o.empty c.in_default.is)
+
+pub returns-in_err-frame-clause-stands : goal.returns-in_err-frame-clause-stands
+returns-in_err-frame-clause-stands g c =
+    let i = c.loop-frame.invariant in
+    let o = c.in_err-frame.ensures in
+    both-on g.M.RamSide.alone g.R.RingSide.alone c.args.node _ _ (g.R.RingSide.side c.args.ring.now) (g.R.RingSide.side c.loop-frame.ring) _ _ _ _ _ _ i.ram_same i.ring_same i.stands
+    (both-ring g.M.RamSide.alone g.R.RingSide.alone _ _ c.args.node _ _ _ o.stands)
+
+pub returns-in_err-serve-clause-stands : goal.returns-in_err-serve-clause-stands
+returns-in_err-serve-clause-stands g c =
+    let i = c.loop-frame.invariant in
+    let o = c.in_ok-frame.ensures in
+    let s = c.in_err-serve.ensures in
+    both-on g.M.RamSide.alone g.R.RingSide.alone c.args.node _ _ _ _ _ _ _ _ _ _ i.ram_same i.ring_same i.stands
+    (both-on g.M.RamSide.alone g.R.RingSide.alone c.args.node (g.M.RamSide.side c.loop-frame.ram) (g.M.RamSide.side c.loop-frame.ram) _ _ _ _ _ _ _ _ refl o.same
+    (both-ring g.M.RamSide.alone g.R.RingSide.alone _ _ c.args.node _ _ _ o.stands) s.stands)
+
+pub returns-clause-stands : goal.returns-clause-stands
+returns-clause-stands g c =
+    let i = c.loop-frame.invariant in
+    let o = c.in_ok-frame.ensures in
+    both-on g.M.RamSide.alone g.R.RingSide.alone c.args.node _ _ (g.R.RingSide.side c.args.ring.now) (g.R.RingSide.side c.loop-frame.ring) _ _ _ _ _ _ i.ram_same i.ring_same i.stands
+    (both-ring g.M.RamSide.alone g.R.RingSide.alone _ _ c.args.node _ _ _ o.stands)

@@ -8,6 +8,7 @@ use Rattle.comm_port.specs.Turns.{Turning}
 use Rattle.comm_port.specs.HoldTurn.{inbox_of}
 use Rattle.comm_port.specs.Parts.{PartOf}
 use Rattle.comm_port.specs.Serving.{ServesOn}
+use Rattle.comm_port.specs.Stands.{BothStand}
 use Rattle.comm_port.proofs.serving.serve_inbox.Given as goal
 
 abbrev pub invariant-loop-frame : goal.invariant-loop-frame
@@ -22,6 +23,8 @@ invariant-loop-frame g l = record {
       (inbox_of (g.R.RingSide.side l.initial.ring).net l.node (g.R.RingSide.known l.ring)))
       (g.M.RamSide.known l.initial.ram) (g.M.RamSide.known l.ram) (g.R.RingSide.known l.initial.ring) (g.R.RingSide.known l.ring);
   ring_same : g.R.RingSide.side l.ring ≡ g.R.RingSide.side l.initial.ring;
+  stands : BothStand g.M.RamSide.alone g.R.RingSide.alone (g.M.RamSide.side l.initial.ram).fixed (g.R.RingSide.side l.initial.ring).net l.node
+      (g.M.RamSide.known l.initial.ram) (g.M.RamSide.known l.ram) (g.R.RingSide.known l.initial.ring) (g.R.RingSide.known l.ring);
 }
 
 abbrev pub decreases-loop-frame : goal.decreases-loop-frame

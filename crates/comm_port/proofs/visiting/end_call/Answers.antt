@@ -7,6 +7,7 @@ use Rattle.comm_port.proofs.Parts.{net-as}
 use Rattle.comm_port.proofs.Visits.{net-posted, local-done, waits-posted, ended-net, ended-local}
 use Rattle.comm_port.proofs.Visits.{ended-before, rests-again, rests-same, gone-posted}
 use Rattle.comm_port.proofs.Visits.{gone-given}
+use Rattle.comm_port.proofs.Stands.{both-on}
 use Rattle.comm_port.proofs.visiting.end_call.Goals as goal
 
 pub give_up_between-requires-clause-waits : goal.give_up_between-requires-clause-waits
@@ -114,3 +115,13 @@ returns-in-Local-clause-as_before g c =
     let a = local-done g.M.RamSide.alone g.R.RingSide.alone n c.args.calls.now c.args.at call c.in-Local.field-0 _ _ side _ _ _ c.requires.within
     c.index-calls-at.is c.in-Local.is m.ring_same c.requires.owing.turning.own_turn m.owing.turning.own_turn.on.legal m.made in
     a.waits
+
+pub returns-in_err-give_up_between-in-Net-clause-stands : goal.returns-in_err-give_up_between-in-Net-clause-stands
+returns-in_err-give_up_between-in-Net-clause-stands g c =
+    let m = c.in_ok-make_call.ensures in
+    both-on g.M.RamSide.alone g.R.RingSide.alone c.args.node _ _ _ _ _ _ _ _ _ _ m.ram_same m.ring_same m.stands c.in_err-give_up_between-in-Net.ensures.stands
+
+pub returns-in_ok-give_up_between-in-Net-clause-stands : goal.returns-in_ok-give_up_between-in-Net-clause-stands
+returns-in_ok-give_up_between-in-Net-clause-stands g c =
+    let m = c.in_ok-make_call.ensures in
+    both-on g.M.RamSide.alone g.R.RingSide.alone c.args.node _ _ _ _ _ _ _ _ _ _ m.ram_same m.ring_same m.stands c.in_ok-give_up_between-in-Net.ensures.stands

@@ -15,6 +15,7 @@ use Rattle.comm_port.specs.Waiting.{id_of}
 use Rattle.comm_port.proofs.Given.{waits-at-but, turn-at}
 use Rattle.comm_port.proofs.Sends.{gave-up}
 use Rattle.comm_port.proofs.Visited.{owing-given}
+use Rattle.comm_port.proofs.Stands.{ram-went, ring-of, both-ring}
 use Rattle.comm_port.proofs.visiting.give_up_between.Goals as goal
 
 pub give_up_now-requires : goal.give_up_now-requires
@@ -83,3 +84,32 @@ returns-clause-part g c =
     let gave = gave-up _ g.R.RingSide.alone id c.in_ok-word.word _ _ (turn-at _ _ n id.node k.own_is t.own_turn) o.legal o.went in
     subst (λ (m : ℕ). part_at (g.R.RingSide.side c.args.ring.now).net m (g.R.RingSide.known c.give_up_now.new.ring) ≡ gave_up (part_at
     (g.R.RingSide.side c.args.ring.now).net m (g.R.RingSide.known c.args.ring.now)) id) k.own_is gave.part_is
+
+pub returns-in_err-word-clause-stands : goal.returns-in_err-word-clause-stands
+returns-in_err-word-clause-stands g c =
+    let t = c.requires.owing.turning in
+    let id = c.args.id in
+    let w = c.requires.waits in
+    let k = waits-at-but _ c.args.node id.path id _ _ _ _ c.args.waiting.now (ap id_of (t.waits.waits id.path ∙ w.1) ∙ ap Some w.2) t in
+    both-ring g.M.RamSide.alone g.R.RingSide.alone _ _ c.args.node _ _ _ (ring-of g.R.RingSide.alone _ id.node c.args.node _ _ k.own_is c.in_err-word.ensures.stands)
+
+pub returns-in_err-finish-clause-stands : goal.returns-in_err-finish-clause-stands
+returns-in_err-finish-clause-stands g c =
+    let t = c.requires.owing.turning in
+    let id = c.args.id in
+    let w = c.requires.waits in
+    let k = waits-at-but _ c.args.node id.path id _ _ _ _ c.args.waiting.now (ap id_of (t.waits.waits id.path ∙ w.1) ∙ ap Some w.2) t in
+    let f = c.in_err-finish.ensures in
+    record { station = ram-went g.M.RamSide.alone _ _ [] _ refl f.legal f.went; node = ring-of g.R.RingSide.alone _ id.node c.args.node _ _ k.own_is c.in_ok-word.ensures.stands }
+
+pub returns-clause-stands : goal.returns-clause-stands
+returns-clause-stands g c =
+    let t = c.requires.owing.turning in
+    let id = c.args.id in
+    let w = c.requires.waits in
+    let k = waits-at-but _ c.args.node id.path id _ _ _ _ c.args.waiting.now (ap id_of (t.waits.waits id.path ∙ w.1) ∙ ap Some w.2) t in
+    let f = c.in_ok-finish.ensures in
+    record {
+      station = ram-went g.M.RamSide.alone _ _ (Finish id (Bad c.in_ok-word.word) ∷ []) _ refl f.legal f.went;
+      node = ring-of g.R.RingSide.alone _ id.node c.args.node _ _ k.own_is c.in_ok-word.ensures.stands;
+    }

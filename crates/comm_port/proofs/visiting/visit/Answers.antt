@@ -9,6 +9,9 @@ use Rattle.comm_port.specs.Reading.{is_ours}
 use Rattle.comm_port.proofs.Collecting.{due-next, collects-none, collects-all}
 use Rattle.comm_port.proofs.Made.{ram-still, collected-lead}
 use Rattle.comm_port.proofs.Parts.{net-as, part-none}
+use Rattle.comm_port.proofs.Stands.{ram-went, ram-collected, both-stay, both-on, both-ram}
+use Rattle.std.proofs.Common.{◌∷◌}
+use Rattle.controller_core.specs.declared.entry.Entry.TheVariants.{Collect}
 use Rattle.comm_port.proofs.visiting.visit.Goals as goal
 
 pub returns-then-not-has_started-clause-turning : goal.returns-then-not-has_started-clause-turning
@@ -40,6 +43,7 @@ loop-at-init g c =
       as_before = refl;
       ram_same = refl;
       ring_same = refl;
+      stands = both-stay g.M.RamSide.alone g.R.RingSide.alone _ _ c.args.node _ _ c.requires.turning.own_turn.on.legal;
     }
 
 pub end_call-requires-clause-gone : goal.end_call-requires-clause-gone
@@ -66,6 +70,7 @@ loop-at-preserved g c =
       as_before = e.as_before ∙ i.as_before;
       ram_same = e.ram_same ∙ i.ram_same;
       ring_same = e.ring_same ∙ i.ring_same;
+      stands = both-on g.M.RamSide.alone g.R.RingSide.alone n _ _ _ _ _ _ _ _ _ _ i.ram_same i.ring_same i.stands e.stands;
     }
 
 pub returns-clause-rest : goal.returns-clause-rest
@@ -80,3 +85,35 @@ returns-clause-visited g c =
           c.in_ok-calls.ensures.went c.as_slice-calls.ensures c.loop-at-test.false i.ended;
       as_before = i.as_before;
     }
+
+pub returns-then-not-has_started-clause-stands : goal.returns-then-not-has_started-clause-stands
+returns-then-not-has_started-clause-stands g c =
+    let asked = c.if-not-has_started.ensures in
+    both-ram g.M.RamSide.alone g.R.RingSide.alone _ _ c.args.node _ _ _ c.requires.turning.own_turn.on.legal (ram-went g.M.RamSide.alone _ _ [] _ refl asked.legal asked.went)
+
+pub returns-in_err-calls-clause-stands : goal.returns-in_err-calls-clause-stands
+returns-in_err-calls-clause-stands g c =
+    let asked = c.if-not-has_started.ensures in
+    let o = c.in_err-calls.ensures in
+    both-ram g.M.RamSide.alone g.R.RingSide.alone _ _ c.args.node _ _ _ c.requires.turning.own_turn.on.legal
+    (ram-collected g.M.RamSide.alone _ _ _ _ [] _ asked.same asked.legal asked.went refl o.legal o.went)
+
+pub returns-in_err-end_call-clause-stands : goal.returns-in_err-end_call-clause-stands
+returns-in_err-end_call-clause-stands g c =
+    let asked = c.if-not-has_started.ensures in
+    let o = c.in_ok-calls.ensures in
+    let first = both-ram g.M.RamSide.alone g.R.RingSide.alone _ _ c.args.node _ _ _ c.requires.turning.own_turn.on.legal
+    (ram-collected g.M.RamSide.alone _ _ _ _ (Collect c.in_ok-calls.calls ∷ []) _ asked.same asked.legal asked.went refl o.legal o.went) in
+    let i = c.loop-at.invariant in
+    let e = c.in_err-end_call.ensures in
+    both-on g.M.RamSide.alone g.R.RingSide.alone c.args.node _ _ (g.R.RingSide.side c.args.ring.now) (g.R.RingSide.side c.args.ring.now) _ _ _ _ _ _ (o.same ∙ asked.same) refl first
+    (both-on g.M.RamSide.alone g.R.RingSide.alone c.args.node _ _ _ _ _ _ _ _ _ _ i.ram_same i.ring_same i.stands e.stands)
+
+pub returns-clause-stands : goal.returns-clause-stands
+returns-clause-stands g c =
+    let asked = c.if-not-has_started.ensures in
+    let o = c.in_ok-calls.ensures in
+    let first = both-ram g.M.RamSide.alone g.R.RingSide.alone _ _ c.args.node _ _ _ c.requires.turning.own_turn.on.legal
+    (ram-collected g.M.RamSide.alone _ _ _ _ (Collect c.in_ok-calls.calls ∷ []) _ asked.same asked.legal asked.went refl o.legal o.went) in
+    let i = c.loop-at.invariant in
+    both-on g.M.RamSide.alone g.R.RingSide.alone c.args.node _ _ (g.R.RingSide.side c.args.ring.now) (g.R.RingSide.side c.args.ring.now) _ _ _ _ _ _ (o.same ∙ asked.same) refl first i.stands

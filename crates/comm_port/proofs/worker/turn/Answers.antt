@@ -11,6 +11,7 @@ use Rattle.comm_port.specs.Turns.{KeepsInbox}
 use Rattle.comm_port.proofs.Leaves.{turn-side}
 use Rattle.comm_port.proofs.Parts.{net-as, fixed-as}
 use Rattle.comm_port.proofs.Turned.{sends-next, rest-sent, rest-given, given-over, inbox-kept}
+use Rattle.comm_port.proofs.Stands.{both-on}
 use Rattle.comm_port.proofs.worker.turn.Goals as goal
 
 pub send_all-requires-clause-wait : goal.send_all-requires-clause-wait
@@ -111,3 +112,49 @@ returns-clause-held g c =
           c.give_up_where.new.ram) (known c.end_turn.new.ram) (ring c.give_up_where.new.ring) (ring c.end_turn.new.ring) c.in_ok-left.left) _ _ (e.ring_same ∙
           (d.ring_same ∙ (b.ring_same ∙ a.ring_same))) c.in_ok-left.ensures.ends);
     }
+
+pub returns-in_err-make_calls-clause-stands : goal.returns-in_err-make_calls-clause-stands
+returns-in_err-make_calls-clause-stands g c =
+    let a = c.in_ok-serve_inbox.ensures in
+    both-on g.M.RamSide.alone g.R.RingSide.alone c.args.node _ _ _ _ _ _ _ _ _ _ a.ram_same a.ring_same a.stands c.in_err-make_calls.ensures.stands
+
+pub returns-in_err-send_all-clause-stands : goal.returns-in_err-send_all-clause-stands
+returns-in_err-send_all-clause-stands g c =
+    let a = c.in_ok-serve_inbox.ensures in
+    let b = c.in_ok-make_calls.ensures in
+    let ab = both-on g.M.RamSide.alone g.R.RingSide.alone c.args.node _ _ _ _ _ _ _ _ _ _ a.ram_same a.ring_same a.stands b.stands in
+    both-on g.M.RamSide.alone g.R.RingSide.alone c.args.node _ _ _ _ _ _ _ _ _ _ (b.ram_same ∙ a.ram_same) (b.ring_same ∙ a.ring_same) ab c.in_err-send_all.ensures.stands
+
+pub returns-in_err-give_up_where-clause-stands : goal.returns-in_err-give_up_where-clause-stands
+returns-in_err-give_up_where-clause-stands g c =
+    let a = c.in_ok-serve_inbox.ensures in
+    let b = c.in_ok-make_calls.ensures in
+    let ab = both-on g.M.RamSide.alone g.R.RingSide.alone c.args.node _ _ _ _ _ _ _ _ _ _ a.ram_same a.ring_same a.stands b.stands in
+    let d = c.in_ok-send_all.ensures in
+    let abd = both-on g.M.RamSide.alone g.R.RingSide.alone c.args.node _ _ _ _ _ _ _ _ _ _ (b.ram_same ∙ a.ram_same) (b.ring_same ∙ a.ring_same) ab d.stands in
+    both-on g.M.RamSide.alone g.R.RingSide.alone c.args.node _ _ _ _ _ _ _ _ _ _ (d.ram_same ∙ (b.ram_same ∙ a.ram_same)) (d.ring_same ∙ (b.ring_same ∙ a.ring_same)) abd
+    c.in_err-give_up_where.ensures.stands
+
+pub returns-in_err-left-clause-stands : goal.returns-in_err-left-clause-stands
+returns-in_err-left-clause-stands g c =
+    let a = c.in_ok-serve_inbox.ensures in
+    let b = c.in_ok-make_calls.ensures in
+    let ab = both-on g.M.RamSide.alone g.R.RingSide.alone c.args.node _ _ _ _ _ _ _ _ _ _ a.ram_same a.ring_same a.stands b.stands in
+    let d = c.in_ok-send_all.ensures in
+    let abd = both-on g.M.RamSide.alone g.R.RingSide.alone c.args.node _ _ _ _ _ _ _ _ _ _ (b.ram_same ∙ a.ram_same) (b.ring_same ∙ a.ring_same) ab d.stands in
+    let e = c.in_ok-give_up_where.ensures in
+    let abde = both-on g.M.RamSide.alone g.R.RingSide.alone c.args.node _ _ _ _ _ _ _ _ _ _ (d.ram_same ∙ (b.ram_same ∙ a.ram_same)) (d.ring_same ∙ (b.ring_same ∙ a.ring_same)) abd e.stands in
+    both-on g.M.RamSide.alone g.R.RingSide.alone c.args.node _ _ _ _ _ _ _ _ _ _ (e.ram_same ∙ (d.ram_same ∙ (b.ram_same ∙ a.ram_same))) (e.ring_same ∙ (d.ring_same ∙ (b.ring_same ∙ a.ring_same))) abde
+    c.in_err-left.ensures.stands
+
+pub returns-clause-stands : goal.returns-clause-stands
+returns-clause-stands g c =
+    let a = c.in_ok-serve_inbox.ensures in
+    let b = c.in_ok-make_calls.ensures in
+    let ab = both-on g.M.RamSide.alone g.R.RingSide.alone c.args.node _ _ _ _ _ _ _ _ _ _ a.ram_same a.ring_same a.stands b.stands in
+    let d = c.in_ok-send_all.ensures in
+    let abd = both-on g.M.RamSide.alone g.R.RingSide.alone c.args.node _ _ _ _ _ _ _ _ _ _ (b.ram_same ∙ a.ram_same) (b.ring_same ∙ a.ring_same) ab d.stands in
+    let e = c.in_ok-give_up_where.ensures in
+    let abde = both-on g.M.RamSide.alone g.R.RingSide.alone c.args.node _ _ _ _ _ _ _ _ _ _ (d.ram_same ∙ (b.ram_same ∙ a.ram_same)) (d.ring_same ∙ (b.ring_same ∙ a.ring_same)) abd e.stands in
+    both-on g.M.RamSide.alone g.R.RingSide.alone c.args.node _ _ _ _ _ _ _ _ _ _ (e.ram_same ∙ (d.ram_same ∙ (b.ram_same ∙ a.ram_same))) (e.ring_same ∙ (d.ring_same ∙ (b.ring_same ∙ a.ring_same))) abde
+    c.in_ok-left.ensures.stands

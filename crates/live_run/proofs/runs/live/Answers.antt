@@ -22,7 +22,7 @@ returns-clause-legal g c =
     let gate = c.in_ok-gate.gate in
     let t = c.through_ring-pass in
     let p = t.result.0 in
-    let made = c.new-2.ensures ∙ c.in_ok-ring.ensures in
+    let made = c.new-3.ensures ∙ c.in_ok-ring.ensures in
     let unopened : p.gate.opening ≡ [] =
     ap (λ x. x.opening) t.ensures.gate_is ∙ (c.in_ok-gate.ensures.opening ∙ ap (λ (r : RingLog). r.history) made) in
     let inner : c.into_inner-ring.result ≡ ring_in c.close.result = c.into_inner-ring.ensures in
@@ -48,7 +48,7 @@ returns-clause-joint g c =
     let gate = c.in_ok-gate.gate in
     let t = c.through_ring-pass in
     let p = t.result.0 in
-    let made = c.new-2.ensures ∙ c.in_ok-ring.ensures in
+    let made = c.new-3.ensures ∙ c.in_ok-ring.ensures in
     let unopened : p.gate.opening ≡ [] =
     ap (λ x. x.opening) t.ensures.gate_is ∙ (c.in_ok-gate.ensures.opening ∙ ap (λ (r : RingLog). r.history) made) in
     let inner : c.into_inner-ring.result ≡ ring_in c.close.result = c.into_inner-ring.ensures in
@@ -74,7 +74,7 @@ returns-clause-complete g c =
     let gate = c.in_ok-gate.gate in
     let t = c.through_ring-pass in
     let p = t.result.0 in
-    let made = c.new-2.ensures ∙ c.in_ok-ring.ensures in
+    let made = c.new-3.ensures ∙ c.in_ok-ring.ensures in
     let unopened : p.gate.opening ≡ [] =
     ap (λ x. x.opening) t.ensures.gate_is ∙ (c.in_ok-gate.ensures.opening ∙ ap (λ (r : RingLog). r.history) made) in
     let inner : c.into_inner-ring.result ≡ ring_in c.close.result = c.into_inner-ring.ensures in
@@ -101,7 +101,7 @@ returns-clause-unspent g c =
     let gate = c.in_ok-gate.gate in
     let t = c.through_ring-pass in
     let p = t.result.0 in
-    let made = c.new-2.ensures ∙ c.in_ok-ring.ensures in
+    let made = c.new-3.ensures ∙ c.in_ok-ring.ensures in
     let unopened : p.gate.opening ≡ [] =
     ap (λ x. x.opening) t.ensures.gate_is ∙ (c.in_ok-gate.ensures.opening ∙ ap (λ (r : RingLog). r.history) made) in
     let inner : c.into_inner-ring.result ≡ ring_in c.close.result = c.into_inner-ring.ensures in
@@ -127,7 +127,7 @@ returns-clause-effects g c =
     let gate = c.in_ok-gate.gate in
     let t = c.through_ring-pass in
     let p = t.result.0 in
-    let made = c.new-2.ensures ∙ c.in_ok-ring.ensures in
+    let made = c.new-3.ensures ∙ c.in_ok-ring.ensures in
     let unopened : p.gate.opening ≡ [] =
     ap (λ x. x.opening) t.ensures.gate_is ∙ (c.in_ok-gate.ensures.opening ∙ ap (λ (r : RingLog). r.history) made) in
     let inner : c.into_inner-ring.result ≡ ring_in c.close.result = c.into_inner-ring.ensures in

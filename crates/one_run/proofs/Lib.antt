@@ -1,0 +1,11 @@
+pub mod Meets
+pub mod Dues
+pub mod Fails
+pub mod Sending
+pub mod Parts
+pub mod Turn
+pub mod HostTurn
+pub mod Places
+pub mod Runs
+pub mod Serial
+pub mod Whole

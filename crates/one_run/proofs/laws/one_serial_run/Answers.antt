@@ -1,0 +1,10 @@
+use Rattle.one_run.proofs.Whole.{serials}
+use Rattle.one_run.proofs.laws.one_serial_run.Goals as goal
+
+pub returns : goal.returns
+returns c = serials (record {
+  segments = c.segments_keep_calls.ensures;
+  taking = c.calls_are_taken_in_order.ensures;
+  finishing = c.finishes_end_one_call.ensures;
+  tables = c.stays_table.ensures;
+})

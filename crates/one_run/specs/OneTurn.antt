@@ -1,0 +1,51 @@
+-- A turn makes one thing of the lists that it begins with, where those that it leaves are legal
+-- and, at a controller, keep the laws between them. This project's own.
+use Rattle.std.specs.Prelude.{◌≡◌, ◌<◌, ℕ, Bool, true, List}
+use Rattle.plant_types.specs.declared.net.HostPlan.{HostPlan}
+use Rattle.plant_types.specs.declared.net.NetPlan.{NetPlan}
+use Rattle.ring_core.specs.declared.entry.RingEntry.{RingEntry}
+use Rattle.ring_core.specs.Legal.{IsLegal as IsLegalRing}
+use Rattle.controller_core.specs.declared.fixed.Fixed.{Fixed}
+use Rattle.controller_core.specs.declared.entry.Entry.{Entry}
+use Rattle.host_port.specs.declared.entry.HostEntry.{HostEntry}
+use Rattle.comm_port.specs.HoldTurn.{HoldsTurn, NoneFailed, VisitsEnd}
+use Rattle.comm_port.specs.HostTurns.{HoldsHostTurn}
+use Rattle.turn_laws.specs.KeepsOn.{StandsTied}
+
+-- Two holds of the token by a controller that begin alike, when none of its calls has failed, end
+-- alike.
+abbrev pub OneTurn : Type 0
+OneTurn =
+    (fixed : Fixed) (net : NetPlan) (budget left other_left : Bool)
+    (known new_known other_known : List Entry) (ring new_ring other_ring : List RingEntry)
+    → NoneFailed net ring fixed.plan.node → StandsTied fixed net fixed.plan.node known ring
+    → HoldsTurn true true fixed net fixed.plan.node budget known new_known ring new_ring left
+    → StandsTied fixed net fixed.plan.node new_known new_ring
+    → HoldsTurn true true fixed net fixed.plan.node budget known other_known ring other_ring
+    other_left → StandsTied fixed net fixed.plan.node other_known other_ring
+    → (new_known ≡ other_known) × (new_ring ≡ other_ring) × (left ≡ other_left)
+
+-- Two visits of a controller that begin alike end alike.
+abbrev pub OneVisit : Type 0
+OneVisit =
+    (fixed : Fixed) (net : NetPlan) (known new_known other_known : List Entry)
+    (ring new_ring other_ring : List RingEntry)
+    → StandsTied fixed net fixed.plan.node known ring
+    → VisitsEnd true true fixed net fixed.plan.node known new_known ring new_ring
+    → StandsTied fixed net fixed.plan.node new_known new_ring
+    → VisitsEnd true true fixed net fixed.plan.node known other_known ring other_ring
+    → StandsTied fixed net fixed.plan.node other_known other_ring
+    → (new_known ≡ other_known) × (new_ring ≡ other_ring)
+
+-- Two holds of the token by a host that begin alike end alike, on a net where a call waits for its
+-- answer for one Pass at least.
+abbrev pub OneHostTurn : Type 0
+OneHostTurn =
+    (net : NetPlan) (n : ℕ) (plan : HostPlan) (budget left other_left : Bool)
+    (list new_list other_list : List HostEntry) (ring new_ring other_ring : List RingEntry)
+    → 0 < net.answer
+    → HoldsHostTurn true net n plan budget list new_list ring new_ring left
+    → IsLegalRing net new_ring
+    → HoldsHostTurn true net n plan budget list other_list ring other_ring other_left
+    → IsLegalRing net other_ring
+    → (new_list ≡ other_list) × (new_ring ≡ other_ring) × (left ≡ other_left)

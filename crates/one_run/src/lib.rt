@@ -1,0 +1,6 @@
+//! A plant has one run in each order of turns, and one serial run.
+#![tactic(auto)]
+
+mod laws;
+
+pub use laws::{one_host_turn, one_serial_run, one_turn, one_turns_run, one_visit};
