@@ -1,4 +1,4 @@
-use Rattle.std.proofs.Common.{◌≡◌, ℕ, zero, suc, All, List, [], ◌∷◌, Result, Ok, Err, OnOk, OnErr, append-nil, ap, arith, refl, subst, sym, ◌∙◌}
+use Rattle.std.proofs.Common.{◌≡◌, ℕ, zero, suc, All, [], ◌∷◌, Result, Ok, Err, OnOk, OnErr, append-nil, ap, arith, refl, subst, sym, ◌∙◌}
 use Rattle.std.specs.List.{Contains}
 use Rattle.turn_gate.specs.Known.{Adds, PassFacts}
 use Rattle.plant_types.specs.declared.net.NetPlan.{NetPlan}
