@@ -17,7 +17,8 @@ use Rattle.plant_types.specs.declared.reference.Ref.{Ref}
 use Rattle.plant_types.specs.Reference.{leading_digit, four_digits, reference_text}
 use Rattle.plant_types.specs.Network.{is_row, is_column}
 use Rattle.cell_text.specs.Words.{is_blank}
-use Rattle.cell_text.specs.Numbers.{is_digit, value_of, is_spelled_number, spelled_number}
+use Rattle.plant_types.specs.Numerals.{is_digit, value_of}
+use Rattle.cell_text.specs.Numbers.{is_spelled_number, spelled_number}
 use Rattle.cell_text.specs.Numbers.{position_of, is_reference_word, kind_by_digit, reference_of}
 use Rattle.cell_text.specs.Texts.{has_number, position_text}
 use Rattle.cell_text.proofs.WordLemmas.{take-front, drop-front}

@@ -31,7 +31,8 @@ use Rattle.cell_text.specs.declared.piece.Piece.TheVariants as pieces
 use Rattle.cell_text.specs.declared.piece.CellFault.{CellFault}
 use Rattle.cell_text.specs.declared.piece.CellFault.TheVariants.{BadCell, BadValue, BadRef}
 use Rattle.cell_text.specs.Steps.{◌>>=◌, or_fault, unless}
-use Rattle.cell_text.specs.Numbers.{is_digit, value_of, is_spelled_number, spelled_number}
+use Rattle.plant_types.specs.Numerals.{is_digit, value_of}
+use Rattle.cell_text.specs.Numbers.{is_spelled_number, spelled_number}
 use Rattle.cell_text.specs.Numbers.{reference_numbered, position_of, kind_by_digit}
 use Rattle.cell_text.specs.Numbers.{is_reference_word, reference_of}
 use Rattle.cell_text.specs.Names.{spelled_name}

@@ -48,7 +48,7 @@ use Rattle.cell_text.specs.Names.{element_text, name_text, all_names, spelled_na
 use Rattle.cell_text.specs.Slots.{slots_of_piece, takes_form, takes_value, takes_kind}
 use Rattle.cell_text.specs.Slots.{taken_reference, operand_in, operands_in, read_operands}
 use Rattle.cell_text.specs.Pieces.{piece_at, piece_of}
-use Rattle.cell_text.specs.Texts.{has_number, has_numbers, has_text, operand_text, piece_place}
+use Rattle.cell_text.specs.Texts.{has_number, has_numbers, has_text, operand_text, piece_position}
 use Rattle.cell_text.specs.Texts.{piece_name, piece_operands, piece_words, piece_text}
 use Rattle.cell_text.proofs.JoinLemmas.{is_word, text_words-join}
 use Rattle.cell_text.proofs.NumberLemmas.{is_spelled_number-decimal, spelled_number-decimal}
@@ -281,7 +281,7 @@ cell_back row column elements.Return = refl
 cell_back row column (elements.Mstr control area length) = refl
 
 -- the place, the name and the operands of a piece make the piece
-piece_at-back : (piece : Piece) → has_text piece ≡ true → piece_at (piece_place piece).0 (piece_place piece).1 (piece_name piece)
+piece_at-back : (piece : Piece) → has_text piece ≡ true → piece_at (piece_position piece).0 (piece_position piece).1 (piece_name piece)
     (piece_operands piece) ≡ Some piece
 piece_at-back (pieces.Cell cell) h = cell_back cell.row cell.column cell.element
 piece_at-back (pieces.Short short) h =
@@ -291,8 +291,8 @@ piece_at-back (pieces.Short short) h =
 
 -- a piece that has a text stands in the grid, and its operands fit
 record Fitting (piece : Piece) : Type 0 where
-  row : is_row (piece_place piece).0 ≡ true
-  column : is_column (piece_place piece).1 ≡ true
+  row : is_row (piece_position piece).0 ≡ true
+  column : is_column (piece_position piece).1 ≡ true
   operands : pointwise fits (slots_of_piece (piece_name piece)) (piece_operands piece) ≡ true
 
 -- one of the first six rows is a row
@@ -321,7 +321,7 @@ piece_all_read piece f = all_read (slots_of_piece (piece_name piece)) (piece_ope
 piece_words-are : (piece : Piece) → has_text piece ≡ true → list_all is_word (piece_words piece) ≡ true
 piece_words-are piece h =
     let f = fitting piece h in
-    rw (position_word (piece_place piece) f.row f.column, (named (piece_name piece)).word, (piece_all_read piece f).words) refl
+    rw (position_word (piece_position piece) f.row f.column, (named (piece_name piece)).word, (piece_all_read piece f).words) refl
 
 -- the words of a piece read as the piece
 piece_of-words : (piece : Piece) → has_text piece ≡ true → piece_of (piece_words piece) ≡ Ok piece
@@ -329,16 +329,16 @@ unfolding piece_of
 piece_of-words piece h =
     let f = fitting piece h in
     let words = map operand_text (piece_operands piece) in
-    let place = position_of-text (piece_place piece) f.row f.column in
+    let place = position_of-text (piece_position piece) f.row f.column in
     let name = (named (piece_name piece)).found in
     let operands = read_operands-back (slots_of_piece (piece_name piece)) (piece_operands piece) (piece_all_read piece f) in
     ap (λ (o : Option (ℕ × ℕ)). or_fault {E = CellFault} BadCell o >>= λ at. or_fault BadCell
     (spelled_name (name_text (piece_name piece))) >>= λ name. read_operands (slots_of_piece name) words >>= λ operands. or_fault BadCell
     (piece_at at.0 at.1 name operands)) place
     ∙ ap (λ (o : Option PieceName). or_fault {E = CellFault} BadCell o >>= λ name. read_operands
-    (slots_of_piece name) words >>= λ operands. or_fault BadCell (piece_at (piece_place piece).0 (piece_place piece).1 name operands)) name
+    (slots_of_piece name) words >>= λ operands. or_fault BadCell (piece_at (piece_position piece).0 (piece_position piece).1 name operands)) name
     ∙ ap (λ (r : Result (List Operand) CellFault). r >>= λ operands. or_fault BadCell
-    (piece_at (piece_place piece).0 (piece_place piece).1 (piece_name piece) operands)) operands
+    (piece_at (piece_position piece).0 (piece_position piece).1 (piece_name piece) operands)) operands
     ∙ ap (λ (o : Option Piece). or_fault {E = CellFault} BadCell o) (piece_at-back piece h)
 
 -- the text of a piece reads as the piece

@@ -1,33 +1,19 @@
 -- The numbers, places and references that words stand for.
-use Rattle.std.specs.Prelude.{ℕ, ◌+◌, ◌*◌, ◌-◌, Bool, not, ◌&&◌, ◌||◌, ◌==◌, nat_le, if◌then◌else◌}
-use Rattle.std.specs.Prelude.{List, Option, Some, None, fold, length, drop, slice_index}
+use Rattle.std.specs.Prelude.{ℕ, Bool, ◌&&◌, ◌==◌, nat_le, if◌then◌else◌}
+use Rattle.std.specs.Prelude.{List, Option, Some, None, length, drop, slice_index}
 use Rattle.std.specs.Prelude.{option_and_then}
 use Rattle.std.specs.List.{list_all, before_first, after_first}
 use Rattle.plant_types.specs.declared.reference.RefKind.{RefKind}
 use Rattle.plant_types.specs.declared.reference.RefKind.TheVariants.{Coil, Input, InputRegister}
 use Rattle.plant_types.specs.declared.reference.RefKind.TheVariants.{Register}
 use Rattle.plant_types.specs.declared.reference.Ref.{Ref}
+use Rattle.plant_types.specs.Reference.{most_references}
+use Rattle.plant_types.specs.Numerals.{is_digit, value_of, is_numeral_up_to}
 use Rattle.plant_types.specs.Network.{is_row, is_column}
-
--- A decimal digit. This project's own.
-abbrev pub is_digit : ℕ → Bool
-is_digit byte = nat_le 48 byte && nat_le byte 57
-
--- The number that decimal digits stand for, the highest first. This project's own.
-abbrev pub value_of : List ℕ → ℕ
-value_of digits = fold (λ value digit. value * 10 + (digit - 48)) 0 digits
-
--- A word of one to four bytes. This project's own.
-abbrev pub has_few_digits : List ℕ → Bool
-has_few_digits word = nat_le 1 (length word) && nat_le (length word) 4
-
--- A word that does not begin with 0, unless it is 0 alone. This project's own.
-abbrev pub has_no_leading_zero : List ℕ → Bool
-has_no_leading_zero word = (length word == 1) || not (slice_index word 0 == 48)
 
 -- One to four digits without a sign, and without a leading zero. This project's own.
 abbrev pub is_spelled_number : List ℕ → Bool
-is_spelled_number word = list_all is_digit word && (has_few_digits word && has_no_leading_zero word)
+is_spelled_number word = is_numeral_up_to 4 word
 
 -- The number that a word stands for. This project's own.
 abbrev pub spelled_number : List ℕ → Option ℕ
@@ -44,7 +30,7 @@ row_word word = before_first (λ byte. byte == 44) word
 abbrev pub column_word : List ℕ → List ℕ
 column_word word = after_first (λ byte. byte == 44) word
 
--- The row and the column that a word stands for, parted by a comma. This project's own.
+-- The row and the column that a word stands for, separated by a comma. This project's own.
 abbrev pub position_of : List ℕ → Option (ℕ × ℕ)
 position_of word =
     option_and_then (λ row. option_and_then (in_grid row) (spelled_number (column_word word)))
@@ -70,7 +56,7 @@ kind_by_digit digit =
 
 -- A reference has a number from 1 to 9984. This project's own.
 abbrev pub is_reference_number : ℕ → Bool
-is_reference_number number = nat_le 1 number && nat_le number 9984
+is_reference_number number = nat_le 1 number && nat_le number most_references
 
 -- A reference of a kind and such a number. This project's own.
 abbrev pub reference_numbered : RefKind → ℕ → Option Ref

@@ -34,7 +34,7 @@ has_text (Cell cell) =
     && has_numbers cell.element)
 has_text (Short short) = has_short_place short
 
--- The text of a position: row and column, parted by a comma. This project's own.
+-- The text of a position: row and column, separated by a comma. This project's own.
 abbrev pub position_text : ℕ × ℕ → List ℕ
 position_text place = decimal place.0 ++ codes "," ++ decimal place.1
 
@@ -45,9 +45,9 @@ operand_text (Const n) = decimal n
 operand_text (At at) = reference_text at
 
 -- The row and the column of a piece. This project's own.
-abbrev pub piece_place : Piece → ℕ × ℕ
-piece_place (Cell cell) = (cell.row, cell.column)
-piece_place (Short short) = (short.row, short.column)
+abbrev pub piece_position : Piece → ℕ × ℕ
+piece_position (Cell cell) = (cell.row, cell.column)
+piece_position (Short short) = (short.row, short.column)
 
 -- The name of a piece. Modicon Ladder Logic Block Library User Guide.
 abbrev pub piece_name : Piece → PieceName
@@ -62,9 +62,9 @@ piece_operands (Short short) = []
 -- The words of a piece: its position, its name and its operands. This project's own.
 abbrev pub piece_words : Piece → List (List ℕ)
 piece_words piece =
-    position_text (piece_place piece) ∷ name_text (piece_name piece)
+    position_text (piece_position piece) ∷ name_text (piece_name piece)
     ∷ map operand_text (piece_operands piece)
 
--- The text of a piece: its words, parted by single blanks. This project's own.
+-- The text of a piece: its words, separated by one space each. This project's own.
 abbrev pub piece_text : Piece → List ℕ
 piece_text piece = join_with_byte 32 (piece_words piece)

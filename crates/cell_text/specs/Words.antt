@@ -1,6 +1,6 @@
 -- The words of a text.
-use Rattle.std.specs.Prelude.{ℕ, Bool, not, ◌||◌, ◌==◌, List, [], ◌∷◌, Option, Some, None, filter}
-use Rattle.std.specs.Prelude.{length}
+use Rattle.std.specs.Prelude.{◌≡◌, ℕ, Bool, not, ◌||◌, ◌==◌, List, [], ◌∷◌, Option, Some, None}
+use Rattle.std.specs.Prelude.{filter, length}
 use Rattle.std.specs.List.{slice_split}
 use Rattle.std.specs.Str.{bytes_eq}
 use lib.Pointwise.{pointwise}
@@ -12,6 +12,10 @@ is_blank byte = (byte == 32) || (byte == 9)
 -- The words of a text: its longest runs of bytes that are no blanks. This project's own.
 unfoldable pub text_words : List ℕ → List (List ℕ)
 text_words text = filter (λ word. not (length word == 0)) (slice_split is_blank text)
+
+-- A text has no word. This project's own.
+abbrev pub HasNoWord : List ℕ → Type 0
+HasNoWord text = text_words text ≡ []
 
 -- The one word of a text that has one. This project's own.
 abbrev pub only_word : List (List ℕ) → Option (List ℕ)

@@ -1,31 +1,17 @@
 //! The numbers, places and references that words stand for.
 ghost use Rattle.std.specs.Prelude.{◌≡◌, ◌≤◌, ◌==◌, true, length};
 ghost use Rattle.std.specs.List.{list_all, position, before_first, after_first};
-ghost use Rattle.cell_text.specs.Numbers.{is_digit, value_of, is_spelled_number, spelled_number};
+ghost use Rattle.plant_types.specs.Numerals.{is_digit, value_of};
+ghost use Rattle.cell_text.specs.Numbers.{is_spelled_number, spelled_number};
 ghost use Rattle.cell_text.specs.Numbers.{position_of, is_reference_word, reference_number};
 ghost use Rattle.cell_text.specs.Numbers.{kind_by_digit, reference_of};
 
-use plant_types::{Ref, RefKind};
+use plant_types::{REFERENCE_LIMIT, Ref, RefKind, are_digits};
 
 /// The rows of a network, and its columns.
 pub const ROWS: u16 = 7;
 
 const COLUMNS: u16 = 11;
-
-/// The highest number of a reference.
-const REFERENCE_LIMIT: u16 = 9984;
-
-fn is_digit(byte: u8) -> bool
-    ensures { result ≡ is_digit byte }
-{
-    b'0' <= byte && byte <= b'9'
-}
-
-fn are_digits(word: &[u8]) -> bool
-    ensures { result ≡ list_all is_digit word.now }
-{
-    word.iter().all(|byte| is_digit(*byte))
-}
 
 /// The number that decimal digits stand for.
 fn value_of(digits: &[u8]) -> u16

@@ -1,8 +1,8 @@
 //! The words of a text, one after another.
-ghost use Rattle.std.specs.Prelude.{◌≡◌, ◌≤◌, [], ◌∷◌, not, length, map, option_map, MatchOption};
+ghost use Rattle.std.specs.Prelude.{◌≡◌, ◌≤◌, ◌∷◌, not, length, map, option_map, MatchOption};
 ghost use Rattle.std.specs.List.{position, position_or_len};
 ghost use Rattle.std.specs.Str.{bytes_eq};
-ghost use Rattle.cell_text.specs.Words.{is_blank, text_words, only_word, are_words};
+ghost use Rattle.cell_text.specs.Words.{is_blank, text_words, HasNoWord, only_word, are_words};
 
 fn is_blank(byte: u8) -> bool
     ensures { result ≡ is_blank byte }
@@ -34,7 +34,7 @@ fn word_end(text: &[u8]) -> usize
 
 /// The first word of a text, and what stands behind it.
 pub fn next_word(text: &[u8]) -> Option<(&[u8], &[u8])>
-    ensures { MatchOption result (text_words text.now ≡ [])
+    ensures { MatchOption result (HasNoWord text.now)
         (λ w. text_words text.now ≡ w.0.now ∷ text_words w.1.now) }
 {
     let Some(start) = word_start(text) else {

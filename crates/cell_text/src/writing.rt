@@ -2,7 +2,7 @@
 ghost use Rattle.std.specs.Prelude.{◌≡◌, true, Some, Ok, IfOk, string_bytes};
 ghost use Rattle.cell_text.specs.Words.{text_words};
 ghost use Rattle.cell_text.specs.Pieces.{piece_of};
-ghost use Rattle.cell_text.specs.Texts.{operand_text, piece_name, piece_operands, piece_place};
+ghost use Rattle.cell_text.specs.Texts.{operand_text, piece_name, piece_operands, piece_position};
 ghost use Rattle.cell_text.specs.Texts.{has_text, piece_text};
 
 use crate::names::PieceName;
@@ -29,7 +29,7 @@ impl fmt::Display for Written {
 
 impl Piece {
     fn place(&self) -> (u8, u8)
-        ensures { result ≡ piece_place self.now }
+        ensures { result ≡ piece_position self.now }
     {
         match *self {
             Piece::Cell(cell) => (cell.row, cell.column),
@@ -56,7 +56,7 @@ impl Piece {
     }
 }
 
-/// A piece with single blanks, as in `1,2 CO 00001`.
+/// A piece with one space between words, as in `1,2 CO 00001`.
 impl fmt::Display for Piece {
     ghost output = { λ piece. Some (piece_text piece) };
 
@@ -73,7 +73,7 @@ impl fmt::Display for Piece {
     }
 }
 
-/// The text of a piece, with single blanks. Reading it gives the piece back.
+/// The text of a piece, with one space between words. Reading it gives the piece back.
 pub fn cell_text(alloc: Global, piece: &Piece) -> Result<String, AllocError>
     requires { has_text piece.now ≡ true }
     ensures text { IfOk result (λ text. string_bytes text ≡ piece_text piece.now) }

@@ -19,7 +19,7 @@ use Rattle.comm_port.specs.HoldTurn.{MadeAs, IsMade, CollectsIf, Collects}
 use Rattle.comm_port.specs.Calling.{IsDueAt}
 use Rattle.comm_port.specs.Making.{request_frame}
 use Rattle.comm_port.specs.Parts.{InOrder, PartOf}
-use Rattle.comm_port.specs.Reading.{is_ours, has_started_at}
+use Rattle.joint_history.specs.Reading.{is_ours, has_started_at}
 use Rattle.comm_port.proofs.Parts.{grew-none, in-order-last, part-both, part-none}
 
 pub made-net : (n : ℕ) (c : Call) (to : ℕ) (pdu : List ℕ) → c.kind ≡ kinds.Net to pdu → IsMade n c [] (Post n (request_frame c.id to pdu) ∷ [])

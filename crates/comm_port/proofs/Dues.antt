@@ -31,9 +31,10 @@ use Rattle.ring_core.specs.Refusals.{or_no, free_no, awaited_no, other_no, answe
 use Rattle.tied_lists.specs.Waits.{AwaitsThis, IsFree, Holds, HasLeft}
 use Rattle.tied_lists.proofs.Boxes.{each-filter}
 use Rattle.comm_port.specs.Giving.{due_by, due_on, is_chosen, chosen_below, given_due, AsksAreOn}
-use Rattle.comm_port.specs.Giving.{IsSettled, IsOther, GaveUpBelow, part_no}
+use Rattle.comm_port.specs.Giving.{IsSettled, IsOtherPath, GaveUpBelow, part_no}
 use Rattle.comm_port.specs.HoldTurn.{IsGivenUp, finish_of}
-use Rattle.comm_port.specs.Parts.{InOrder, four_paths}
+use Rattle.comm_port.specs.Parts.{InOrder}
+use Rattle.mstr_block.specs.Table.{network_paths}
 
 -- ---- what the ring says, and whether a call is due
 
@@ -176,7 +177,7 @@ due-as-before : (net : NetPlan) (n : ℕ) (chosen : List Bool) (p : ℕ) (old mi
 due-as-before net n chosen p old mid g =
     (λ i. due_by net.answer (g.here i) n p (g.others p (inr (inl (omega arith))) i).awaits)
 
-wider : (chosen : List Bool) (p q : ℕ) → IsOther chosen (p + 1) q → IsOther chosen p q
+wider : (chosen : List Bool) (p q : ℕ) → IsOtherPath chosen (p + 1) q → IsOtherPath chosen p q
 wider chosen p q (inl first) = inl first
 wider chosen p q (inr (inl above)) = inr (inl (omega (arith, above)))
 wider chosen p q (inr (inr un)) = inr (inr un)
@@ -208,7 +209,7 @@ below-given net n chosen p old mid id from path' on g = record {
   sent = λ e. still-sent mid id (g.sent e);
 }
   where
-    away : (q : ℕ) → IsOther chosen (p + 1) q → q ≡ p → ⊥
+    away : (q : ℕ) → IsOtherPath chosen (p + 1) q → q ≡ p → ⊥
     away q (inl first) e = omega (arith, first, e, from)
     away q (inr (inl above)) e = omega (arith, above, e)
     away q (inr (inr un)) e = let bad : true ≡ false = sym on ∙ (ap (is_chosen chosen) (sym e) ∙ un) in cc
@@ -238,7 +239,7 @@ below-more net n chosen p old mid new from on is g =
     below-by net n chosen p old mid new (due_on net n mid p) from on (due-as-before net n chosen p old mid g) is g
 
 -- the chosen paths up to one more
-next-path : (p : ℕ) → 1 ≤ p → p < 5 → take (p + 1 - 1) four_paths ≡ take (p - 1) four_paths ++ p ∷ []
+next-path : (p : ℕ) → 1 ≤ p → p < 5 → take (p + 1 - 1) network_paths ≡ take (p - 1) network_paths ++ p ∷ []
 next-path zero from to = absurd (omega (arith, from))
 next-path (suc zero) from to = refl
 next-path (suc (suc zero)) from to = refl
@@ -248,12 +249,12 @@ next-path (suc (suc (suc (suc (suc p))))) from to = absurd (omega (arith, to))
 
 pub chosen-more : (chosen : List Bool) (p : ℕ) → 1 ≤ p → p < 5 → is_chosen chosen p ≡ true → chosen_below chosen (p + 1) ≡ chosen_below chosen p ++ p ∷ []
 chosen-more chosen p from to on =
-    ap (filter (is_chosen chosen)) (next-path p from to) ∙ (filter-append (is_chosen chosen) (take (p - 1) four_paths) (p ∷ [])
+    ap (filter (is_chosen chosen)) (next-path p from to) ∙ (filter-append (is_chosen chosen) (take (p - 1) network_paths) (p ∷ [])
     ∙ ap (λ l. chosen_below chosen p ++ l) (cond-true (is_chosen chosen p) (p ∷ []) [] on))
 
 pub chosen-skip : (chosen : List Bool) (p : ℕ) → 1 ≤ p → p < 5 → is_chosen chosen p ≡ false → chosen_below chosen (p + 1) ≡ chosen_below chosen p
 chosen-skip chosen p from to off =
-    ap (filter (is_chosen chosen)) (next-path p from to) ∙ (filter-append (is_chosen chosen) (take (p - 1) four_paths) (p ∷ [])
+    ap (filter (is_chosen chosen)) (next-path p from to) ∙ (filter-append (is_chosen chosen) (take (p - 1) network_paths) (p ∷ [])
     ∙ (ap (λ l. chosen_below chosen p ++ l) (cond-false (is_chosen chosen p) (p ∷ []) [] off) ∙ append-nil (chosen_below chosen p)))
 
 pub due-more : (net : NetPlan) (n : ℕ) (chosen : List Bool) (p : ℕ) (old mid : NodeIs) → GaveUpBelow net n chosen p old mid → (paths : List ℕ)

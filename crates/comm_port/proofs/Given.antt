@@ -10,8 +10,7 @@ use Rattle.controller_core.specs.declared.entry.Entry.TheVariants.{Finish}
 use Rattle.ring_core.specs.declared.frame.Frame.{Frame}
 use Rattle.ring_core.specs.declared.entry.Heard.{Heard}
 use Rattle.ring_core.specs.declared.entry.RingEntry.{RingEntry}
-use Rattle.ring_core.specs.declared.entry.RingEntry.TheVariants.{Post, Send, Take, Local, GiveUp}
-use Rattle.ring_core.specs.declared.entry.RingEntry.TheVariants.{Pass, Leave}
+use Rattle.ring_core.specs.declared.entry.RingEntry.TheVariants.{Send, GiveUp}
 use Rattle.ring_core.specs.Machine.{path_places}
 use Rattle.ring_core.specs.Legal.{IsLegal, IsPath}
 use Rattle.tied_lists.specs.Own.{is_of, own, WentOn, Grew}
@@ -24,13 +23,12 @@ use Rattle.tied_lists.proofs.Asked.{other-path, no-end-push}
 use Rattle.tied_lists.proofs.Growth.{grew-ours}
 use Rattle.tied_lists.proofs.Steps.{tied-given_up, tied-quiet}
 use Rattle.comm_port.specs.Sides.{RingSideIs, RamSideIs}
-use Rattle.comm_port.specs.Reading.{is_ours, items_of}
+use Rattle.joint_history.specs.Reading.{is_ours, items_of}
 use Rattle.comm_port.specs.Waiting.{id_of}
 use Rattle.comm_port.specs.Sending.{GaveUp, SentNext, sends_left}
 use Rattle.comm_port.specs.Turns.{IsOwnTurn, KeepsInbox, AreWaiting, Turning}
-use Rattle.comm_port.specs.Order.{IsGivingUp, IsSending}
 use Rattle.comm_port.proofs.RingTurns.{turn-on}
-use Rattle.comm_port.proofs.Items.{items-one}
+use Rattle.joint_history.proofs.Items.{items-one}
 use Rattle.comm_port.proofs.Served.{waiting-as, waiting-ended}
 
 -- the Request that a path waits for
@@ -167,13 +165,3 @@ pub less-both : {Q : Type 0} (side side' : RingSideIs Q) (n : ℕ) (a b d : List
 less-both {Q} side side' n a b d same one two =
     let two' : sends_left side.net d n ≤ sends_left side.net b n = subst (λ (s : RingSideIs Q). sends_left s.net d n ≤ sends_left s.net b n) same two in
     omega (arith, one, two')
-
--- giving up is a part of sending
-pub sending-too : (e : RingEntry) → IsGivingUp e → IsSending e
-sending-too (GiveUp id word) k = tt
-sending-too (Send n heard) k = tt
-sending-too (Post n f) k = absurd k
-sending-too (Take n f) k = absurd k
-sending-too (Local n id op result) k = absurd k
-sending-too (Pass n done words) k = absurd k
-sending-too (Leave n cause) k = absurd k

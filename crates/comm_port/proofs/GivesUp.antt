@@ -26,7 +26,7 @@ use Rattle.comm_port.specs.Giving.{given_part, is_chosen, chosen_below}
 use Rattle.comm_port.specs.Giving.{IsDueNext, GivesOnPath, GivesWhere}
 use Rattle.comm_port.specs.HoldTurn.{IsGivenUp}
 use Rattle.comm_port.specs.Parts.{InOrder, PartOf, EachNext}
-use Rattle.comm_port.specs.Reading.{is_ours}
+use Rattle.joint_history.specs.Reading.{is_ours}
 use Rattle.comm_port.specs.Sending.{GaveUp, IsThis}
 use Rattle.comm_port.specs.Turns.{Turning}
 use Rattle.comm_port.specs.Waiting.{id_of}

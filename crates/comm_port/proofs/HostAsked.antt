@@ -31,8 +31,9 @@ use Rattle.tied_lists.proofs.Histories.{legal-follows}
 use Rattle.tied_lists.proofs.Turns.{after-post, part}
 use Rattle.comm_port.specs.Sides.{RingSideIs}
 use Rattle.comm_port.specs.Turns.{IsOwnTurn}
-use Rattle.comm_port.specs.HostTurns.{AreNew, ask_of, AskedAll, AskedNext, AskedNone}
-use Rattle.comm_port.specs.HostTurns.{AskedOnce, AsksInOrder, chosen, host_at, IsNew, went_on}
+use Rattle.comm_port.specs.Giving.{is_chosen}
+use Rattle.comm_port.specs.HostTurns.{AreRecent, ask_of, AskedAll, AskedNext, AskedNone}
+use Rattle.comm_port.specs.HostTurns.{AskedOnce, AsksInOrder, host_at, IsRecent, went_on}
 use Rattle.comm_port.proofs.HostServes.{grew_not}
 use Rattle.comm_port.proofs.RingTurns.{own-moved}
 
@@ -68,8 +69,8 @@ pub record AskedSoFar (alone : Bool) (net : NetPlan) (n : ℕ) (plan : HostPlan)
   pub asks : List Frame
   pub in_order : AsksInOrder alone n plan hold asks list new_list ring new_ring
   pub size : length fresh ≡ path_places
-  pub paths : (path : ℕ) → chosen fresh path ≡ went_on asks path
-  pub new_calls : AreNew (chosen fresh) (ring_node (ring_after net new_ring) n)
+  pub paths : (path : ℕ) → is_chosen fresh path ≡ went_on asks path
+  pub new_calls : AreRecent (is_chosen fresh) (ring_node (ring_after net new_ring) n)
 
 none-chosen : (k p : ℕ) → get_or (replicate k false) p false ≡ false
 none-chosen zero p = refl
@@ -108,11 +109,11 @@ each-next plan hold asks list ask each due before after' f is = ⊎_elim
     (split_last asks ask before after' f is)
 
 chosen-next : (fresh : List Bool) (asks : List Frame) (ask : Frame) (path : ℕ) → ask.id.path ≡ path → path < length fresh
-    → ((p : ℕ) → chosen fresh p ≡ went_on asks p) → (p : ℕ) → chosen (set fresh path true) p ≡ went_on (asks ++ ask ∷ []) p
+    → ((p : ℕ) → is_chosen fresh p ≡ went_on asks p) → (p : ℕ) → is_chosen (set fresh path true) p ≡ went_on (asks ++ ask ∷ []) p
 chosen-next fresh asks ask path is range paths p = ⊎_elim
     (λ (e : p ≡ path).
     let on : goes_on p ask ≡ true = eq-eqb ask.id.path p (is ∙ sym e) in
-    let now : chosen (set fresh path true) p ≡ true = ap (λ (q : ℕ). get_or (set fresh path true) q false) e ∙ get_or-set_same fresh path true false range in
+    let now : is_chosen (set fresh path true) p ≡ true = ap (λ (q : ℕ). get_or (set fresh path true) q false) e ∙ get_or-set_same fresh path true false range in
     now ∙ sym (list_any-append (goes_on p) asks (ask ∷ []) ∙ ap (λ (b : Bool). list_any (goes_on p) asks || (b || false)) on ∙ or-true (list_any (goes_on p) asks)))
     (λ (o : p ≡ path → ⊥).
     let off : goes_on p ask ≡ false = ne_eqb ask.id.path p (λ e. o (sym e ∙ is)) in
@@ -130,10 +131,10 @@ chosen-next fresh asks ask path is range paths p = ⊎_elim
 
 new-next : (net : NetPlan) (n : ℕ) (fresh : List Bool) (path : ℕ) (old new : NodeIs) (seq to : ℕ)
     → path_of new path ≡ record { awaits = Out seq to 0; posted = seq } → ((p : ℕ) → p ≢ path → path_of new p ≡ path_of old p)
-    → AreNew (chosen fresh) old → AreNew (chosen (set fresh path true)) new
+    → AreRecent (is_chosen fresh) old → AreRecent (is_chosen (set fresh path true)) new
 new-next net n fresh path old new seq to out others are p is on = ⊎_elim
-    (λ (e : p ≡ path). subst (λ (q : ℕ). IsNew (path_of new q).awaits) (sym e) (subst (λ (x : Path). IsNew x.awaits) (sym out) refl))
-    (λ (o : p ≡ path → ⊥). subst (λ (x : Path). IsNew x.awaits) (sym (others p o)) (are p is (sym (get_or-set_other fresh path p true false o) ∙ on)))
+    (λ (e : p ≡ path). subst (λ (q : ℕ). IsRecent (path_of new q).awaits) (sym e) (subst (λ (x : Path). IsRecent x.awaits) (sym out) refl))
+    (λ (o : p ≡ path → ⊥). subst (λ (x : Path). IsRecent x.awaits) (sym (others p o)) (are p is (sym (get_or-set_other fresh path p true false o) ∙ on)))
     (cases_eq p path)
 
 pub asked-next : (alone : Bool) (net : NetPlan) (n : ℕ) (plan : HostPlan) (hold path : ℕ) (list : List HostEntry) (old new : HostIs)
@@ -173,7 +174,7 @@ asked-end alone net n plan hold list old new r0 r r' fresh plan_is a o =
         no_more = ap (λ (v : HostIs). due_request v hold) (sym (host-is new plan new.history plan_is refl)) ∙ o.none;
       };
       paths = a.paths;
-      new_calls = subst (λ (x : List RingEntry). AreNew (chosen fresh) (ring_node (ring_after net x) n)) (sym o.ring_same) a.new_calls;
+      new_calls = subst (λ (x : List RingEntry). AreRecent (is_chosen fresh) (ring_node (ring_after net x) n)) (sym o.ring_same) a.new_calls;
     }
 
 pub asked-some : (alone : Bool) (net : NetPlan) (n hold : ℕ) (old new : HostIs) (r r' : List RingEntry) (o : Option ℕ) (p : ℕ)

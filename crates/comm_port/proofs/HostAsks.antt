@@ -38,7 +38,7 @@ use Rattle.tied_lists.proofs.Steps.{tied-all, tied-called, tied-given_up, tied-n
 use Rattle.tied_lists.proofs.Steps.{tied-quiet}
 use Rattle.tied_lists.proofs.Turns.{unmoved}
 use Rattle.comm_port.specs.Sides.{RingSideIs}
-use Rattle.comm_port.specs.Reading.{host_items_of}
+use Rattle.joint_history.specs.Reading.{host_items_of}
 use Rattle.comm_port.specs.Turns.{IsOwnTurn, KeepsInbox}
 use Rattle.comm_port.specs.Sending.{AllSent, GaveUp, SentNext, SentOrAll, sends_left, sends_of}
 use Rattle.comm_port.specs.Leaving.{HandedOn, IsHere, last_entry}

@@ -31,8 +31,8 @@ use Rattle.tied_lists.proofs.Histories.{legal-follows}
 use Rattle.tied_lists.proofs.Turns.{Found, part, unmoved}
 use Rattle.comm_port.specs.Sides.{RingSideIs}
 use Rattle.comm_port.specs.Sending.{GaveUp, sends_left}
-use Rattle.comm_port.specs.Giving.{due_calls, due_on, part_at}
-use Rattle.comm_port.specs.HostTurns.{bad_answer_of, chosen, GivenUp}
+use Rattle.comm_port.specs.Giving.{due_calls, due_on, part_at, is_chosen}
+use Rattle.comm_port.specs.HostTurns.{bad_answer_of, GivenUp}
 use Rattle.comm_port.specs.HostTurns.{GivesUpDue, give_up_of, HostTurning, wanted_path}
 use Rattle.comm_port.proofs.HostRuns.{all-let, due-both, due-nothing, due-one, due-same, ends_on}
 use Rattle.comm_port.proofs.HostRuns.{kept_for, kept-why, left-grew, still-none}
@@ -224,7 +224,7 @@ gives-start alone net n list ring = record {
 
 -- the paths of a loop so far
 abbrev pub paths_to : List Bool → ℕ → List ℕ
-paths_to which i = filter (chosen which) (take i network_paths)
+paths_to which i = filter (is_chosen which) (take i network_paths)
 
 at-four : (P : ℕ → Type 0) → P 0 → P 1 → P 2 → P 3 → (i : ℕ) → i < 4 → P i
 at-four P zero' one two three zero low = zero'
@@ -234,30 +234,30 @@ at-four P zero' one two three (suc (suc (suc zero))) low = three
 at-four P zero' one two three (suc (suc (suc (suc i)))) low = absurd (omega (arith, low))
 
 abbrev NextPath : List Bool → ℕ → Type 0
-NextPath which i = (paths_to which (i + 1) ≡ paths_to which i ++ filter (chosen which) (get_or network_paths i 0 ∷ []))
+NextPath which i = (paths_to which (i + 1) ≡ paths_to which i ++ filter (is_chosen which) (get_or network_paths i 0 ∷ []))
     × Each (λ p. (p == get_or network_paths i 0) ≡ false) (take i network_paths)
 
 next-path : (which : List Bool) (i : ℕ) → i < 4 → NextPath which i
 next-path which i low = at-four (NextPath which)
-    (filter-append (chosen which) [] (1 ∷ []), tt)
-    (filter-append (chosen which) (1 ∷ []) (2 ∷ []), (refl, tt))
-    (filter-append (chosen which) (1 ∷ 2 ∷ []) (3 ∷ []), (refl, (refl, tt)))
-    (filter-append (chosen which) (1 ∷ 2 ∷ 3 ∷ []) (4 ∷ []), (refl, (refl, (refl, tt))))
+    (filter-append (is_chosen which) [] (1 ∷ []), tt)
+    (filter-append (is_chosen which) (1 ∷ []) (2 ∷ []), (refl, tt))
+    (filter-append (is_chosen which) (1 ∷ 2 ∷ []) (3 ∷ []), (refl, (refl, tt)))
+    (filter-append (is_chosen which) (1 ∷ 2 ∷ 3 ∷ []) (4 ∷ []), (refl, (refl, (refl, tt))))
     i low
 
 pub gives-next : (alone : Bool) (net : NetPlan) (n i path : ℕ) (which : List Bool) (wanted : Bool) (l l' l'' : List HostEntry) (a b c : List RingEntry)
-    → i < 4 → path ≡ get_or network_paths i 0 → wanted ≡ chosen which path → IsOnRing net b n → IsOnRing net c n → IsFree net a n
+    → i < 4 → path ≡ get_or network_paths i 0 → wanted ≡ is_chosen which path → IsOnRing net b n → IsOnRing net c n → IsFree net a n
     → GivesUpDue alone net n (paths_to which i) l l' a b → GivesUpDue alone net n (wanted_path wanted path) l' l'' b c
     → GivesUpDue alone net n (paths_to which (i + 1)) l l'' a c
 gives-next alone net n i path which wanted l l' l'' a b c low is is_wanted on on' free x y =
     let next = next-path which i low in
     let q = get_or network_paths i 0 in
-    let apart = all_filter (λ p. (p == q) ≡ false) (chosen which) (take i network_paths) next.1 in
-    let y' : GivesUpDue alone net n (wanted_path (chosen which q) q) l' l'' b c =
-    subst (λ (k : ℕ). GivesUpDue alone net n (wanted_path (chosen which k) k) l' l'' b c) is
+    let apart = all_filter (λ p. (p == q) ≡ false) (is_chosen which) (take i network_paths) next.1 in
+    let y' : GivesUpDue alone net n (wanted_path (is_chosen which q) q) l' l'' b c =
+    subst (λ (k : ℕ). GivesUpDue alone net n (wanted_path (is_chosen which k) k) l' l'' b c) is
     (subst (λ (w : Bool). GivesUpDue alone net n (wanted_path w path) l' l'' b c) is_wanted y) in
-    subst (λ (k : List ℕ). GivesUpDue alone net n k l l'' a c) (sym (next.0 ∙ ap (λ (k : List ℕ). paths_to which i ++ k) (one (chosen which q) q)))
-    (both (chosen which q) q (paths_to which i) apart x y')
+    subst (λ (k : List ℕ). GivesUpDue alone net n k l l'' a c) (sym (next.0 ∙ ap (λ (k : List ℕ). paths_to which i ++ k) (one (is_chosen which q) q)))
+    (both (is_chosen which q) q (paths_to which i) apart x y')
   where
     one : (w : Bool) (q : ℕ) → cond w (q ∷ []) [] ≡ wanted_path w q
     one true q = refl

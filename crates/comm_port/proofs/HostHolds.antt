@@ -45,12 +45,12 @@ use Rattle.tied_lists.specs.Waits.{AwaitsThis, HasLeft, waiting}
 use Rattle.tied_lists.proofs.Growth.{grew-ours}
 use Rattle.tied_lists.proofs.Histories.{legal-follows}
 use Rattle.tied_lists.proofs.Turns.{part}
-use Rattle.comm_port.specs.Complete.{is_pass}
+use Rattle.joint_history.specs.Complete.{is_pass}
 use Rattle.comm_port.specs.Sides.{RingSideIs}
 use Rattle.comm_port.specs.Leaving.{cause_due, HandedOn, last_entry}
-use Rattle.comm_port.specs.Giving.{due_calls}
+use Rattle.comm_port.specs.Giving.{due_calls, is_chosen}
 use Rattle.comm_port.specs.HostTurns.{ask_of}
-use Rattle.comm_port.specs.HostTurns.{AskedAll, AsksAllDue, chosen}
+use Rattle.comm_port.specs.HostTurns.{AskedAll, AsksAllDue}
 use Rattle.comm_port.specs.HostTurns.{EachSends, EndsHostTurn, GivenUp, GivesUpDue}
 use Rattle.comm_port.specs.HostTurns.{give_up_of, hold_of, HoldsHostTurn, host_at, HostTurning}
 use Rattle.comm_port.specs.HostTurns.{IsSendingStep, SendsOut, ServesFrame}
@@ -289,7 +289,7 @@ pub record TurnAsks (alone : Bool) (net : NetPlan) (n : ℕ) (plan : HostPlan) (
     (fresh : List Bool) : Type 0 where
   pub asks : List Frame
   pub makes : AsksAllDue alone n plan (hold_of n ring0) asks list new ring ring'
-  pub same : chosen fresh ≡ went_on asks
+  pub same : is_chosen fresh ≡ went_on asks
 
 pub asks-of : (alone : Bool) (net : NetPlan) (n : ℕ) (plan : HostPlan) (hold : ℕ) (list0 list new : List HostEntry) (ring0 ring ring' : List RingEntry)
     (fresh : List Bool) (plan' : HostPlan) → plan' ≡ plan → IsHostPlan plan → hold ≡ min (hold_of n ring0) most

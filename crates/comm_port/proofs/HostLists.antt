@@ -23,7 +23,7 @@ use Rattle.host_port.proofs.OpenRequests.{open_requests}
 use Rattle.tied_lists.specs.Items.{Called, OverNet, Items, NetCall, kind_in, no_items}
 use Rattle.tied_lists.specs.Waits.{waiting, waits_next, last_number, number_next}
 use Rattle.tied_lists.proofs.Paths.{waiting-push, number-push}
-use Rattle.comm_port.specs.Reading.{host_item_next, host_items_after, host_items_of}
+use Rattle.joint_history.specs.Reading.{host_item_next, host_items_after, host_items_of}
 use Rattle.comm_port.specs.HostTurns.{PathsAgree}
 
 -- ---- the items

@@ -34,11 +34,11 @@ use Rattle.tied_lists.specs.Waits.{Holds, IsFree, IsOnRing}
 use Rattle.tied_lists.proofs.Histories.{legal-follows}
 use Rattle.tied_lists.proofs.Turns.{Found, found-at, part}
 use Rattle.comm_port.specs.Sides.{RingSideIs}
-use Rattle.comm_port.specs.Giving.{due_calls, due_on, part_at}
-use Rattle.comm_port.specs.HostTurns.{AreNew, bad_answer_of, bad_answer_to, chosen}
-use Rattle.comm_port.specs.HostTurns.{chosen_paths, EachSends, GivenUp, GivesUpDue}
-use Rattle.comm_port.specs.HostTurns.{give_up_of, IsFailed, IsNew, IsSendingStep, NoneFailed}
-use Rattle.comm_port.specs.HostTurns.{looked_at, outbox_of, Sends, SendsOut}
+use Rattle.comm_port.specs.Giving.{due_calls, due_on, part_at, chosen_paths, is_chosen, outbox_of}
+use Rattle.comm_port.specs.HostTurns.{AreRecent, bad_answer_of, bad_answer_to}
+use Rattle.comm_port.specs.HostTurns.{EachSends, GivenUp, GivesUpDue}
+use Rattle.comm_port.specs.HostTurns.{give_up_of, IsFailed, IsRecent, IsSendingStep, NoneFailedOn}
+use Rattle.comm_port.specs.HostTurns.{looked_at, Sends, SendsOut}
 use Rattle.comm_port.proofs.Dues.{named-by}
 use Rattle.comm_port.proofs.HostGives.{none-ids}
 use Rattle.comm_port.proofs.HostRuns.{AreYoung, due-one, each-gone, goes_by, kept_for, left-grew}
@@ -177,8 +177,8 @@ found-by net n heard a b c s f = record {
   paths = λ p. subst (λ (x : NodeIs). FailedOr heard (part net a n) x p) (sym f.part_is) (s.paths p);
 }
 
-none-failed-at : (net : NetPlan) (n : ℕ) (on : ℕ → Bool) (a b : List RingEntry) → Found net n a b → NoneFailed on (part net a n) → NoneFailed on (part net b n)
-none-failed-at net n on a b f none = subst (NoneFailed on) (sym f.part_is) none
+none-failed-at : (net : NetPlan) (n : ℕ) (on : ℕ → Bool) (a b : List RingEntry) → Found net n a b → NoneFailedOn on (part net a n) → NoneFailedOn on (part net b n)
+none-failed-at net n on a b f none = subst (NoneFailedOn on) (sym f.part_is) none
 
 one-own : (n : ℕ) (e x : RingEntry) (xs : List RingEntry) → own n (e ∷ xs) ≡ x ∷ [] → is_of n e ≡ true → (e ≡ x) × (own n xs ≡ [])
 one-own n e x xs is mine = both (sym (ap (λ (b : Bool). cond b (e ∷ own n xs) (own n xs)) mine) ∙ is)
@@ -187,7 +187,7 @@ one-own n e x xs is mine = both (sym (ap (λ (b : Bool). cond b (e ∷ own n xs)
     both k = (cc, cc)
 
 send-stands : (net : NetPlan) (n : ℕ) (on : ℕ → Bool) (heard : Heard) (past xs : List RingEntry) → IsOnRing net (past ++ xs) n → Holds net past n
-    → NoneFailed on (part net past n) → own n xs ≡ Send n heard ∷ [] → SendStands net n on heard past xs
+    → NoneFailedOn on (part net past n) → own n xs ≡ Send n heard ∷ [] → SendStands net n on heard past xs
 send-stands net n on heard past [] ring holds none is = absurd (cc)
 send-stands net n on heard past (e ∷ xs) ring holds none is =
     let ring' = on-step net n past e xs ring in
@@ -214,23 +214,23 @@ send-stands net n on heard past (e ∷ xs) ring holds none is =
     ]
 
 send-grew : (alone : Bool) (net : NetPlan) (n : ℕ) (on : ℕ → Bool) (heard : Heard) (a b : List RingEntry) → IsOnRing net b n → Holds net a n
-    → NoneFailed on (part net a n) → (g : Grew alone (is_of n) a (Send n heard ∷ []) b) → EachSends net n on a g.more × SentBy net n heard a b
+    → NoneFailedOn on (part net a n) → (g : Grew alone (is_of n) a (Send n heard ∷ []) b) → EachSends net n on a g.more × SentBy net n heard a b
 send-grew alone net n on heard a b ring holds none g =
     let s = send-stands net n on heard a g.more (subst (λ (l : List RingEntry). IsOnRing net l n) g.after_is ring) holds none g.ours_are in
     (s.each, subst (SentBy net n heard a) (sym g.after_is) s.by)
 
 -- ---- a Send, and the calls that failed by it
 
-new-none : (a : Await) → IsNew a → IsFailed a → ⊥
+new-none : (a : Await) → IsRecent a → IsFailed a → ⊥
 new-none Nothing new is = is
 new-none (Out s to passes) new is = is
 new-none (Arrived s) new is = is
 new-none (Failed s word) new is = new
 
-pub none-of-new : (on : ℕ → Bool) (c : NodeIs) → AreNew on c → NoneFailed on c
+pub none-of-new : (on : ℕ → Bool) (c : NodeIs) → AreRecent on c → NoneFailedOn on c
 none-of-new on c new p is_path chosen' is = new-none (path_of c p).awaits (new p is_path chosen') is
 
-new-passes : (a : Await) → IsNew a → passes_of a ≡ 0
+new-passes : (a : Await) → IsRecent a → passes_of a ≡ 0
 new-passes Nothing new = refl
 new-passes (Out s to passes) new = new
 new-passes (Arrived s) new = refl
@@ -242,13 +242,13 @@ failed-passes (Out s to passes) is = absurd is
 failed-passes (Arrived s) is = refl
 failed-passes (Failed s word) is = refl
 
-is-new : (a : Await) → passes_of a ≡ 0 → (IsFailed a → ⊥) → IsNew a
+is-new : (a : Await) → passes_of a ≡ 0 → (IsFailed a → ⊥) → IsRecent a
 is-new Nothing passes not = tt
 is-new (Out s to p) passes not = passes
 is-new (Arrived s) passes not = tt
 is-new (Failed s word) passes not = absurd (not tt)
 
-young-sent : (net : NetPlan) (n : ℕ) (on : ℕ → Bool) (heard : Heard) (a b : List RingEntry) → AreNew on (part net a n) → SentBy net n heard a b
+young-sent : (net : NetPlan) (n : ℕ) (on : ℕ → Bool) (heard : Heard) (a b : List RingEntry) → AreRecent on (part net a n) → SentBy net n heard a b
     → AreYoung on (part net b n)
 young-sent net n on heard a b new s p is_path chosen' = ⊎_elim
     (λ (e : path_of (part net b n) p ≡ path_of (part net a n) p). ap (λ (x : Path). passes_of x.awaits) e ∙ new-passes (path_of (part net a n) p).awaits (new p is_path chosen'))
@@ -284,10 +284,10 @@ filter-each P test (x ∷ xs) each = elim (cases_Bool (test x)) [
 ]
 
 pub none-at : (net : NetPlan) (ring : List RingEntry) (n : ℕ) (which : List Bool) → due_calls net n ring (chosen_paths which) ≡ [] → (p : ℕ) → IsPath p
-    → chosen which p ≡ true → due_calls net n ring (p ∷ []) ≡ []
+    → is_chosen which p ≡ true → due_calls net n ring (p ∷ []) ≡ []
 none-at net ring n which none p is_path =
-    let each = filter-each (λ (q : ℕ). due_calls net n ring (q ∷ []) ≡ []) (chosen which) network_paths (none-due net ring n (chosen_paths which) none) in
-    at_path (λ (q : ℕ). chosen which q ≡ true → due_calls net n ring (q ∷ []) ≡ []) p is_path each.0 each.1.0 each.1.1.0 each.1.1.1.0
+    let each = filter-each (λ (q : ℕ). due_calls net n ring (q ∷ []) ≡ []) (is_chosen which) network_paths (none-due net ring n (chosen_paths which) none) in
+    at_path (λ (q : ℕ). is_chosen which q ≡ true → due_calls net n ring (q ∷ []) ≡ []) p is_path each.0 each.1.0 each.1.1.0 each.1.1.1.0
 
 -- the calls that went are on the paths chosen
 on-chosen : (net : NetPlan) (ring : List RingEntry) (n : ℕ) (test : ℕ → Bool) (ps : List ℕ) → Each (λ p. test p ≡ true) ps
@@ -323,18 +323,18 @@ answers-given (g ∷ ends) = ap (λ l. bad_answer_of g ∷ l) (answers-given end
 -- what one step of sending comes to
 pub record SentStep (alone : Bool) (net : NetPlan) (n : ℕ) (on : ℕ → Bool) (l l' : List HostEntry) (a c : List RingEntry) : Type 0 where
   pub sends : Sends alone net n on l l' a c
-  pub new_calls : AreNew on (part net c n)
+  pub new_calls : AreRecent on (part net c n)
 
-sent-all-acked : (net : NetPlan) (n : ℕ) (on : ℕ → Bool) (a b : List RingEntry) → AreNew on (part net a n) → SentBy net n Acked a b → AreNew on (part net b n)
+sent-all-acked : (net : NetPlan) (n : ℕ) (on : ℕ → Bool) (a b : List RingEntry) → AreRecent on (part net a n) → SentBy net n Acked a b → AreRecent on (part net b n)
 sent-all-acked net n on a b new s p is_path chosen' = ⊎_elim
-    (λ (e : path_of (part net b n) p ≡ path_of (part net a n) p). subst (λ (x : Path). IsNew x.awaits) (sym e) (new p is_path chosen'))
+    (λ (e : path_of (part net b n) p ≡ path_of (part net a n) p). subst (λ (x : Path). IsRecent x.awaits) (sym e) (new p is_path chosen'))
     (λ (k : (Acked ≢ Acked) × IsFailed (path_of (part net b n) p).awaits). absurd (k.0 refl)) (s.paths p)
 
-new-left : (net : NetPlan) (n : ℕ) (ends : List GivenUp) (on : ℕ → Bool) (b c : List RingEntry) → AreNew on (part net b n) → LeftBy net n ends b c
-    → AreNew on (part net c n)
+new-left : (net : NetPlan) (n : ℕ) (ends : List GivenUp) (on : ℕ → Bool) (b c : List RingEntry) → AreRecent on (part net b n) → LeftBy net n ends b c
+    → AreRecent on (part net c n)
 new-left net n ends on b c new l p is_path chosen' = ⊎_elim
-    (λ (e : path_of (part net c n) p ≡ path_of (part net b n) p). subst (λ (x : Path). IsNew x.awaits) (sym e) (new p is_path chosen'))
-    (λ (e : (path_of (part net c n) p).awaits ≡ Nothing). subst IsNew (sym e) tt) (l.paths p)
+    (λ (e : path_of (part net c n) p ≡ path_of (part net b n) p). subst (λ (x : Path). IsRecent x.awaits) (sym e) (new p is_path chosen'))
+    (λ (e : (path_of (part net c n) p).awaits ≡ Nothing). subst IsRecent (sym e) tt) (l.paths p)
 
 step-sends : (alone : Bool) (net : NetPlan) (n : ℕ) (on : ℕ → Bool) (heard : Heard) (which : List Bool) (l l' : List HostEntry) (a b c : List RingEntry)
     → (g : Grew alone (is_of n) a (Send n heard ∷ []) b) → EachSends net n on a g.more → SentBy net n heard a b → AreYoung on (part net b n)
@@ -353,24 +353,24 @@ step-sends alone net n on heard which l l' a b c g each s young ring x all =
     }
 
 step-acked : (alone : Bool) (net : NetPlan) (n : ℕ) (fresh : List Bool) (l l' : List HostEntry) (a b c : List RingEntry)
-    → IsOnRing net c n → (g : Grew alone (is_of n) a (Send n Acked ∷ []) b) → EachSends net n (chosen fresh) a g.more → SentBy net n Acked a b
-    → AreNew (chosen fresh) (part net a n) → GivesUpDue alone net n (chosen_paths (replicate path_places false)) l l' b c
-    → SentStep alone net n (chosen fresh) l l' a c
+    → IsOnRing net c n → (g : Grew alone (is_of n) a (Send n Acked ∷ []) b) → EachSends net n (is_chosen fresh) a g.more → SentBy net n Acked a b
+    → AreRecent (is_chosen fresh) (part net a n) → GivesUpDue alone net n (chosen_paths (replicate path_places false)) l l' b c
+    → SentStep alone net n (is_chosen fresh) l l' a c
 step-acked alone net n fresh l l' a b c ring g each s new x =
     let none : x.ends ≡ [] = none-ids x.ends x.calls in
-    let young = young-sent net n (chosen fresh) Acked a b new s in
+    let young = young-sent net n (is_chosen fresh) Acked a b new s in
     let left = left-grew alone net n x.ends b c ring (inl s.holds) x.grew in
     record {
-      sends = step-sends alone net n (chosen fresh) Acked (replicate path_places false) l l' a b c g each s young ring x
-          (subst (λ (k : List GivenUp). Each (λ (e : GivenUp). chosen fresh e.id.path ≡ true) k) (sym none) tt);
-      new_calls = new-left net n x.ends (chosen fresh) b c (sent-all-acked net n (chosen fresh) a b new s) left;
+      sends = step-sends alone net n (is_chosen fresh) Acked (replicate path_places false) l l' a b c g each s young ring x
+          (subst (λ (k : List GivenUp). Each (λ (e : GivenUp). is_chosen fresh e.id.path ≡ true) k) (sym none) tt);
+      new_calls = new-left net n x.ends (is_chosen fresh) b c (sent-all-acked net n (is_chosen fresh) a b new s) left;
     }
 
 step-failed : (alone : Bool) (net : NetPlan) (n : ℕ) (heard : Heard) (fresh : List Bool) (l l' : List HostEntry) (a b c : List RingEntry)
-    → IsOnRing net c n → (g : Grew alone (is_of n) a (Send n heard ∷ []) b) → EachSends net n (chosen fresh) a g.more → SentBy net n heard a b
-    → AreNew (chosen fresh) (part net a n) → GivesUpDue alone net n (chosen_paths fresh) l l' b c → SentStep alone net n (chosen fresh) l l' a c
+    → IsOnRing net c n → (g : Grew alone (is_of n) a (Send n heard ∷ []) b) → EachSends net n (is_chosen fresh) a g.more → SentBy net n heard a b
+    → AreRecent (is_chosen fresh) (part net a n) → GivesUpDue alone net n (chosen_paths fresh) l l' b c → SentStep alone net n (is_chosen fresh) l l' a c
 step-failed alone net n heard fresh l l' a b c ring g each s new x =
-    let on = chosen fresh in
+    let on = is_chosen fresh in
     let young = young-sent net n on heard a b new s in
     let left = left-grew alone net n x.ends b c ring (inl s.holds) x.grew in
     let young' = still-young net n x.ends on b c left young in
@@ -384,26 +384,26 @@ step-failed alone net n heard fresh l l' a b c ring g each s new x =
     }
 
 pub sent-step : (alone : Bool) (net : NetPlan) (n : ℕ) (heard : Heard) (fresh which : List Bool) (l l' : List HostEntry) (a b c : List RingEntry)
-    → IsOnRing net b n → IsOnRing net c n → Holds net a n → AreNew (chosen fresh) (part net a n) → Grew alone (is_of n) a (Send n heard ∷ []) b
-    → which ≡ looked_at heard fresh → GivesUpDue alone net n (chosen_paths which) l l' b c → SentStep alone net n (chosen fresh) l l' a c
+    → IsOnRing net b n → IsOnRing net c n → Holds net a n → AreRecent (is_chosen fresh) (part net a n) → Grew alone (is_of n) a (Send n heard ∷ []) b
+    → which ≡ looked_at heard fresh → GivesUpDue alone net n (chosen_paths which) l l' b c → SentStep alone net n (is_chosen fresh) l l' a c
 sent-step alone net n heard fresh which l l' a b c ring ring' holds new g look x =
-    let s = send-grew alone net n (chosen fresh) heard a b ring holds (none-of-new (chosen fresh) (part net a n) new) g in
+    let s = send-grew alone net n (is_chosen fresh) heard a b ring holds (none-of-new (is_chosen fresh) (part net a n) new) g in
     by-heard heard g s (subst (λ (w : List Bool). GivesUpDue alone net n (chosen_paths w) l l' b c) look x)
   where
-    by-heard : (heard : Heard) → (g : Grew alone (is_of n) a (Send n heard ∷ []) b) → EachSends net n (chosen fresh) a g.more × SentBy net n heard a b
-        → GivesUpDue alone net n (chosen_paths (looked_at heard fresh)) l l' b c → SentStep alone net n (chosen fresh) l l' a c
+    by-heard : (heard : Heard) → (g : Grew alone (is_of n) a (Send n heard ∷ []) b) → EachSends net n (is_chosen fresh) a g.more × SentBy net n heard a b
+        → GivesUpDue alone net n (chosen_paths (looked_at heard fresh)) l l' b c → SentStep alone net n (is_chosen fresh) l l' a c
     by-heard Acked g s x = step-acked alone net n fresh l l' a b c ring' g s.0 s.1 new x
     by-heard Silent g s x = step-failed alone net n Silent fresh l l' a b c ring' g s.0 s.1 new x
     by-heard Busy g s x = step-failed alone net n Busy fresh l l' a b c ring' g s.0 s.1 new x
 
 -- nothing was added
 pub new-still : (alone : Bool) (net : NetPlan) (n : ℕ) (on : ℕ → Bool) (a b : List RingEntry) → IsOnRing net b n → IsFree net a n
-    → Grew alone (is_of n) a [] b → AreNew on (part net a n) → AreNew on (part net b n)
+    → Grew alone (is_of n) a [] b → AreRecent on (part net a n) → AreRecent on (part net b n)
 new-still alone net n on a b ring free grew new = new-left net n [] on a b new (left-grew alone net n [] a b ring free grew)
 
-pub new-at : {Q : Type 0} (n : ℕ) (on : ℕ → Bool) (ring : List RingEntry) (side side' : RingSideIs Q) → side' ≡ side → AreNew on (part side.net ring n)
-    → AreNew on (part side'.net ring n)
-new-at {Q} n on ring side side' same new = subst (λ (s : RingSideIs Q). AreNew on (part s.net ring n)) (sym same) new
+pub new-at : {Q : Type 0} (n : ℕ) (on : ℕ → Bool) (ring : List RingEntry) (side side' : RingSideIs Q) → side' ≡ side → AreRecent on (part side.net ring n)
+    → AreRecent on (part side'.net ring n)
+new-at {Q} n on ring side side' same new = subst (λ (s : RingSideIs Q). AreRecent on (part s.net ring n)) (sym same) new
 
 pub sends-at : {Q : Type 0} (alone : Bool) (n : ℕ) (on : ℕ → Bool) (l l' : List HostEntry) (a b : List RingEntry) (side side' : RingSideIs Q)
     → side' ≡ side → Sends alone side.net n on l l' a b → Sends alone side'.net n on l l' a b
@@ -414,5 +414,5 @@ pub sends-out-at : {Q : Type 0} (alone : Bool) (n : ℕ) (on : ℕ → Bool) (l 
 sends-out-at {Q} alone n on l l' a b side side' same x = subst (λ (s : RingSideIs Q). SendsOut alone s.net n on l l' a b) (sym same) x
 
 pub sent-out : (alone : Bool) (net : NetPlan) (n : ℕ) (on : ℕ → Bool) (l l' : List HostEntry) (a b : List RingEntry) → Sends alone net n on l l' a b
-    → outbox_of net b n ≡ [] → AreNew on (part net b n) → SendsOut alone net n on l l' a b
+    → outbox_of net n b ≡ [] → AreRecent on (part net b n) → SendsOut alone net n on l l' a b
 sent-out alone net n on l l' a b sends empty new = record { sends = sends; empty = empty; none_failed = none-of-new on (part net b n) new }

@@ -22,9 +22,10 @@ use Rattle.tied_lists.specs.Items.{reply_of}
 use Rattle.tied_lists.proofs.Growth.{grew-more, grew-one}
 use Rattle.tied_lists.proofs.Turns.{after-take, part, unmoved}
 use Rattle.comm_port.specs.Sides.{RingSideIs}
-use Rattle.comm_port.specs.Replies.{reply_frame, Tells}
+use Rattle.comm_port.specs.Replies.{reply_frame, TellsStatistics}
 use Rattle.comm_port.specs.Turns.{IsOwnTurn, KeepsInbox}
-use Rattle.comm_port.specs.HostTurns.{inbox_of, notes_of, notes_of_kind, notes_of_request}
+use Rattle.comm_port.specs.Giving.{inbox_of}
+use Rattle.comm_port.specs.HostTurns.{notes_of, notes_of_kind, notes_of_request}
 use Rattle.comm_port.specs.HostTurns.{ServesFrame, ServesFrames, ServesInbox, ServesKind}
 use Rattle.comm_port.specs.HostTurns.{ServesRequest, ServesTaken}
 use Rattle.comm_port.proofs.RingTurns.{mine, on-ring, own-moved}
@@ -60,7 +61,7 @@ served-refused alone n f reply list new ring ring' kind plain reply_is is grew =
     }
 
 pub served-told : (alone : Bool) (n : ℕ) (f : Frame) (list : List HostEntry) (ring ring' : List RingEntry) → f.kind ≡ Request
-    → is_stats f.pdu ≡ true → Tells alone n f.id f.pdu ring ring' → ServesTaken alone n f list list ring ring'
+    → is_stats f.pdu ≡ true → TellsStatistics alone n f.id f.pdu ring ring' → ServesTaken alone n f list list ring ring'
 served-told alone n f list ring ring' kind stats tells =
     let rest : List RingEntry = Local n f.id tells.op tells.result ∷ Post n (reply_frame f.id (reply_of tells.result)) ∷ [] in
     let one : ServesRequest true n f (Take n f ∷ rest) = record { op = tells.op; result = tells.result; answers = tells.answers; entries_are = refl } in
@@ -107,7 +108,7 @@ serves-next alone n fs f l0 l l' r0 r r1 r2 a went t =
 pub record ServedSoFar (alone : Bool) (net : NetPlan) (n : ℕ) (list new_list : List HostEntry) (ring new_ring : List RingEntry)
     : Type 0 where
   pub frames : List Frame
-  pub frames_are : inbox_of net ring n ≡ frames ++ inbox_of net new_ring n
+  pub frames_are : inbox_of net n ring ≡ frames ++ inbox_of net n new_ring
   pub all : ServesFrames alone n frames list new_list ring new_ring
 
 pub so-far-start : (alone : Bool) (net : NetPlan) (n : ℕ) (list : List HostEntry) (ring : List RingEntry)
@@ -130,22 +131,22 @@ so-far-next alone n f side l0 l l' r0 r r1 r2 turn a legal went kept t =
     let m = own-moved side alone n r (Take n f) r1 refl turn legal went in
     let w = after-take side.net n r f r1 m in
     let first : IsFirst (part side.net r n).inbox f = subst (λ (c : NodeIs). IsFirst c.inbox f) m.found.part_is m.step.1.1 in
-    let rest : inbox_of side.net r2 n ≡ drop 1 (inbox_of side.net r n) = kept.inbox ∙ ap (λ (c : NodeIs). c.inbox) w.part_is in
-    let box : inbox_of side.net r n ≡ f ∷ inbox_of side.net r2 n =
-    first-drop (inbox_of side.net r n) f first ∙ ap (λ (l : List Frame). f ∷ l) (sym rest) in
+    let rest : inbox_of side.net n r2 ≡ drop 1 (inbox_of side.net n r) = kept.inbox ∙ ap (λ (c : NodeIs). c.inbox) w.part_is in
+    let box : inbox_of side.net n r ≡ f ∷ inbox_of side.net n r2 =
+    first-drop (inbox_of side.net n r) f first ∙ ap (λ (l : List Frame). f ∷ l) (sym rest) in
     record {
       frames = a.frames ++ f ∷ [];
-      frames_are = a.frames_are ∙ ap (λ l. a.frames ++ l) box ∙ sym (append_assoc a.frames (f ∷ []) (inbox_of side.net r2 n));
+      frames_are = a.frames_are ∙ ap (λ l. a.frames ++ l) box ∙ sym (append_assoc a.frames (f ∷ []) (inbox_of side.net n r2));
       all = serves-next alone n a.frames f l0 l l' r0 r r1 r2 a.all went t;
     }
 
 pub so-far-end : {Q : Type 0} (alone : Bool) (n : ℕ) (side : RingSideIs Q) (l0 l : List HostEntry) (r0 r r1 : List RingEntry)
     → IsOwnTurn side r n → ServedSoFar alone side.net n l0 l r0 r → IsLegal side.net r1 → WentOn alone (is_of n) r [] r1
-    → inbox_of side.net r1 n ≡ [] → ServesInbox alone side.net n l0 l r0 r1
+    → inbox_of side.net n r1 ≡ [] → ServesInbox alone side.net n l0 l r0 r1
 so-far-end alone n side l0 l r0 r r1 turn a legal went empty =
     let found = unmoved side.net n alone r r1 (on-ring side r r1 n turn legal) went turn.free in
-    let none : inbox_of side.net r n ≡ [] = ap (λ (c : NodeIs). c.inbox) (sym found.part_is) ∙ empty in
-    let frames_are : inbox_of side.net r0 n ≡ a.frames = a.frames_are ∙ ap (λ l. a.frames ++ l) none ∙ append-nil a.frames in
+    let none : inbox_of side.net n r ≡ [] = ap (λ (c : NodeIs). c.inbox) (sym found.part_is) ∙ empty in
+    let frames_are : inbox_of side.net n r0 ≡ a.frames = a.frames_are ∙ ap (λ l. a.frames ++ l) none ∙ append-nil a.frames in
     let still = grew-one alone (is_of n) r [] r1 refl went in
     record {
       all = subst (λ (fs : List Frame). ServesFrames alone n fs l0 l r0 r1) (sym frames_are) (record {

@@ -18,7 +18,7 @@ use Rattle.host_port.specs.declared.entry.HostEntry.{HostEntry}
 use Rattle.host_port.specs.Host.{HostIs}
 use Rattle.tied_lists.specs.Own.{own, is_of}
 use Rattle.comm_port.specs.Leaving.{IsHere}
-use Rattle.comm_port.specs.HostStands.{own_side, StandsHost}
+use Rattle.comm_port.specs.HostStands.{own_side, HostIsReady}
 use Rattle.comm_port.specs.HostTurns.{after_turn, CountsPasses, HoldsHostTurn, HostTies}
 use Rattle.comm_port.specs.HostTurns.{HostWorkerIs}
 use Rattle.comm_port.proofs.HostTurnLaws.{counts-others, host-ties-others, host-turn-grew}
@@ -69,15 +69,15 @@ no-leave m n (e ∷ xs) apart each = (not-leave m n e apart each.0, no-leave m n
 -- ---- the other host, while one has its turn
 
 pub stands-on : (m n : ℕ) (host : HostIs) (w : HostWorkerIs) (left : Bool) (net : NetPlan) (plan : HostPlan) (budget : Bool) (l l' : List HostEntry)
-    (a b : List RingEntry) (gone' : Bool) → m ≢ n → IsLegal net b → HoldsHostTurn true net n plan budget l l' a b gone' → StandsHost m host w left net a
-    → StandsHost m host w left net b
+    (a b : List RingEntry) (gone' : Bool) → m ≢ n → IsLegal net b → HoldsHostTurn true net n plan budget l l' a b gone' → HostIsReady m host w left net a
+    → HostIsReady m host w left net b
 stands-on m n host w left net plan budget l l' a b gone' apart legal turn t =
     let by = host-turn-grew true net n plan budget l l' a b gone' turn in
     let g = by.grew in
     let made = all-made n g.more (g.ours_are ∙ sym (g.all_alone refl)) in
     let none = none-made m n g.more apart made in
     let legal' = subst (IsLegal net) g.after_is legal in
-    subst (λ (r : List RingEntry). StandsHost m host w left net r) (sym g.after_is) (record {
+    subst (λ (r : List RingEntry). HostIsReady m host w left net r) (sym g.after_is) (record {
       worker_node = t.worker_node;
       ties = host-ties-others m host (own_side net) a g.more none legal' t.ties;
       counts = counts-others w a g.more (ap (λ (k : ℕ). own k g.more) t.worker_node ∙ none) t.counts;
@@ -92,7 +92,7 @@ after-node w false = refl
 
 pub stands-turn : (n : ℕ) (host : HostIs) (old new : HostWorkerIs) (left : Bool) (net : NetPlan) (ring : List RingEntry) → old.node ≡ n
     → new ≡ after_turn old left → HostTies new.node host (own_side net) ring → CountsPasses new ring → (left ≡ false → IsHere net ring old.node)
-    → StandsHost n host new left net ring
+    → HostIsReady n host new left net ring
 stands-turn n host old new left net ring node is ties counts here =
     let same : new.node ≡ n = ap (λ (w : HostWorkerIs). w.node) is ∙ after-node old left ∙ node in
     record {
@@ -111,7 +111,7 @@ low-two (suc (suc k)) d range = absurd (omega (arith, range))
 
 pub stands-first : (n : ℕ) (host : HostIs) (w : HostWorkerIs) (left : Bool) (net : NetPlan) → net.members ≡ 1 ∷ 2 ∷ [] → IsMember net n
     → (ring_node (ring_after net []) n).here ≡ true → host.plan.node ≡ n → host.history ≡ [] → w ≡ record { node = n; budget = true; passes = 0 }
-    → StandsHost n host w left net []
+    → HostIsReady n host w left net []
 stands-first n host w left net members member here node empty is = record {
   worker_node = ap (λ (x : HostWorkerIs). x.node) is;
   ties = subst (λ (h : List HostEntry). HostTies n (record { plan = host.plan; history = h }) (own_side net) []) (sym empty) (record {
@@ -131,13 +131,13 @@ stands-first n host w left net members member here node empty is = record {
     not-there (x ∷ before) after' entry k = cc
 
 pub stands-one : (host : HostIs) (w : HostWorkerIs) (left : Bool) (net : NetPlan) → net.members ≡ 1 ∷ 2 ∷ [] → host.plan.node ≡ 1
-    → host.history ≡ [] → w ≡ record { node = 1; budget = true; passes = 0 } → StandsHost 1 host w left net []
+    → host.history ≡ [] → w ≡ record { node = 1; budget = true; passes = 0 } → HostIsReady 1 host w left net []
 stands-one host w left net members node empty is =
     stands-first 1 host w left net members (subst (λ (l : List ℕ). Contains l 1) (sym members) (0, omega arith, refl))
     (ap (λ (l : List ℕ). (get_or (opening_nodes l) 1 (fresh false)).here) members) node empty is
 
 pub stands-two : (host : HostIs) (w : HostWorkerIs) (left : Bool) (net : NetPlan) → net.members ≡ 1 ∷ 2 ∷ [] → host.plan.node ≡ 2
-    → host.history ≡ [] → w ≡ record { node = 2; budget = true; passes = 0 } → StandsHost 2 host w left net []
+    → host.history ≡ [] → w ≡ record { node = 2; budget = true; passes = 0 } → HostIsReady 2 host w left net []
 stands-two host w left net members node empty is =
     stands-first 2 host w left net members (subst (λ (l : List ℕ). Contains l 2) (sym members) (1, omega arith, refl))
     (ap (λ (l : List ℕ). (get_or (opening_nodes l) 2 (fresh false)).here) members) node empty is

@@ -15,8 +15,8 @@ use Rattle.tied_lists.specs.Items.{AHost}
 use Rattle.tied_lists.specs.Tied.{Tied}
 use Rattle.tied_lists.proofs.Growth.{grew-more}
 use Rattle.tied_lists.proofs.Turns.{own-found}
-use Rattle.comm_port.specs.Complete.{is_pass}
-use Rattle.comm_port.specs.Reading.{host_items_of}
+use Rattle.joint_history.specs.Complete.{is_pass}
+use Rattle.joint_history.specs.Reading.{host_items_of}
 use Rattle.comm_port.specs.Sides.{RingSideIs}
 use Rattle.comm_port.specs.HostTurns.{CountsPasses, EndsHostTurn, give_up_of, HoldsHostTurn}
 use Rattle.comm_port.specs.HostTurns.{HostTies}

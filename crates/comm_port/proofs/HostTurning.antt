@@ -24,8 +24,8 @@ use Rattle.tied_lists.proofs.Growth.{grew-ours}
 use Rattle.tied_lists.proofs.Steps.{tied-all, tied-got, tied-none}
 use Rattle.tied_lists.proofs.Steps.{tied-served, tied-told}
 use Rattle.comm_port.specs.Sides.{RingSideIs}
-use Rattle.comm_port.specs.Reading.{host_item_next, host_items_of}
-use Rattle.comm_port.specs.Replies.{reply_frame, Tells}
+use Rattle.joint_history.specs.Reading.{host_item_next, host_items_of}
+use Rattle.comm_port.specs.Replies.{reply_frame, TellsStatistics}
 use Rattle.comm_port.specs.Turns.{IsOwnTurn, KeepsInbox}
 use Rattle.comm_port.specs.HostTurns.{HostTaking, HostTurning, PathsAgree}
 use Rattle.comm_port.proofs.HostLists.{agree_got, agree_replied}
@@ -98,7 +98,7 @@ turning-served n f reply old new side alone ring ring' t kind plain w grew legal
 
 pub turning-told : {Q : Type 0} (n : ℕ) (f : Frame) (host : HostIs) (side : RingSideIs Q) (alone : Bool) (ring ring' : List
     RingEntry) → HostTaking n f host side ring → f.kind ≡ Request
-    → is_stats f.pdu ≡ true → Tells alone n f.id f.pdu ring ring' → IsLegal side.net ring' → KeepsInbox side.net n ring ring' → HostTurning n host side ring'
+    → is_stats f.pdu ≡ true → TellsStatistics alone n f.id f.pdu ring ring' → IsLegal side.net ring' → KeepsInbox side.net n ring ring' → HostTurning n host side ring'
 turning-told n f host side alone ring ring' t kind stats tells legal kept =
     let g = reply_frame f.id (reply_of tells.result) in
     let local : RingEntry = Local n f.id tells.op tells.result in

@@ -29,12 +29,13 @@ use Rattle.tied_lists.proofs.Paths.{waiting-push}
 use Rattle.ring_core.specs.declared.entry.LeaveCause.{LeaveCause}
 use Rattle.comm_port.specs.Leaving.{last_entry, HandedOn}
 use Rattle.tied_lists.proofs.Histories.{legal-follows}
-use Rattle.comm_port.specs.Ending.{AsksDone}
+use Rattle.comm_port.specs.Ending.{AsksIfDone}
 use Rattle.comm_port.specs.Giving.{part_at, due_by, due_on, due_calls, is_chosen, NonePathFailed}
 use Rattle.comm_port.specs.Giving.{MaySend, GivesWhere}
-use Rattle.comm_port.specs.HoldTurn.{overdue_by, overdue_on, overdue, NoneFailed, AsksIfDone}
+use Rattle.comm_port.specs.HoldTurn.{overdue_by, overdue_on, overdue, NoneFailed}
 use Rattle.comm_port.specs.Order.{IsGivingUp}
-use Rattle.comm_port.specs.Parts.{four_paths, calls_waiting}
+use Rattle.comm_port.specs.Parts.{calls_waiting}
+use Rattle.mstr_block.specs.Table.{network_paths}
 use Rattle.comm_port.specs.Sides.{RingSideIs, RamSideIs}
 use Rattle.comm_port.specs.Turns.{AreWaiting, Turning}
 use Rattle.comm_port.specs.Waiting.{id_of, free_paths, IsIdle}
@@ -43,17 +44,17 @@ use Rattle.comm_port.proofs.Through.{Asks, NoAsks, IsEnding}
 
 -- ---- four paths
 
-pub four-none : (f : ℕ → Option CallId) → f 1 ≡ None → f 2 ≡ None → f 3 ≡ None → f 4 ≡ None → filter_map f four_paths ≡ []
+pub four-none : (f : ℕ → Option CallId) → f 1 ≡ None → f 2 ≡ None → f 3 ≡ None → f 4 ≡ None → filter_map f network_paths ≡ []
 four-none f a b c d = λ i. cons_option (a i) (cons_option (b i) (cons_option (c i) (cons_option (d i) [])))
 
-pub four-same : (f g : ℕ → Option CallId) → f 1 ≡ g 1 → f 2 ≡ g 2 → f 3 ≡ g 3 → f 4 ≡ g 4 → filter_map f four_paths ≡ filter_map g four_paths
+pub four-same : (f g : ℕ → Option CallId) → f 1 ≡ g 1 → f 2 ≡ g 2 → f 3 ≡ g 3 → f 4 ≡ g 4 → filter_map f network_paths ≡ filter_map g network_paths
 four-same f g a b c d = λ i. cons_option (a i) (cons_option (b i) (cons_option (c i) (cons_option (d i) [])))
 
 no-item : (o : Option CallId) (xs : List CallId) → cons_option o xs ≡ [] → (o ≡ None) × (xs ≡ [])
 no-item None xs e = (refl, e)
 no-item (Some x) xs e = absurd (let bad : x ∷ xs ≡ [] = e in cc)
 
-pub none-four : (f : ℕ → Option CallId) → filter_map f four_paths ≡ [] → (f 1 ≡ None) × (f 2 ≡ None) × (f 3 ≡ None) × (f 4 ≡ None)
+pub none-four : (f : ℕ → Option CallId) → filter_map f network_paths ≡ [] → (f 1 ≡ None) × (f 2 ≡ None) × (f 3 ≡ None) × (f 4 ≡ None)
 none-four f e =
     let one = no-item (f 1) _ e in
     let two = no-item (f 2) _ one.1 in
@@ -95,7 +96,8 @@ none-idle n a ring w k none =
     at (suc (suc (suc (suc (suc i))))) low e1 e2 e3 e4 = absurd (omega (arith, low))
 
 pub asks-so : (alone : Bool) (fixed : Fixed) (n : ℕ) (a : Items) (ring : List RingEntry) (w : List (Option Frame)) (known known' : List Entry)
-    (done : Bool) → AreWaiting n a (own n ring) w → AsksDone alone fixed w known known' done → AsksIfDone alone fixed (calls_waiting n ring) known known' done
+    (done : Bool) → AreWaiting n a (own n ring) w → AsksIfDone alone fixed (IsIdle w) known known' done
+    → AsksIfDone alone fixed (calls_waiting n ring ≡ []) known known' done
 asks-so alone fixed n a ring w known known' done k q = record {
   at_end = q.at_end;
   first = q.first;
@@ -119,7 +121,7 @@ gone-due answer n p (Failed seq word) None awaits ask = absurd awaits
 gone-due answer n p (Failed seq word) (Some f) awaits ask = let k = ask f refl in (λ i. Some (record { node = sym k.node i; path = sym k.path i; seq = awaits i }))
 
 pub due-waits : {P Q : Type 0} (n : ℕ) (rest : List Called) (ram : RamSideIs P) (known : List Entry) (side : RingSideIs Q) (ring : List RingEntry) (w : List
-    (Option Frame)) → HasLeft side.net ring n → Turning n rest ram known side ring w → due_calls side.net n ring four_paths ≡ calls_waiting n ring
+    (Option Frame)) → HasLeft side.net ring n → Turning n rest ram known side ring w → due_calls side.net n ring network_paths ≡ calls_waiting n ring
 due-waits n rest ram known side ring w gone t = four-same (due_on side.net n c) (λ p. id_of (waits_on p (own n ring))) (at 1) (at 2) (at 3) (at 4)
   where
     c : NodeIs
@@ -174,7 +176,7 @@ due-over answer n p (Arrived seq) none = refl
 due-over answer n p (Failed seq word) none = absurd (none seq word refl)
 
 pub overdue-is : (net : NetPlan) (n : ℕ) (ring : List RingEntry) → (part_at net n ring).here ≡ true → NonePathFailed (part_at net n ring) → due_calls net n ring
-    four_paths ≡ overdue net n ring
+    network_paths ≡ overdue net n ring
 overdue-is net n ring here none = four-same (due_on net n c) (overdue_on net n c) (at 1) (at 2) (at 3) (at 4)
   where
     c : NodeIs

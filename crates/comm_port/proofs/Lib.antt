@@ -1,6 +1,5 @@
 pub mod RingTurns
 pub mod Statistics
-pub mod Items
 pub mod Served
 pub mod Made
 pub mod TurnEnds
@@ -19,9 +18,6 @@ pub mod HostStandings
 pub mod HostLists
 pub mod HostTurning
 pub mod HostAsks
-pub mod Read2
-pub mod CallBlocks
-pub mod Collected
 pub mod Visited
 pub mod Parts
 pub mod Serves

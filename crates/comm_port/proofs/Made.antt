@@ -41,11 +41,11 @@ use Rattle.tied_lists.proofs.Growth.{grew-ours}
 use Rattle.tied_lists.proofs.Steps.{tied-all, tied-called, tied-posted, tied-done}
 use Rattle.tied_lists.proofs.Turns.{part}
 use Rattle.comm_port.specs.Sides.{RingSideIs, RamSideIs}
-use Rattle.comm_port.specs.Reading.{is_ours, called_of, items_of}
+use Rattle.joint_history.specs.Reading.{is_ours, called_of, items_of}
 use Rattle.comm_port.specs.Turns.{IsOwnTurn, KeepsInbox, AreWaiting, Turning}
-use Rattle.comm_port.specs.Making.{request_frame, Does, Owing, calls_from}
+use Rattle.comm_port.specs.Making.{request_frame, DoesAtHome, Owing, calls_from}
 use Rattle.comm_port.proofs.RingTurns.{turn-on}
-use Rattle.comm_port.proofs.Items.{items-one, items-same}
+use Rattle.joint_history.proofs.Items.{items-one, items-same}
 use Rattle.comm_port.proofs.Served.{waiting-as}
 
 -- the last number of a path is below what is above all that was asked there
@@ -298,7 +298,7 @@ may-do n c rest op ram known side ring w is o =
 pub done-lead : {P Q : Type 0} (alone alone' : Bool) (n : ℕ) (c : Called) (rest : List Called) (op : LocalOp) (ram ram' :
     RamSideIs P) (known known' : List Entry) (side side' : RingSideIs Q) (ring ring' : List RingEntry) (w : List (Option Frame)) →
     ram' ≡ ram → side' ≡ side → c.sort ≡ AtHome op
-    → IsLegal side.net ring' → KeepsInbox side.net n ring ring' → Does alone alone' n c.id op known known' ring ring' → Owing n (c
+    → IsLegal side.net ring' → KeepsInbox side.net n ring ring' → DoesAtHome alone alone' n c.id op known known' ring ring' → Owing n (c
     ∷ rest) ram known side ring w → Owing n rest ram' known' side' ring' w
 done-lead {P} {Q} alone alone' n c rest op ram ram' known known' side side' ring ring' w same same' is legal kept did o =
     let fits = subst (FitsSort n o.earlier c.id) is o.fresh.0.fits in

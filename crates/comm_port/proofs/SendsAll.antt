@@ -29,10 +29,10 @@ use Rattle.tied_lists.specs.Waits.{IsOnRing}
 use Rattle.tied_lists.proofs.Boxes.{each-drop}
 use Rattle.tied_lists.proofs.Histories.{IsOwn, legal-follows}
 use Rattle.comm_port.specs.Giving.{part_at, due_by, due_on, is_chosen, AsksAreOn, NonePathFailed}
-use Rattle.comm_port.specs.Giving.{MaySend, HasSent, GivesWhere, IsDueNext, IsOther}
+use Rattle.comm_port.specs.Giving.{MaySend, HasSent, GivesWhere, IsDueNext, IsOtherPath}
 use Rattle.comm_port.specs.HoldTurn.{NoneFailed, IsNextSending, IsGivenUp, SendsAll, finish_of}
 use Rattle.comm_port.specs.Parts.{InOrder, PartOf, EachNext}
-use Rattle.comm_port.specs.Reading.{is_ours}
+use Rattle.joint_history.specs.Reading.{is_ours}
 use Rattle.comm_port.specs.Sending.{SentNext, AllSent, IsThis}
 use Rattle.comm_port.proofs.Parts.{grew-none, part-as, part-both, each-as, each-both, each-grew}
 use Rattle.comm_port.proofs.Dues.{noted-of, named-by}
@@ -164,7 +164,7 @@ may-again net n chosen ring ring' wait s g = record {
     new : NodeIs
     new = part_at net n ring'
 
-    same : (q : ℕ) → IsOther chosen 5 q → (path_of new q).awaits ≡ (path_of old q).awaits
+    same : (q : ℕ) → IsOtherPath chosen 5 q → (path_of new q).awaits ≡ (path_of old q).awaits
     same q o = ap (λ (x : Path). x.awaits) (g.part.others q o)
 
     first : (q : ℕ) → (q < 1) ⊎ (1 ≤ q)

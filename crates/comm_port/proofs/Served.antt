@@ -18,7 +18,7 @@ use Rattle.ring_core.specs.Words.{is_same_call}
 use Rattle.ring_core.specs.Statistics.{is_stats}
 use Rattle.ring_core.specs.Machine.{path_places, NodeIs}
 use Rattle.ring_core.specs.Legal.{IsLegal, IsFirst}
-use Rattle.tied_lists.specs.Result.{result_of}
+use Rattle.reply_laws.specs.Result.{result_of}
 use Rattle.tied_lists.specs.Own.{is_of, own, WentOn, Grew}
 use Rattle.tied_lists.specs.Items.{AController, Items, Called, NetCall, Came, asked_by, last_asked}
 use Rattle.tied_lists.specs.Items.{result_for, reply_of, with_end, with_answer}
@@ -33,11 +33,11 @@ use Rattle.tied_lists.proofs.Steps.{tied-served, tied-told, tied-got}
 use Rattle.tied_lists.proofs.Turns.{part, unmoved, after-take, reply-awaited}
 use Rattle.tied_lists.proofs.Turns.{request-of-other}
 use Rattle.comm_port.specs.Sides.{RingSideIs, RamSideIs}
-use Rattle.comm_port.specs.Reading.{is_ours, items_of}
-use Rattle.comm_port.specs.Replies.{reply_frame, Tells}
+use Rattle.joint_history.specs.Reading.{is_ours, items_of}
+use Rattle.comm_port.specs.Replies.{reply_frame, TellsStatistics}
 use Rattle.comm_port.specs.Turns.{IsOwnTurn, KeepsInbox, AreWaiting, Turning, Taking}
 use Rattle.comm_port.proofs.RingTurns.{own-moved, on-ring, turn-on}
-use Rattle.comm_port.proofs.Items.{items-one}
+use Rattle.joint_history.proofs.Items.{items-one}
 
 -- other items that have made as much and ended as little of what waits
 pub waiting-as : (n : ℕ) (a a' : Items) (b b' : List RingEntry) (w : List (Option Frame)) → ((p : ℕ) → waits_on p b' ≡ waits_on p
@@ -167,7 +167,7 @@ answer-lead {P} {Q} alone alone' n f reply ram ram' known known' side side' ring
 
 pub port-lead : {P Q : Type 0} (alone' : Bool) (n : ℕ) (f : Frame) (ram : RamSideIs P) (known : List Entry) (side side' :
     RingSideIs Q) (ring ring' : List RingEntry) (w : List (Option Frame))
-    → side' ≡ side → f.kind ≡ Request → is_stats f.pdu ≡ true → IsLegal side.net ring' → KeepsInbox side.net n ring ring' → Tells
+    → side' ≡ side → f.kind ≡ Request → is_stats f.pdu ≡ true → IsLegal side.net ring' → KeepsInbox side.net n ring ring' → TellsStatistics
     alone' n f.id f.pdu ring ring' → Taking n f ram known side ring w → Turning n [] ram known side' ring' w
 port-lead {P} {Q} alone' n f ram known side side' ring ring' w same' kind stats legal kept told t =
     let g = reply_frame f.id (reply_of told.result) in

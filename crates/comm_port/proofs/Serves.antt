@@ -20,8 +20,8 @@ use Rattle.tied_lists.proofs.Turns.{part, after-take, unmoved}
 use Rattle.comm_port.specs.Sides.{RingSideIs}
 use Rattle.comm_port.specs.HoldTurn.{ServedAs, IsServed, inbox_of}
 use Rattle.comm_port.specs.Parts.{InOrder, PartOf}
-use Rattle.comm_port.specs.Reading.{is_ours}
-use Rattle.comm_port.specs.Replies.{reply_frame, Tells}
+use Rattle.joint_history.specs.Reading.{is_ours}
+use Rattle.comm_port.specs.Replies.{reply_frame, TellsStatistics}
 use Rattle.comm_port.specs.Serving.{IsAnswered, ServesOn}
 use Rattle.comm_port.specs.Turns.{IsOwnTurn, KeepsInbox}
 use Rattle.comm_port.proofs.Parts.{grew-none, part-both, in-order-last}
@@ -39,7 +39,7 @@ request-due n f reply kind plain =
     (subst (λ (b : Bool). ServedAs Request b n f noted done) (sym plain) (reply, refl, refl))
 
 pub port-due : (alone : Bool) (n : ℕ) (f : Frame) (ring ring' : List RingEntry) → f.kind ≡ Request → is_stats f.pdu ≡ true
-    → (t : Tells alone n f.id f.pdu ring ring') → IsAnswered n f [] (Local n f.id t.op t.result ∷ Post n (reply_frame f.id (reply_of t.result)) ∷ [])
+    → (t : TellsStatistics alone n f.id f.pdu ring ring') → IsAnswered n f [] (Local n f.id t.op t.result ∷ Post n (reply_frame f.id (reply_of t.result)) ∷ [])
 port-due alone n f ring ring' kind stats t =
     let done = Take n f ∷ Local n f.id t.op t.result ∷ Post n (reply_frame f.id (reply_of t.result)) ∷ [] in
     subst (λ (k : FrameKind). ServedAs k (is_stats f.pdu) n f [] done) (sym kind)

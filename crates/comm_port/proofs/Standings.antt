@@ -17,11 +17,11 @@ use Rattle.tied_lists.specs.Tied.{Tied}
 use Rattle.tied_lists.specs.Waits.{IsOnRing}
 use Rattle.tied_lists.proofs.Turns.{own-found}
 use Rattle.comm_port.specs.Giving.{IsAtRest}
-use Rattle.comm_port.specs.Reading.{is_ours, items_of}
-use Rattle.comm_port.specs.Sides.{RingSideIs, RamSideIs, Serves}
+use Rattle.joint_history.specs.Reading.{is_ours, items_of}
+use Rattle.comm_port.specs.Sides.{RingSideIs, RamSideIs, MayWrite}
 use Rattle.comm_port.specs.Turns.{AreWaiting}
 use Rattle.comm_port.specs.Worker.{WorkerIs, Standing}
-use Rattle.comm_port.proofs.Items.{items-same}
+use Rattle.joint_history.proofs.Items.{items-same}
 use Rattle.comm_port.proofs.Through.{RestsIn, NotFailed, nothing-not-failed, IsEnding, rest-through}
 
 -- ---- at the start
@@ -76,7 +76,7 @@ nothing-tied = record { asks = refl; peers = refl; port = refl; replies = refl; 
 
 -- a new worker, a controller that has scanned at most, and a ring on which nothing has happened
 pub standing-new : {P Q : Type 0} (n : ℕ) (net : NetPlan) (budget : Bool) (ram : RamSideIs P) (known : List Entry) (side : RingSideIs Q) → ram.fixed.plan.node ≡ n
-    → side.net ≡ net → Serves side.writer n → filter is_ours known ≡ []
+    → side.net ≡ net → MayWrite side.writer n → filter is_ours known ≡ []
     → Standing (record { node = n; net = net; budget = budget; waiting = replicate path_places None }) ram known side []
 standing-new n net budget ram known side node same serves none =
     let is : items_of known ≡ no_items = scans [] known none in

@@ -12,7 +12,7 @@ use Rattle.ring_core.specs.declared.entry.RingEntry.TheVariants.{Take}
 use Rattle.ring_core.specs.Legal.{IsLegal}
 use Rattle.tied_lists.specs.Own.{is_of, WentOn, Grew, Adds}
 use Rattle.tied_lists.proofs.Growth.{grew-one, grew-more}
-use Rattle.comm_port.specs.Reading.{is_ours}
+use Rattle.joint_history.specs.Reading.{is_ours}
 use Rattle.comm_port.specs.Sides.{RingSideIs, RamSideIs, taken_entries}
 use Rattle.comm_port.specs.Stands.{HasGrown, RingStands, RamStands, BothStand}
 use Rattle.comm_port.proofs.Parts.{grew-none, net-as, fixed-as}

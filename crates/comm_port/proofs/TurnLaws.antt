@@ -9,7 +9,7 @@ use Rattle.ring_core.specs.declared.entry.RingEntry.{RingEntry}
 use Rattle.tied_lists.specs.Own.{is_of, WentOn, Grew, Adds}
 use Rattle.tied_lists.proofs.Growth.{grew-one, grew-more}
 use Rattle.comm_port.specs.HoldTurn.{Collects, Ends, HoldsTurn, VisitsEnd}
-use Rattle.comm_port.specs.Reading.{is_ours}
+use Rattle.joint_history.specs.Reading.{is_ours}
 
 -- a list went on by these own entries
 pub record Grown {E : Type 0} (alone : Bool) (ours : E → Bool) (old new : List E) : Type 0 where

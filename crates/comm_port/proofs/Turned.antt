@@ -15,8 +15,9 @@ use Rattle.tied_lists.proofs.Growth.{adds-weaker}
 use Rattle.comm_port.specs.Giving.{part_at, due_calls, NonePathFailed, IsAtRest, MaySend}
 use Rattle.comm_port.specs.HoldTurn.{inbox_of, overdue, IsGivenUp, SendsAll}
 use Rattle.comm_port.specs.Order.{IsServing, IsCalling, IsGivingUp}
-use Rattle.comm_port.specs.Parts.{InOrder, PartOf, four_paths}
-use Rattle.comm_port.specs.Reading.{is_ours}
+use Rattle.comm_port.specs.Parts.{InOrder, PartOf}
+use Rattle.mstr_block.specs.Table.{network_paths}
+use Rattle.joint_history.specs.Reading.{is_ours}
 use Rattle.comm_port.specs.Sides.{RingSideIs, RamSideIs}
 use Rattle.comm_port.specs.Turns.{KeepsInbox, Turning}
 use Rattle.comm_port.specs.Waiting.{free_paths}
@@ -53,7 +54,7 @@ rest-given alone net n ring ring' on legal adds q =
     rest-through alone net n ring ring' on legal (adds-weaker alone (is_of n) IsGivingUp IsEnding ring ring' ending-too adds) q
 
 pub given-over : (alone alone' : Bool) (net : NetPlan) (n : ℕ) (known known' : List Entry) (ring ring' : List RingEntry) → Holds net ring n → IsAtRest net n ring
-    → PartOf alone alone' is_ours n (InOrder IsGivenUp (due_calls net n ring four_paths)) known known' ring ring'
+    → PartOf alone alone' is_ours n (InOrder IsGivenUp (due_calls net n ring network_paths)) known known' ring ring'
     → PartOf alone alone' is_ours n (InOrder IsGivenUp (overdue net n ring)) known known' ring ring'
 given-over alone alone' net n known known' ring ring' h q p =
     subst (λ (l : List CallId). PartOf alone alone' is_ours n (InOrder IsGivenUp l) known known' ring ring') (overdue-is net n ring h.here q.none_failed) p

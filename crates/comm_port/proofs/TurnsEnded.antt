@@ -17,10 +17,11 @@ use Rattle.tied_lists.proofs.Paths.{waiting-push}
 use Rattle.tied_lists.proofs.Growth.{grew-ours}
 use Rattle.tied_lists.proofs.Steps.{tied-all, tied-none, tied-quiet}
 use Rattle.comm_port.specs.Sides.{RingSideIs, RamSideIs}
-use Rattle.comm_port.specs.Reading.{items_of}
+use Rattle.joint_history.specs.Reading.{items_of}
 use Rattle.comm_port.specs.Leaving.{last_entry, HandedOn}
 use Rattle.comm_port.specs.Turns.{AreWaiting, Turning, Rested}
-use Rattle.comm_port.specs.Ending.{AsksDone}
+use Rattle.comm_port.specs.Ending.{AsksIfDone}
+use Rattle.comm_port.specs.Waiting.{IsIdle}
 use Rattle.comm_port.proofs.RingTurns.{on-ring}
 use Rattle.comm_port.proofs.Made.{ram-still}
 use Rattle.comm_port.proofs.Served.{waiting-as}
@@ -73,7 +74,7 @@ left-at {Q} side side' ring n same gone = subst (λ (s : RingSideIs Q). HasLeft 
 
 -- after the questions
 pub asked-lead : {P Q : Type 0} (alone : Bool) (n : ℕ) (fixed : Fixed) (done : Bool) (ram ram' : RamSideIs P) (known known' : List
-    Entry) (side : RingSideIs Q) (ring : List RingEntry) (w : List (Option Frame)) → ram' ≡ ram → AsksDone alone fixed w known
+    Entry) (side : RingSideIs Q) (ring : List RingEntry) (w : List (Option Frame)) → ram' ≡ ram → AsksIfDone alone fixed (IsIdle w) known
     known' done → Turning n [] ram known side ring w
     → Turning n [] ram' known' side ring w
 asked-lead alone n fixed done ram ram' known known' side ring w same asked t =

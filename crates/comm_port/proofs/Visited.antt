@@ -19,10 +19,10 @@ use Rattle.tied_lists.specs.Calls.{AreNewCalls}
 use Rattle.tied_lists.specs.Waits.{waiting as waits_on}
 use Rattle.tied_lists.proofs.Asked.{waiting-last, no-end-push, kind-more}
 use Rattle.comm_port.specs.Sides.{RingSideIs, RamSideIs}
-use Rattle.comm_port.specs.Reading.{is_ours, items_of}
+use Rattle.joint_history.specs.Reading.{is_ours, items_of}
 use Rattle.comm_port.specs.Sending.{GaveUp}
 use Rattle.comm_port.specs.Making.{Owing}
-use Rattle.comm_port.proofs.Items.{items-one}
+use Rattle.joint_history.proofs.Items.{items-one}
 use Rattle.comm_port.proofs.Given.{Waits, given-lead-but}
 use Rattle.comm_port.proofs.Made.{asked-before, known-net, out-before}
 

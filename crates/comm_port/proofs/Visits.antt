@@ -38,7 +38,7 @@ use Rattle.comm_port.specs.Giving.{part_at, NonePathFailed, IsAtRest}
 use Rattle.comm_port.specs.HoldTurn.{MadeAs, EndedAs, IsMade, IsEnded, IsGivenUp}
 use Rattle.comm_port.specs.Making.{request_frame}
 use Rattle.comm_port.specs.Parts.{PartOf, calls_waiting}
-use Rattle.comm_port.specs.Reading.{is_ours}
+use Rattle.joint_history.specs.Reading.{is_ours}
 use Rattle.comm_port.specs.Visiting.{WaitsFor, GivesCall}
 use Rattle.comm_port.specs.Waiting.{id_of}
 use Rattle.comm_port.proofs.Leaves.{four-same}

@@ -15,11 +15,19 @@ use Rattle.ring_core.specs.declared.frame.Frame.{Frame}
 use Rattle.ring_core.specs.declared.entry.RingEntry.{RingEntry}
 use Rattle.ring_core.specs.declared.entry.RingEntry.TheVariants.{GiveUp}
 use Rattle.ring_core.specs.Legal.{IsPath}
-use Rattle.comm_port.specs.Parts.{EachNext, four_paths}
+use Rattle.comm_port.specs.Parts.{EachNext}
+use Rattle.mstr_block.specs.Table.{network_paths}
 
 -- A node's part.
 abbrev pub part_at : NetPlan → ℕ → List RingEntry → NodeIs
 part_at net n ring = ring_node (ring_after net ring) n
+
+-- The frames in a node's inbox, and those in its outbox.
+abbrev pub inbox_of : NetPlan → ℕ → List RingEntry → List Frame
+inbox_of net n ring = (part_at net n ring).inbox
+
+abbrev pub outbox_of : NetPlan → ℕ → List RingEntry → List Frame
+outbox_of net n ring = (part_at net n ring).outbox
 
 -- The call of a path that may be given up: of a node that has left each; else one that failed, or
 -- has waited for its answer for as many Passes.
@@ -44,10 +52,10 @@ abbrev pub is_chosen : List Bool → ℕ → Bool
 is_chosen chosen path = get_or chosen path false
 
 abbrev pub chosen_below : List Bool → ℕ → List ℕ
-chosen_below chosen path = filter (is_chosen chosen) (take (path - 1) four_paths)
+chosen_below chosen path = filter (is_chosen chosen) (take (path - 1) network_paths)
 
 abbrev pub chosen_paths : List Bool → List ℕ
-chosen_paths chosen = filter (is_chosen chosen) four_paths
+chosen_paths chosen = filter (is_chosen chosen) network_paths
 
 -- Why a node that is let through may not give a call up.
 abbrev pub part_no : NetPlan → NodeIs → CallId → Option RingNo
@@ -76,17 +84,17 @@ IsSettled net n old new path = ((path_of new path).awaits ≡ Nothing)
     ⊎ ((path_of new path ≡ path_of old path) × (due_on net n old path ≡ None))
 
 -- A path that is not chosen, or not from 1 to below a number.
-abbrev pub IsOther : List Bool → ℕ → ℕ → Type 0
-IsOther chosen below path =
+abbrev pub IsOtherPath : List Bool → ℕ → ℕ → Type 0
+IsOtherPath chosen below path =
     (path < 1) ⊎ ((below ≤ path) ⊎ (is_chosen chosen path ≡ false))
 
--- Of a node's part, all calls due on chosen paths below a number were given up, and no others.
+-- All calls of a node that were due on chosen paths below a number were given up, and no others.
 pub record GaveUpBelow (net : NetPlan) (n : ℕ) (chosen : List Bool) (below : ℕ) (old new : NodeIs)
     : Type 0 where
   pub here : new.here ≡ old.here
   pub settled : (path : ℕ) → 1 ≤ path → path < below → is_chosen chosen path ≡ true
       → IsSettled net n old new path
-  pub others : (path : ℕ) → IsOther chosen below path → path_of new path ≡ path_of old path
+  pub others : (path : ℕ) → IsOtherPath chosen below path → path_of new path ≡ path_of old path
   pub asks : (on : List Bool) → AsksAreOn on old.outbox → AsksAreOn on new.outbox
   pub sent : old.outbox ≡ [] → new.outbox ≡ []
 
@@ -124,14 +132,14 @@ pub record GivesOnPath (net : NetPlan) (n path : ℕ) (old new : List RingEntry)
       ≡ given_due (part_at net n old) (due_on net n (part_at net n old) path)
   pub each : EachNext n (IsDueNext net n (λ p. p ≡ path) (part_at net n old)) old new
 
--- And so on each chosen path below a number.
+-- On each chosen path below a number the call was given up where that was due.
 pub record GivesWhere (net : NetPlan) (n : ℕ) (chosen : List Bool) (below : ℕ)
     (old new : List RingEntry) : Type 0 where
   pub part : GaveUpBelow net n chosen below (part_at net n old) (part_at net n new)
   pub each : EachNext n (IsDueNext net n (λ p. is_chosen chosen p ≡ true) (part_at net n old))
       old new
 
--- The same after a Send: what failed is on a chosen path.
+-- After a Send of a node what failed is on a chosen path.
 pub record HasSent (net : NetPlan) (n : ℕ) (chosen : List Bool) (c : NodeIs) : Type 0 where
   pub failed_on : (path seq word : ℕ) → (path_of c path).awaits ≡ Failed seq word
       → (is_chosen chosen path ≡ true) × IsPath path

@@ -1,7 +1,8 @@
 -- A controller's turn, part by part. This project's own.
-use Rattle.std.specs.Prelude.{◌≡◌, ℕ, Bool, true, false, nat_le, if◌then◌else◌, List, [], ◌∷◌}
+use Rattle.std.specs.Prelude.{◌≡◌, ℕ, Bool, true, false, if◌then◌else◌, List, [], ◌∷◌}
 use Rattle.std.specs.Prelude.{filter_map, Option, Some, None, is_some}
 use Rattle.plant_types.specs.declared.net.NetPlan.{NetPlan}
+use Rattle.mstr_block.specs.Table.{network_paths}
 use Rattle.mstr_block.specs.declared.call.CallId.{CallId}
 use Rattle.mstr_block.specs.declared.call.MstrResult.{MstrResult}
 use Rattle.mstr_block.specs.declared.call.MstrResult.TheVariants.{Bad}
@@ -24,17 +25,16 @@ use Rattle.ring_core.specs.declared.entry.RingEntry.{RingEntry}
 use Rattle.ring_core.specs.declared.entry.RingEntry.TheVariants.{Post, Send, Take, Local, GiveUp}
 use Rattle.tied_lists.specs.Own.{is_of, WentOn, Grew}
 use Rattle.tied_lists.specs.Items.{request_of, reply_of}
+pub use Rattle.comm_port.specs.Giving.{inbox_of}
+use Rattle.comm_port.specs.Giving.{due_by}
+use Rattle.comm_port.specs.Ending.{AsksIfDone}
 use Rattle.comm_port.specs.Leaving.{cause_due, HandedOn}
 use Rattle.comm_port.specs.Making.{request_frame}
-use Rattle.comm_port.specs.Parts.{InOrder, PartOf, EachNext, four_paths, calls_waiting}
-use Rattle.comm_port.specs.Reading.{is_ours, has_ended_at, has_started_at}
+use Rattle.comm_port.specs.Parts.{InOrder, PartOf, EachNext, calls_waiting}
+use Rattle.joint_history.specs.Reading.{is_ours, has_started_at}
 use Rattle.comm_port.specs.Replies.{reply_frame}
 
 -- ---- First: what lies in the inbox is served.
-
--- The frames in a node's inbox.
-abbrev pub inbox_of : NetPlan → ℕ → List RingEntry → List Frame
-inbox_of net n ring = (ring_node (ring_after net ring) n).inbox
 
 -- A frame is served: it is taken, and a Reply finishes its call. A request for statistics has the
 -- port do what is asked and post its Reply; another is answered by the controller, and posted.
@@ -69,7 +69,7 @@ CollectsIf true Due noted done = (calls : List Call) × (rest : List Entry)
     × (noted ≡ Collect calls ∷ rest) × InOrder Due calls rest done
 CollectsIf false Due noted done = (noted ≡ []) × (done ≡ [])
 
--- It is asked whether calls were started, and what is due to them is done.
+-- A controller is asked whether calls were started, and what is due to them is done.
 pub record Collects (alone_ram alone_ring : Bool) (fixed : Fixed) (n : ℕ)
     (Due : Call → List Entry → List RingEntry → Type 0) (known new_known : List Entry)
     (ring new_ring : List RingEntry) : Type 0 where
@@ -85,7 +85,7 @@ abbrev pub HasFailed : NetPlan → List RingEntry → CallId → Type 0
 HasFailed net ring id = (word : ℕ)
     × ((path_of (ring_node (ring_after net ring) id.node) id.path).awaits ≡ Failed id.seq word)
 
--- No call of a node has.
+-- No call of a node has failed.
 abbrev pub NoneFailed : NetPlan → List RingEntry → ℕ → Type 0
 NoneFailed net ring n = (id : CallId) → id.node ≡ n → HasFailed net ring id → ⊥
 
@@ -114,17 +114,16 @@ pub record SendsAll (alone_ram alone_ring : Bool) (net : NetPlan) (n : ℕ)
 
 -- The call of a path that has waited for an answer for as many Passes of its node.
 abbrev pub overdue_by : ℕ → ℕ → ℕ → Await → Option CallId
-overdue_by answer n path (Out seq to passes) =
-    if nat_le answer passes then Some (record { node = n; path = path; seq = seq }) else None
+overdue_by answer n path (Out seq to passes) = due_by answer true n path (Out seq to passes)
 overdue_by answer n path _ = None
 
 abbrev pub overdue_on : NetPlan → ℕ → NodeIs → ℕ → Option CallId
 overdue_on net n c path = overdue_by net.answer n path (path_of c path).awaits
 
--- These calls, by rising path.
+-- The calls that have waited for an answer for too long, by rising path.
 abbrev pub overdue : NetPlan → ℕ → List RingEntry → List CallId
 overdue net n ring =
-    filter_map (overdue_on net n (ring_node (ring_after net ring) n)) four_paths
+    filter_map (overdue_on net n (ring_node (ring_after net ring) n)) network_paths
 
 -- A call is given up, and finished with that word.
 abbrev pub IsGivenUp : CallId → List Entry → List RingEntry → Type 0
@@ -133,19 +132,6 @@ IsGivenUp id noted done = (word : ℕ) × (noted ≡ Finish id (Bad word) ∷ []
 
 -- ---- Last: the token goes on.
 
--- It is asked whether the controller is done: first whether its scans have ended, then whether a
--- call is uncollected; and none of its calls waits.
-pub record AsksIfDone (alone : Bool) (fixed : Fixed) (waits : List CallId)
-    (known new_known : List Entry) (done : Bool) : Type 0 where
-  pub at_end : List Entry
-  pub first : WentOn alone is_ours known [] at_end
-  pub then_on : WentOn alone is_ours at_end [] new_known
-  pub ended : done ≡ true → has_ended_at fixed at_end ≡ true
-  pub collected : done ≡ true → has_started_at fixed new_known ≡ false
-  pub idle : done ≡ true → waits ≡ []
-  pub all : has_ended_at fixed at_end ≡ true → has_started_at fixed new_known ≡ false
-      → waits ≡ [] → done ≡ true
-
 -- The node leaves or passes the token on, as is due, and a Pass says exactly whether the
 -- controller is done. After a Leave each call that waits is given up, and none is left.
 pub record Ends (alone_ram alone_ring : Bool) (fixed : Fixed) (net : NetPlan) (n : ℕ)
@@ -153,7 +139,8 @@ pub record Ends (alone_ram alone_ring : Bool) (fixed : Fixed) (net : NetPlan) (n
     (left : Bool) : Type 0 where
   pub done : Bool
   pub asked_known : List Entry
-  pub asked : AsksIfDone alone_ram fixed (calls_waiting n ring) known asked_known done
+  pub asked : AsksIfDone alone_ram fixed (calls_waiting n ring ≡ []) known asked_known
+      done
   pub left_is : left ≡ is_some (cause_due net (ring_after net ring) n done budget)
   pub handed_ring : List RingEntry
   pub handed : HandedOn alone_ring net n done (words_put n ring)

@@ -1,4 +1,4 @@
--- What stands of a host's list and the ring's after a part of a turn, also where memory wanted.
+-- What stands of a host's list and the ring's after a part of a turn, also where memory ran out.
 -- This project's own.
 use Rattle.std.specs.Prelude.{◌≡◌, ℕ, Bool, List, ◌++◌}
 use Rattle.plant_types.specs.declared.net.NetPlan.{NetPlan}

@@ -13,7 +13,7 @@ own_side net = record { net = net; writer = None; place = tt }
 
 -- The host of a node stands on the ring between two turns: it is tied to its node's entries, its
 -- worker counts its node's Passes, and the node is there unless it left.
-pub record StandsHost (node : ℕ) (host : HostIs) (worker : HostWorkerIs) (left : Bool)
+pub record HostIsReady (node : ℕ) (host : HostIs) (worker : HostWorkerIs) (left : Bool)
     (net : NetPlan) (ring : List RingEntry) : Type 0 where
   pub worker_node : worker.node ≡ node
   pub ties : HostTies node host (own_side net) ring

@@ -1,7 +1,7 @@
 -- What a host's worker stands on at each part of a turn. This project's own.
 use Rattle.std.specs.Prelude.{◌≡◌, ◌≢◌, ◌<◌, ◌-◌, ℕ, ◌+◌, min, Bool, true, false, List, [], ◌∷◌}
-use Rattle.std.specs.Prelude.{◌++◌, length, map, filter, filter_map, flat_map, count_by, Option}
-use Rattle.std.specs.Prelude.{Some, None, is_some, get_or, replicate}
+use Rattle.std.specs.Prelude.{◌++◌, length, map, filter_map, flat_map, count_by, Option}
+use Rattle.std.specs.Prelude.{Some, None, is_some, replicate}
 use Rattle.std.specs.List.{AllZip, list_any}
 use Rattle.plant_types.specs.declared.net.NetPlan.{NetPlan}
 use Rattle.plant_types.specs.declared.net.HostPlan.{HostPlan}
@@ -37,13 +37,13 @@ use Rattle.tied_lists.specs.Own.{is_of, own, Grew}
 use Rattle.tied_lists.specs.Items.{AHost, reply_of, request_of}
 use Rattle.tied_lists.specs.Tied.{Tied}
 use Rattle.tied_lists.specs.Waits.{waiting, last_number, IsOnRing}
-use Rattle.comm_port.specs.Sides.{RingSideIs, Serves}
-use Rattle.comm_port.specs.Reading.{host_items_of}
+use Rattle.comm_port.specs.Sides.{RingSideIs, MayWrite}
+use Rattle.joint_history.specs.Reading.{host_items_of}
 use Rattle.comm_port.specs.Turns.{IsOwnTurn}
 use Rattle.comm_port.specs.Leaving.{cause_due, HandedOn}
-use Rattle.comm_port.specs.Giving.{due_calls}
+use Rattle.comm_port.specs.Giving.{due_calls, inbox_of, is_chosen, outbox_of}
 use Rattle.comm_port.specs.Replies.{reply_frame}
-use Rattle.comm_port.specs.Complete.{is_pass}
+use Rattle.joint_history.specs.Complete.{is_pass}
 
 -- Each path of the node waits for the Request that the host has there without an answer, and was
 -- posted as many Requests as the host asked on it.
@@ -60,12 +60,12 @@ pub record HostTurning {Q : Type 0} (n : ℕ) (host : HostIs) (side : RingSideIs
   pub tied : Tied AHost (host_items_of host.history) (own n ring)
   pub paths : PathsAgree host.history (own n ring)
 
--- The same, whoever holds the token.
+-- A worker's host and the ring agree, whichever node holds the token.
 pub record HostTies {Q : Type 0} (n : ℕ) (host : HostIs) (side : RingSideIs Q)
     (ring : List RingEntry) : Type 0 where
   pub node : host.plan.node ≡ n
   pub legal : IsHostHistory host.plan host.history
-  pub serves : Serves side.writer n
+  pub serves : MayWrite side.writer n
   pub on : IsOnRing side.net ring n
   pub tied : Tied AHost (host_items_of host.history) (own n ring)
   pub paths : PathsAgree host.history (own n ring)
@@ -76,7 +76,8 @@ pub record EndsWithPass (n : ℕ) (done : Bool) (b : List RingEntry) : Type 0 wh
   pub words : List ℕ
   pub is : b ≡ front ++ Pass n done words ∷ []
 
--- The same, before the last entry of the node, a Take of this frame.
+-- A worker stands between its host and the ring, before the last entry of the node, a Take of this
+-- frame.
 pub record HostTaking {Q : Type 0} (n : ℕ) (f : Frame) (host : HostIs) (side : RingSideIs Q)
     (ring : List RingEntry) : Type 0 where
   pub before : List RingEntry
@@ -100,7 +101,7 @@ pub record HostWorkerIs : Type 0 where
   pub budget : Bool
   pub passes : ℕ
 
--- It counts the Pass of a turn after which the node stays.
+-- A worker counts the Pass of a turn after which the node stays.
 abbrev pub after_turn : HostWorkerIs → Bool → HostWorkerIs
 after_turn w true = w
 after_turn w false = record w { passes = min (w.passes + 1) 4294967295 }
@@ -118,13 +119,6 @@ host_at plan list = record { plan = plan; history = list }
 -- The number of the hold that runs: one more than the node made Passes.
 abbrev pub hold_of : ℕ → List RingEntry → ℕ
 hold_of n ring = 1 + count_by is_pass (own n ring)
-
--- The frames in a node's inbox, and those in its outbox.
-abbrev pub inbox_of : NetPlan → List RingEntry → ℕ → List Frame
-inbox_of net ring n = (ring_node (ring_after net ring) n).inbox
-
-abbrev pub outbox_of : NetPlan → List RingEntry → ℕ → List Frame
-outbox_of net ring n = (ring_node (ring_after net ring) n).outbox
 
 -- ---- First: what came is served.
 
@@ -181,8 +175,8 @@ pub record ServesFrames (alone : Bool) (n : ℕ) (frames : List Frame)
 -- All that lay in the inbox was served, and nothing lies there any more.
 pub record ServesInbox (alone : Bool) (net : NetPlan) (n : ℕ)
     (list new_list : List HostEntry) (ring new_ring : List RingEntry) : Type 0 where
-  pub all : ServesFrames alone n (inbox_of net ring n) list new_list ring new_ring
-  pub empty : inbox_of net new_ring n ≡ []
+  pub all : ServesFrames alone n (inbox_of net n ring) list new_list ring new_ring
+  pub empty : inbox_of net n new_ring ≡ []
 
 -- ---- Second: requests are made.
 
@@ -198,7 +192,7 @@ pub record AsksInOrder (alone : Bool) (n : ℕ) (plan : HostPlan) (hold : ℕ) (
   pub asked : new_list ≡ list ++ map ask_of asks
   pub grew : Grew alone (is_of n) ring (map (Post n) asks) new_ring
 
--- They are all that were due: none is afterwards, or no path is free.
+-- The Requests made are all that were due: none is afterwards, or no path is free.
 pub record AsksAllDue (alone : Bool) (n : ℕ) (plan : HostPlan) (hold : ℕ) (asks : List Frame)
     (list new_list : List HostEntry) (ring new_ring : List RingEntry) : Type 0 where
   pub in_order : AsksInOrder alone n plan hold asks list new_list ring new_ring
@@ -244,19 +238,19 @@ abbrev pub went_on : List Frame → ℕ → Bool
 went_on asks path = list_any (goes_on path) asks
 
 -- On none of these paths is a failed call.
-abbrev pub NoneFailed : (ℕ → Bool) → NodeIs → Type 0
-NoneFailed on part =
+abbrev pub NoneFailedOn : (ℕ → Bool) → NodeIs → Type 0
+NoneFailedOn on part =
     (path : ℕ) → IsPath path → on path ≡ true → IsFailed (path_of part path).awaits → ⊥
 
 -- An entry while the calls on these paths are sent, with the node's part before it: a Send comes
 -- only where none of them is a failed one, and a GiveUp is of a failed one.
 abbrev pub IsSendingStep : NetPlan → (ℕ → Bool) → NodeIs → RingEntry → Type 0
-IsSendingStep net on part (Send m heard) = NoneFailed on part
+IsSendingStep net on part (Send m heard) = NoneFailedOn on part
 IsSendingStep net on part (GiveUp id word) =
     (on id.path ≡ true) × (0 < net.answer → IsFailed (path_of part id.path).awaits)
 IsSendingStep net on part _ = ⊥
 
--- So is each of a node's entries, behind those before it.
+-- Each of a node's entries is a step of sending behind those before it.
 abbrev pub EachSends : NetPlan → ℕ → (ℕ → Bool) → List RingEntry → List RingEntry → Type 0
 EachSends net n on past [] = Unit {0}
 EachSends net n on past (e ∷ more) =
@@ -272,12 +266,12 @@ pub record Sends (alone : Bool) (net : NetPlan) (n : ℕ) (on : ℕ → Bool)
   pub each : EachSends net n on ring grew.more
   pub answers : new_list ≡ list ++ filter_map bad_answer_to entries
 
--- They were until nothing was left to be sent, and none of the calls is a failed one.
+-- Frames were sent until nothing was left to be sent, and none of the calls is a failed one.
 pub record SendsOut (alone : Bool) (net : NetPlan) (n : ℕ) (on : ℕ → Bool)
     (list new_list : List HostEntry) (ring new_ring : List RingEntry) : Type 0 where
   pub sends : Sends alone net n on list new_list ring new_ring
-  pub empty : outbox_of net new_ring n ≡ []
-  pub none_failed : NoneFailed on (ring_node (ring_after net new_ring) n)
+  pub empty : outbox_of net n new_ring ≡ []
+  pub none_failed : NoneFailedOn on (ring_node (ring_after net new_ring) n)
 
 -- ---- The end, and the whole.
 
@@ -322,14 +316,7 @@ pub record HoldsHostTurn (alone : Bool) (net : NetPlan) (n : ℕ) (plan : HostPl
 
 -- ---- What the parts of a host's worker say of one another.
 
--- The paths that an array chooses.
-abbrev pub chosen : List Bool → ℕ → Bool
-chosen which path = get_or which path false
-
-abbrev pub chosen_paths : List Bool → List ℕ
-chosen_paths which = filter (chosen which) network_paths
-
--- A path, where it is wanted.
+-- A path, where it is to be looked at.
 abbrev pub wanted_path : Bool → ℕ → List ℕ
 wanted_path true path = path ∷ []
 wanted_path false path = []
@@ -341,15 +328,15 @@ looked_at Silent fresh = fresh
 looked_at Busy fresh = fresh
 
 -- A path's call has not failed, nor waited for a Pass.
-abbrev pub IsNew : Await → Type 0
-IsNew Nothing = Unit {0}
-IsNew (Out seq to passes) = passes ≡ 0
-IsNew (Arrived seq) = Unit {0}
-IsNew (Failed seq word) = ⊥
+abbrev pub IsRecent : Await → Type 0
+IsRecent Nothing = Unit {0}
+IsRecent (Out seq to passes) = passes ≡ 0
+IsRecent (Arrived seq) = Unit {0}
+IsRecent (Failed seq word) = ⊥
 
-abbrev pub AreNew : (ℕ → Bool) → NodeIs → Type 0
-AreNew on part =
-    (path : ℕ) → IsPath path → on path ≡ true → IsNew (path_of part path).awaits
+abbrev pub AreRecent : (ℕ → Bool) → NodeIs → Type 0
+AreRecent on part =
+    (path : ℕ) → IsPath path → on path ≡ true → IsRecent (path_of part path).awaits
 
 -- A host made the request that was due and posted it on this path.
 pub record AskedOnce (alone : Bool) (net : NetPlan) (n hold : ℕ) (path : ℕ) (old new : HostIs)
@@ -366,7 +353,7 @@ pub record AskedOnce (alone : Bool) (net : NetPlan) (n hold : ℕ) (path : ℕ) 
       ≡ path_of (ring_node (ring_after net ring) n) p
   pub fewer : asks_left new < asks_left old
 
--- None was due.
+-- No request was due.
 pub record AskedNone (hold : ℕ) (old new : HostIs) (ring new_ring : List RingEntry)
     : Type 0 where
   pub none : due_request new hold ≡ None
@@ -385,5 +372,5 @@ pub record AskedAll (alone : Bool) (net : NetPlan) (n : ℕ) (plan : HostPlan) (
     : Type 0 where
   pub asks : List Frame
   pub all : AsksAllDue alone n plan hold asks list new_list ring new_ring
-  pub paths : (path : ℕ) → chosen fresh path ≡ went_on asks path
-  pub new_calls : AreNew (chosen fresh) (ring_node (ring_after net new_ring) n)
+  pub paths : (path : ℕ) → is_chosen fresh path ≡ went_on asks path
+  pub new_calls : AreRecent (is_chosen fresh) (ring_node (ring_after net new_ring) n)

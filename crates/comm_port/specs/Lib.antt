@@ -1,6 +1,5 @@
 pub mod Sides
 pub mod Waiting
-pub mod Reading
 pub mod Turns
 pub mod Replies
 pub mod Making
@@ -12,9 +11,6 @@ pub mod Stands
 pub mod HostTurns
 pub mod HostStands
 pub mod HostAndRing
-pub mod Effects
-pub mod JointLaws
-pub mod Complete
 pub mod Order
 pub mod Parts
 pub mod HoldTurn
@@ -22,4 +18,6 @@ pub mod Serving
 pub mod Calling
 pub mod Giving
 pub mod Visiting
-pub mod TurnTests
+pub mod RingSteps
+pub mod BothSteps
+pub mod HostSteps

@@ -14,7 +14,7 @@ use Rattle.tied_lists.specs.Own.{is_of, WentOn, Grew}
 use Rattle.tied_lists.specs.Items.{Called}
 use Rattle.tied_lists.specs.Calls.{AreNewCalls}
 use Rattle.comm_port.specs.Sides.{RingSideIs, RamSideIs}
-use Rattle.comm_port.specs.Reading.{is_ours, called_of, items_of}
+use Rattle.joint_history.specs.Reading.{is_ours, called_of, items_of}
 use Rattle.comm_port.specs.Turns.{Turning}
 
 -- The frame of a Request.
@@ -26,7 +26,7 @@ abbrev pub calls_from : List Call → ℕ → List Called
 calls_from calls at = map called_of (drop at calls)
 
 -- A call at home was done on the ring, and then ended with its result.
-pub record Does (alone_ram alone_ring : Bool) (n : ℕ) (id : CallId) (op : LocalOp)
+pub record DoesAtHome (alone_ram alone_ring : Bool) (n : ℕ) (id : CallId) (op : LocalOp)
     (known known_new : List Entry) (ring ring_new : List RingEntry) : Type 0 where
   pub outcome : MstrResult
   pub went : WentOn alone_ram is_ours known (Finish id outcome ∷ []) known_new

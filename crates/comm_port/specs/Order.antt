@@ -30,17 +30,7 @@ abbrev pub IsGivingUp : RingEntry → Type 0
 IsGivingUp (GiveUp id word) = Unit {0}
 IsGivingUp _ = ⊥
 
--- What the controller notes of the first part, of the second, and of all others.
-abbrev pub IsAnswering : Entry → Type 0
-IsAnswering (entries.Peer id request reply) = Unit {0}
-IsAnswering (entries.Finish id result) = Unit {0}
-IsAnswering _ = ⊥
-
-abbrev pub IsMaking : Entry → Type 0
-IsMaking (entries.Collect calls) = Unit {0}
-IsMaking (entries.Finish id result) = Unit {0}
-IsMaking _ = ⊥
-
+-- What the controller notes of a call that ended.
 abbrev pub IsFinish : Entry → Type 0
 IsFinish (entries.Finish id result) = Unit {0}
 IsFinish _ = ⊥

@@ -1,5 +1,6 @@
 -- Parts of a turn, by what they add to a station's list and to the ring's. This project's own.
 use Rattle.std.specs.Prelude.{◌≡◌, ℕ, Bool, true, List, [], ◌∷◌, ◌++◌, filter_map}
+use Rattle.mstr_block.specs.Table.{network_paths}
 use Rattle.mstr_block.specs.declared.call.CallId.{CallId}
 use Rattle.ring_core.specs.declared.entry.RingEntry.{RingEntry}
 use Rattle.tied_lists.specs.Own.{is_of, own, Grew}
@@ -25,13 +26,9 @@ pub record PartOf {A : Type 0} (alone_station alone_ring : Bool) (ours : A → B
   pub station : Grew alone_station ours known noted new_known
   pub node : Grew alone_ring (is_of n) ring done new_ring
 
--- The four paths, rising.
-abbrev pub four_paths : List ℕ
-four_paths = 1 ∷ 2 ∷ 3 ∷ 4 ∷ []
-
 -- The calls of a node that wait, by rising path.
 abbrev pub calls_waiting : ℕ → List RingEntry → List CallId
-calls_waiting n ring = filter_map (λ path. id_of (waiting path (own n ring))) four_paths
+calls_waiting n ring = filter_map (λ path. id_of (waiting path (own n ring))) network_paths
 
 -- Each entry of a node by which a list went on is so after what stands before it.
 pub record EachNext (n : ℕ) (IsNext : List RingEntry → RingEntry → Type 0)

@@ -16,7 +16,7 @@ reply_frame id pdu = record { kind = Reply; to = id.node; id = id; pdu = pdu }
 
 -- The port answered a request for statistics: by an operation for it, and a Reply that tells what
 -- that came to.
-pub record Tells (alone : Bool) (n : ℕ) (id : CallId) (request : List ℕ)
+pub record TellsStatistics (alone : Bool) (n : ℕ) (id : CallId) (request : List ℕ)
     (old new : List RingEntry) : Type 0 where
   pub op : LocalOp
   pub result : MstrResult

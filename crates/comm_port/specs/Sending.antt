@@ -61,7 +61,7 @@ abbrev pub given_up : CallId → Option ℕ → List RingEntry
 given_up id (Some word) = GiveUp id word ∷ []
 given_up id None = []
 
--- Its entry was added while its node's part was as it had been.
+-- The entry of a GiveUp was added while its node's part was as it had been.
 abbrev pub IsThisGiveUp : NetPlan → CallId → List RingEntry → List RingEntry → RingEntry → Type 0
 IsThisGiveUp net id old past e = (word : ℕ) × IsThis net id.node (GiveUp id word) old past e
 

@@ -1,13 +1,23 @@
 -- What a side of the ring or of a controller says of the list behind it. This project's own.
-use Rattle.std.specs.Prelude.{◌≡◌, ℕ, List, [], ◌∷◌, Option, Some, None, Result, MatchResult, ◌⊎◌}
-use Rattle.std.specs.Prelude.{⊤}
-use Rattle.controller_core.specs.declared.fixed.Fixed.{Fixed}
+use Rattle.std.specs.Prelude.{◌≡◌, ℕ, Bool, List, [], ◌∷◌, map, Option, Some, None, Result}
+use Rattle.std.specs.Prelude.{MatchResult, ◌⊎◌, ⊤}
 use Rattle.plant_types.specs.declared.net.NetPlan.{NetPlan}
+use Rattle.mstr_block.specs.declared.call.CallId.{CallId}
+use Rattle.controller_core.specs.declared.fixed.Fixed.{Fixed}
+use Rattle.controller_core.specs.declared.call.Call.{Call}
+use Rattle.controller_core.specs.declared.entry.Entry.{Entry}
+use Rattle.ring_core.specs.Machine.{awaited_number, path_of, ring_after, ring_node}
+use Rattle.ring_core.specs.Refusals.{give_up_no, leave_no}
+use Rattle.ring_core.specs.Scratch.{words_put}
 use Rattle.ring_core.specs.declared.frame.Frame.{Frame}
+use Rattle.ring_core.specs.declared.entry.LeaveCause.{LeaveCause}
 use Rattle.ring_core.specs.declared.entry.RingEntry.{RingEntry}
-use Rattle.ring_core.specs.declared.entry.RingEntry.TheVariants.{Take}
+use Rattle.ring_core.specs.declared.entry.RingEntry.TheVariants.{Take, Pass}
 use Rattle.ring_core.specs.declared.refusal.RingNo.{RingNo}
 use Rattle.ring_core.specs.declared.refusal.RingNo.TheVariants.{NoMemory}
+use Rattle.tied_lists.specs.Calls.{AreNewCalls}
+use Rattle.tied_lists.specs.Own.{added_if, is_of, WentOn}
+use Rattle.joint_history.specs.Reading.{called_of, is_ours, items_of}
 
 -- What a side of the ring keeps: the plan, the one node in whose name it may write, or none where
 -- it writes for each, and what names its place.
@@ -17,16 +27,16 @@ pub record RingSideIs (Place : Type 0) : Type 0 where
   pub place : Place
 
 -- A side may write in this node's name.
-abbrev pub Serves : Option ℕ → ℕ → Type 0
-Serves None node = ⊤
-Serves (Some writer) node = writer ≡ node
+abbrev pub MayWrite : Option ℕ → ℕ → Type 0
+MayWrite None node = ⊤
+MayWrite (Some writer) node = writer ≡ node
 
--- A refused call was refused for this reason; for want of memory only where there is none.
+-- A refused call was refused for this reason; NoMemory comes only where there is none.
 abbrev pub IsRefusedFor : {T : Type 0} → Option RingNo → Result T RingNo → Type 0
 IsRefusedFor why result = MatchResult result (λ _. ⊤)
     (λ refused. (why ≡ Some refused) ⊎ ((refused ≡ NoMemory) × (why ≡ None)))
 
--- A refused call was refused for this reason, or for want of memory.
+-- A refused call was refused for this reason, or because memory ran out.
 abbrev pub IsRefusedOrShort : {T : Type 0} → Option RingNo → Result T RingNo → Type 0
 IsRefusedOrShort why result =
     MatchResult result (λ _. ⊤) (λ refused. (refused ≡ NoMemory) ⊎ (why ≡ Some refused))
@@ -35,6 +45,49 @@ IsRefusedOrShort why result =
 abbrev pub taken_entries : ℕ → Option Frame → List RingEntry
 taken_entries node None = []
 taken_entries node (Some frame) = Take node frame ∷ []
+
+-- A call on the ring: entries of others came, and then those that it added for its result.
+abbrev pub CallAdds : {S T X : Type 0} → Bool → (S → List RingEntry) → ℕ → S → S → Result T X
+    → (T → List RingEntry) → Type 0
+CallAdds alone known node old new result added =
+    WentOn alone (is_of node) (known old) (added_if result added) (known new)
+
+-- A Pass that says this, with the words that the node has put.
+abbrev pub PassAdds : {S T X : Type 0} → Bool → (S → List RingEntry) → ℕ → Bool → S → S
+    → Result T X → Type 0
+PassAdds alone known node done old new result = CallAdds alone known node old new result
+    (λ _. Pass node done (words_put node (known old)) ∷ [])
+
+-- A question to the ring: entries of others came, and none of the node.
+abbrev pub AddsNothing : {S : Type 0} → Bool → (S → List RingEntry) → ℕ → S → S → Type 0
+AddsNothing alone known node old new = WentOn alone (is_of node) (known old) [] (known new)
+
+-- Why a node may not leave for a cause, and why a call may not be given up.
+abbrev pub leave_no_at : NetPlan → List RingEntry → ℕ → LeaveCause → Option RingNo
+leave_no_at net ring node cause = leave_no net (ring_after net ring) node cause
+
+abbrev pub give_up_no_at : NetPlan → List RingEntry → CallId → Option RingNo
+give_up_no_at net ring id = give_up_no net (ring_after net ring) id
+
+-- The number that a path of a node awaits, or 0.
+abbrev pub number_awaited : NetPlan → List RingEntry → ℕ → ℕ → ℕ
+number_awaited net ring node path =
+    awaited_number (path_of (ring_node (ring_after net ring) node) path).awaits
+
+-- A call on the controller: events of its scan came, and then what the call noted for its result.
+abbrev pub CallNotes : {S T X : Type 0} → Bool → (S → List Entry) → S → S → Result T X
+    → (T → List Entry) → Type 0
+CallNotes alone known old new result added =
+    WentOn alone is_ours (known old) (added_if result added) (known new)
+
+-- A question to the controller: events of its scan came, and nothing was noted.
+abbrev pub NotesNothing : {S : Type 0} → Bool → (S → List Entry) → S → S → Type 0
+NotesNothing alone known old new = WentOn alone is_ours (known old) [] (known new)
+
+-- Each of these calls of a controller with this history is new.
+abbrev pub AreStarted : Fixed → List Entry → List Call → Type 0
+AreStarted fixed entries calls = AreNewCalls fixed.plan.node (items_of entries).calls
+    (items_of entries).ends (map called_of calls)
 
 -- What a side of a controller keeps: its fixed part, and what names its place.
 pub record RamSideIs (Place : Type 0) : Type 0 where

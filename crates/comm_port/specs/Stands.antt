@@ -1,4 +1,4 @@
--- What stands of the two lists after a call, also where memory wanted. This project's own.
+-- What stands of the two lists after a call, also where memory ran out. This project's own.
 use Rattle.std.specs.Prelude.{ℕ, Bool, List}
 use Rattle.plant_types.specs.declared.net.NetPlan.{NetPlan}
 use Rattle.controller_core.specs.declared.fixed.Fixed.{Fixed}
@@ -7,7 +7,7 @@ use Rattle.controller_core.specs.Controller.{IsLegal as IsLegalRam}
 use Rattle.ring_core.specs.declared.entry.RingEntry.{RingEntry}
 use Rattle.ring_core.specs.Legal.{IsLegal}
 use Rattle.tied_lists.specs.Own.{is_of, Grew}
-use Rattle.comm_port.specs.Reading.{is_ours}
+use Rattle.joint_history.specs.Reading.{is_ours}
 
 -- A list went on by calls of ours; by nothing else where nobody else writes.
 pub record HasGrown {E : Type 0} (alone : Bool) (ours : E → Bool) (before after : List E)

@@ -13,13 +13,13 @@ use Rattle.tied_lists.specs.Items.{AController, Called, Items, NetCall}
 use Rattle.tied_lists.specs.Tied.{Tied, TiedBut}
 use Rattle.tied_lists.specs.Calls.{IsOutAs}
 use Rattle.tied_lists.specs.Waits.{waiting as waits_on, IsAsk, IsOnRing, Holds, IsFree}
-use Rattle.comm_port.specs.Sides.{RingSideIs, RamSideIs, Serves}
-use Rattle.comm_port.specs.Reading.{items_of}
+use Rattle.comm_port.specs.Sides.{RingSideIs, RamSideIs, MayWrite}
+use Rattle.joint_history.specs.Reading.{items_of}
 
 -- The ring's side serves a node of its plan, whose boxes and paths nobody else changes.
 pub record IsOwnTurn {Q : Type 0} (side : RingSideIs Q) (ring : List RingEntry) (n : ℕ)
     : Type 0 where
-  pub serves : Serves side.writer n
+  pub serves : MayWrite side.writer n
   pub on : IsOnRing side.net ring n
   pub free : IsFree side.net ring n
 
@@ -48,7 +48,8 @@ pub record Turning {P Q : Type 0} (n : ℕ) (rest : List Called) (ram : RamSideI
   pub tied : TiedBut AController rest (items_of known) (own n ring)
   pub waits : AreWaiting n (items_of known) (own n ring) waiting
 
--- The same, before the last entry of the node, a Take of this frame.
+-- A worker stands between its controller and the ring, before the last entry of the node, a Take of
+-- this frame.
 pub record Taking {P Q : Type 0} (n : ℕ) (f : Frame) (ram : RamSideIs P) (known : List Entry)
     (side : RingSideIs Q) (ring : List RingEntry) (waiting : List (Option Frame)) : Type 0 where
   pub before : List RingEntry
@@ -62,11 +63,12 @@ pub record Taking {P Q : Type 0} (n : ℕ) (f : Frame) (ram : RamSideIs P) (know
       → (ask : Frame) × (waits_on f.id.path before ≡ Some ask) × (ask.id ≡ f.id) × (f.id.path <
       path_places)
 
--- The same as Turning, whoever holds the token.
+-- A worker stands between its controller and the ring, whichever node holds the token: their lists
+-- are tied.
 pub record Rested {P Q : Type 0} (n : ℕ) (ram : RamSideIs P) (known : List Entry)
     (side : RingSideIs Q) (ring : List RingEntry) (waiting : List (Option Frame)) : Type 0 where
   pub node : ram.fixed.plan.node ≡ n
-  pub serves : Serves side.writer n
+  pub serves : MayWrite side.writer n
   pub on : IsOnRing side.net ring n
   pub tied : Tied AController (items_of known) (own n ring)
   pub waits : AreWaiting n (items_of known) (own n ring) waiting

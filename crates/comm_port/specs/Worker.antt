@@ -1,8 +1,8 @@
 -- What a contract sees of a controller's worker. This project's own.
-use Rattle.std.specs.Prelude.{◌≡◌, ℕ, ◌<◌, Bool, List, All, Option}
+use Rattle.std.specs.Prelude.{◌≡◌, ℕ, ◌<◌, Bool, List, All, Option, None, replicate}
 use Rattle.plant_types.specs.declared.net.NetPlan.{NetPlan}
 use Rattle.controller_core.specs.declared.entry.Entry.{Entry}
-use Rattle.ring_core.specs.Machine.{addresses}
+use Rattle.ring_core.specs.Machine.{addresses, path_places}
 use Rattle.ring_core.specs.Legal.{IsMember, IsLegal}
 use Rattle.ring_core.specs.declared.frame.Frame.{Frame}
 use Rattle.ring_core.specs.declared.entry.RingEntry.{RingEntry}
@@ -10,17 +10,22 @@ use Rattle.tied_lists.specs.Own.{own}
 use Rattle.tied_lists.specs.Items.{AController}
 use Rattle.tied_lists.specs.Tied.{Tied}
 use Rattle.comm_port.specs.Giving.{IsAtRest}
-use Rattle.comm_port.specs.Sides.{RingSideIs, RamSideIs, Serves}
-use Rattle.comm_port.specs.Reading.{items_of}
+use Rattle.comm_port.specs.Sides.{RingSideIs, RamSideIs, MayWrite}
+use Rattle.joint_history.specs.Reading.{items_of}
 use Rattle.comm_port.specs.Turns.{AreWaiting}
 
--- Its node, its net, whether it keeps to a budget of Passes, and the Requests that its paths wait
--- for.
+-- A controller's worker: its node, its net, whether it keeps to a budget of Passes, and the
+-- Requests that its paths wait for.
 pub record WorkerIs : Type 0 where
   pub node : ℕ
   pub net : NetPlan
   pub budget : Bool
   pub waiting : List (Option Frame)
+
+-- A worker none of whose calls waits.
+abbrev pub new_worker : ℕ → NetPlan → Bool → WorkerIs
+new_worker node net budget =
+    record { node = node; net = net; budget = budget; waiting = replicate path_places None }
 
 -- The node is one of the net's members, whose addresses are those of a ring; a call waits for its
 -- answer for one Pass at least.
@@ -36,7 +41,7 @@ pub record Standing {P Q : Type 0} (w : WorkerIs) (ram : RamSideIs P) (known : L
     (side : RingSideIs Q) (ring : List RingEntry) : Type 0 where
   pub node : ram.fixed.plan.node ≡ w.node
   pub net : side.net ≡ w.net
-  pub serves : Serves side.writer w.node
+  pub serves : MayWrite side.writer w.node
   pub legal : IsLegal side.net ring
   pub tied : Tied AController (items_of known) (own w.node ring)
   pub waits : AreWaiting w.node (items_of known) (own w.node ring) w.waiting

@@ -1,20 +1,18 @@
 //! The second part of a controller's turn: the calls that it started are made.
-ghost use Rattle.std.specs.Prelude.{◌≡◌, ◌≢◌, ◌<◌, ◌+◌, ◌∷◌, [], true, length, OnOk, set, Some};
-ghost use Rattle.ring_core.specs.Machine.{ring_node, ring_after, path_of};
+ghost use Rattle.std.specs.Prelude.{◌≡◌, ◌≢◌, ◌<◌, ◌+◌, ◌∷◌, [], length, OnOk, set, Some};
+ghost use Rattle.ring_core.specs.Machine.{path_of};
 ghost use Rattle.ring_core.specs.declared.path.Await.TheVariants.{Nothing};
-ghost use Rattle.ring_core.specs.Legal.{IsLegal, IsPath, IsNextNumber, HasRoom};
+ghost use Rattle.ring_core.specs.Legal.{IsPath, IsNextNumber, HasRoom};
 ghost use Rattle.ring_core.specs.declared.frame.FrameKind.TheVariants.{Request};
 ghost use Rattle.ring_core.specs.declared.entry.RingEntry.TheVariants.{Post};
 ghost use Rattle.tied_lists.specs.Calls.{IsOut};
-ghost use Rattle.tied_lists.specs.Own.{is_of, Grew, Adds};
-ghost use Rattle.comm_port.specs.Calling.{IsDueAt};
-ghost use Rattle.comm_port.specs.HoldTurn.{IsMade, Collects};
-ghost use Rattle.comm_port.specs.Order.{IsCalling, IsMaking, IsFinish};
-ghost use Rattle.comm_port.specs.Parts.{PartOf};
-ghost use Rattle.comm_port.specs.Reading.{items_of, is_ours};
-ghost use Rattle.comm_port.specs.Turns.{IsOwnTurn, KeepsInbox, Turning};
-ghost use Rattle.comm_port.specs.Making.{request_frame, Does, Owing, calls_from};
-ghost use Rattle.comm_port.specs.Stands.{RingStands, BothStand};
+ghost use Rattle.comm_port.specs.Order.{IsCalling};
+ghost use Rattle.joint_history.specs.Reading.{items_of};
+ghost use Rattle.comm_port.specs.Making.{request_frame};
+ghost use Rattle.comm_port.specs.RingSteps.{AddsOver, GrewBy, KeepsInboxOver, OwnTurnAt};
+ghost use Rattle.comm_port.specs.RingSteps.{RingStandsOver, node_at};
+ghost use Rattle.comm_port.specs.BothSteps.{BothStandOver, DoesOver, Makes, MakesAll, Owes};
+ghost use Rattle.comm_port.specs.BothSteps.{TurningBetween};
 
 use crate::asking::{do_local, post_frame};
 use crate::ram_side::RamSide;
@@ -46,24 +44,18 @@ pub(crate) fn post_call<R: RingSide>(
     frame: Frame,
     ring: &mut R,
 ) -> Result<(), Short>
-    requires turn { IsOwnTurn (R.side ring.old) (R.known ring.old) node }
+    requires turn { OwnTurnAt R.RingSide node ring.old }
     requires kind { frame.kind ≡ Request }
     requires own { frame.id.node ≡ node }
     requires to { frame.to ≢ node }
     requires path { IsPath frame.id.path }
-    requires next { IsNextNumber (ring_node (ring_after (R.side ring.old).net (R.known ring.old))
-        node) Request frame.id }
-    requires free { (path_of (ring_node (ring_after (R.side ring.old).net (R.known ring.old)) node)
-        frame.id.path).awaits ≡ Nothing }
-    ensures grew { OnOk result (Grew R.alone (is_of node) (R.known ring.old)
-        (Post node frame ∷ []) (R.known ring.new)) }
-    ensures kept { OnOk result
-        (KeepsInbox (R.side ring.old).net node (R.known ring.old) (R.known ring.new)) }
+    requires next { IsNextNumber (node_at R.RingSide node ring.old) Request frame.id }
+    requires free { (path_of (node_at R.RingSide node ring.old) frame.id.path).awaits ≡ Nothing }
+    ensures grew { OnOk result (GrewBy R.RingSide node (Post node frame ∷ []) ring.old ring.new) }
+    ensures kept { OnOk result (KeepsInboxOver R.RingSide node ring.old ring.new) }
     ensures waits { OnOk result (waiting.new ≡ set waiting.old frame.id.path (Some frame)) }
-    ensures legal { IsLegal (R.side ring.old).net (R.known ring.new) }
     ensures same { R.side ring.new ≡ R.side ring.old }
-    ensures stands { RingStands R.alone (R.side ring.old).net node (R.known ring.old)
-        (R.known ring.new) }
+    ensures stands { RingStandsOver R.RingSide node ring.old ring.new }
 {
     let kept = frame.copied(alloc)?;
     post_frame(node, frame, ring)?;
@@ -79,18 +71,15 @@ fn do_call<M: RamSide, R: RingSide>(
     ram: &mut M,
     ring: &mut R,
 ) -> Result<(), Short>
-    requires turn { IsOwnTurn (R.side ring.old) (R.known ring.old) node }
+    requires turn { OwnTurnAt R.RingSide node ring.old }
     requires room { HasRoom op }
     requires out { IsOut (items_of (M.known ram.old)) id }
-    ensures did { OnOk result (Does M.alone R.alone node id op (M.known ram.old)
-        (M.known ram.new) (R.known ring.old) (R.known ring.new)) }
-    ensures kept { OnOk result
-        (KeepsInbox (R.side ring.old).net node (R.known ring.old) (R.known ring.new)) }
-    ensures legal { IsLegal (R.side ring.old).net (R.known ring.new) }
+    ensures did { OnOk result
+        (DoesOver M.RamSide R.RingSide node id op ram.old ram.new ring.old ring.new) }
+    ensures kept { OnOk result (KeepsInboxOver R.RingSide node ring.old ring.new) }
     ensures ram_same { M.side ram.new ≡ M.side ram.old }
     ensures ring_same { R.side ring.new ≡ R.side ring.old }
-    ensures stands { BothStand M.alone R.alone (M.side ram.old).fixed (R.side ring.old).net node
-        (M.known ram.old) (M.known ram.new) (R.known ring.old) (R.known ring.new) }
+    ensures stands { BothStandOver M.RamSide R.RingSide node ram.old ram.new ring.old ring.new }
 {
     let outcome = do_local(node, id, op, ring)?;
     ram.finish(id, outcome)?;
@@ -108,23 +97,16 @@ pub(crate) fn make_call<M: RamSide, R: RingSide>(
     ring: &mut R,
 ) -> Result<(), Short>
     requires within { at < length calls.now }
-    requires owing { Owing node (calls_from calls.now at) (M.side ram.old) (M.known ram.old)
-        (R.side ring.old) (R.known ring.old) waiting.old }
-    ensures owing { OnOk result (Owing node (calls_from calls.now (at + 1)) (M.side ram.new)
-        (M.known ram.new) (R.side ring.new) (R.known ring.new) waiting.new) }
-    ensures kept { OnOk result
-        (KeepsInbox (R.side ring.old).net node (R.known ring.old) (R.known ring.new)) }
+    requires owing { Owes M.RamSide R.RingSide node calls.now at ram.old ring.old waiting.old }
+    ensures owing { OnOk result
+        (Owes M.RamSide R.RingSide node calls.now (at + 1) ram.new ring.new waiting.new) }
+    ensures kept { OnOk result (KeepsInboxOver R.RingSide node ring.old ring.new) }
     ensures ram_same { M.side ram.new ≡ M.side ram.old }
     ensures ring_same { R.side ring.new ≡ R.side ring.old }
-    ensures ring_adds { OnOk result (Adds R.alone (is_of node) (IsCalling node)
-        (R.known ring.old) (R.known ring.new)) }
-    ensures ram_adds { OnOk result (Adds M.alone is_ours IsFinish
-        (M.known ram.old) (M.known ram.new)) }
-    ensures made { OnOk result (PartOf M.alone R.alone is_ours node
-        (IsDueAt (IsMade node) calls.now at)
-        (M.known ram.old) (M.known ram.new) (R.known ring.old) (R.known ring.new)) }
-    ensures stands { BothStand M.alone R.alone (M.side ram.old).fixed (R.side ring.old).net node
-        (M.known ram.old) (M.known ram.new) (R.known ring.old) (R.known ring.new) }
+    ensures ring_adds { OnOk result (AddsOver R.RingSide node (IsCalling node) ring.old ring.new) }
+    ensures made { OnOk result
+        (Makes M.RamSide R.RingSide node calls.now at ram.old ram.new ring.old ring.new) }
+    ensures stands { BothStandOver M.RamSide R.RingSide node ram.old ram.new ring.old ring.new }
 {
     let call = &calls[at];
     match &call.kind {
@@ -145,22 +127,16 @@ pub(crate) fn make_calls<M: RamSide, R: RingSide>(
     ram: &mut M,
     ring: &mut R,
 ) -> Result<(), Short>
-    requires turning { Turning node [] (M.side ram.old) (M.known ram.old) (R.side ring.old)
-        (R.known ring.old) waiting.old }
-    ensures turning { OnOk result (Turning node [] (M.side ram.new) (M.known ram.new)
-        (R.side ring.new) (R.known ring.new) waiting.new) }
-    ensures kept { OnOk result
-        (KeepsInbox (R.side ring.old).net node (R.known ring.old) (R.known ring.new)) }
+    requires turning { TurningBetween M.RamSide R.RingSide node ram.old ring.old waiting.old }
+    ensures turning { OnOk result
+        (TurningBetween M.RamSide R.RingSide node ram.new ring.new waiting.new) }
+    ensures kept { OnOk result (KeepsInboxOver R.RingSide node ring.old ring.new) }
     ensures ram_same { M.side ram.new ≡ M.side ram.old }
     ensures ring_same { R.side ring.new ≡ R.side ring.old }
-    ensures ring_adds { OnOk result (Adds R.alone (is_of node) (IsCalling node)
-        (R.known ring.old) (R.known ring.new)) }
-    ensures ram_adds { OnOk result (Adds M.alone is_ours IsMaking
-        (M.known ram.old) (M.known ram.new)) }
-    ensures made { OnOk result (Collects M.alone R.alone (M.side ram.old).fixed node (IsMade node)
-        (M.known ram.old) (M.known ram.new) (R.known ring.old) (R.known ring.new)) }
-    ensures stands { BothStand M.alone R.alone (M.side ram.old).fixed (R.side ring.old).net node
-        (M.known ram.old) (M.known ram.new) (R.known ring.old) (R.known ring.new) }
+    ensures ring_adds { OnOk result (AddsOver R.RingSide node (IsCalling node) ring.old ring.new) }
+    ensures made { OnOk result
+        (MakesAll M.RamSide R.RingSide node ram.old ram.new ring.old ring.new) }
+    ensures stands { BothStandOver M.RamSide R.RingSide node ram.old ram.new ring.old ring.new }
 {
     if !ram.has_started() {
         return Ok(());

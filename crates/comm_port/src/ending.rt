@@ -1,27 +1,22 @@
 //! The last part of a controller's turn: it is asked whether it is done, and the token goes on.
-ghost use Rattle.std.specs.Prelude.{◌≡◌, [], true, OnOk, IfOk};
-ghost use Rattle.tied_lists.specs.Waits.{Holds};
-ghost use Rattle.comm_port.specs.Turns.{Turning, Rested};
-ghost use Rattle.comm_port.specs.Ending.{AsksDone};
-ghost use Rattle.comm_port.specs.Giving.{IsAtRest};
-ghost use Rattle.comm_port.specs.HoldTurn.{inbox_of, Ends};
-ghost use Rattle.comm_port.specs.Stands.{RamStands, BothStand};
+ghost use Rattle.std.specs.Prelude.{◌≡◌, [], OnOk, IfOk};
+ghost use Rattle.comm_port.specs.BothSteps.{AsksDoneOver, BothStandOver, EndsOver, RamStandsOver};
+ghost use Rattle.comm_port.specs.BothSteps.{RestedBetween, TurningBetween};
+ghost use Rattle.comm_port.specs.RingSteps.{HoldsAt, RestsAfter, RestsAt, node_at};
 
 use crate::giving::give_up_where;
 use crate::leaving::hand_on;
+use crate::paths::ALL_PATHS;
 use crate::ram_side::RamSide;
 use crate::ring_side::RingSide;
 use crate::short::Short;
 use crate::waiting::Waiting;
 
-const ALL_PATHS: [bool; 5] = [true; 5];
-
 /// Whether the scans have ended, nothing is uncollected and no call waits; asked in this order.
 fn is_done<M: RamSide>(waiting: &Waiting, ram: &mut M) -> bool
-    ensures asked { AsksDone M.alone (M.side ram.old).fixed waiting.now (M.known ram.old)
-        (M.known ram.new) result }
+    ensures asked { AsksDoneOver M.RamSide waiting.now ram.old ram.new result }
     ensures same { M.side ram.new ≡ M.side ram.old }
-    ensures stands { RamStands M.alone (M.side ram.old).fixed (M.known ram.old) (M.known ram.new) }
+    ensures stands { RamStandsOver M.RamSide ram.old ram.new }
 {
     if !ram.has_ended() {
         return false;
@@ -40,21 +35,18 @@ pub(crate) fn end_turn<M: RamSide, R: RingSide>(
     ram: &mut M,
     ring: &mut R,
 ) -> Result<bool, Short>
-    requires turning { Turning node [] (M.side ram.old) (M.known ram.old) (R.side ring.old)
-        (R.known ring.old) waiting.old }
-    requires holds { Holds (R.side ring.old).net (R.known ring.old) node }
-    requires rest { IsAtRest (R.side ring.old).net node (R.known ring.old) }
-    requires empty { inbox_of (R.side ring.old).net node (R.known ring.old) ≡ [] }
-    ensures rested { OnOk result (Rested node (M.side ram.new) (M.known ram.new) (R.side ring.new)
-        (R.known ring.new) waiting.new) }
-    ensures rest { OnOk result (IsAtRest (R.side ring.old).net node (R.known ring.new)) }
-    ensures ends { IfOk result (Ends M.alone R.alone (M.side ram.old).fixed
-        (R.side ring.old).net node budget (M.known ram.old) (M.known ram.new)
-        (R.known ring.old) (R.known ring.new)) }
+    requires turning { TurningBetween M.RamSide R.RingSide node ram.old ring.old waiting.old }
+    requires holds { HoldsAt R.RingSide node ring.old }
+    requires rest { RestsAt R.RingSide node ring.old }
+    requires empty { (node_at R.RingSide node ring.old).inbox ≡ [] }
+    ensures rested { OnOk result
+        (RestedBetween M.RamSide R.RingSide node ram.new ring.new waiting.new) }
+    ensures rest { OnOk result (RestsAfter R.RingSide node ring.old ring.new) }
+    ensures ends { IfOk result
+        (EndsOver M.RamSide R.RingSide node budget ram.old ram.new ring.old ring.new) }
     ensures ram_same { M.side ram.new ≡ M.side ram.old }
     ensures ring_same { R.side ring.new ≡ R.side ring.old }
-    ensures stands { BothStand M.alone R.alone (M.side ram.old).fixed (R.side ring.old).net node
-        (M.known ram.old) (M.known ram.new) (R.known ring.old) (R.known ring.new) }
+    ensures stands { BothStandOver M.RamSide R.RingSide node ram.old ram.new ring.old ring.new }
 {
     let done = is_done(waiting, ram);
     let left = hand_on(node, done, budget, ring)?;

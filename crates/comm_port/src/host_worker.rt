@@ -1,26 +1,22 @@
 //! A host's hold turn.
-ghost use Rattle.std.specs.Prelude.{◌≡◌, ◌<◌, ◌≤◌, min, true, false, None, [], ◌∷◌, OnOk, OnErr};
-ghost use Rattle.std.specs.Prelude.{IfOk};
-ghost use Rattle.mstr_block.specs.Table.{network_paths};
+ghost use Rattle.std.specs.Prelude.{◌≡◌, min, true, false, [], ◌∷◌, OnOk, OnErr, IfOk};
 ghost use Rattle.ring_core.specs.Legal.{IsLegal, IsPath};
-ghost use Rattle.ring_core.specs.Machine.{ring_after, ring_node};
 ghost use Rattle.ring_core.specs.Statistics.{is_stats};
-ghost use Rattle.host_port.specs.Host.{host_is_done};
 ghost use Rattle.host_port.specs.Legal.{IsHostHistory};
-ghost use Rattle.tied_lists.specs.Own.{own};
-ghost use Rattle.tied_lists.specs.Waits.{HasLeft, Holds};
-ghost use Rattle.comm_port.specs.Turns.{KeepsInbox};
-ghost use Rattle.comm_port.specs.Leaving.{IsHere};
-ghost use Rattle.comm_port.specs.Giving.{part_at, BoxesEmpty};
-ghost use Rattle.comm_port.specs.Sending.{sends_left};
-ghost use Rattle.comm_port.specs.HostAndRing.{HostAndRingStand};
-ghost use Rattle.comm_port.specs.HostTurns.{after_turn, AreNew, AskedAll, AskedNext, chosen};
-ghost use Rattle.comm_port.specs.HostTurns.{chosen_paths, CountsPasses, EndsHostTurn, EndsWithPass};
-ghost use Rattle.comm_port.specs.HostTurns.{GivesUpDue, hold_of, HoldsHostTurn, HostTaking};
-ghost use Rattle.comm_port.specs.HostTurns.{HostTies, HostTurning, looked_at, outbox_of, Sends};
-ghost use Rattle.comm_port.specs.HostTurns.{SendsOut, ServesInbox, ServesTaken, wanted_path};
+ghost use Rattle.comm_port.specs.Giving.{BoxesEmpty, is_chosen};
+ghost use Rattle.comm_port.specs.HostTurns.{after_turn, CountsPasses, AreRecent, hold_of};
+ghost use Rattle.comm_port.specs.HostTurns.{looked_at};
+ghost use Rattle.comm_port.specs.HostSteps.{AskedAllOver, AskedNextOver, EndsHostOver, GivesUpBy};
+ghost use Rattle.comm_port.specs.HostSteps.{GivesUpIf, GivesUpWhich, HoldsHostBy, HoldsHostOver};
+ghost use Rattle.comm_port.specs.HostSteps.{HostMeets, HostStandsOver, HostTakingAt, HostTiesAfter};
+ghost use Rattle.comm_port.specs.HostSteps.{HostTiesAt, HostTurningAfter, HostTurningAt, PassedAt};
+ghost use Rattle.comm_port.specs.HostSteps.{SendsOutOver, SendsOver, ServesInboxOver};
+ghost use Rattle.comm_port.specs.RingSteps.{HasLeftAfter, HasLeftAt, HoldsAfter, HoldsAt};
+ghost use Rattle.comm_port.specs.RingSteps.{IsHereAfter, KeepsInboxOver, SendsFewer, SendsNoMore};
+ghost use Rattle.comm_port.specs.RingSteps.{StaysAway, node_after, node_at, outbox_after, IsHereAt};
 
 use crate::leaving::hand_on;
+use crate::paths::{ALL_PATHS, NETWORK_PATHS, PATH_PLACES};
 use crate::replies::{post_reply, tell_statistics};
 use crate::ring_side::RingSide;
 use crate::sending::{give_up_on, send_next};
@@ -33,20 +29,14 @@ use ring_core::{Frame, FrameKind, Heard, is_stats};
 use std::alloc::{AllocError, Global};
 use std::marker::Model;
 
-/// A place for each path of a node, 0 to 4.
-const PATH_PLACES: usize = 5;
-
-const NETWORK_PATHS: [u8; 4] = [1, 2, 3, 4];
-
 /// Ends the call that a Reply is to.
 fn end_call<R: RingSide>(node: u8, reply: Frame, host: &mut Host, ring: &R) -> Result<(), Short>
-    requires taking { HostTaking node reply host.old (R.side ring.now) (R.known ring.now) }
+    requires taking { HostTakingAt R.RingSide node reply host.old ring.now }
     requires kind { reply.kind ≡ FrameKind.Reply }
-    ensures turning { OnOk result (HostTurning node host.new (R.side ring.now) (R.known ring.now)) }
-    ensures served { OnOk result (ServesTaken R.alone node reply host.old.history host.new.history
-        (R.known ring.now) (R.known ring.now)) }
-    ensures stands { HostAndRingStand R.alone (R.side ring.now).net node host.old.history
-        host.new.history (R.known ring.now) (R.known ring.now) }
+    ensures turning { OnOk result (HostTurningAt R.RingSide node host.new ring.now) }
+    ensures served { OnOk result
+        (HostMeets R.RingSide node reply host.old host.new ring.now ring.now) }
+    ensures stands { HostStandsOver R.RingSide node host.old host.new ring.now ring.now }
     ensures legal_list { IsHostHistory host.new.plan host.new.history }
     ensures plan { host.new.plan ≡ host.old.plan }
 {
@@ -61,17 +51,14 @@ fn answer_request<R: RingSide>(
     host: &mut Host,
     ring: &mut R,
 ) -> Result<(), Short>
-    requires taking { HostTaking node request.now host.old (R.side ring.old) (R.known ring.old) }
+    requires taking { HostTakingAt R.RingSide node request.now host.old ring.old }
     requires kind { request.now.kind ≡ FrameKind.Request }
     requires plain { is_stats request.now.pdu ≡ false }
-    ensures turning { OnOk result (HostTurning node host.new (R.side ring.old) (R.known ring.new)) }
-    ensures kept { OnOk result
-        (KeepsInbox (R.side ring.old).net node (R.known ring.old) (R.known ring.new)) }
-    ensures served { OnOk result (ServesTaken R.alone node request.now host.old.history
-        host.new.history (R.known ring.old) (R.known ring.new)) }
-    ensures stands { HostAndRingStand R.alone (R.side ring.old).net node host.old.history
-        host.new.history (R.known ring.old) (R.known ring.new) }
-    ensures legal { IsLegal (R.side ring.old).net (R.known ring.new) }
+    ensures turning { OnOk result (HostTurningAfter R.RingSide node host.new ring.old ring.new) }
+    ensures kept { OnOk result (KeepsInboxOver R.RingSide node ring.old ring.new) }
+    ensures served { OnOk result
+        (HostMeets R.RingSide node request.now host.old host.new ring.old ring.new) }
+    ensures stands { HostStandsOver R.RingSide node host.old host.new ring.old ring.new }
     ensures legal_list { IsHostHistory host.new.plan host.new.history }
     ensures plan { host.new.plan ≡ host.old.plan }
     ensures same { R.side ring.new ≡ R.side ring.old }
@@ -89,17 +76,14 @@ fn answer_port<R: RingSide>(
     host: &Host,
     ring: &mut R,
 ) -> Result<(), Short>
-    requires taking { HostTaking node request.now host.now (R.side ring.old) (R.known ring.old) }
+    requires taking { HostTakingAt R.RingSide node request.now host.now ring.old }
     requires kind { request.now.kind ≡ FrameKind.Request }
     requires stats { is_stats request.now.pdu ≡ true }
-    ensures turning { OnOk result (HostTurning node host.now (R.side ring.old) (R.known ring.new)) }
-    ensures kept { OnOk result
-        (KeepsInbox (R.side ring.old).net node (R.known ring.old) (R.known ring.new)) }
-    ensures served { OnOk result (ServesTaken R.alone node request.now host.now.history
-        host.now.history (R.known ring.old) (R.known ring.new)) }
-    ensures stands { HostAndRingStand R.alone (R.side ring.old).net node host.now.history
-        host.now.history (R.known ring.old) (R.known ring.new) }
-    ensures legal { IsLegal (R.side ring.old).net (R.known ring.new) }
+    ensures turning { OnOk result (HostTurningAfter R.RingSide node host.now ring.old ring.new) }
+    ensures kept { OnOk result (KeepsInboxOver R.RingSide node ring.old ring.new) }
+    ensures served { OnOk result
+        (HostMeets R.RingSide node request.now host.now host.now ring.old ring.new) }
+    ensures stands { HostStandsOver R.RingSide node host.now host.now ring.old ring.new }
     ensures same { R.side ring.new ≡ R.side ring.old }
 {
     tell_statistics(alloc, node, request, ring)?;
@@ -114,15 +98,12 @@ fn serve<R: RingSide>(
     host: &mut Host,
     ring: &mut R,
 ) -> Result<(), Short>
-    requires taking { HostTaking node frame host.old (R.side ring.old) (R.known ring.old) }
-    ensures turning { OnOk result (HostTurning node host.new (R.side ring.old) (R.known ring.new)) }
-    ensures kept { OnOk result
-        (KeepsInbox (R.side ring.old).net node (R.known ring.old) (R.known ring.new)) }
-    ensures served { OnOk result (ServesTaken R.alone node frame host.old.history host.new.history
-        (R.known ring.old) (R.known ring.new)) }
-    ensures stands { HostAndRingStand R.alone (R.side ring.old).net node host.old.history
-        host.new.history (R.known ring.old) (R.known ring.new) }
-    ensures legal { IsLegal (R.side ring.old).net (R.known ring.new) }
+    requires taking { HostTakingAt R.RingSide node frame host.old ring.old }
+    ensures turning { OnOk result (HostTurningAfter R.RingSide node host.new ring.old ring.new) }
+    ensures kept { OnOk result (KeepsInboxOver R.RingSide node ring.old ring.new) }
+    ensures served { OnOk result
+        (HostMeets R.RingSide node frame host.old host.new ring.old ring.new) }
+    ensures stands { HostStandsOver R.RingSide node host.old host.new ring.old ring.new }
     ensures legal_list { IsHostHistory host.new.plan host.new.history }
     ensures plan { host.new.plan ≡ host.old.plan }
     ensures same { R.side ring.new ≡ R.side ring.old }
@@ -146,15 +127,13 @@ fn serve_inbox<R: RingSide>(
     host: &mut Host,
     ring: &mut R,
 ) -> Result<(), Short>
-    requires turning { HostTurning node host.old (R.side ring.old) (R.known ring.old) }
-    requires holds { Holds (R.side ring.old).net (R.known ring.old) node }
-    ensures turning { OnOk result (HostTurning node host.new (R.side ring.old) (R.known ring.new)) }
-    ensures holds { OnOk result (Holds (R.side ring.old).net (R.known ring.new) node) }
-    ensures served { OnOk result (ServesInbox R.alone (R.side ring.old).net node host.old.history
-        host.new.history (R.known ring.old) (R.known ring.new)) }
-    ensures stands { HostAndRingStand R.alone (R.side ring.old).net node host.old.history
-        host.new.history (R.known ring.old) (R.known ring.new) }
-    ensures legal { IsLegal (R.side ring.old).net (R.known ring.new) }
+    requires turning { HostTurningAt R.RingSide node host.old ring.old }
+    requires holds { HoldsAt R.RingSide node ring.old }
+    ensures turning { OnOk result (HostTurningAfter R.RingSide node host.new ring.old ring.new) }
+    ensures holds { OnOk result (HoldsAfter R.RingSide node ring.old ring.new) }
+    ensures served { OnOk result
+        (ServesInboxOver R.RingSide node host.old host.new ring.old ring.new) }
+    ensures stands { HostStandsOver R.RingSide node host.old host.new ring.old ring.new }
     ensures legal_list { IsHostHistory host.new.plan host.new.history }
     ensures plan { host.new.plan ≡ host.old.plan }
     ensures same { R.side ring.new ≡ R.side ring.old }
@@ -173,15 +152,12 @@ fn ask_next<R: RingSide>(
     host: &mut Host,
     ring: &mut R,
 ) -> Result<Option<u8>, Short>
-    requires turning { HostTurning node host.old (R.side ring.old) (R.known ring.old) }
-    ensures turning { OnOk result (HostTurning node host.new (R.side ring.old) (R.known ring.new)) }
-    ensures kept { OnOk result
-        (KeepsInbox (R.side ring.old).net node (R.known ring.old) (R.known ring.new)) }
-    ensures asked { IfOk result (AskedNext R.alone (R.side ring.old).net node hold host.old host.new
-        (R.known ring.old) (R.known ring.new)) }
-    ensures stands { HostAndRingStand R.alone (R.side ring.old).net node host.old.history
-        host.new.history (R.known ring.old) (R.known ring.new) }
-    ensures legal { IsLegal (R.side ring.old).net (R.known ring.new) }
+    requires turning { HostTurningAt R.RingSide node host.old ring.old }
+    ensures turning { OnOk result (HostTurningAfter R.RingSide node host.new ring.old ring.new) }
+    ensures kept { OnOk result (KeepsInboxOver R.RingSide node ring.old ring.new) }
+    ensures asked { IfOk result
+        (AskedNextOver R.RingSide node hold host.old host.new ring.old ring.new) }
+    ensures stands { HostStandsOver R.RingSide node host.old host.new ring.old ring.new }
     ensures legal_list { IsHostHistory host.new.plan host.new.history }
     ensures plan { host.new.plan ≡ host.old.plan }
     ensures same { R.side ring.new ≡ R.side ring.old }
@@ -203,15 +179,13 @@ fn ask_all<R: RingSide>(
     host: &mut Host,
     ring: &mut R,
 ) -> Result<[bool; PATH_PLACES], Short>
-    requires turning { HostTurning node host.old (R.side ring.old) (R.known ring.old) }
-    requires holds { Holds (R.side ring.old).net (R.known ring.old) node }
-    ensures turning { OnOk result (HostTurning node host.new (R.side ring.old) (R.known ring.new)) }
-    ensures holds { OnOk result (Holds (R.side ring.old).net (R.known ring.new) node) }
-    ensures asked { IfOk result (AskedAll R.alone (R.side ring.old).net node host.old.plan hold
-        host.old.history host.new.history (R.known ring.old) (R.known ring.new)) }
-    ensures stands { HostAndRingStand R.alone (R.side ring.old).net node host.old.history
-        host.new.history (R.known ring.old) (R.known ring.new) }
-    ensures legal { IsLegal (R.side ring.old).net (R.known ring.new) }
+    requires turning { HostTurningAt R.RingSide node host.old ring.old }
+    requires holds { HoldsAt R.RingSide node ring.old }
+    ensures turning { OnOk result (HostTurningAfter R.RingSide node host.new ring.old ring.new) }
+    ensures holds { OnOk result (HoldsAfter R.RingSide node ring.old ring.new) }
+    ensures asked { IfOk result
+        (AskedAllOver R.RingSide node hold host.old host.new ring.old ring.new) }
+    ensures stands { HostStandsOver R.RingSide node host.old host.new ring.old ring.new }
     ensures legal_list { IsHostHistory host.new.plan host.new.history }
     ensures plan { host.new.plan ≡ host.old.plan }
     ensures same { R.side ring.new ≡ R.side ring.old }
@@ -225,20 +199,15 @@ fn ask_all<R: RingSide>(
 
 /// Gives up the call of a path, where there is one and the ring lets it, and ends it.
 fn give_up_path<R: RingSide>(node: u8, path: u8, host: &mut Host, ring: &mut R) -> Result<(), Short>
-    requires turning { HostTurning node host.old (R.side ring.old) (R.known ring.old) }
+    requires turning { HostTurningAt R.RingSide node host.old ring.old }
     requires path { IsPath path }
-    ensures turning { OnOk result (HostTurning node host.new (R.side ring.old) (R.known ring.new)) }
-    ensures kept { OnOk result
-        (KeepsInbox (R.side ring.old).net node (R.known ring.old) (R.known ring.new)) }
-    ensures less { OnOk result (sends_left (R.side ring.old).net (R.known ring.new) node
-        ≤ sends_left (R.side ring.old).net (R.known ring.old) node) }
-    ensures left { OnOk result (HasLeft (R.side ring.old).net (R.known ring.old) node
-        → HasLeft (R.side ring.old).net (R.known ring.new) node) }
-    ensures gives_up { OnOk result (GivesUpDue R.alone (R.side ring.old).net node (path ∷ [])
-        host.old.history host.new.history (R.known ring.old) (R.known ring.new)) }
-    ensures stands { HostAndRingStand R.alone (R.side ring.old).net node host.old.history
-        host.new.history (R.known ring.old) (R.known ring.new) }
-    ensures legal { IsLegal (R.side ring.old).net (R.known ring.new) }
+    ensures turning { OnOk result (HostTurningAfter R.RingSide node host.new ring.old ring.new) }
+    ensures kept { OnOk result (KeepsInboxOver R.RingSide node ring.old ring.new) }
+    ensures less { OnOk result (SendsNoMore R.RingSide node ring.old ring.new) }
+    ensures left { OnOk result (StaysAway R.RingSide node ring.old ring.new) }
+    ensures gives_up { OnOk result
+        (GivesUpBy R.RingSide node (path ∷ []) host.old host.new ring.old ring.new) }
+    ensures stands { HostStandsOver R.RingSide node host.old host.new ring.old ring.new }
     ensures legal_list { IsHostHistory host.new.plan host.new.history }
     ensures plan { host.new.plan ≡ host.old.plan }
     ensures same { R.side ring.new ≡ R.side ring.old }
@@ -255,7 +224,7 @@ fn give_up_path<R: RingSide>(node: u8, path: u8, host: &mut Host, ring: &mut R) 
     Ok(())
 }
 
-/// The same, where the path is wanted.
+/// Gives up the call of a path, if the path is to be looked at.
 fn give_up_if<R: RingSide>(
     node: u8,
     path: u8,
@@ -263,21 +232,15 @@ fn give_up_if<R: RingSide>(
     host: &mut Host,
     ring: &mut R,
 ) -> Result<(), Short>
-    requires turning { HostTurning node host.old (R.side ring.old) (R.known ring.old) }
+    requires turning { HostTurningAt R.RingSide node host.old ring.old }
     requires path { IsPath path }
-    ensures turning { OnOk result (HostTurning node host.new (R.side ring.old) (R.known ring.new)) }
-    ensures kept { OnOk result
-        (KeepsInbox (R.side ring.old).net node (R.known ring.old) (R.known ring.new)) }
-    ensures less { OnOk result (sends_left (R.side ring.old).net (R.known ring.new) node
-        ≤ sends_left (R.side ring.old).net (R.known ring.old) node) }
-    ensures left { OnOk result (HasLeft (R.side ring.old).net (R.known ring.old) node
-        → HasLeft (R.side ring.old).net (R.known ring.new) node) }
-    ensures gives_up { OnOk result (GivesUpDue R.alone (R.side ring.old).net node
-        (wanted_path wanted path) host.old.history host.new.history (R.known ring.old)
-        (R.known ring.new)) }
-    ensures stands { HostAndRingStand R.alone (R.side ring.old).net node host.old.history
-        host.new.history (R.known ring.old) (R.known ring.new) }
-    ensures legal { IsLegal (R.side ring.old).net (R.known ring.new) }
+    ensures turning { OnOk result (HostTurningAfter R.RingSide node host.new ring.old ring.new) }
+    ensures kept { OnOk result (KeepsInboxOver R.RingSide node ring.old ring.new) }
+    ensures less { OnOk result (SendsNoMore R.RingSide node ring.old ring.new) }
+    ensures left { OnOk result (StaysAway R.RingSide node ring.old ring.new) }
+    ensures gives_up { OnOk result
+        (GivesUpIf R.RingSide node wanted path host.old host.new ring.old ring.new) }
+    ensures stands { HostStandsOver R.RingSide node host.old host.new ring.old ring.new }
     ensures legal_list { IsHostHistory host.new.plan host.new.history }
     ensures plan { host.new.plan ≡ host.old.plan }
     ensures same { R.side ring.new ≡ R.side ring.old }
@@ -296,20 +259,14 @@ fn give_up_where<R: RingSide>(
     host: &mut Host,
     ring: &mut R,
 ) -> Result<(), Short>
-    requires turning { HostTurning node host.old (R.side ring.old) (R.known ring.old) }
-    ensures turning { OnOk result (HostTurning node host.new (R.side ring.old) (R.known ring.new)) }
-    ensures kept { OnOk result
-        (KeepsInbox (R.side ring.old).net node (R.known ring.old) (R.known ring.new)) }
-    ensures less { OnOk result (sends_left (R.side ring.old).net (R.known ring.new) node
-        ≤ sends_left (R.side ring.old).net (R.known ring.old) node) }
-    ensures left { OnOk result (HasLeft (R.side ring.old).net (R.known ring.old) node
-        → HasLeft (R.side ring.old).net (R.known ring.new) node) }
-    ensures gives_up { OnOk result (GivesUpDue R.alone (R.side ring.old).net node
-        (chosen_paths which) host.old.history host.new.history (R.known ring.old)
-        (R.known ring.new)) }
-    ensures stands { HostAndRingStand R.alone (R.side ring.old).net node host.old.history
-        host.new.history (R.known ring.old) (R.known ring.new) }
-    ensures legal { IsLegal (R.side ring.old).net (R.known ring.new) }
+    requires turning { HostTurningAt R.RingSide node host.old ring.old }
+    ensures turning { OnOk result (HostTurningAfter R.RingSide node host.new ring.old ring.new) }
+    ensures kept { OnOk result (KeepsInboxOver R.RingSide node ring.old ring.new) }
+    ensures less { OnOk result (SendsNoMore R.RingSide node ring.old ring.new) }
+    ensures left { OnOk result (StaysAway R.RingSide node ring.old ring.new) }
+    ensures gives_up { OnOk result
+        (GivesUpWhich R.RingSide node which host.old host.new ring.old ring.new) }
+    ensures stands { HostStandsOver R.RingSide node host.old host.new ring.old ring.new }
     ensures legal_list { IsHostHistory host.new.plan host.new.history }
     ensures plan { host.new.plan ≡ host.old.plan }
     ensures same { R.side ring.new ≡ R.side ring.old }
@@ -337,24 +294,20 @@ fn send_one<R: RingSide>(
     host: &mut Host,
     ring: &mut R,
 ) -> Result<bool, Short>
-    requires turning { HostTurning node host.old (R.side ring.old) (R.known ring.old) }
-    requires holds { Holds (R.side ring.old).net (R.known ring.old) node }
-    requires new_calls { AreNew (chosen fresh)
-        (ring_node (ring_after (R.side ring.old).net (R.known ring.old)) node) }
-    ensures turning { OnOk result (HostTurning node host.new (R.side ring.old) (R.known ring.new)) }
-    ensures holds { OnOk result (Holds (R.side ring.old).net (R.known ring.new) node) }
-    ensures less { IfOk result (λ sent. sent ≡ true
-        → sends_left (R.side ring.old).net (R.known ring.new) node
-        < sends_left (R.side ring.old).net (R.known ring.old) node) }
-    ensures sends { OnOk result (Sends R.alone (R.side ring.old).net node (chosen fresh)
-        host.old.history host.new.history (R.known ring.old) (R.known ring.new)) }
-    ensures new_calls { OnOk result (AreNew (chosen fresh)
-        (ring_node (ring_after (R.side ring.old).net (R.known ring.new)) node)) }
+    requires turning { HostTurningAt R.RingSide node host.old ring.old }
+    requires holds { HoldsAt R.RingSide node ring.old }
+    requires new_calls { AreRecent (is_chosen fresh) (node_at R.RingSide node ring.old) }
+    ensures turning { OnOk result (HostTurningAfter R.RingSide node host.new ring.old ring.new) }
+    ensures holds { OnOk result (HoldsAfter R.RingSide node ring.old ring.new) }
+    ensures less { IfOk result
+        (λ sent. sent ≡ true → SendsFewer R.RingSide node ring.old ring.new) }
+    ensures sends { OnOk result
+        (SendsOver R.RingSide node fresh host.old host.new ring.old ring.new) }
+    ensures new_calls { OnOk result
+        (AreRecent (is_chosen fresh) (node_after R.RingSide node ring.old ring.new)) }
     ensures empty { IfOk result
-        (λ sent. sent ≡ false → outbox_of (R.side ring.old).net (R.known ring.new) node ≡ []) }
-    ensures stands { HostAndRingStand R.alone (R.side ring.old).net node host.old.history
-        host.new.history (R.known ring.old) (R.known ring.new) }
-    ensures legal { IsLegal (R.side ring.old).net (R.known ring.new) }
+        (λ sent. sent ≡ false → outbox_after R.RingSide node ring.old ring.new ≡ []) }
+    ensures stands { HostStandsOver R.RingSide node host.old host.new ring.old ring.new }
     ensures legal_list { IsHostHistory host.new.plan host.new.history }
     ensures plan { host.new.plan ≡ host.old.plan }
     ensures same { R.side ring.new ≡ R.side ring.old }
@@ -373,17 +326,14 @@ fn send_all<R: RingSide>(
     host: &mut Host,
     ring: &mut R,
 ) -> Result<(), Short>
-    requires turning { HostTurning node host.old (R.side ring.old) (R.known ring.old) }
-    requires holds { Holds (R.side ring.old).net (R.known ring.old) node }
-    requires new_calls { AreNew (chosen fresh)
-        (ring_node (ring_after (R.side ring.old).net (R.known ring.old)) node) }
-    ensures turning { OnOk result (HostTurning node host.new (R.side ring.old) (R.known ring.new)) }
-    ensures holds { OnOk result (Holds (R.side ring.old).net (R.known ring.new) node) }
-    ensures sends { OnOk result (SendsOut R.alone (R.side ring.old).net node (chosen fresh)
-        host.old.history host.new.history (R.known ring.old) (R.known ring.new)) }
-    ensures stands { HostAndRingStand R.alone (R.side ring.old).net node host.old.history
-        host.new.history (R.known ring.old) (R.known ring.new) }
-    ensures legal { IsLegal (R.side ring.old).net (R.known ring.new) }
+    requires turning { HostTurningAt R.RingSide node host.old ring.old }
+    requires holds { HoldsAt R.RingSide node ring.old }
+    requires new_calls { AreRecent (is_chosen fresh) (node_at R.RingSide node ring.old) }
+    ensures turning { OnOk result (HostTurningAfter R.RingSide node host.new ring.old ring.new) }
+    ensures holds { OnOk result (HoldsAfter R.RingSide node ring.old ring.new) }
+    ensures sends { OnOk result
+        (SendsOutOver R.RingSide node fresh host.old host.new ring.old ring.new) }
+    ensures stands { HostStandsOver R.RingSide node host.old host.new ring.old ring.new }
     ensures legal_list { IsHostHistory host.new.plan host.new.history }
     ensures plan { host.new.plan ≡ host.old.plan }
     ensures same { R.side ring.new ≡ R.side ring.old }
@@ -399,21 +349,19 @@ fn end_turn<R: RingSide>(
     host: &mut Host,
     ring: &mut R,
 ) -> Result<bool, Short>
-    requires turning { HostTurning node host.old (R.side ring.old) (R.known ring.old) }
-    requires holds { Holds (R.side ring.old).net (R.known ring.old) node }
-    requires boxes { BoxesEmpty (part_at (R.side ring.old).net node (R.known ring.old)) }
-    ensures ties { OnOk result (HostTies node host.new (R.side ring.old) (R.known ring.new)) }
-    ensures passed { IfOk result (λ left. left ≡ false
-        → EndsWithPass node (host_is_done host.new) (own node (R.known ring.new))) }
-    ensures gone { IfOk result (λ left. left ≡ true
-        → HasLeft (R.side ring.old).net (R.known ring.new) node) }
-    ensures ends { IfOk result (EndsHostTurn R.alone (R.side ring.old).net node host.old.plan budget
-        host.old.history host.new.history (R.known ring.old) (R.known ring.new)) }
-    ensures stays { IfOk result (λ left. left ≡ false
-        → IsHere (R.side ring.old).net (R.known ring.new) node) }
-    ensures stands { HostAndRingStand R.alone (R.side ring.old).net node host.old.history
-        host.new.history (R.known ring.old) (R.known ring.new) }
-    ensures legal { IsLegal (R.side ring.old).net (R.known ring.new) }
+    requires turning { HostTurningAt R.RingSide node host.old ring.old }
+    requires holds { HoldsAt R.RingSide node ring.old }
+    requires boxes { BoxesEmpty (node_at R.RingSide node ring.old) }
+    ensures ties { OnOk result (HostTiesAfter R.RingSide node host.new ring.old ring.new) }
+    ensures passed { IfOk result
+        (λ left. left ≡ false → PassedAt R.RingSide node host.new ring.new) }
+    ensures gone { IfOk result
+        (λ left. left ≡ true → HasLeftAfter R.RingSide node ring.old ring.new) }
+    ensures ends { IfOk result
+        (EndsHostOver R.RingSide node budget host.old host.new ring.old ring.new) }
+    ensures stays { IfOk result
+        (λ left. left ≡ false → IsHereAfter R.RingSide node ring.old ring.new) }
+    ensures stands { HostStandsOver R.RingSide node host.old host.new ring.old ring.new }
     ensures legal_list { IsHostHistory host.new.plan host.new.history }
     ensures plan { host.new.plan ≡ host.old.plan }
     ensures same { R.side ring.new ≡ R.side ring.old }
@@ -423,7 +371,7 @@ fn end_turn<R: RingSide>(
     if !left {
         return Ok(false);
     }
-    give_up_where(node, [true; PATH_PLACES], host, ring)?;
+    give_up_where(node, ALL_PATHS, host, ring)?;
     Ok(true)
 }
 
@@ -436,21 +384,19 @@ fn turn<R: RingSide>(
     host: &mut Host,
     ring: &mut R,
 ) -> Result<bool, Short>
-    requires turning { HostTurning node host.old (R.side ring.old) (R.known ring.old) }
-    requires holds { Holds (R.side ring.old).net (R.known ring.old) node }
+    requires turning { HostTurningAt R.RingSide node host.old ring.old }
+    requires holds { HoldsAt R.RingSide node ring.old }
     requires hold { hold ≡ min (hold_of node (R.known ring.old)) 4294967295 }
-    ensures ties { OnOk result (HostTies node host.new (R.side ring.old) (R.known ring.new)) }
-    ensures passed { IfOk result (λ left. left ≡ false
-        → EndsWithPass node (host_is_done host.new) (own node (R.known ring.new))) }
-    ensures gone { IfOk result (λ left. left ≡ true
-        → HasLeft (R.side ring.old).net (R.known ring.new) node) }
-    ensures held { IfOk result (HoldsHostTurn R.alone (R.side ring.old).net node host.old.plan
-        budget host.old.history host.new.history (R.known ring.old) (R.known ring.new)) }
-    ensures stays { IfOk result (λ left. left ≡ false
-        → IsHere (R.side ring.old).net (R.known ring.new) node) }
-    ensures stands { HostAndRingStand R.alone (R.side ring.old).net node host.old.history
-        host.new.history (R.known ring.old) (R.known ring.new) }
-    ensures legal { IsLegal (R.side ring.old).net (R.known ring.new) }
+    ensures ties { OnOk result (HostTiesAfter R.RingSide node host.new ring.old ring.new) }
+    ensures passed { IfOk result
+        (λ left. left ≡ false → PassedAt R.RingSide node host.new ring.new) }
+    ensures gone { IfOk result
+        (λ left. left ≡ true → HasLeftAfter R.RingSide node ring.old ring.new) }
+    ensures held { IfOk result
+        (HoldsHostOver R.RingSide node budget host.old host.new ring.old ring.new) }
+    ensures stays { IfOk result
+        (λ left. left ≡ false → IsHereAfter R.RingSide node ring.old ring.new) }
+    ensures stands { HostStandsOver R.RingSide node host.old host.new ring.old ring.new }
     ensures legal_list { IsHostHistory host.new.plan host.new.history }
     ensures plan { host.new.plan ≡ host.old.plan }
     ensures same { R.side ring.new ≡ R.side ring.old }
@@ -459,7 +405,7 @@ fn turn<R: RingSide>(
     serve_inbox(alloc, node, host, ring)?;
     let fresh = ask_all(node, hold, host, ring)?;
     send_all(node, fresh, host, ring)?;
-    give_up_where(node, [true; PATH_PLACES], host, ring)?;
+    give_up_where(node, ALL_PATHS, host, ring)?;
     end_turn(node, budget, host, ring)
 }
 
@@ -495,34 +441,32 @@ impl HostWorker {
         })
     }
 
-    /// One hold of the token: takes what came, makes the requests that are due, sends, gives up
-    /// the calls whose time has come, and then leaves the ring or passes the token on. The answer
-    /// is whether the node left. Only memory can want: then the entries made so far stand, both
-    /// lists are legal and the hold is not counted, but nothing is said of the laws.
+    /// One hold of the token: takes what came, makes the requests that are due, sends, gives up the
+    /// calls whose time has come, and then leaves the ring or passes the token on. The answer is
+    /// whether the node left. The only error is that memory ran out: then the entries made so far
+    /// stand, both lists are legal and the hold is not counted, but nothing is said of the laws.
     pub fn hold_turn<R: RingSide>(
         &mut self,
         host: &mut Host,
         ring: &mut R,
     ) -> Result<bool, AllocError>
-        requires ties { HostTies self.old.node host.old (R.side ring.old) (R.known ring.old) }
-        requires holds { Holds (R.side ring.old).net (R.known ring.old) self.old.node }
+        requires ties { HostTiesAt R.RingSide self.old.node host.old ring.old }
+        requires holds { HoldsAt R.RingSide self.old.node ring.old }
         requires counts { CountsPasses self.old (R.known ring.old) }
-        ensures ties { OnOk result
-            (HostTies self.new.node host.new (R.side ring.new) (R.known ring.new)) }
-        ensures passed { IfOk result (λ left. left ≡ false → EndsWithPass self.old.node
-            (host_is_done host.new) (own self.old.node (R.known ring.new))) }
-        ensures gone { IfOk result (λ left. left ≡ true
-            → HasLeft (R.side ring.new).net (R.known ring.new) self.old.node) }
+        ensures ties { OnOk result (HostTiesAt R.RingSide self.new.node host.new ring.new) }
+        ensures passed { IfOk result
+            (λ left. left ≡ false → PassedAt R.RingSide self.old.node host.new ring.new) }
+        ensures gone { IfOk result
+            (λ left. left ≡ true → HasLeftAt R.RingSide self.old.node ring.new) }
         ensures worker { IfOk result (λ left. self.new ≡ after_turn self.old left) }
         ensures worker_err { OnErr result (self.new ≡ self.old) }
         ensures counts { OnOk result (CountsPasses self.new (R.known ring.new)) }
-        ensures stays { IfOk result (λ left. left ≡ false
-            → IsHere (R.side ring.new).net (R.known ring.new) self.old.node) }
-        ensures held { IfOk result (HoldsHostTurn R.alone (R.side ring.old).net self.old.node
-            host.old.plan self.old.budget host.old.history host.new.history (R.known ring.old)
-            (R.known ring.new)) }
-        ensures stands { HostAndRingStand R.alone (R.side ring.old).net self.old.node
-            host.old.history host.new.history (R.known ring.old) (R.known ring.new) }
+        ensures stays { IfOk result
+            (λ left. left ≡ false → IsHereAt R.RingSide self.old.node ring.new) }
+        ensures held { IfOk result
+            (HoldsHostBy R.RingSide self.old host.old host.new ring.old ring.new) }
+        ensures stands { HostStandsOver R.RingSide self.old.node host.old host.new ring.old
+            ring.new }
         ensures legal { IsLegal (R.side ring.old).net (R.known ring.new) }
         ensures legal_list { IsHostHistory host.new.plan host.new.history }
         ensures plan { host.new.plan ≡ host.old.plan }

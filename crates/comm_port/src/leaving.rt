@@ -1,12 +1,7 @@
 //! The end of a turn: the node leaves where that is due, else it passes the token on.
 ghost use Rattle.std.specs.Prelude.{◌≡◌, ◌&&◌, [], is_some, OnOk, IfOk};
-ghost use Rattle.ring_core.specs.Legal.{IsLegal};
-ghost use Rattle.ring_core.specs.Machine.{ring_after, ring_node};
-ghost use Rattle.ring_core.specs.Scratch.{words_put};
-ghost use Rattle.tied_lists.specs.Waits.{Holds};
-ghost use Rattle.comm_port.specs.Turns.{IsOwnTurn};
-ghost use Rattle.comm_port.specs.Leaving.{cause_due, is_due, HandedOn, LeftOrStood};
-ghost use Rattle.comm_port.specs.Stands.{RingStands};
+ghost use Rattle.comm_port.specs.RingSteps.{HandedOnOver, HoldsAt, LeftOrStoodOver, OwnTurnAt};
+ghost use Rattle.comm_port.specs.RingSteps.{RingStandsOver, cause_at, is_due_at, node_at};
 
 use crate::asking::pass_on;
 use crate::ring_side::RingSide;
@@ -15,20 +10,14 @@ use ring_core::{LeaveCause, RingNo};
 
 /// Leaves where the cause has held for long enough; whether it was.
 fn leave_if_due<R: RingSide>(node: u8, cause: LeaveCause, ring: &mut R) -> Result<bool, Short>
-    requires turn { IsOwnTurn (R.side ring.old) (R.known ring.old) node }
-    requires holds { Holds (R.side ring.old).net (R.known ring.old) node }
-    requires sent { (ring_node (ring_after (R.side ring.old).net (R.known ring.old)) node).outbox
-        ≡ [] }
-    requires taken { (ring_node (ring_after (R.side ring.old).net (R.known ring.old)) node).inbox
-        ≡ [] }
-    ensures due { IfOk result (λ left. left ≡ is_due (R.side ring.old).net
-        (ring_after (R.side ring.old).net (R.known ring.old)) node cause) }
-    ensures did { IfOk result (LeftOrStood R.alone (R.side ring.old).net node cause
-        (R.known ring.old) (R.known ring.new)) }
-    ensures legal { IsLegal (R.side ring.old).net (R.known ring.new) }
+    requires turn { OwnTurnAt R.RingSide node ring.old }
+    requires holds { HoldsAt R.RingSide node ring.old }
+    requires sent { (node_at R.RingSide node ring.old).outbox ≡ [] }
+    requires taken { (node_at R.RingSide node ring.old).inbox ≡ [] }
+    ensures due { IfOk result (λ left. left ≡ is_due_at R.RingSide node cause ring.old) }
+    ensures did { IfOk result (LeftOrStoodOver R.RingSide node cause ring.old ring.new) }
     ensures same { R.side ring.new ≡ R.side ring.old }
-    ensures stands { RingStands R.alone (R.side ring.old).net node (R.known ring.old)
-        (R.known ring.new) }
+    ensures stands { RingStandsOver R.RingSide node ring.old ring.new }
 {
     match ring.leave(node, cause) {
         Ok(()) => Ok(true),
@@ -39,27 +28,21 @@ fn leave_if_due<R: RingSide>(node: u8, cause: LeaveCause, ring: &mut R) -> Resul
     }
 }
 
-/// The same, where the node wants to leave for this cause at all.
+/// Leaves where the cause has held for long enough, if the node is to leave for this cause at all.
 fn leave_if<R: RingSide>(
     node: u8,
     wants: bool,
     cause: LeaveCause,
     ring: &mut R,
 ) -> Result<bool, Short>
-    requires turn { IsOwnTurn (R.side ring.old) (R.known ring.old) node }
-    requires holds { Holds (R.side ring.old).net (R.known ring.old) node }
-    requires sent { (ring_node (ring_after (R.side ring.old).net (R.known ring.old)) node).outbox
-        ≡ [] }
-    requires taken { (ring_node (ring_after (R.side ring.old).net (R.known ring.old)) node).inbox
-        ≡ [] }
-    ensures due { IfOk result (λ left. left ≡ (wants && is_due (R.side ring.old).net
-        (ring_after (R.side ring.old).net (R.known ring.old)) node cause)) }
-    ensures did { IfOk result (LeftOrStood R.alone (R.side ring.old).net node cause
-        (R.known ring.old) (R.known ring.new)) }
-    ensures legal { IsLegal (R.side ring.old).net (R.known ring.new) }
+    requires turn { OwnTurnAt R.RingSide node ring.old }
+    requires holds { HoldsAt R.RingSide node ring.old }
+    requires sent { (node_at R.RingSide node ring.old).outbox ≡ [] }
+    requires taken { (node_at R.RingSide node ring.old).inbox ≡ [] }
+    ensures due { IfOk result (λ left. left ≡ (wants && is_due_at R.RingSide node cause ring.old)) }
+    ensures did { IfOk result (LeftOrStoodOver R.RingSide node cause ring.old ring.new) }
     ensures same { R.side ring.new ≡ R.side ring.old }
-    ensures stands { RingStands R.alone (R.side ring.old).net node (R.known ring.old)
-        (R.known ring.new) }
+    ensures stands { RingStandsOver R.RingSide node ring.old ring.new }
 {
     if wants {
         leave_if_due(node, cause, ring)
@@ -76,23 +59,15 @@ pub(crate) fn hand_on<R: RingSide>(
     budget: bool,
     ring: &mut R,
 ) -> Result<bool, Short>
-    requires turn { IsOwnTurn (R.side ring.old) (R.known ring.old) node }
-    requires holds { Holds (R.side ring.old).net (R.known ring.old) node }
-    requires sent { (ring_node (ring_after (R.side ring.old).net (R.known ring.old)) node).outbox
-        ≡ [] }
-    requires taken { (ring_node (ring_after (R.side ring.old).net (R.known ring.old)) node).inbox
-        ≡ [] }
-    ensures left { IfOk result (λ left. left ≡ is_some (cause_due (R.side ring.old).net
-        (ring_after (R.side ring.old).net (R.known ring.old)) node done budget)) }
-    ensures handed { OnOk result (HandedOn R.alone (R.side ring.old).net node done
-        (words_put node (R.known ring.old))
-        (cause_due (R.side ring.old).net (ring_after (R.side ring.old).net (R.known ring.old))
-        node done budget)
-        (R.known ring.old) (R.known ring.new)) }
-    ensures legal { IsLegal (R.side ring.old).net (R.known ring.new) }
+    requires turn { OwnTurnAt R.RingSide node ring.old }
+    requires holds { HoldsAt R.RingSide node ring.old }
+    requires sent { (node_at R.RingSide node ring.old).outbox ≡ [] }
+    requires taken { (node_at R.RingSide node ring.old).inbox ≡ [] }
+    ensures left { IfOk result
+        (λ left. left ≡ is_some (cause_at R.RingSide node done budget ring.old)) }
+    ensures handed { OnOk result (HandedOnOver R.RingSide node done budget ring.old ring.new) }
     ensures same { R.side ring.new ≡ R.side ring.old }
-    ensures stands { RingStands R.alone (R.side ring.old).net node (R.known ring.old)
-        (R.known ring.new) }
+    ensures stands { RingStandsOver R.RingSide node ring.old ring.new }
 {
     let spent = leave_if(node, budget, LeaveCause::Spent, ring)?;
     if spent {

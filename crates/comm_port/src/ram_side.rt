@@ -1,11 +1,10 @@
 //! A controller as its worker has it: by itself, or behind a gate that its scan passes too.
-ghost use Rattle.std.specs.Prelude.{◌≡◌, ◌∷◌, [], List, Bool, true, map, IfOk};
+ghost use Rattle.std.specs.Prelude.{◌≡◌, ◌∷◌, [], List, Bool, true, IfOk};
 ghost use Rattle.controller_core.specs.Controller.{IsLegal};
 ghost use Rattle.controller_core.specs.declared.entry.Entry.TheVariants.{Collect, Peer, Finish};
-ghost use Rattle.tied_lists.specs.Calls.{AreNewCalls, IsOut};
-ghost use Rattle.tied_lists.specs.Own.{added_if, WentOn};
-ghost use Rattle.comm_port.specs.Reading.{is_ours, called_of, items_of, has_ended_at};
-ghost use Rattle.comm_port.specs.Reading.{has_started_at};
+ghost use Rattle.tied_lists.specs.Calls.{IsOut};
+ghost use Rattle.joint_history.specs.Reading.{items_of, has_ended_at, has_started_at};
+ghost use Rattle.comm_port.specs.Sides.{AreStarted, CallNotes, NotesNothing};
 
 use controller_core::Call;
 use mstr_block::{CallId, MstrResult};
@@ -36,40 +35,39 @@ pub trait RamSide {
     /// new.
     fn collect(&mut self) -> Result<List<Call>, AllocError>
         requires { has_started_at (side self.old).fixed (known self.old) ≡ true }
-        ensures went { WentOn alone is_ours (known self.old)
-            (added_if result (λ calls. Collect calls ∷ [])) (known self.new) }
-        ensures fresh { IfOk result (λ calls. AreNewCalls (side self.old).fixed.plan.node
-            (items_of (known self.old)).calls (items_of (known self.old)).ends
-            (map called_of calls)) }
+        ensures went { CallNotes alone known self.old self.new result
+            (λ calls. Collect calls ∷ []) }
+        ensures fresh { IfOk result
+            (λ calls. AreStarted (side self.old).fixed (known self.old) calls) }
         ensures legal { IsLegal (side self.old).fixed (known self.new) }
         ensures same { side self.new ≡ side self.old };
 
     /// Answers a request of another node.
     fn peer(&mut self, id: CallId, request: &Pdu) -> Result<Pdu, AllocError>
-        ensures went { WentOn alone is_ours (known self.old)
-            (added_if result (λ reply. Peer id request.now reply ∷ [])) (known self.new) }
+        ensures went { CallNotes alone known self.old self.new result
+            (λ reply. Peer id request.now reply ∷ []) }
         ensures legal { IsLegal (side self.old).fixed (known self.new) }
         ensures same { side self.new ≡ side self.old };
 
     /// Ends a call that was collected and has not ended.
     fn finish(&mut self, id: CallId, outcome: MstrResult) -> Result<(), AllocError>
         requires { IsOut (items_of (known self.old)) id }
-        ensures went { WentOn alone is_ours (known self.old)
-            (added_if result (λ _. Finish id outcome ∷ [])) (known self.new) }
+        ensures went { CallNotes alone known self.old self.new result
+            (λ _. Finish id outcome ∷ []) }
         ensures legal { IsLegal (side self.old).fixed (known self.new) }
         ensures same { side self.new ≡ side self.old };
 
     /// Whether a call was started and not yet collected.
     fn has_started(&mut self) -> bool
         ensures answer { result ≡ has_started_at (side self.old).fixed (known self.new) }
-        ensures went { WentOn alone is_ours (known self.old) [] (known self.new) }
+        ensures went { NotesNothing alone known self.old self.new }
         ensures legal { IsLegal (side self.old).fixed (known self.new) }
         ensures same { side self.new ≡ side self.old };
 
     /// Whether all scans are done, or the controller has stopped.
     fn has_ended(&mut self) -> bool
         ensures answer { result ≡ has_ended_at (side self.old).fixed (known self.new) }
-        ensures went { WentOn alone is_ours (known self.old) [] (known self.new) }
+        ensures went { NotesNothing alone known self.old self.new }
         ensures legal { IsLegal (side self.old).fixed (known self.new) }
         ensures same { side self.new ≡ side self.old };
 }

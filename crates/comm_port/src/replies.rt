@@ -1,15 +1,14 @@
 //! Replies to the Requests of others: what the controller or host says, and the port's statistics.
 ghost use Rattle.std.specs.Prelude.{◌≡◌, ◌≢◌, ◌∷◌, [], true, OnOk, IfOk, Some};
 ghost use Rattle.modbus_pdu.specs.Spelling.{IsReplyInRange, reply_bytes};
-ghost use Rattle.modbus_pdu.specs.declared.reply.Reply.TheVariants as replies;
-ghost use Rattle.ring_core.specs.Legal.{IsLegal, HasRoom};
+ghost use Rattle.ring_core.specs.Legal.{HasRoom};
 ghost use Rattle.ring_core.specs.declared.entry.RingEntry.TheVariants.{Post};
 ghost use Rattle.ring_core.specs.Statistics.{is_stats};
-ghost use Rattle.tied_lists.specs.Own.{is_of, Grew};
 ghost use Rattle.tied_lists.specs.Items.{request_of, words_told};
-ghost use Rattle.comm_port.specs.Turns.{IsOwnTurn, KeepsInbox};
-ghost use Rattle.comm_port.specs.Replies.{reply_frame, Tells};
-ghost use Rattle.comm_port.specs.Stands.{RingStands};
+ghost use Rattle.comm_port.specs.Replies.{reply_frame};
+ghost use Rattle.comm_port.specs.RingSteps.{GrewBy, KeepsInboxOver, OwnTurnAt, RingStandsOver};
+ghost use Rattle.comm_port.specs.RingSteps.{TellsOver};
+ghost use Rattle.modbus_pdu.specs.declared.reply.Reply.TheVariants as replies;
 
 use crate::asking::{do_local, post_frame};
 use crate::ring_side::RingSide;
@@ -38,16 +37,13 @@ pub(crate) fn post_reply<R: RingSide>(
     pdu: Pdu,
     ring: &mut R,
 ) -> Result<(), Short>
-    requires turn { IsOwnTurn (R.side ring.old) (R.known ring.old) node }
+    requires turn { OwnTurnAt R.RingSide node ring.old }
     requires other { id.node ≢ node }
-    ensures grew { OnOk result (Grew R.alone (is_of node) (R.known ring.old)
-        (Post node (reply_frame id pdu) ∷ []) (R.known ring.new)) }
-    ensures kept { OnOk result
-        (KeepsInbox (R.side ring.old).net node (R.known ring.old) (R.known ring.new)) }
-    ensures legal { IsLegal (R.side ring.old).net (R.known ring.new) }
+    ensures grew { OnOk result
+        (GrewBy R.RingSide node (Post node (reply_frame id pdu) ∷ []) ring.old ring.new) }
+    ensures kept { OnOk result (KeepsInboxOver R.RingSide node ring.old ring.new) }
     ensures same { R.side ring.new ≡ R.side ring.old }
-    ensures stands { RingStands R.alone (R.side ring.old).net node (R.known ring.old)
-        (R.known ring.new) }
+    ensures stands { RingStandsOver R.RingSide node ring.old ring.new }
 {
     post_frame(node, reply_frame(id, pdu), ring)?;
     Ok(())
@@ -91,17 +87,13 @@ pub(crate) fn tell_statistics<R: RingSide>(
     request: &Frame,
     ring: &mut R,
 ) -> Result<(), Short>
-    requires turn { IsOwnTurn (R.side ring.old) (R.known ring.old) node }
+    requires turn { OwnTurnAt R.RingSide node ring.old }
     requires other { request.now.id.node ≢ node }
     requires stats { is_stats request.now.pdu ≡ true }
-    ensures told { OnOk result (Tells R.alone node request.now.id request.now.pdu
-        (R.known ring.old) (R.known ring.new)) }
-    ensures kept { OnOk result
-        (KeepsInbox (R.side ring.old).net node (R.known ring.old) (R.known ring.new)) }
-    ensures legal { IsLegal (R.side ring.old).net (R.known ring.new) }
+    ensures told { OnOk result (TellsOver R.RingSide node request.now ring.old ring.new) }
+    ensures kept { OnOk result (KeepsInboxOver R.RingSide node ring.old ring.new) }
     ensures same { R.side ring.new ≡ R.side ring.old }
-    ensures stands { RingStands R.alone (R.side ring.old).net node (R.known ring.old)
-        (R.known ring.new) }
+    ensures stands { RingStandsOver R.RingSide node ring.old ring.new }
 {
     let op = operation_for(&request.pdu);
     let result = do_local(node, request.id, op, ring)?;

@@ -1,14 +1,14 @@
 //! The ring as a station's worker has it: by itself, or behind a gate that others pass too.
-ghost use Rattle.std.specs.Prelude.{◌≡◌, ◌∷◌, [], ℕ, List, Bool, true, Option, Some, None, IfOk};
-ghost use Rattle.ring_core.specs.Machine.{RingIs, ring_node, awaited_number, path_of, ring_after};
-ghost use Rattle.ring_core.specs.Refusals.{post_no, send_no, turn_no, free_no, give_up_no, pass_no};
-ghost use Rattle.ring_core.specs.Refusals.{leave_no, quiet_for};
-ghost use Rattle.ring_core.specs.Scratch.{words_put};
+ghost use Rattle.std.specs.Prelude.{◌≡◌, ◌∷◌, [], ℕ, List, Bool, true, None, IfOk};
+ghost use Rattle.ring_core.specs.Machine.{ring_after};
+ghost use Rattle.ring_core.specs.Refusals.{post_no, send_no, turn_no, free_no, pass_no, quiet_for};
 ghost use Rattle.ring_core.specs.Legal.{IsMember, IsPath, IsFrom, IsNextNumber, HasRoom, IsLegal};
-ghost use Rattle.ring_core.specs.declared.entry.RingEntry.TheVariants.{Post, Send, Take, Local};
-ghost use Rattle.ring_core.specs.declared.entry.RingEntry.TheVariants.{GiveUp, Pass, Leave};
-ghost use Rattle.tied_lists.specs.Own.{is_of, added_if, WentOn};
-ghost use Rattle.comm_port.specs.Sides.{Serves, IsRefusedFor, IsRefusedOrShort, taken_entries};
+ghost use Rattle.ring_core.specs.declared.entry.RingEntry.TheVariants.{Post, Send, Local, GiveUp};
+ghost use Rattle.ring_core.specs.declared.entry.RingEntry.TheVariants.{Leave};
+ghost use Rattle.comm_port.specs.Sides.{MayWrite, IsRefusedFor, IsRefusedOrShort, taken_entries};
+ghost use Rattle.comm_port.specs.Sides.{CallAdds, AddsNothing, PassAdds, give_up_no_at};
+ghost use Rattle.comm_port.specs.Sides.{leave_no_at, number_awaited};
+ghost use Rattle.comm_port.specs.Giving.{inbox_of, part_at};
 
 use mstr_block::{CallId, MstrResult};
 use ring_core::{Frame, Heard, LeaveCause, LocalOp, Ring, RingNo};
@@ -33,23 +33,23 @@ pub trait RingSide {
     ghost alone: { Bool };
 
     fn post(&mut self, node: u8, frame: Frame) -> Result<(), RingNo>
-        requires serves { Serves (side self.old).writer node }
+        requires serves { MayWrite (side self.old).writer node }
         requires member { IsMember (side self.old).net node }
         requires from { IsFrom node frame.kind frame }
         requires next { IsNextNumber
-            (ring_node (ring_after (side self.old).net (known self.old)) node) frame.kind frame.id }
-        ensures went { WentOn alone (is_of node) (known self.old)
-            (added_if result (λ _. Post node frame ∷ [])) (known self.new) }
+            (part_at (side self.old).net node (known self.old)) frame.kind frame.id }
+        ensures went { CallAdds alone known node self.old self.new result
+            (λ _. Post node frame ∷ []) }
         ensures legal { IsLegal (side self.old).net (known self.new) }
         ensures refused { IsRefusedFor
             (post_no (ring_after (side self.old).net (known self.new)) node frame) result }
         ensures same { side self.new ≡ side self.old };
 
     fn send(&mut self, node: u8) -> Result<Heard, RingNo>
-        requires serves { Serves (side self.old).writer node }
+        requires serves { MayWrite (side self.old).writer node }
         requires member { IsMember (side self.old).net node }
-        ensures went { WentOn alone (is_of node) (known self.old)
-            (added_if result (λ heard. Send node heard ∷ [])) (known self.new) }
+        ensures went { CallAdds alone known node self.old self.new result
+            (λ heard. Send node heard ∷ []) }
         ensures legal { IsLegal (side self.old).net (known self.new) }
         ensures refused { IsRefusedFor
             (send_no (ring_after (side self.old).net (known self.new)) node) result }
@@ -57,88 +57,83 @@ pub trait RingSide {
 
     /// None exactly where the inbox is empty.
     fn take(&mut self, node: u8) -> Result<Option<Frame>, RingNo>
-        requires serves { Serves (side self.old).writer node }
+        requires serves { MayWrite (side self.old).writer node }
         requires member { IsMember (side self.old).net node }
-        ensures went { WentOn alone (is_of node) (known self.old)
-            (added_if result (taken_entries node)) (known self.new) }
-        ensures empty { IfOk result (λ took. took ≡ None →
-            (ring_node (ring_after (side self.old).net (known self.new)) node).inbox ≡ []) }
+        ensures went { CallAdds alone known node self.old self.new result (taken_entries node) }
+        ensures empty { IfOk result
+            (λ took. took ≡ None → inbox_of (side self.old).net node (known self.new) ≡ []) }
         ensures legal { IsLegal (side self.old).net (known self.new) }
         ensures refused { IsRefusedFor
             (turn_no (ring_after (side self.old).net (known self.new)) node) result }
         ensures same { side self.new ≡ side self.old };
 
     fn local(&mut self, node: u8, id: CallId, op: LocalOp) -> Result<MstrResult, RingNo>
-        requires serves { Serves (side self.old).writer node }
+        requires serves { MayWrite (side self.old).writer node }
         requires member { IsMember (side self.old).net node }
         requires room { HasRoom op }
-        ensures went { WentOn alone (is_of node) (known self.old)
-            (added_if result (λ given. Local node id op given ∷ [])) (known self.new) }
+        ensures went { CallAdds alone known node self.old self.new result
+            (λ given. Local node id op given ∷ []) }
         ensures legal { IsLegal (side self.old).net (known self.new) }
         ensures refused { IsRefusedFor
             (free_no (ring_after (side self.old).net (known self.new)) node) result }
         ensures same { side self.new ≡ side self.old };
 
     fn give_up(&mut self, id: CallId) -> Result<u16, RingNo>
-        requires serves { Serves (side self.old).writer id.node }
+        requires serves { MayWrite (side self.old).writer id.node }
         requires member { IsMember (side self.old).net id.node }
         requires path { IsPath id.path }
-        ensures went { WentOn alone (is_of id.node) (known self.old)
-            (added_if result (λ word. GiveUp id word ∷ [])) (known self.new) }
+        ensures went { CallAdds alone known id.node self.old self.new result
+            (λ word. GiveUp id word ∷ []) }
         ensures legal { IsLegal (side self.old).net (known self.new) }
         ensures refused { IsRefusedFor
-            (give_up_no (side self.old).net (ring_after (side self.old).net (known self.new)) id)
-            result }
+            (give_up_no_at (side self.old).net (known self.new) id) result }
         ensures same { side self.new ≡ side self.old };
 
     /// The number that a path of a node awaits, or 0.
     fn awaits(&mut self, node: u8, path: u8) -> u32
-        requires serves { Serves (side self.old).writer node }
+        requires serves { MayWrite (side self.old).writer node }
         requires member { IsMember (side self.old).net node }
         requires path { IsPath path }
-        ensures answer { result ≡ awaited_number (path_of
-            (ring_node (ring_after (side self.old).net (known self.new)) node) path).awaits }
-        ensures went { WentOn alone (is_of node) (known self.old) [] (known self.new) }
+        ensures answer { result ≡ number_awaited (side self.old).net (known self.new) node path }
+        ensures went { AddsNothing alone known node self.old self.new }
         ensures legal { IsLegal (side self.old).net (known self.new) }
         ensures same { side self.new ≡ side self.old };
 
     /// Who holds the token; 0 where all have left.
     fn holder(&mut self) -> u8
         ensures answer { result ≡ (ring_after (side self.old).net (known self.new)).holder }
-        ensures went { (node : ℕ) → Serves (side self.old).writer node
-            → WentOn alone (is_of node) (known self.old) [] (known self.new) }
+        ensures went { (n : ℕ)
+            → MayWrite (side self.old).writer n → AddsNothing alone known n self.old self.new }
         ensures legal { IsLegal (side self.old).net (known self.new) }
         ensures same { side self.new ≡ side self.old };
 
     /// For how many Passes in a row every member has been done; 0 where the node has left.
     fn quiet(&mut self, node: u8) -> u64
-        requires serves { Serves (side self.old).writer node }
+        requires serves { MayWrite (side self.old).writer node }
         requires member { IsMember (side self.old).net node }
         ensures answer { result ≡ quiet_for (ring_after (side self.old).net (known self.new)) node }
-        ensures went { WentOn alone (is_of node) (known self.old) [] (known self.new) }
+        ensures went { AddsNothing alone known node self.old self.new }
         ensures legal { IsLegal (side self.old).net (known self.new) }
         ensures same { side self.new ≡ side self.old };
 
     fn pass(&mut self, node: u8, done: bool) -> Result<(), RingNo>
-        requires serves { Serves (side self.old).writer node }
+        requires serves { MayWrite (side self.old).writer node }
         requires member { IsMember (side self.old).net node }
-        ensures went { WentOn alone (is_of node) (known self.old) (added_if result
-            (λ _. Pass node done (words_put node (known self.old)) ∷ [])) (known self.new) }
+        ensures went { PassAdds alone known node done self.old self.new result }
         ensures legal { IsLegal (side self.old).net (known self.new) }
         ensures refused { IsRefusedFor
             (pass_no (ring_after (side self.old).net (known self.new)) node) result }
         ensures same { side self.new ≡ side self.old };
 
-    /// Reserves one entry first, so that it may want memory.
+    /// Reserves one entry first, so that it may run out of memory.
     fn leave(&mut self, node: u8, cause: LeaveCause) -> Result<(), RingNo>
-        requires serves { Serves (side self.old).writer node }
+        requires serves { MayWrite (side self.old).writer node }
         requires member { IsMember (side self.old).net node }
-        ensures went { WentOn alone (is_of node) (known self.old)
-            (added_if result (λ _. Leave node cause ∷ [])) (known self.new) }
+        ensures went { CallAdds alone known node self.old self.new result
+            (λ _. Leave node cause ∷ []) }
         ensures legal { IsLegal (side self.old).net (known self.new) }
         ensures refused { IsRefusedOrShort
-            (leave_no (side self.old).net (ring_after (side self.old).net (known self.new)) node
-            cause) result }
+            (leave_no_at (side self.old).net (known self.new) node cause) result }
         ensures same { side self.new ≡ side self.old };
 }
 

@@ -1,15 +1,11 @@
 //! The first part of a controller's turn: what came is taken and answered.
 ghost use Rattle.std.specs.Prelude.{◌≡◌, [], true, false, OnOk};
 ghost use Rattle.ring_core.specs.Statistics.{is_stats};
-ghost use Rattle.tied_lists.specs.Waits.{Holds};
-ghost use Rattle.tied_lists.specs.Own.{is_of, Adds};
-ghost use Rattle.comm_port.specs.HoldTurn.{inbox_of, IsServed};
-ghost use Rattle.comm_port.specs.Order.{IsServing, IsAnswering};
-ghost use Rattle.comm_port.specs.Parts.{InOrder, PartOf};
-ghost use Rattle.comm_port.specs.Reading.{is_ours};
-ghost use Rattle.comm_port.specs.Serving.{IsAnswered};
-ghost use Rattle.comm_port.specs.Turns.{Turning, Taking, KeepsInbox};
-ghost use Rattle.comm_port.specs.Stands.{RamStands, BothStand, RingStands};
+ghost use Rattle.comm_port.specs.Order.{IsServing};
+ghost use Rattle.comm_port.specs.RingSteps.{AddsOver, HoldsAt, KeepsInboxOver, RingStandsOver};
+ghost use Rattle.comm_port.specs.RingSteps.{inbox_after};
+ghost use Rattle.comm_port.specs.BothSteps.{BothStandOver, Meets, RamStandsOver, ServesAll};
+ghost use Rattle.comm_port.specs.BothSteps.{TakingBetween, TurningBetween};
 
 use crate::ram_side::RamSide;
 use crate::replies::{post_reply, tell_statistics};
@@ -17,9 +13,9 @@ use crate::ring_side::RingSide;
 use crate::short::Short;
 use crate::taking::take_next;
 use crate::waiting::Waiting;
+use reply_laws::result_of;
 use ring_core::{Frame, FrameKind, is_stats};
 use std::alloc::Global;
-use tied_lists::result_of;
 
 /// Ends the call that a Reply is to.
 fn end_call<M: RamSide, R: RingSide>(
@@ -29,17 +25,15 @@ fn end_call<M: RamSide, R: RingSide>(
     ram: &mut M,
     ring: &R,
 ) -> Result<(), Short>
-    requires taking { Taking node reply.now (M.side ram.old) (M.known ram.old) (R.side ring.now)
-        (R.known ring.now) waiting.old }
+    requires taking { TakingBetween M.RamSide R.RingSide node reply.now ram.old ring.now
+        waiting.old }
     requires kind { reply.now.kind ≡ FrameKind.Reply }
-    ensures turning { OnOk result (Turning node [] (M.side ram.new) (M.known ram.new)
-        (R.side ring.now) (R.known ring.now) waiting.new) }
+    ensures turning { OnOk result
+        (TurningBetween M.RamSide R.RingSide node ram.new ring.now waiting.new) }
     ensures same { M.side ram.new ≡ M.side ram.old }
-    ensures ram_adds { OnOk result (Adds M.alone is_ours IsAnswering
-        (M.known ram.old) (M.known ram.new)) }
-    ensures served { OnOk result (PartOf M.alone R.alone is_ours node (IsAnswered node reply.now)
-        (M.known ram.old) (M.known ram.new) (R.known ring.now) (R.known ring.now)) }
-    ensures stands { RamStands M.alone (M.side ram.old).fixed (M.known ram.old) (M.known ram.new) }
+    ensures served { OnOk result
+        (Meets M.RamSide R.RingSide node reply.now ram.old ram.new ring.now ring.now) }
+    ensures stands { RamStandsOver M.RamSide ram.old ram.new }
 {
     let ask = waiting.end(reply.id.path).unwrap();
     ram.finish(reply.id, result_of(&ask.pdu, &reply.pdu))?;
@@ -54,24 +48,19 @@ fn answer_request<M: RamSide, R: RingSide>(
     ram: &mut M,
     ring: &mut R,
 ) -> Result<(), Short>
-    requires taking { Taking node request.now (M.side ram.old) (M.known ram.old) (R.side ring.old)
-        (R.known ring.old) waiting.now }
+    requires taking { TakingBetween M.RamSide R.RingSide node request.now ram.old ring.old
+        waiting.now }
     requires kind { request.now.kind ≡ FrameKind.Request }
     requires plain { is_stats request.now.pdu ≡ false }
-    ensures turning { OnOk result (Turning node [] (M.side ram.new) (M.known ram.new)
-        (R.side ring.new) (R.known ring.new) waiting.now) }
-    ensures kept { OnOk result
-        (KeepsInbox (R.side ring.old).net node (R.known ring.old) (R.known ring.new)) }
+    ensures turning { OnOk result
+        (TurningBetween M.RamSide R.RingSide node ram.new ring.new waiting.now) }
+    ensures kept { OnOk result (KeepsInboxOver R.RingSide node ring.old ring.new) }
     ensures ram_same { M.side ram.new ≡ M.side ram.old }
     ensures ring_same { R.side ring.new ≡ R.side ring.old }
-    ensures ring_adds { OnOk result (Adds R.alone (is_of node) (IsServing node)
-        (R.known ring.old) (R.known ring.new)) }
-    ensures ram_adds { OnOk result (Adds M.alone is_ours IsAnswering
-        (M.known ram.old) (M.known ram.new)) }
-    ensures served { OnOk result (PartOf M.alone R.alone is_ours node (IsAnswered node request.now)
-        (M.known ram.old) (M.known ram.new) (R.known ring.old) (R.known ring.new)) }
-    ensures stands { BothStand M.alone R.alone (M.side ram.old).fixed (R.side ring.old).net node
-        (M.known ram.old) (M.known ram.new) (R.known ring.old) (R.known ring.new) }
+    ensures ring_adds { OnOk result (AddsOver R.RingSide node (IsServing node) ring.old ring.new) }
+    ensures served { OnOk result
+        (Meets M.RamSide R.RingSide node request.now ram.old ram.new ring.old ring.new) }
+    ensures stands { BothStandOver M.RamSide R.RingSide node ram.old ram.new ring.old ring.new }
 {
     let reply = ram.peer(request.id, &request.pdu)?;
     post_reply(node, request.id, reply, ring)?;
@@ -87,21 +76,18 @@ fn answer_port<M: RamSide, R: RingSide>(
     ram: &M,
     ring: &mut R,
 ) -> Result<(), Short>
-    requires taking { Taking node request.now (M.side ram.now) (M.known ram.now) (R.side ring.old)
-        (R.known ring.old) waiting.now }
+    requires taking { TakingBetween M.RamSide R.RingSide node request.now ram.now ring.old
+        waiting.now }
     requires kind { request.now.kind ≡ FrameKind.Request }
     requires stats { is_stats request.now.pdu ≡ true }
-    ensures turning { OnOk result (Turning node [] (M.side ram.now) (M.known ram.now)
-        (R.side ring.new) (R.known ring.new) waiting.now) }
-    ensures kept { OnOk result
-        (KeepsInbox (R.side ring.old).net node (R.known ring.old) (R.known ring.new)) }
+    ensures turning { OnOk result
+        (TurningBetween M.RamSide R.RingSide node ram.now ring.new waiting.now) }
+    ensures kept { OnOk result (KeepsInboxOver R.RingSide node ring.old ring.new) }
     ensures same { R.side ring.new ≡ R.side ring.old }
-    ensures ring_adds { OnOk result (Adds R.alone (is_of node) (IsServing node)
-        (R.known ring.old) (R.known ring.new)) }
-    ensures served { OnOk result (PartOf M.alone R.alone is_ours node (IsAnswered node request.now)
-        (M.known ram.now) (M.known ram.now) (R.known ring.old) (R.known ring.new)) }
-    ensures stands { RingStands R.alone (R.side ring.old).net node (R.known ring.old)
-        (R.known ring.new) }
+    ensures ring_adds { OnOk result (AddsOver R.RingSide node (IsServing node) ring.old ring.new) }
+    ensures served { OnOk result
+        (Meets M.RamSide R.RingSide node request.now ram.now ram.now ring.old ring.new) }
+    ensures stands { RingStandsOver R.RingSide node ring.old ring.new }
 {
     tell_statistics(alloc, node, request, ring)?;
     Ok(())
@@ -117,22 +103,17 @@ fn serve<M: RamSide, R: RingSide>(
     ram: &mut M,
     ring: &mut R,
 ) -> Result<(), Short>
-    requires taking { Taking node frame.now (M.side ram.old) (M.known ram.old) (R.side ring.old)
-        (R.known ring.old) waiting.old }
-    ensures turning { OnOk result (Turning node [] (M.side ram.new) (M.known ram.new)
-        (R.side ring.new) (R.known ring.new) waiting.new) }
-    ensures kept { OnOk result
-        (KeepsInbox (R.side ring.old).net node (R.known ring.old) (R.known ring.new)) }
+    requires taking { TakingBetween M.RamSide R.RingSide node frame.now ram.old ring.old
+        waiting.old }
+    ensures turning { OnOk result
+        (TurningBetween M.RamSide R.RingSide node ram.new ring.new waiting.new) }
+    ensures kept { OnOk result (KeepsInboxOver R.RingSide node ring.old ring.new) }
     ensures ram_same { M.side ram.new ≡ M.side ram.old }
     ensures ring_same { R.side ring.new ≡ R.side ring.old }
-    ensures ring_adds { OnOk result (Adds R.alone (is_of node) (IsServing node)
-        (R.known ring.old) (R.known ring.new)) }
-    ensures ram_adds { OnOk result (Adds M.alone is_ours IsAnswering
-        (M.known ram.old) (M.known ram.new)) }
-    ensures served { OnOk result (PartOf M.alone R.alone is_ours node (IsAnswered node frame.now)
-        (M.known ram.old) (M.known ram.new) (R.known ring.old) (R.known ring.new)) }
-    ensures stands { BothStand M.alone R.alone (M.side ram.old).fixed (R.side ring.old).net node
-        (M.known ram.old) (M.known ram.new) (R.known ring.old) (R.known ring.new) }
+    ensures ring_adds { OnOk result (AddsOver R.RingSide node (IsServing node) ring.old ring.new) }
+    ensures served { OnOk result
+        (Meets M.RamSide R.RingSide node frame.now ram.old ram.new ring.old ring.new) }
+    ensures stands { BothStandOver M.RamSide R.RingSide node ram.old ram.new ring.old ring.new }
 {
     match frame.kind {
         FrameKind::Reply => end_call(node, waiting, frame, ram, ring)?,
@@ -155,25 +136,18 @@ pub(crate) fn serve_inbox<M: RamSide, R: RingSide>(
     ram: &mut M,
     ring: &mut R,
 ) -> Result<(), Short>
-    requires turning { Turning node [] (M.side ram.old) (M.known ram.old) (R.side ring.old)
-        (R.known ring.old) waiting.old }
-    requires holds { Holds (R.side ring.old).net (R.known ring.old) node }
-    ensures turning { OnOk result (Turning node [] (M.side ram.new) (M.known ram.new)
-        (R.side ring.new) (R.known ring.new) waiting.new) }
-    ensures holds { OnOk result (Holds (R.side ring.new).net (R.known ring.new) node) }
+    requires turning { TurningBetween M.RamSide R.RingSide node ram.old ring.old waiting.old }
+    requires holds { HoldsAt R.RingSide node ring.old }
+    ensures turning { OnOk result
+        (TurningBetween M.RamSide R.RingSide node ram.new ring.new waiting.new) }
+    ensures holds { OnOk result (HoldsAt R.RingSide node ring.new) }
     ensures ram_same { M.side ram.new ≡ M.side ram.old }
     ensures ring_same { R.side ring.new ≡ R.side ring.old }
-    ensures ring_adds { OnOk result (Adds R.alone (is_of node) (IsServing node)
-        (R.known ring.old) (R.known ring.new)) }
-    ensures ram_adds { OnOk result (Adds M.alone is_ours IsAnswering
-        (M.known ram.old) (M.known ram.new)) }
-    ensures served { OnOk result (PartOf M.alone R.alone is_ours node
-        (InOrder (IsServed node) (inbox_of (R.side ring.old).net node (R.known ring.old)))
-        (M.known ram.old) (M.known ram.new) (R.known ring.old) (R.known ring.new)) }
-    ensures empty { OnOk result
-        (inbox_of (R.side ring.old).net node (R.known ring.new) ≡ []) }
-    ensures stands { BothStand M.alone R.alone (M.side ram.old).fixed (R.side ring.old).net node
-        (M.known ram.old) (M.known ram.new) (R.known ring.old) (R.known ring.new) }
+    ensures ring_adds { OnOk result (AddsOver R.RingSide node (IsServing node) ring.old ring.new) }
+    ensures served { OnOk result
+        (ServesAll M.RamSide R.RingSide node ram.old ram.new ring.old ring.new) }
+    ensures empty { OnOk result (inbox_after R.RingSide node ring.old ring.new ≡ []) }
+    ensures stands { BothStandOver M.RamSide R.RingSide node ram.old ram.new ring.old ring.new }
 {
     while let Some(frame) = take_next(node, ring)? {
         serve(alloc, node, waiting, &frame, ram, ring)?;

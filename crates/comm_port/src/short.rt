@@ -1,20 +1,23 @@
-//! Want of memory within a turn.
+//! Running out of memory within a turn.
 ghost use Rattle.std.specs.Prelude.{◌≡◌};
 
 use ring_core::RingNo;
 use std::alloc::AllocError;
 
-/// Memory is short. A turn's calls on the ring are refused for nothing else.
+/// Memory is short. A turn's calls on the ring are refused for nothing else. It is made here alone,
+/// from a want of memory.
 #[derive(Debug, Drop)]
-pub(crate) struct Short;
+pub(crate) struct Short {
+    made: (),
+}
 
 impl Short {
-    /// A call on the ring was refused, for want of memory alone.
+    /// A call on the ring was refused because memory ran out.
     pub(crate) fn of(why: RingNo) -> Short
         requires { why ≡ RingNo.NoMemory }
     {
         let _ = why;
-        Short
+        Short { made: () }
     }
 }
 
@@ -22,6 +25,6 @@ impl From<AllocError> for Short {
     ghost from_gives = { λ _ _. Unit {0} };
 
     fn from(_: AllocError) -> Short {
-        Short
+        Short { made: () }
     }
 }

@@ -1,12 +1,9 @@
 //! What lies in a node's inbox is taken.
 ghost use Rattle.std.specs.Prelude.{◌≡◌, None, [], IfOk};
-ghost use Rattle.ring_core.specs.Legal.{IsLegal};
-ghost use Rattle.ring_core.specs.Machine.{ring_after, ring_node};
-ghost use Rattle.tied_lists.specs.Own.{added_if, is_of, WentOn};
-ghost use Rattle.tied_lists.specs.Waits.{Holds};
+ghost use Rattle.tied_lists.specs.Own.{added_if};
 ghost use Rattle.comm_port.specs.Sides.{taken_entries};
-ghost use Rattle.comm_port.specs.Turns.{IsOwnTurn};
-ghost use Rattle.comm_port.specs.Stands.{RingStands};
+ghost use Rattle.comm_port.specs.RingSteps.{HoldsAt, OwnTurnAt, RingStandsOver, WentOnBy};
+ghost use Rattle.comm_port.specs.RingSteps.{inbox_after};
 
 use crate::ring_side::RingSide;
 use crate::short::Short;
@@ -14,16 +11,14 @@ use ring_core::Frame;
 
 /// Takes the next frame of the inbox; none exactly where it is empty.
 pub(crate) fn take_next<R: RingSide>(node: u8, ring: &mut R) -> Result<Option<Frame>, Short>
-    requires turn { IsOwnTurn (R.side ring.old) (R.known ring.old) node }
-    requires holds { Holds (R.side ring.old).net (R.known ring.old) node }
-    ensures went { WentOn R.alone (is_of node) (R.known ring.old)
-        (added_if result (taken_entries node)) (R.known ring.new) }
-    ensures empty { IfOk result (λ took. took ≡ None → (ring_node
-        (ring_after (R.side ring.old).net (R.known ring.new)) node).inbox ≡ []) }
-    ensures legal { IsLegal (R.side ring.old).net (R.known ring.new) }
+    requires turn { OwnTurnAt R.RingSide node ring.old }
+    requires holds { HoldsAt R.RingSide node ring.old }
+    ensures went { WentOnBy R.RingSide node (added_if result
+        (taken_entries node)) ring.old ring.new }
+    ensures empty { IfOk result
+        (λ took. took ≡ None → inbox_after R.RingSide node ring.old ring.new ≡ []) }
     ensures same { R.side ring.new ≡ R.side ring.old }
-    ensures stands { RingStands R.alone (R.side ring.old).net node (R.known ring.old)
-        (R.known ring.new) }
+    ensures stands { RingStandsOver R.RingSide node ring.old ring.new }
 {
     match ring.take(node) {
         Ok(taken) => Ok(taken),

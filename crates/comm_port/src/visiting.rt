@@ -1,15 +1,10 @@
 //! A controller that has left still starts calls: each ends at once.
-ghost use Rattle.std.specs.Prelude.{◌≡◌, ◌<◌, ◌+◌, ◌∷◌, [], length, OnOk};
-ghost use Rattle.tied_lists.specs.Waits.{HasLeft};
-ghost use Rattle.comm_port.specs.Calling.{IsDueAt};
-ghost use Rattle.comm_port.specs.Giving.{part_at, IsAtRest};
-ghost use Rattle.comm_port.specs.HoldTurn.{IsEnded, IsGivenUp, VisitsEnd};
-ghost use Rattle.comm_port.specs.Making.{Owing, calls_from};
-ghost use Rattle.comm_port.specs.Parts.{PartOf, calls_waiting};
-ghost use Rattle.comm_port.specs.Reading.{is_ours};
-ghost use Rattle.comm_port.specs.Turns.{Turning};
-ghost use Rattle.comm_port.specs.Visiting.{WaitsFor, GivesCall};
-ghost use Rattle.comm_port.specs.Stands.{BothStand};
+ghost use Rattle.std.specs.Prelude.{◌≡◌, ◌<◌, ◌+◌, length, OnOk};
+ghost use Rattle.comm_port.specs.Visiting.{WaitsFor};
+ghost use Rattle.comm_port.specs.BothSteps.{BothStandOver, GivesUpCall, Owes, TurningBetween};
+ghost use Rattle.comm_port.specs.BothSteps.{Visits, Voids};
+ghost use Rattle.comm_port.specs.RingSteps.{GivesCallOver, HasLeftAfter, HasLeftAt, RestsAfter};
+ghost use Rattle.comm_port.specs.RingSteps.{RestsAt, WaitAsBefore};
 
 use crate::asking::give_up_now;
 use crate::calling::make_call;
@@ -31,20 +26,17 @@ fn give_up_between<M: RamSide, R: RingSide>(
     ram: &mut M,
     ring: &mut R,
 ) -> Result<(), Short>
-    requires owing { Owing node (calls_from calls.now next) (M.side ram.old) (M.known ram.old)
-        (R.side ring.old) (R.known ring.old) waiting.old }
+    requires owing { Owes M.RamSide R.RingSide node calls.now next ram.old ring.old waiting.old }
     requires waits { WaitsFor node id (R.known ring.old) }
-    requires gone { HasLeft (R.side ring.old).net (R.known ring.old) node }
-    ensures owing { OnOk result (Owing node (calls_from calls.now next) (M.side ram.new)
-        (M.known ram.new) (R.side ring.new) (R.known ring.new) waiting.new) }
-    ensures given { OnOk result (PartOf M.alone R.alone is_ours node (IsGivenUp id)
-        (M.known ram.old) (M.known ram.new) (R.known ring.old) (R.known ring.new)) }
-    ensures part { OnOk result
-        (GivesCall (R.side ring.old).net node id (R.known ring.old) (R.known ring.new)) }
+    requires gone { HasLeftAt R.RingSide node ring.old }
+    ensures owing { OnOk result
+        (Owes M.RamSide R.RingSide node calls.now next ram.new ring.new waiting.new) }
+    ensures given { OnOk result
+        (GivesUpCall M.RamSide R.RingSide node id ram.old ram.new ring.old ring.new) }
+    ensures part { OnOk result (GivesCallOver R.RingSide node id ring.old ring.new) }
     ensures ram_same { M.side ram.new ≡ M.side ram.old }
     ensures ring_same { R.side ring.new ≡ R.side ring.old }
-    ensures stands { BothStand M.alone R.alone (M.side ram.old).fixed (R.side ring.old).net node
-        (M.known ram.old) (M.known ram.new) (R.known ring.old) (R.known ring.new) }
+    ensures stands { BothStandOver M.RamSide R.RingSide node ram.old ram.new ring.old ring.new }
 {
     let _ = calls;
     let _ = next;
@@ -65,23 +57,19 @@ fn end_call<M: RamSide, R: RingSide>(
     ring: &mut R,
 ) -> Result<(), Short>
     requires within { at < length calls.now }
-    requires owing { Owing node (calls_from calls.now at) (M.side ram.old) (M.known ram.old)
-        (R.side ring.old) (R.known ring.old) waiting.old }
-    requires gone { HasLeft (R.side ring.old).net (R.known ring.old) node }
-    requires rest { IsAtRest (R.side ring.old).net node (R.known ring.old) }
-    ensures owing { OnOk result (Owing node (calls_from calls.now (at + 1)) (M.side ram.new)
-        (M.known ram.new) (R.side ring.new) (R.known ring.new) waiting.new) }
-    ensures gone { OnOk result (HasLeft (R.side ring.old).net (R.known ring.new) node) }
-    ensures rest { OnOk result (IsAtRest (R.side ring.old).net node (R.known ring.new)) }
-    ensures ended { OnOk result (PartOf M.alone R.alone is_ours node
-        (IsDueAt (IsEnded node) calls.now at)
-        (M.known ram.old) (M.known ram.new) (R.known ring.old) (R.known ring.new)) }
-    ensures as_before { OnOk result
-        (calls_waiting node (R.known ring.new) ≡ calls_waiting node (R.known ring.old)) }
+    requires owing { Owes M.RamSide R.RingSide node calls.now at ram.old ring.old waiting.old }
+    requires gone { HasLeftAt R.RingSide node ring.old }
+    requires rest { RestsAt R.RingSide node ring.old }
+    ensures owing { OnOk result
+        (Owes M.RamSide R.RingSide node calls.now (at + 1) ram.new ring.new waiting.new) }
+    ensures gone { OnOk result (HasLeftAfter R.RingSide node ring.old ring.new) }
+    ensures rest { OnOk result (RestsAfter R.RingSide node ring.old ring.new) }
+    ensures ended { OnOk result
+        (Voids M.RamSide R.RingSide node calls.now at ram.old ram.new ring.old ring.new) }
+    ensures as_before { OnOk result (WaitAsBefore R.RingSide node ring.old ring.new) }
     ensures ram_same { M.side ram.new ≡ M.side ram.old }
     ensures ring_same { R.side ring.new ≡ R.side ring.old }
-    ensures stands { BothStand M.alone R.alone (M.side ram.old).fixed (R.side ring.old).net node
-        (M.known ram.old) (M.known ram.new) (R.known ring.old) (R.known ring.new) }
+    ensures stands { BothStandOver M.RamSide R.RingSide node ram.old ram.new ring.old ring.new }
 {
     make_call(alloc, node, waiting, calls, at, ram, ring)?;
     let call = &calls[at];
@@ -102,20 +90,17 @@ pub(crate) fn visit<M: RamSide, R: RingSide>(
     ram: &mut M,
     ring: &mut R,
 ) -> Result<(), Short>
-    requires turning { Turning node [] (M.side ram.old) (M.known ram.old) (R.side ring.old)
-        (R.known ring.old) waiting.old }
-    requires gone { HasLeft (R.side ring.old).net (R.known ring.old) node }
-    requires rest { IsAtRest (R.side ring.old).net node (R.known ring.old) }
-    ensures turning { OnOk result (Turning node [] (M.side ram.new) (M.known ram.new)
-        (R.side ring.new) (R.known ring.new) waiting.new) }
-    ensures rest { OnOk result (IsAtRest (R.side ring.old).net node (R.known ring.new)) }
-    ensures visited { OnOk result (VisitsEnd M.alone R.alone (M.side ram.old).fixed
-        (R.side ring.old).net node (M.known ram.old) (M.known ram.new) (R.known ring.old)
-        (R.known ring.new)) }
+    requires turning { TurningBetween M.RamSide R.RingSide node ram.old ring.old waiting.old }
+    requires gone { HasLeftAt R.RingSide node ring.old }
+    requires rest { RestsAt R.RingSide node ring.old }
+    ensures turning { OnOk result
+        (TurningBetween M.RamSide R.RingSide node ram.new ring.new waiting.new) }
+    ensures rest { OnOk result (RestsAfter R.RingSide node ring.old ring.new) }
+    ensures visited { OnOk result
+        (Visits M.RamSide R.RingSide node ram.old ram.new ring.old ring.new) }
     ensures ram_same { M.side ram.new ≡ M.side ram.old }
     ensures ring_same { R.side ring.new ≡ R.side ring.old }
-    ensures stands { BothStand M.alone R.alone (M.side ram.old).fixed (R.side ring.old).net node
-        (M.known ram.old) (M.known ram.new) (R.known ring.old) (R.known ring.new) }
+    ensures stands { BothStandOver M.RamSide R.RingSide node ram.old ram.new ring.old ring.new }
 {
     if !ram.has_started() {
         return Ok(());

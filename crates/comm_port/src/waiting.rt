@@ -1,9 +1,10 @@
 //! The Requests that a worker's paths wait for.
-ghost use Rattle.std.specs.Prelude.{◌≡◌, ◌<◌, ◌↔◌, true, None, Some, IfOk, set, replicate, get_or};
+ghost use Rattle.std.specs.Prelude.{◌≡◌, ◌<◌, true, None, Some, IfOk, set, replicate, get_or};
 ghost use Rattle.std.specs.Prelude.{is_none};
 ghost use Rattle.ring_core.specs.Machine.{path_places};
 ghost use Rattle.comm_port.specs.Waiting.{id_on, free_paths, IsIdle};
 
+use crate::paths::PATH_PLACES;
 use mstr_block::CallId;
 use ring_core::Frame;
 use std::alloc::{AllocError, Global};
@@ -26,8 +27,6 @@ impl Model for Waiting {
 
     ghost invariant = { λ w. length w.slots.items ≡ path_places };
 }
-
-const PATH_PLACES: usize = 5;
 
 impl Waiting {
     /// Nothing waits.
@@ -78,7 +77,7 @@ impl Waiting {
     }
 
     /// The paths that wait for nothing.
-    pub(crate) fn free_paths(&self) -> [bool; 5]
+    pub(crate) fn free_paths(&self) -> [bool; PATH_PLACES]
         ensures { result ≡ free_paths self.now }
     {
         [

@@ -1,17 +1,16 @@
 //! The worker between a controller and the ring.
-ghost use Rattle.std.specs.Prelude.{◌≡◌, ◌<◌, [], All, OnOk, IfOk, true, replicate, None};
-ghost use Rattle.ring_core.specs.Machine.{addresses, path_places};
+ghost use Rattle.std.specs.Prelude.{◌≡◌, ◌<◌, All, OnOk, IfOk};
+ghost use Rattle.ring_core.specs.Machine.{addresses};
 ghost use Rattle.ring_core.specs.Legal.{IsMember};
-ghost use Rattle.tied_lists.specs.Waits.{Holds, HasLeft};
-ghost use Rattle.comm_port.specs.Turns.{Turning, Rested};
-ghost use Rattle.comm_port.specs.Giving.{IsAtRest};
-ghost use Rattle.comm_port.specs.HoldTurn.{HoldsTurn, VisitsEnd};
-ghost use Rattle.comm_port.specs.Worker.{Standing};
-ghost use Rattle.comm_port.specs.Stands.{BothStand};
+ghost use Rattle.comm_port.specs.BothSteps.{BothStandOver, HoldsOver, HoldsTurnBy, RestedBetween};
+ghost use Rattle.comm_port.specs.BothSteps.{StandingBetween, TurningBetween, Visits};
+ghost use Rattle.comm_port.specs.RingSteps.{HasLeftAt, HoldsAt, RestsAfter, RestsAt};
+ghost use Rattle.comm_port.specs.Worker.{new_worker};
 
 use crate::calling::make_calls;
 use crate::ending::end_turn;
 use crate::giving::{give_up_where, send_all};
+use crate::paths::ALL_PATHS;
 use crate::ram_side::RamSide;
 use crate::ring_side::RingSide;
 use crate::serving::serve_inbox;
@@ -21,8 +20,6 @@ use crate::waiting::Waiting;
 use plant_types::{Copied, NetPlan};
 use std::alloc::{AllocError, Global};
 use std::marker::Model;
-
-const ALL_PATHS: [bool; 5] = [true; 5];
 
 /// A controller's worker: it keeps the Requests for whose Replies its node waits. A contract sees
 /// its node, its net, whether it keeps to a budget of Passes, and these Requests.
@@ -62,21 +59,18 @@ fn turn<M: RamSide, R: RingSide>(
     ram: &mut M,
     ring: &mut R,
 ) -> Result<bool, Short>
-    requires turning { Turning node [] (M.side ram.old) (M.known ram.old) (R.side ring.old)
-        (R.known ring.old) waiting.old }
-    requires holds { Holds (R.side ring.old).net (R.known ring.old) node }
+    requires turning { TurningBetween M.RamSide R.RingSide node ram.old ring.old waiting.old }
+    requires holds { HoldsAt R.RingSide node ring.old }
     requires wait { 0 < (R.side ring.old).net.answer }
-    requires rest { IsAtRest (R.side ring.old).net node (R.known ring.old) }
-    ensures rested { OnOk result (Rested node (M.side ram.new) (M.known ram.new) (R.side ring.new)
-        (R.known ring.new) waiting.new) }
-    ensures rest { OnOk result (IsAtRest (R.side ring.old).net node (R.known ring.new)) }
-    ensures held { IfOk result (HoldsTurn M.alone R.alone (M.side ram.old).fixed
-        (R.side ring.old).net node budget (M.known ram.old) (M.known ram.new) (R.known ring.old)
-        (R.known ring.new)) }
+    requires rest { RestsAt R.RingSide node ring.old }
+    ensures rested { OnOk result
+        (RestedBetween M.RamSide R.RingSide node ram.new ring.new waiting.new) }
+    ensures rest { OnOk result (RestsAfter R.RingSide node ring.old ring.new) }
+    ensures held { IfOk result
+        (HoldsOver M.RamSide R.RingSide node budget ram.old ram.new ring.old ring.new) }
     ensures ram_same { M.side ram.new ≡ M.side ram.old }
     ensures ring_same { R.side ring.new ≡ R.side ring.old }
-    ensures stands { BothStand M.alone R.alone (M.side ram.old).fixed (R.side ring.old).net node
-        (M.known ram.old) (M.known ram.new) (R.known ring.old) (R.known ring.new) }
+    ensures stands { BothStandOver M.RamSide R.RingSide node ram.old ram.new ring.old ring.new }
 {
     serve_inbox(alloc, node, waiting, ram, ring)?;
     let posted = waiting.free_paths();
@@ -99,12 +93,7 @@ impl CommWorker {
         requires members { All (λ m. m < addresses) net.now.members }
         requires member { IsMember net.now node }
         requires answer { 0 < net.now.answer }
-        ensures { IfOk result (λ worker. worker ≡ record {
-          node = node;
-          net = net.now;
-          budget = budget;
-          waiting = replicate path_places None;
-        }) }
+        ensures { IfOk result (λ worker. worker ≡ new_worker node net.now budget) }
     {
         let net = net.copied(alloc)?;
         let waiting = Waiting::new(alloc)?;
@@ -118,62 +107,56 @@ impl CommWorker {
     }
 
     /// One hold of the token: takes and serves, makes the calls that the controller started, sends,
-    /// gives up what waited for too long, and leaves or passes on; whether it left. Only memory can
-    /// want: then the entries made so far stand and both lists are legal as before, but nothing is
-    /// said of the laws.
+    /// gives up what waited for too long, and leaves or passes on. The answer is whether the node
+    /// left. The only error is that memory ran out: then the entries made so far stand and both
+    /// lists are legal as before, but nothing is said of the laws.
     pub fn hold_turn<M: RamSide, R: RingSide>(
         &mut self,
         ram: &mut M,
         ring: &mut R,
     ) -> Result<bool, AllocError>
-        requires standing { Standing self.old (M.side ram.old) (M.known ram.old) (R.side ring.old)
-            (R.known ring.old) }
-        requires holds { Holds (R.side ring.old).net (R.known ring.old) self.old.node }
-        ensures standing { OnOk result (Standing self.new (M.side ram.new) (M.known ram.new)
-            (R.side ring.new) (R.known ring.new)) }
-        ensures held { IfOk result (HoldsTurn M.alone R.alone (M.side ram.old).fixed
-            (R.side ring.old).net self.old.node self.old.budget (M.known ram.old)
-            (M.known ram.new) (R.known ring.old) (R.known ring.new)) }
+        requires standing { StandingBetween M.RamSide R.RingSide self.old ram.old ring.old }
+        requires holds { HoldsAt R.RingSide self.old.node ring.old }
+        ensures standing { OnOk result
+            (StandingBetween M.RamSide R.RingSide self.new ram.new ring.new) }
+        ensures held { IfOk result
+            (HoldsTurnBy M.RamSide R.RingSide self.old ram.old ram.new ring.old ring.new) }
         ensures worker { self.new ≡ record self.old { waiting = self.new.waiting } }
         ensures ram_same { M.side ram.new ≡ M.side ram.old }
         ensures ring_same { R.side ring.new ≡ R.side ring.old }
-        ensures stands { BothStand M.alone R.alone (M.side ram.old).fixed (R.side ring.old).net
-            self.old.node (M.known ram.old) (M.known ram.new) (R.known ring.old)
-            (R.known ring.new) }
+        ensures stands { BothStandOver M.RamSide R.RingSide self.old.node ram.old ram.new ring.old
+            ring.new }
     {
         let waiting = &mut self.waiting;
         match turn(self.alloc, self.node, self.budget, waiting, ram, ring) {
             Ok(left) => Ok(left),
-            Err(Short) => Err(AllocError),
+            Err(Short { .. }) => Err(AllocError),
         }
     }
 
-    /// Ends each call that the controller started since its node left. Only memory can want: then
-    /// the entries made so far stand and both lists are legal as before, but nothing is said of the
-    /// laws.
+    /// Ends each call that the controller started since its node left. The only error is that
+    /// memory ran out: then the entries made so far stand and both lists are legal as before, but
+    /// nothing is said of the laws.
     pub fn visit_end<M: RamSide, R: RingSide>(
         &mut self,
         ram: &mut M,
         ring: &mut R,
     ) -> Result<(), AllocError>
-        requires standing { Standing self.old (M.side ram.old) (M.known ram.old) (R.side ring.old)
-            (R.known ring.old) }
-        requires left { HasLeft (R.side ring.old).net (R.known ring.old) self.old.node }
-        ensures standing { OnOk result (Standing self.new (M.side ram.new) (M.known ram.new)
-            (R.side ring.new) (R.known ring.new)) }
-        ensures visited { OnOk result (VisitsEnd M.alone R.alone (M.side ram.old).fixed
-            (R.side ring.old).net self.old.node (M.known ram.old) (M.known ram.new)
-            (R.known ring.old) (R.known ring.new)) }
+        requires standing { StandingBetween M.RamSide R.RingSide self.old ram.old ring.old }
+        requires left { HasLeftAt R.RingSide self.old.node ring.old }
+        ensures standing { OnOk result
+            (StandingBetween M.RamSide R.RingSide self.new ram.new ring.new) }
+        ensures visited { OnOk result
+            (Visits M.RamSide R.RingSide self.old.node ram.old ram.new ring.old ring.new) }
         ensures worker { self.new ≡ record self.old { waiting = self.new.waiting } }
         ensures ram_same { M.side ram.new ≡ M.side ram.old }
         ensures ring_same { R.side ring.new ≡ R.side ring.old }
-        ensures stands { BothStand M.alone R.alone (M.side ram.old).fixed (R.side ring.old).net
-            self.old.node (M.known ram.old) (M.known ram.new) (R.known ring.old)
-            (R.known ring.new) }
+        ensures stands { BothStandOver M.RamSide R.RingSide self.old.node ram.old ram.new ring.old
+            ring.new }
     {
         match visit(self.alloc, self.node, &mut self.waiting, ram, ring) {
             Ok(()) => Ok(()),
-            Err(Short) => Err(AllocError),
+            Err(Short { .. }) => Err(AllocError),
         }
     }
 }

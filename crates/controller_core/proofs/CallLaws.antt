@@ -1,6 +1,6 @@
 -- What stays true of calls.
-use Rattle.std.proofs.Common.{◌≡◌, ℕ, ◌||◌, Bool, true, false, List, [], ◌∷◌, ◌++◌, map, Option}
-use Rattle.std.proofs.Common.{Some, None, refl, sym, ap, ◌∙◌}
+use Rattle.std.proofs.Common.{◌≡◌, ℕ, ◌||◌, Bool, true, false, List, [], ◌∷◌, map, Option}
+use Rattle.std.proofs.Common.{Some, None, refl, ap, ◌∙◌}
 use Rattle.std.specs.Prelude.{fold, if◌then◌else◌}
 use Rattle.std.specs.List.{list_any}
 use Rattle.plant_types.specs.declared.drops.IoDrop.{IoDrop}
@@ -8,7 +8,7 @@ use Rattle.plant_types.specs.declared.network.Segment.{Segment}
 use Rattle.plant_types.specs.declared.plan.OrderRow.{OrderRow}
 use Rattle.ladder_solver.specs.Laws.{SegmentsKeepCalls}
 use Rattle.mstr_block.specs.Call.{is_same_call}
-use Rattle.mstr_block.specs.Laws.{CallsAreTakenInOrder, FinishesEndOneCall, collected}
+use Rattle.mstr_block.specs.Laws.{CallsAreTakenInOrder, FinishesEndOneCall}
 use Rattle.mstr_block.specs.declared.state.BlockState.{BlockState}
 use Rattle.mstr_block.specs.declared.state.BlockState.TheVariants.{Idle, Waiting, Active, Aborted}
 use Rattle.mstr_block.specs.declared.state.BlockState.TheVariants.{Ready}
@@ -16,7 +16,6 @@ use Rattle.mstr_block.specs.Table.{BlockTable, call_taken, is_untaken, has_start
 use Rattle.mstr_block.specs.Table.{is_out as is_taken_out, started_calls}
 use Rattle.mstr_block.specs.declared.call.CallId.{CallId}
 use Rattle.mstr_block.specs.declared.call.MstrCall.{MstrCall}
-use Rattle.mstr_block.specs.declared.call.MstrResult.{MstrResult}
 use Rattle.scan_order.specs.declared.due.ScanStep.{ScanStep}
 use Rattle.scan_order.specs.Due.{row_of}
 use Rattle.controller_core.specs.declared.entry.Entry.{Entry}
@@ -25,8 +24,7 @@ use Rattle.controller_core.specs.declared.entry.Maker.TheVariants as makers
 use Rattle.controller_core.specs.declared.fixed.Fixed.{Fixed}
 use Rattle.controller_core.specs.Calls.{call_of, calls_of}
 use Rattle.controller_core.specs.Controller.{AreOf, ControllerIs, answering, due_step, grown}
-use Rattle.controller_core.specs.Controller.{has_ended, has_started, is_out, made, state_of}
-use Rattle.controller_core.specs.Controller.{stepped}
+use Rattle.controller_core.specs.Controller.{has_ended, made, state_of}
 use Rattle.controller_core.specs.Event.{entry_of, maker_of}
 use Rattle.controller_core.specs.Laws.{CallsFollow, ConditionsStay, KeepsCallsOf, is_among}
 use Rattle.controller_core.specs.Replay.{State, apply, control_is_on, read_in, segment_solved}

@@ -67,11 +67,11 @@ fits_made f s (steps.Solve row) goes = goes
 fits_made f s (steps.Out row) goes = (goes, refl)
 fits_made f s steps.End goes = goes
 
-read_ended : (drops : List IoDrop) (drop : Option ℕ) (s : State) → (read_in drops drop s).ended ≡ s.ended
+pub read_ended : (drops : List IoDrop) (drop : Option ℕ) (s : State) → (read_in drops drop s).ended ≡ s.ended
 read_ended drops None s = refl
 read_ended drops (Some drop) s = refl
 
-solved_ended : (segments : List Segment) (row : Option OrderRow) (s : State) → (solved segments row s).ended ≡ s.ended
+pub solved_ended : (segments : List Segment) (row : Option OrderRow) (s : State) → (solved segments row s).ended ≡ s.ended
 solved_ended segments None s = refl
 solved_ended segments (Some row) s = either_ended (control_is_on s.solving.map row.control)
   where

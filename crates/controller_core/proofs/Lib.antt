@@ -2,6 +2,8 @@ pub mod MachineLemmas
 pub mod Lengths
 pub mod Keeping
 pub mod RunLemmas
+pub mod NoteLemmas
+pub mod NotedLineLemmas
 pub mod NextEntry
 pub mod Counting
 pub mod CallLaws

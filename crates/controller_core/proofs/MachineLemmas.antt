@@ -16,7 +16,7 @@ use Rattle.ladder_solver.specs.Conditions.{HasGridOperands, HasGridPast, GridsAs
 use Rattle.ladder_solver.specs.Numbers.{mstr_count}
 use Rattle.ladder_solver.proofs.Stored.{all_at_item}
 use Rattle.scan_order.specs.Due.{row_of}
-use Rattle.traffic_cop.specs.Drops.{IsReady}
+use Rattle.traffic_cop.specs.Drops.{CanExchange}
 use Rattle.traffic_cop.proofs.ModuleLemmas.{HasModules-kept}
 use Rattle.controller_core.specs.declared.entry.Entry.{Entry}
 use Rattle.controller_core.specs.declared.machine.Machine.{Machine}
@@ -33,7 +33,7 @@ row_fits plan number row runs is =
     all_at_item (FitsPlan plan) plan.orders (number - 1) row within same runs.rows
 
 -- a drop whose modules a store has, each store that keeps its references has too
-pub ready-kept : (drops : List IoDrop) (number : ℕ) (m n : Contents) → Keeps m n → IsReady drops number m → IsReady drops number n
+pub ready-kept : (drops : List IoDrop) (number : ℕ) (m n : Contents) → Keeps m n → CanExchange drops number m → CanExchange drops number n
 ready-kept drops number m n keeps ready = record {
   found = ready.found;
   named = ready.named;

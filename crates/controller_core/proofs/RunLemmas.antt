@@ -17,7 +17,7 @@ use Rattle.controller_core.specs.Panel.{line_of_end, line_of_step, lines_from, p
 use Rattle.controller_core.specs.Run.{ends_with, entries_from, run_of}
 use Rattle.controller_core.proofs.Keeping.{replay_more, scan_steps-more}
 
-step_of_made : (f : Fixed) (s : State) (step : ScanStep) → step_of (entry_of f s step) ≡ Some step
+pub step_of_made : (f : Fixed) (s : State) (step : ScanStep) → step_of (entry_of f s step) ≡ Some step
 step_of_made f s steps.Begin = refl
 step_of_made f s (steps.In row) = refl
 step_of_made f s (steps.Solve row) = refl

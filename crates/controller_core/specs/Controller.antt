@@ -2,6 +2,7 @@
 use Rattle.std.specs.Prelude.{◌≡◌, ℕ, ◌==◌, Bool, true, false, ◌&&◌, not, if◌then◌else◌, List, []}
 use Rattle.std.specs.Prelude.{◌∷◌, ◌++◌, length, drop, Option, Some, None, Result, Ok, Err}
 use Rattle.std.specs.List.{AllByRecursion}
+use Rattle.plant_types.specs.declared.plan.ControllerPlan.{ControllerPlan}
 use Rattle.plant_types.specs.Store.{Contents}
 use Rattle.mstr_block.specs.declared.call.CallId.{CallId}
 use Rattle.mstr_block.specs.declared.call.MstrResult.{MstrResult}
@@ -26,6 +27,15 @@ pub record ControllerIs : Type 0 where
   pub fixed : Fixed
   pub history : List Entry
   pub reserved : Bool
+
+-- The fixed part of these. This project's own.
+abbrev pub fixed_with : ControllerPlan → ℕ → ℕ → ℕ → Fixed
+fixed_with plan scan_time watchdog scans =
+    record { plan = plan; scan_time = scan_time; watchdog = watchdog; scans = scans }
+
+-- A controller at its start. This project's own.
+abbrev pub at_start : Fixed → ControllerIs
+at_start fixed = record { fixed = fixed; history = []; reserved = false }
 
 -- A controller goes on: it has not stopped. This project's own.
 abbrev pub GoesOn : State → Type 0
@@ -60,10 +70,11 @@ pub record IsLegal (fixed : Fixed) (history : List Entry) : Type 0 where
 abbrev pub state_of : ControllerIs → State
 state_of v = replay v.fixed v.history
 
--- Its store. This project's own.
+-- The store of a controller. This project's own.
 abbrev pub store_of : ControllerIs → Contents
 store_of v = (state_of v).solving.map
 
+-- The first of some steps, if there is one. This project's own.
 abbrev pub first_of : List ScanStep → Option ScanStep
 first_of [] = None
 first_of (step ∷ steps) = Some step

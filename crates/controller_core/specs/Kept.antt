@@ -11,6 +11,7 @@ use Rattle.controller_core.specs.Event.{scan_steps}
 use Rattle.controller_core.specs.Machine.{state_is, IsSound, IsTimely}
 use Rattle.controller_core.specs.Scans.{all_due, remaining, scans_at}
 use Rattle.controller_core.specs.Controller.{EachFits}
+use Rattle.controller_core.specs.Notes.{IsNoted}
 
 -- While a scan runs and the controller goes on, networks are left to the watchdog. This project's
 -- own.
@@ -32,9 +33,11 @@ pub record IsKept (fixed : Fixed) (machine : Machine) (history : List Entry)
   pub watched : IsWatched at machine
   pub timely : IsTimely machine (length (scan_steps history))
 
--- The same, with room for the rest of a scan whose memory is reserved. This project's own.
+-- A controller is kept so, and its panel noted, with room for the rest of a scan whose memory is
+-- reserved. This project's own.
 pub record IsWhole (machine : Machine) (history : List Entry) (at : ScanPlace) (reserved : Bool)
-    (capacity : ℕ) : Type 0 where
+    (capacity : ℕ) (values : List ℕ) (values_capacity : ℕ) : Type 0 where
   pub kept : IsKept machine.fixed machine history at
   pub room : reserved ≡ true
       → length history + length (due_after machine.fixed.plan at) ≤ capacity
+  pub noted : IsNoted machine.fixed history reserved values values_capacity

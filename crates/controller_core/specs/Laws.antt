@@ -6,7 +6,6 @@ use Rattle.mstr_block.specs.declared.call.CallId.{CallId}
 use Rattle.mstr_block.specs.declared.call.MstrResult.{MstrResult}
 use Rattle.controller_core.specs.declared.call.Call.{Call}
 use Rattle.controller_core.specs.declared.entry.Entry.{Entry}
-use Rattle.controller_core.specs.declared.entry.Entry.TheVariants as entries
 use Rattle.controller_core.specs.declared.entry.Maker.TheVariants as makers
 use Rattle.controller_core.specs.declared.fixed.Fixed.{Fixed}
 use Rattle.controller_core.specs.Event.{step_of}
@@ -52,7 +51,7 @@ pub record CallsFollow : Type 0 where
   pub finishes : (v : ControllerIs) (id : CallId) (result : MstrResult)
       → EndsOneCallOf v (finishing v id result) id
 
--- What a front of a history keeps: it is legal where the history is.
+-- A prefix of a legal history is legal.
 abbrev pub FrontsAreLegal : Type 0
 FrontsAreLegal = (fixed : Fixed) (front rest : List Entry) → IsLegal fixed (front ++ rest)
     → IsLegal fixed front

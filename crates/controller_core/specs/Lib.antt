@@ -6,6 +6,9 @@ pub mod Scans
 pub mod Controller
 pub mod Kept
 pub mod Panel
+pub mod Notes
+pub mod NotedLines
 pub mod Run
 pub mod Following
 pub mod Laws
+pub mod Parts

@@ -1,7 +1,7 @@
 //! The controller: its machine, its place in the scan and its history.
 ghost use Rattle.std.specs.Prelude.{◌≡◌, ◌+◌, ◌*◌, length, ◌<◌, ◌≤◌, ◌&&◌, true, false, not, []};
 ghost use Rattle.std.specs.Prelude.{◌∷◌, ◌++◌};
-ghost use Rattle.std.specs.Prelude.{IfOk, IfSome, OnErr, OnOk, vec_capacity, vec_len};
+ghost use Rattle.std.specs.Prelude.{IfOk, IfSome, IsOk, OnErr, OnOk, vec_capacity, vec_len};
 ghost use Rattle.std.specs.FinMap.{contains_key};
 ghost use Rattle.plant_types.specs.Checks.{HasPanel};
 ghost use Rattle.plant_types.specs.Store.{value_at};
@@ -10,9 +10,10 @@ ghost use Rattle.controller_core.specs.Controller.{step_end, step_entries, stepp
 ghost use Rattle.controller_core.specs.Controller.{due_step, has_started, is_out, peer_entries};
 ghost use Rattle.controller_core.specs.Controller.{collect_entries, collecting, uncollected};
 ghost use Rattle.controller_core.specs.Controller.{finish_entries, finishing};
-ghost use Rattle.controller_core.specs.Controller.{IsLegal, WentOn};
+ghost use Rattle.controller_core.specs.Controller.{at_start, fixed_with, IsLegal, WentOn};
 ghost use Rattle.controller_core.specs.Following.{HasWords, IsRowOf};
 ghost use Rattle.controller_core.specs.Machine.{IsRunnable};
+ghost use Rattle.controller_core.specs.Notes.{noted_values, notes_of};
 ghost use Rattle.scan_order.specs.Due.{IsStep};
 ghost use Rattle.controller_core.specs.Scans.{closes_scan, is_done, is_over};
 ghost use Rattle.controller_core.specs.Panel.{has_line};
@@ -21,10 +22,10 @@ use crate::call::Call;
 use crate::entry::{Entry, Maker, StepEnd};
 use crate::fixed::Fixed;
 use crate::machine::Machine;
+use crate::notes::{Notes, closes_scan, value_at};
 use mstr_block::{CallId, MstrResult};
 use plant_types::{
-    ControllerPlan, Copied, List, Pdu, Ref, RefKind, RefStore, checked_plans_find_all,
-    kept_stores_find_all,
+    ControllerPlan, Copied, List, Pdu, Ref, RefStore, checked_plans_find_all, kept_stores_find_all,
 };
 use scan_order::{ScanPlace, ScanStep, next_due, place_after};
 use state_ram::PackedRam;
@@ -38,6 +39,8 @@ pub struct Controller {
     machine: Machine,
     at: ScanPlace,
     history: Vec<Entry>,
+    /// The values of the panel at the last event of each scan that is over.
+    values: Vec<u16>,
     reserved: bool,
 }
 
@@ -55,7 +58,8 @@ impl Model for Controller {
     } };
 
     ghost invariant = { λ c.
-        IsWhole c.machine c.history.items c.at c.reserved (vec_capacity c.history) };
+        IsWhole c.machine c.history.items c.at c.reserved (vec_capacity c.history) c.values.items
+        (vec_capacity c.values) };
 }
 
 /// One more entry, for which there is room: takes no memory.
@@ -89,17 +93,6 @@ fn is_over(stop: u16, scans: u32, at: ScanPlace, ended: u32) -> bool
     }
 }
 
-/// Whether a step is the last of its scan, by the stop code behind it.
-fn closes_scan(step: ScanStep, stop: u16) -> bool
-    ensures { result ≡ closes_scan step stop }
-{
-    match step {
-        ScanStep::End => true,
-        ScanStep::Solve(_) => stop != 0,
-        _ => false,
-    }
-}
-
 /// Whether the room of a scan is kept behind a step.
 fn keeps_room(reserved: bool, step: ScanStep, stop: u16) -> bool
     ensures { result ≡ (reserved && not (closes_scan step stop)) }
@@ -120,22 +113,9 @@ impl Controller {
         watchdog: u32,
         scans: u32,
     ) -> Result<Controller, AllocError>
-        requires { IsRunnable (record {
-          plan = plan.now;
-          scan_time = scan_time;
-          watchdog = watchdog;
-          scans = scans;
-        }) }
-        ensures { IfOk result (λ controller. controller ≡ record {
-          fixed = record {
-            plan = plan.now;
-            scan_time = scan_time;
-            watchdog = watchdog;
-            scans = scans;
-          };
-          history = [];
-          reserved = false;
-        }) }
+        requires { IsRunnable (fixed_with plan.now scan_time watchdog scans) }
+        ensures { IfOk result (λ controller.
+            controller ≡ at_start (fixed_with plan.now scan_time watchdog scans)) }
     {
         let plan = plan.copied(alloc)?;
         let machine = Machine::new(
@@ -152,6 +132,7 @@ impl Controller {
             machine,
             at: ScanPlace::Start,
             history: Vec::new(alloc),
+            values: Vec::new(alloc),
             reserved: false,
         })
     }
@@ -221,10 +202,7 @@ impl Controller {
         requires { contains_key (store_of self.now) at ≡ true }
         ensures { result ≡ value_at (store_of self.now) at }
     {
-        match at.kind {
-            RefKind::Coil | RefKind::Input => u16::from(self.ram().bit(at)),
-            RefKind::InputRegister | RefKind::Register => self.ram().word(at),
-        }
+        value_at(self.ram(), at)
     }
 
     /// Whether all scans are done, or it has stopped.
@@ -248,6 +226,27 @@ impl Controller {
         ensures legal { IsLegal self.fixed self.history }
     {
         List::from_vec(self.history)
+    }
+
+    /// The values of the panel's references as each scan was over, one scan after another.
+    pub fn notes(&self) -> &[u16]
+        ensures { result.now ≡ noted_values self.now.fixed self.now.history }
+    {
+        self.values.as_slice()
+    }
+
+    /// The history and what it has noted; takes no memory.
+    pub fn into_parts(self) -> (List<Entry>, Notes)
+        ensures history { result.0 ≡ self.history }
+        ensures notes { result.1 ≡ notes_of self.fixed self.history }
+        ensures legal { IsLegal self.fixed self.history }
+    {
+        let notes = Notes {
+            values: List::from_vec(self.values),
+            ended: self.machine.ended,
+            stop: self.machine.stop,
+        };
+        (List::from_vec(self.history), notes)
     }
 
     /// Whether a call of an MSTR block was started and not yet collected.
@@ -289,14 +288,19 @@ impl Controller {
         }
     }
 
-    /// Until the next End, or a stop, all steps have their memory.
+    /// Until the next End, or a stop, all steps have their memory. A scan that has it takes none.
     pub fn reserve_scan(&mut self) -> Result<(), AllocError>
         ensures ok { OnOk result (self.new ≡ record self.old { reserved = true }) }
+        ensures once { self.old.reserved ≡ true → IsOk result }
         ensures err { OnErr result (self.new ≡ self.old) }
         ensures went_on { WentOn Maker.Scan [] self.old self.new }
     {
+        if self.reserved {
+            return Ok(());
+        }
         let most = self.longest_scan();
         self.history.try_reserve(most)?;
+        self.values.try_reserve(self.machine.panel().len())?;
         self.reserved = true;
         Ok(())
     }
@@ -318,6 +322,7 @@ impl Controller {
         let entry = self.machine.perform(step);
         let at = place_after(step);
         let reserved = keeps_room(self.reserved, step, self.machine.stop);
+        self.machine.note_panel(step, &mut self.values);
         note(&mut self.history, entry);
         self.at = at;
         self.reserved = reserved;

@@ -7,6 +7,8 @@ ghost use Rattle.controller_core.specs.Panel.{line_of_end, panel_lines};
 ghost use Rattle.controller_core.specs.Run.{ends_with, run_of};
 ghost use Rattle.controller_core.specs.Laws.{CallsFollow, ConditionsStay};
 ghost use Rattle.controller_core.specs.Laws.{EntriesAddTheirLines, FrontsAreLegal};
+ghost use Rattle.controller_core.specs.Notes.{EntriesAddTheirNotes, NotesAskNoScans};
+ghost use Rattle.controller_core.specs.NotedLines.{NotesTellTheLines};
 
 use crate::entry::Maker;
 use ladder_solver::segments_keep_calls;
@@ -59,7 +61,7 @@ pub fn calls_follow()
     finishes_end_one_call();
 }
 
-/// A front of a legal history is legal.
+/// A prefix of a legal history is legal.
 pub fn fronts_are_legal()
     ensures { FrontsAreLegal }
 {}
@@ -67,4 +69,19 @@ pub fn fronts_are_legal()
 /// An entry adds its panel line.
 pub fn entries_add_their_lines()
     ensures { EntriesAddTheirLines }
+{}
+
+/// An entry adds what it notes of the panel.
+pub fn entries_add_their_notes()
+    ensures { EntriesAddTheirNotes }
+{}
+
+/// What is noted of the panel is the same however many scans a controller makes.
+pub fn notes_ask_no_scans()
+    ensures { NotesAskNoScans }
+{}
+
+/// What a legal history has noted tells its panel lines.
+pub fn notes_tell_the_lines()
+    ensures { NotesTellTheLines }
 {}

@@ -9,6 +9,8 @@ mod fixed;
 mod following;
 mod laws;
 mod machine;
+mod notes;
+mod parts;
 
 pub use call::{Call, CallKind};
 pub use controller::Controller;
@@ -16,8 +18,7 @@ pub use entry::{Entry, Maker, StepEnd};
 pub use fixed::Fixed;
 pub use laws::{
     answers_leave_the_scan, calls_follow, conditions_stay, ended_controllers_stay,
-    entries_add_their_lines, fronts_are_legal, steps_add_their_lines, steps_make_the_run,
+    entries_add_their_lines, entries_add_their_notes, fronts_are_legal, notes_ask_no_scans,
+    notes_tell_the_lines, steps_add_their_lines, steps_make_the_run,
 };
-
-#[cfg(test)]
-mod tests;
+pub use notes::Notes;

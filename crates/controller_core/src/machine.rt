@@ -1,5 +1,7 @@
 //! The state of a controller, with what each event of a scan does to it.
-ghost use Rattle.std.specs.Prelude.{◌≡◌, ◌≤◌, ◌<◌, length, true, IfOk, OnErr, OnOk};
+ghost use Rattle.std.specs.Prelude.{◌≡◌, ◌≤◌, ◌<◌, ◌+◌, ◌++◌, length, true, IfOk, OnErr, OnOk};
+ghost use Rattle.std.specs.Prelude.{Some, vec_capacity, vec_len};
+ghost use Rattle.controller_core.specs.Notes.{note_of_step};
 ghost use Rattle.modbus_exec.specs.Answer.{answer_of};
 ghost use Rattle.scan_order.specs.Due.{IsRow, IsStep};
 ghost use Rattle.controller_core.specs.Event.{entry_of, outputs_at};
@@ -16,7 +18,8 @@ ghost use Rattle.mstr_block.specs.Table.{has_started, is_out};
 use crate::call::Call;
 use crate::entry::Entry;
 use crate::fixed::Fixed;
-use grid_compile::grids_of;
+use crate::notes::{closes_scan, push_values};
+use crate::parts::{Parts, Solver, Stores, parts_of};
 use ladder_solver::{Ladder, SolveEnd, Watch, grids_ask_no_more, segments_keep_calls};
 use modbus_exec::answer_twice;
 use mstr_block::{CallId, MstrBank, MstrResult, calls_are_taken_in_order};
@@ -29,9 +32,6 @@ use state_ram::PackedRam;
 use std::alloc::{AllocError, Global};
 use timer_ops::Clock;
 use traffic_cop::Cop;
-
-/// The drops of a controller have numbers from 1 to this.
-const DROP_LIMIT: usize = 32;
 
 /// The code with which the watchdog stops a controller.
 const WATCHDOG_STOP: u16 = 1;
@@ -84,21 +84,15 @@ impl Machine {
         ensures state { IfOk result (λ machine. state_is machine ≡ start fixed.plan) }
         ensures timely { IfOk result (λ machine. IsTimely machine 0) }
     {
-        checked_plans_find_all();
         discretes_follow();
         discretes_are_on();
-        grids_ask_no_more();
-        let plan = &fixed.plan;
-        let (coils, inputs) = (plan.coils, plan.inputs);
-        let (input_registers, registers) = (plan.input_registers, plan.registers);
-        let grids = grids_of(alloc, plan.segments.as_slice())?;
-        let ladder = Ladder::new(alloc, grids)?;
-        let count = ladder.blocks();
-        let bank = MstrBank::new(alloc, plan.node, count)?;
-        let cop = Cop::new(alloc, plan.drops.as_slice())?;
-        let ram = PackedRam::new(alloc, coils, inputs, input_registers, registers)?;
-        let past = PackedRam::new(alloc, coils, inputs, 0, 0)?;
-        let exchanges = vec![in alloc; 0; DROP_LIMIT]?;
+        let parts = parts_of(alloc, &fixed.plan)?;
+        let Parts {
+            solver: Solver { ladder, bank },
+            stores: Stores { ram, past },
+            cop,
+            exchanges,
+        } = parts;
         Ok(Machine {
             fixed,
             ladder,
@@ -119,6 +113,30 @@ impl Machine {
         ensures { result.now ≡ self.now.ram }
     {
         &self.ram
+    }
+
+    /// The references of the panel.
+    pub(crate) fn panel(&self) -> &[Ref]
+        ensures { result.now ≡ self.now.fixed.plan.panel }
+    {
+        self.fixed.plan.panel.as_slice()
+    }
+
+    /// Notes the values of the panel behind a step, if that is the last of its scan. Takes no
+    /// memory.
+    pub(crate) fn note_panel(&self, step: ScanStep, values: &mut Vec<u16>)
+        requires sound { IsSound self.now }
+        requires room { vec_len values.old + length self.now.fixed.plan.panel
+            ≤ vec_capacity values.old }
+        ensures values { values.new.items ≡ values.old.items
+            ++ note_of_step self.now.fixed.plan (Some step) (state_is self.now) }
+        ensures capacity { vec_capacity values.old ≤ vec_capacity values.new }
+    {
+        checked_plans_find_all();
+        kept_stores_find_all();
+        if closes_scan(step, self.stop) {
+            push_values(values, self.panel(), &self.ram);
+        }
     }
 
     fn begin(&mut self)

@@ -28,9 +28,9 @@ use Rattle.host_port.specs.declared.entry.HostEntry.{HostEntry}
 use Rattle.host_port.specs.declared.entry.HostEntry.TheVariants as host_entries
 use Rattle.host_port.proofs.Lists.{all_append}
 use Rattle.tied_lists.specs.Items.{Answered, Called, Items, OverNet, no_items}
-use Rattle.comm_port.specs.Reading.{called_of, host_item_next, host_items_after, host_items_of}
-use Rattle.comm_port.specs.Reading.{item_next, items_of, sort_of}
-use Rattle.comm_port.proofs.Collected.{CallLaws, history-follows}
+use Rattle.joint_history.specs.Reading.{called_of, host_item_next, host_items_after, host_items_of}
+use Rattle.joint_history.specs.Reading.{item_next, items_of, sort_of}
+use Rattle.joint_history.proofs.Collected.{CallLaws, history-follows}
 use Rattle.effect_laws.proofs.Calls.{by-entries}
 use Rattle.effect_laws.proofs.Fits.{Fitting, NetAsk, answer-fits, for_statistics, refusal-fits}
 use Rattle.effect_laws.proofs.Fits.{to_read, to_write}

@@ -21,8 +21,8 @@ use Rattle.tied_lists.specs.Calls.{AreNewCalls}
 use Rattle.tied_lists.specs.Items.{Called, Ended, Items, Kind, kind_in, kind_of_sort, no_items}
 use Rattle.tied_lists.proofs.Asked.{kind-more}
 use Rattle.tied_lists.proofs.Boxes.{count-each}
-use Rattle.comm_port.specs.Reading.{called_of, controller_at, item_next, items_after, items_of}
-use Rattle.comm_port.proofs.Collected.{CallLaws, collected-new, history-follows}
+use Rattle.joint_history.specs.Reading.{called_of, controller_at, item_next, items_after, items_of}
+use Rattle.joint_history.proofs.Collected.{CallLaws, collected-new, history-follows}
 
 -- ---- histories, entry by entry
 

@@ -1,6 +1,6 @@
 -- A host asks a controller for an echo, and then for what it doesn't serve, as a legal joint history
 -- tells it. The first call reports success; each took effect once.
-use Rattle.std.proofs.Common.{◌≡◌, ℕ, zero, suc, true, false, List, [], ◌∷◌, ◌++◌, refl, inr, arith}
+use Rattle.std.proofs.Common.{◌≡◌, ℕ, zero, suc, true, false, List, [], ◌∷◌, ◌++◌, refl, inl, inr, arith}
 use Rattle.std.specs.List.{All, AllByRecursion as Each}
 use Rattle.std.specs.List.Sorted.{IsStrictlyIncreasing}
 use Rattle.std.proofs.lemmas.List.Sorted.{IsPermutation-refl}
@@ -29,9 +29,11 @@ use Rattle.host_port.specs.declared.entry.HostResult.TheVariants as results
 use Rattle.host_port.specs.Legal.{IsHostHistory}
 use Rattle.host_port.proofs.Next.{may_of}
 use Rattle.host_port.proofs.Keeping.{kept_new}
-use Rattle.comm_port.specs.declared.joint.Joint.{Joint}
-use Rattle.comm_port.specs.Effects.{effects}
-use Rattle.comm_port.specs.JointLaws.{IsJoint, IsLegalJoint, IsTiedController, IsTiedHost, fixed_of}
+use Rattle.joint_history.specs.declared.joint.Joint.{Joint}
+use Rattle.joint_history.specs.Effects.{effects}
+use Rattle.joint_history.specs.JointLaws.{IsJoint, IsLegalJoint, IsTiedController, IsTiedHost}
+use Rattle.joint_history.specs.JointLaws.{fixed_of}
+use Rattle.effect_laws.specs.HostReplies.{IsAnswerTo}
 use Rattle.effect_laws.specs.Success.{ReportsSuccess, is_exception_reply}
 
 -- ---- the plant
@@ -254,3 +256,12 @@ once = refl
 
 once-too : effects joint (id 2) ≡ 1
 once-too = refl
+
+-- the exception reply is the answer of the node that was asked, to what it was asked
+answer-is : IsAnswerTo joint (record { node = 5; entries = asker }) (id 2) refused
+answer-is = record {
+  to = 1;
+  request = unknown;
+  asked = (1, omega arith, refl);
+  given = inl (record { node = 1; entries = target }, (0, omega arith, refl), refl, (1, omega arith, refl));
+}

@@ -34,10 +34,10 @@ use Rattle.ring_core.specs.Scratch.{global_answer, heard_words, local_result, st
 use Rattle.ring_core.specs.Statistics.{clear_statistics, get_statistics}
 use Rattle.host_port.specs.Legal.{refusal_to}
 use Rattle.tied_lists.specs.Items.{reply_of, request_of, words_told}
-use Rattle.tied_lists.specs.Result.{counts, exception_told, fits_plainly, fits_statistics}
-use Rattle.tied_lists.specs.Result.{fits_words}
-use Rattle.tied_lists.specs.Result.{function_in, good, or_good, reads_registers, result_of}
-use Rattle.tied_lists.specs.Result.{tells_bytes, told_bytes, writes_registers}
+use Rattle.reply_laws.specs.Result.{counts, exception_told, fits_plainly, fits_statistics}
+use Rattle.reply_laws.specs.Result.{fits_words}
+use Rattle.reply_laws.specs.Result.{function_in, good, or_good, reads_registers, result_of}
+use Rattle.reply_laws.specs.Result.{tells_bytes, told_bytes, writes_registers}
 
 -- what a controller asks another node for
 pub data NetAsk (pdu : List ℕ) : Type 0 where

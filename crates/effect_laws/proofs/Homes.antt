@@ -24,8 +24,8 @@ use Rattle.tied_lists.specs.Items.{Asked, Called, CallSort, OverNet, AtHome, End
 use Rattle.tied_lists.specs.Items.{LocalCall, NetCall, Outcome, Came, Replied, Lacked, Station}
 use Rattle.tied_lists.specs.Items.{asked_by, asked_of, ended_by, ended_of, kind_in, kind_of_sort}
 use Rattle.tied_lists.specs.Items.{net_ask, no_items}
-use Rattle.comm_port.specs.Effects.{does_locally}
-use Rattle.comm_port.specs.Reading.{host_item_next, host_items_after, host_items_of}
+use Rattle.joint_history.specs.Effects.{does_locally}
+use Rattle.joint_history.specs.Reading.{host_item_next, host_items_after, host_items_of}
 use Rattle.effect_laws.specs.Served.{serves_another}
 use Rattle.effect_laws.proofs.Counts.{count_cons, skip}
 use Rattle.effect_laws.proofs.Calls.{CallFacts, OfCall, is_called, is_ended}

@@ -9,4 +9,5 @@ pub mod Sources
 pub mod Reports
 pub mod Words
 pub mod Targets
+pub mod HostReplies
 mod Example

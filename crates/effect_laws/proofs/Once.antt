@@ -1,7 +1,7 @@
 -- A call takes effect at most once.
 use Rattle.std.proofs.Common.{◌≡◌, ℕ, ◌+◌, ◌<◌, ◌≤◌, ◌++◌, true, cond, List, []}
 use Rattle.std.proofs.Common.{◌∷◌, map}
-use Rattle.std.proofs.Common.{refl, sym, ap, ◌∙◌, subst, inr, ⊎_elim, arith}
+use Rattle.std.proofs.Common.{refl, sym, ap, ◌∙◌, subst, inl, inr, ◌⊎◌, ⊎_elim, arith}
 use Rattle.std.specs.Prelude.{◌==◌, Contains}
 use Rattle.std.specs.List.{AllByRecursion as Each, AllZip, count_by}
 use Rattle.std.proofs.lemmas.Bool.{and_from, and_parts, cases_lt, eq-eqb, eqb-true, true≢false}
@@ -29,14 +29,14 @@ use Rattle.ring_laws.proofs.Law.{only-its-target}
 use Rattle.tied_lists.specs.Own.{own}
 use Rattle.tied_lists.specs.Items.{AController, AHost, Items, Station}
 use Rattle.tied_lists.specs.Tied.{Tied}
-use Rattle.comm_port.specs.declared.joint.ControllerLog.{ControllerLog}
-use Rattle.comm_port.specs.declared.joint.HostLog.{HostLog}
-use Rattle.comm_port.specs.declared.joint.Joint.{Joint}
-use Rattle.comm_port.specs.Effects.{effects}
-use Rattle.comm_port.specs.JointLaws.{IsLegalHostLog, IsLegalLog, IsTiedController, IsTiedHost}
-use Rattle.comm_port.specs.JointLaws.{fixed_of}
-use Rattle.comm_port.specs.Reading.{host_items_of, items_of}
-use Rattle.comm_port.proofs.Collected.{CallLaws}
+use Rattle.joint_history.specs.declared.joint.ControllerLog.{ControllerLog}
+use Rattle.joint_history.specs.declared.joint.HostLog.{HostLog}
+use Rattle.joint_history.specs.declared.joint.Joint.{Joint}
+use Rattle.joint_history.specs.Effects.{effects}
+use Rattle.joint_history.specs.JointLaws.{IsLegalHostLog, IsLegalLog, IsTiedController, IsTiedHost}
+use Rattle.joint_history.specs.JointLaws.{fixed_of}
+use Rattle.joint_history.specs.Reading.{host_items_of, items_of}
+use Rattle.joint_history.proofs.Collected.{CallLaws}
 use Rattle.effect_laws.specs.Served.{services}
 use Rattle.effect_laws.specs.Effects.{TakesEffectAtMostOnce}
 use Rattle.effect_laws.proofs.Asks.{IsFitAnswer, controller-fits, host-fits}
@@ -109,22 +109,29 @@ host-seat plant scans joint n log j there is =
       answers = host-fits legal.0 log.entries legal.1.1;
     })
 
--- each member has one
-pub seat-at : CallLaws → (plant : Plant) (scans : ℕ) (joint : Joint) (n : ℕ) → JointOf plant scans joint → IsMember plant.net n → Seat joint.ring n
-seat-at laws plant scans joint n j member =
+-- each member has the list of a controller or of a host
+pub log-at : (plant : Plant) (scans : ℕ) (joint : Joint) (n : ℕ) → JointOf plant scans joint → IsMember plant.net n
+    → ((log : ControllerLog) × Contains joint.controllers log × (log.node ≡ n)) ⊎ ((log : HostLog) × Contains joint.hosts log × (log.node ≡ n))
+log-at plant scans joint n j member =
     let some = member-station plant n j.is member in
     let both = sum_by-append (λ k. cond {A = ℕ} (n == k) 1 0) (controller_nodes plant) (host_nodes plant) in
     ⊎_elim
     (λ (none : count_by (λ k. n == k) (controller_nodes plant) < 1).
     let here : 1 ≤ count_by (λ k. n == k) (host_nodes plant) = omega (arith, some, both, none) in
-    let log = log-of (λ (l : HostLog). l.node) n joint.hosts
-    (subst (λ (nodes : List ℕ). 1 ≤ count_by (λ k. n == k) nodes) (sym (host-nodes plant scans joint j.legal)) here) in
-    host-seat plant scans joint n log.0 j log.1 log.2)
+    inr (log-of (λ (l : HostLog). l.node) n joint.hosts
+    (subst (λ (nodes : List ℕ). 1 ≤ count_by (λ k. n == k) nodes) (sym (host-nodes plant scans joint j.legal)) here)))
     (λ (here : 1 ≤ count_by (λ k. n == k) (controller_nodes plant)).
-    let log = log-of (λ (l : ControllerLog). l.node) n joint.controllers
-    (subst (λ (nodes : List ℕ). 1 ≤ count_by (λ k. n == k) nodes) (sym (controller-nodes plant scans joint j.legal)) here) in
-    controller-seat laws plant scans joint n log.0 j log.1 log.2)
+    inl (log-of (λ (l : ControllerLog). l.node) n joint.controllers
+    (subst (λ (nodes : List ℕ). 1 ≤ count_by (λ k. n == k) nodes) (sym (controller-nodes plant scans joint j.legal)) here)))
     (cases_lt (count_by (λ k. n == k) (controller_nodes plant)) 1)
+
+-- so it has one
+pub seat-at : CallLaws → (plant : Plant) (scans : ℕ) (joint : Joint) (n : ℕ) → JointOf plant scans joint → IsMember plant.net n → Seat joint.ring n
+seat-at laws plant scans joint n j member =
+    ⊎_elim
+    (λ (log : (l : ControllerLog) × Contains joint.controllers l × (l.node ≡ n)). controller-seat laws plant scans joint n log.0 j log.1 log.2)
+    (λ (log : (l : HostLog) × Contains joint.hosts l × (l.node ≡ n)). host-seat plant scans joint n log.0 j log.1 log.2)
+    (log-at plant scans joint n j member)
 
 -- ---- entries of a call
 

@@ -33,12 +33,13 @@ use Rattle.tied_lists.specs.Items.{Outcome, Replied, Station, asked_by, ended_by
 use Rattle.tied_lists.specs.Items.{outcome_of_word}
 use Rattle.tied_lists.specs.Items.{port_answers, replied_in, replied_of, taken_by}
 use Rattle.tied_lists.specs.Items.{taken_of}
-use Rattle.comm_port.specs.declared.joint.Joint.{Joint}
-use Rattle.comm_port.specs.Effects.{effects}
-use Rattle.comm_port.specs.JointLaws.{IsTiedController, IsTiedHost}
-use Rattle.comm_port.specs.Reading.{host_item_next, host_items_after, host_items_of, item_next}
-use Rattle.comm_port.specs.Reading.{items_after, items_of, outcome_of}
-use Rattle.comm_port.proofs.Collected.{CallLaws}
+use Rattle.tied_lists.specs.Tied.{Tied}
+use Rattle.joint_history.specs.declared.joint.Joint.{Joint}
+use Rattle.joint_history.specs.Effects.{effects}
+use Rattle.joint_history.specs.JointLaws.{IsTiedController, IsTiedHost}
+use Rattle.joint_history.specs.Reading.{host_item_next, host_items_after, host_items_of, item_next}
+use Rattle.joint_history.specs.Reading.{items_after, items_of, outcome_of}
+use Rattle.joint_history.proofs.Collected.{CallLaws}
 use Rattle.effect_laws.specs.Effects.{SuccessTakesEffectOnce}
 use Rattle.effect_laws.proofs.Homes.{acts_at_home}
 use Rattle.effect_laws.proofs.Once.{Seat, asks-this, at-most-once, effects-are, seat-at}
@@ -132,14 +133,16 @@ pub record Origin (items : Items) (ring : List RingEntry) (n : ℕ) (reply : Fra
   pub kind : request.kind ≡ Request
   pub same : request.id ≡ reply.id
   pub asked : answer.request ≡ Some request.pdu
+  pub named : answer.id ≡ reply.id
 
-pub origin : (ring : List RingEntry) (n : ℕ) (f : Frame) (seat : Seat ring n) → Contains ring (Post n f) → f.kind ≡ Reply → Origin seat.items ring n f
-origin ring n f seat there kind =
+pub origin-in : (ring : List RingEntry) (n : ℕ) (f : Frame) (station : Station) (a : Items) → Tied station a (own n ring)
+    → Contains ring (Post n f) → f.kind ≡ Reply → Origin a ring n f
+origin-in ring n f station a tied there kind =
     let b = own n ring in
     let posted = in-own n ring (Post n f) (eq-eqb n n refl) there in
     let replied = in-map replied_of b (Post n f) (f.id, Some f.pdu) (replied-as f.kind f kind) posted in
-    let due = subst (λ (l : List Item). Contains l (f.id, Some f.pdu)) seat.tied.replies replied in
-    let s = source-of (taken_by b) f.id f.pdu seat.items.answers (port_answers b) seat.tied.peers seat.tied.port due in
+    let due = subst (λ (l : List Item). Contains l (f.id, Some f.pdu)) tied.replies replied in
+    let s = source-of (taken_by b) f.id f.pdu a.answers (port_answers b) tied.peers tied.port due in
     let found = of-map taken_of b s.request s.taken in
     let t = take-of found.0 s.request found.2 in
     let entry : Contains b (Take t.node t.frame) = subst (λ (e : RingEntry). Contains b e) t.is found.1 in
@@ -153,7 +156,11 @@ origin ring n f seat there kind =
       kind = t.kind;
       same = t.id ∙ s.name;
       asked = s.asked ∙ ap (λ l. Some l) (sym t.pdu);
+      named = s.named;
     }
+
+pub origin : (ring : List RingEntry) (n : ℕ) (f : Frame) (seat : Seat ring n) → Contains ring (Post n f) → f.kind ≡ Reply → Origin seat.items ring n f
+origin ring n f seat there kind = origin-in ring n f seat.station seat.items seat.tied there kind
 
 pub member-at : (plant : Plant) (scans : ℕ) (joint : Joint) (e : RingEntry) → JointOf plant scans joint → Contains joint.ring e → IsMember plant.net (maker e)
 member-at plant scans joint e j there =

@@ -28,12 +28,12 @@ use Rattle.tied_lists.specs.Items.{port_answers, request_of, reply_of, AControll
 use Rattle.tied_lists.specs.Tied.{Tied}
 use Rattle.plant_types.specs.declared.net.HostPlan.{HostPlan}
 use Rattle.plant_types.specs.declared.plan.ControllerPlan.{ControllerPlan}
-use Rattle.comm_port.specs.declared.joint.ControllerLog.{ControllerLog}
-use Rattle.comm_port.specs.declared.joint.HostLog.{HostLog}
-use Rattle.comm_port.specs.declared.joint.Joint.{Joint}
-use Rattle.comm_port.specs.JointLaws.{IsJoint, IsLegalJoint, IsLegalLog, IsLegalHostLog}
-use Rattle.comm_port.specs.Reading.{items_of, host_items_of}
-use Rattle.comm_port.specs.Effects.{answers_to}
+use Rattle.joint_history.specs.declared.joint.ControllerLog.{ControllerLog}
+use Rattle.joint_history.specs.declared.joint.HostLog.{HostLog}
+use Rattle.joint_history.specs.declared.joint.Joint.{Joint}
+use Rattle.joint_history.specs.JointLaws.{IsJoint, IsLegalJoint, IsLegalLog, IsLegalHostLog}
+use Rattle.joint_history.specs.Reading.{items_of, host_items_of}
+use Rattle.joint_history.specs.Effects.{answers_to}
 use Rattle.effect_laws.specs.Served.{ServedAtMostOnce, serves_another, services}
 use Rattle.effect_laws.proofs.Counts.{sum_cons, count_cons, skip, once_rising, some_there}
 use Rattle.effect_laws.proofs.Counts.{at_most_all, all_at_most}

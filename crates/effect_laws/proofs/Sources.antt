@@ -229,6 +229,7 @@ pub record Source (ts : List Taken) (peers port : List Answered) (id : CallId) (
   pub among : Contains peers answer ⊎ Contains port answer
   pub reply : answer.reply ≡ pdu
   pub name : name_of request ≡ id
+  pub named : answer.id ≡ id
   pub asked : answer.request ≡ Some (pdu_of request)
 
 abbrev pub sources : List Taken → CallId → List ℕ → Type 0
@@ -251,6 +252,7 @@ plain-source name request ts id pdu rest (a ∷ peers) port plain stats there =
       among = inl (here a peers);
       reply = same;
       name = ap (λ (i : Item). i.0) is;
+      named = ap (λ (i : Item). i.0) first ∙ ap (λ (i : Item). i.0) is;
       asked = ap (λ (i : Item). i.1) first;
     })
     (λ (later : Contains (due_replies ts (replies_in peers) (replies_in port)) (id, Some pdu)).
@@ -262,6 +264,7 @@ plain-source name request ts id pdu rest (a ∷ peers) port plain stats there =
       among = ⊎_elim (λ (p : Contains peers s.answer). inl (behind a peers s.answer p)) (λ (p : Contains port s.answer). inr p) s.among;
       reply = s.reply;
       name = s.name;
+      named = s.named;
       asked = s.asked;
     })
     (first-or-behind (name, Some a.reply) (due_replies ts (replies_in peers) (replies_in port)) (id, Some pdu) there)
@@ -283,6 +286,7 @@ stats-source name request ts id pdu rest peers (a ∷ port) plain stats there =
       among = inr (here a port);
       reply = same;
       name = ap (λ (i : Item). i.0) is;
+      named = ap (λ (i : Item). i.0) first ∙ ap (λ (i : Item). i.0) is;
       asked = ap (λ (i : Item). i.1) first;
     })
     (λ (later : Contains (due_replies ts (replies_in peers) (replies_in port)) (id, Some pdu)).
@@ -294,6 +298,7 @@ stats-source name request ts id pdu rest peers (a ∷ port) plain stats there =
       among = ⊎_elim (λ (p : Contains peers s.answer). inl p) (λ (p : Contains port s.answer). inr (behind a port s.answer p)) s.among;
       reply = s.reply;
       name = s.name;
+      named = s.named;
       asked = s.asked;
     })
     (first-or-behind (name, Some a.reply) (due_replies ts (replies_in peers) (replies_in port)) (id, Some pdu) there)

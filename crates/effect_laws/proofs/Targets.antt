@@ -21,16 +21,16 @@ use Rattle.ring_laws.proofs.Lists.{contains-count, count-contains, only-one, sam
 use Rattle.tied_lists.specs.Own.{own}
 use Rattle.tied_lists.specs.Items.{AController, AHost, Items, Station}
 use Rattle.tied_lists.specs.Tied.{Tied}
-use Rattle.comm_port.specs.declared.joint.ControllerLog.{ControllerLog}
-use Rattle.comm_port.specs.declared.joint.HostLog.{HostLog}
-use Rattle.comm_port.specs.declared.joint.Joint.{Joint}
-use Rattle.comm_port.specs.Effects.{answers_to, does_locally, effects}
-use Rattle.comm_port.specs.JointLaws.{IsTiedController, IsTiedHost}
-use Rattle.comm_port.specs.Reading.{host_items_of, items_of}
-use Rattle.comm_port.proofs.Collected.{CallLaws}
-use Rattle.effect_laws.specs.Effects.{SuccessTakesEffectOnce}
+use Rattle.joint_history.specs.declared.joint.ControllerLog.{ControllerLog}
+use Rattle.joint_history.specs.declared.joint.HostLog.{HostLog}
+use Rattle.joint_history.specs.declared.joint.Joint.{Joint}
+use Rattle.joint_history.specs.Effects.{answers_to, does_locally, effects}
+use Rattle.joint_history.specs.JointLaws.{IsTiedController, IsTiedHost}
+use Rattle.joint_history.specs.Reading.{host_items_of, items_of}
+use Rattle.joint_history.proofs.Collected.{CallLaws}
+use Rattle.effect_laws.specs.Effects.{AllEffectsAreAtTheirTarget, SuccessTakesEffectOnce}
 use Rattle.effect_laws.specs.Served.{serves_another}
-use Rattle.effect_laws.specs.Targets.{AllEffectsAreAtTheirTarget, ControllerServes, HostServes}
+use Rattle.effect_laws.specs.Targets.{ControllerServes, HostServes}
 use Rattle.effect_laws.specs.Targets.{IsAsked, IsTarget, PortActs, TakesEffectAt}
 use Rattle.effect_laws.proofs.Counts.{sum_cons}
 use Rattle.effect_laws.proofs.Homes.{acts_at_home, counted-own, homes-end, homes-own, is_asked}

@@ -35,11 +35,11 @@ use Rattle.tied_lists.specs.Items.{asked_in}
 use Rattle.tied_lists.specs.Items.{asked_of, last_asked, net_ask, or_some}
 use Rattle.tied_lists.specs.Items.{port_answers, reply_of, request_of, result_for}
 use Rattle.tied_lists.proofs.Turns.{legal-parts}
-use Rattle.comm_port.specs.declared.joint.ControllerLog.{ControllerLog}
-use Rattle.comm_port.specs.declared.joint.Joint.{Joint}
-use Rattle.comm_port.specs.JointLaws.{IsTiedController, fixed_of}
-use Rattle.comm_port.specs.Reading.{items_of}
-use Rattle.comm_port.proofs.Collected.{CallLaws}
+use Rattle.joint_history.specs.declared.joint.ControllerLog.{ControllerLog}
+use Rattle.joint_history.specs.declared.joint.Joint.{Joint}
+use Rattle.joint_history.specs.JointLaws.{IsTiedController, fixed_of}
+use Rattle.joint_history.specs.Reading.{items_of}
+use Rattle.joint_history.proofs.Collected.{CallLaws}
 use Rattle.effect_laws.specs.Effects.{NoFinishHas3000}
 use Rattle.effect_laws.proofs.Asks.{IsAskOf, IsFitAnswer, controller-fits}
 use Rattle.effect_laws.proofs.Fits.{Fitting, NetAsk, port-fits, port-good}

@@ -6,11 +6,13 @@ use Rattle.mstr_block.specs.declared.call.CallId.{CallId}
 use Rattle.mstr_block.specs.declared.call.MstrResult.{MstrResult}
 use Rattle.mstr_block.specs.declared.call.MstrResult.TheVariants.{Bad}
 use Rattle.controller_core.specs.declared.entry.Entry.TheVariants.{Finish}
-use Rattle.comm_port.specs.declared.joint.ControllerLog.{ControllerLog}
-use Rattle.comm_port.specs.declared.joint.Joint.{Joint}
-use Rattle.comm_port.specs.Effects.{effects}
-use Rattle.comm_port.specs.JointLaws.{IsJoint, IsLegalJoint}
+use Rattle.joint_history.specs.declared.joint.ControllerLog.{ControllerLog}
+use Rattle.joint_history.specs.declared.joint.Joint.{Joint}
+use Rattle.joint_history.specs.Effects.{effects}
+use Rattle.joint_history.specs.JointLaws.{IsJoint, IsLegalJoint}
+use Rattle.effect_laws.specs.HostReplies.{HostRepliesAreAnswers}
 use Rattle.effect_laws.specs.Success.{ReportsSuccess}
+use Rattle.effect_laws.specs.Targets.{EffectsAreAtTarget}
 
 -- No call takes effect twice.
 abbrev pub EffectsAtMostOnce : Joint → Type 0
@@ -36,20 +38,31 @@ InEachJoint Says = (plant : Plant) (scans : ℕ) (joint : Joint) → IsPlant pla
 pub record EffectsAreRight (joint : Joint) : Type 0 where
   pub at_most_once : EffectsAtMostOnce joint
   pub success : SuccessIsOneEffect joint
+  pub at_target : EffectsAreAtTarget joint
   pub replies : RepliesFit joint
+  pub host_replies : HostRepliesAreAnswers joint
 
--- No joint history has a call that takes effect twice.
+-- In each joint history no call takes effect twice.
 abbrev pub TakesEffectAtMostOnce : Type 0
 TakesEffectAtMostOnce = InEachJoint EffectsAtMostOnce
 
--- None has a call that reports success without having taken effect, once.
+-- In each joint history a call that reports success took effect, once.
 abbrev pub SuccessTakesEffectOnce : Type 0
 SuccessTakesEffectOnce = InEachJoint SuccessIsOneEffect
 
--- None has a Finish with 3000.
+-- In each joint history each effect of a call is at the target of its call.
+abbrev pub AllEffectsAreAtTheirTarget : Type 0
+AllEffectsAreAtTheirTarget = InEachJoint EffectsAreAtTarget
+
+-- In each joint history no Finish has 3000.
 abbrev pub NoFinishHas3000 : Type 0
 NoFinishHas3000 = InEachJoint RepliesFit
 
--- All of it holds of each.
+-- In each joint history a reply that a host got is an answer to its request.
+abbrev pub HostsGetTheirAnswers : Type 0
+HostsGetTheirAnswers = InEachJoint HostRepliesAreAnswers
+
+-- In each joint history that is legal and keeps the laws between its lists the effects of calls are
+-- right.
 abbrev pub AllEffectsAreRight : Type 0
 AllEffectsAreRight = InEachJoint EffectsAreRight

@@ -1,4 +1,5 @@
 pub mod Served
 pub mod Success
-pub mod Effects
 pub mod Targets
+pub mod HostReplies
+pub mod Effects

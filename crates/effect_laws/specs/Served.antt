@@ -7,12 +7,12 @@ use Rattle.mstr_block.specs.Call.{is_same_call}
 use Rattle.mstr_block.specs.declared.call.CallId.{CallId}
 use Rattle.ring_core.specs.declared.entry.RingEntry.{RingEntry}
 use Rattle.ring_core.specs.declared.entry.RingEntry.TheVariants.{Local}
-use Rattle.comm_port.specs.declared.joint.ControllerLog.{ControllerLog}
-use Rattle.comm_port.specs.declared.joint.HostLog.{HostLog}
-use Rattle.comm_port.specs.declared.joint.Joint.{Joint}
-use Rattle.comm_port.specs.Effects.{answers_to}
-use Rattle.comm_port.specs.JointLaws.{IsJoint, IsLegalJoint}
-use Rattle.comm_port.specs.Reading.{items_of, host_items_of}
+use Rattle.joint_history.specs.declared.joint.ControllerLog.{ControllerLog}
+use Rattle.joint_history.specs.declared.joint.HostLog.{HostLog}
+use Rattle.joint_history.specs.declared.joint.Joint.{Joint}
+use Rattle.joint_history.specs.Effects.{answers_to}
+use Rattle.joint_history.specs.JointLaws.{IsJoint, IsLegalJoint}
+use Rattle.joint_history.specs.Reading.{items_of, host_items_of}
 
 -- A node's own port did what a call of another node asks.
 abbrev pub serves_another : CallId → RingEntry → Bool

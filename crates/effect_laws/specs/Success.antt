@@ -8,10 +8,10 @@ use Rattle.controller_core.specs.declared.entry.Entry.TheVariants.{Finish}
 use Rattle.host_port.specs.declared.entry.HostEntry.{HostEntry}
 use Rattle.host_port.specs.declared.entry.HostEntry.TheVariants.{Answer}
 use Rattle.host_port.specs.declared.entry.HostResult.TheVariants.{Reply}
-use Rattle.tied_lists.specs.Result.{function_in}
-use Rattle.comm_port.specs.declared.joint.ControllerLog.{ControllerLog}
-use Rattle.comm_port.specs.declared.joint.HostLog.{HostLog}
-use Rattle.comm_port.specs.declared.joint.Joint.{Joint}
+use Rattle.reply_laws.specs.Result.{function_in}
+use Rattle.joint_history.specs.declared.joint.ControllerLog.{ControllerLog}
+use Rattle.joint_history.specs.declared.joint.HostLog.{HostLog}
+use Rattle.joint_history.specs.declared.joint.Joint.{Joint}
 
 -- A controller's list tells that a call came to a good result, whatever the words.
 abbrev pub FinishesGood : List Entry → CallId → Type 0

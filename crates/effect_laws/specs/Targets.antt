@@ -8,12 +8,11 @@ use Rattle.ring_core.specs.declared.entry.RingEntry.TheVariants.{Post, Local}
 use Rattle.ring_core.specs.declared.frame.FrameKind.TheVariants.{Request}
 use Rattle.ring_core.specs.declared.frame.Frame.{Frame}
 use Rattle.ring_laws.specs.Once.{posts}
-use Rattle.comm_port.specs.declared.joint.ControllerLog.{ControllerLog}
-use Rattle.comm_port.specs.declared.joint.HostLog.{HostLog}
-use Rattle.comm_port.specs.declared.joint.Joint.{Joint}
-use Rattle.comm_port.specs.Effects.{answers_to}
-use Rattle.comm_port.specs.Reading.{items_of, host_items_of}
-use Rattle.effect_laws.specs.Effects.{InEachJoint}
+use Rattle.joint_history.specs.declared.joint.ControllerLog.{ControllerLog}
+use Rattle.joint_history.specs.declared.joint.HostLog.{HostLog}
+use Rattle.joint_history.specs.declared.joint.Joint.{Joint}
+use Rattle.joint_history.specs.Effects.{answers_to}
+use Rattle.joint_history.specs.Reading.{items_of, host_items_of}
 use Rattle.effect_laws.specs.Success.{ReportsSuccess}
 
 -- The caller posted the Request of a call to this node.
@@ -57,7 +56,3 @@ pub record EffectsAreAtTarget (joint : Joint) : Type 0 where
   pub effects : (id : CallId) (n : ℕ) → TakesEffectAt joint id n → IsTarget joint.ring id n
   pub success : (id : CallId) → ReportsSuccess joint id
       → (n : ℕ) × IsTarget joint.ring id n × TakesEffectAt joint id n
-
--- So it is in each joint history.
-abbrev pub AllEffectsAreAtTheirTarget : Type 0
-AllEffectsAreAtTheirTarget = InEachJoint EffectsAreAtTarget

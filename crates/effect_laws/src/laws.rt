@@ -2,7 +2,7 @@
 ghost use Rattle.effect_laws.specs.Served.{ServedAtMostOnce};
 ghost use Rattle.effect_laws.specs.Effects.{TakesEffectAtMostOnce, SuccessTakesEffectOnce};
 ghost use Rattle.effect_laws.specs.Effects.{NoFinishHas3000, AllEffectsAreRight};
-ghost use Rattle.effect_laws.specs.Targets.{AllEffectsAreAtTheirTarget};
+ghost use Rattle.effect_laws.specs.Effects.{AllEffectsAreAtTheirTarget, HostsGetTheirAnswers};
 
 use ladder_solver::segments_keep_calls;
 use mstr_block::{calls_are_taken_in_order, finishes_end_one_call, stays_table};
@@ -50,15 +50,6 @@ pub fn no_finish_has_3000()
     stays_table();
 }
 
-/// All of these, for whoever promises them of a joint history.
-pub fn effects_are_right()
-    ensures { AllEffectsAreRight }
-{
-    takes_effect_at_most_once();
-    success_takes_effect_once();
-    no_finish_has_3000();
-}
-
 /// Each effect of a call is at its target: at the node that its Request was posted to, and at the
 /// caller's own where none was posted. So is the one effect of a call that reports success.
 pub fn effects_are_at_their_target()
@@ -69,4 +60,26 @@ pub fn effects_are_at_their_target()
     finishes_end_one_call();
     stays_table();
     success_takes_effect_once();
+}
+
+/// Each reply that a host got is the answer of the node that it asked, to the very request that it
+/// made.
+pub fn hosts_get_their_answers()
+    ensures { HostsGetTheirAnswers }
+{
+    segments_keep_calls();
+    calls_are_taken_in_order();
+    finishes_end_one_call();
+    stays_table();
+}
+
+/// All of these, for whoever promises them of a joint history.
+pub fn effects_are_right()
+    ensures { AllEffectsAreRight }
+{
+    takes_effect_at_most_once();
+    success_takes_effect_once();
+    effects_are_at_their_target();
+    no_finish_has_3000();
+    hosts_get_their_answers();
 }

@@ -4,6 +4,6 @@
 mod laws;
 
 pub use laws::{
-    effects_are_at_their_target, effects_are_right, no_finish_has_3000, served_at_most_once,
-    success_takes_effect_once, takes_effect_at_most_once,
+    effects_are_at_their_target, effects_are_right, hosts_get_their_answers, no_finish_has_3000,
+    served_at_most_once, success_takes_effect_once, takes_effect_at_most_once,
 };

@@ -6,10 +6,6 @@ pub record GlobalIs : Type 0 where
   pub put : List ℕ
   pub heard : List ℕ
 
--- At most 32 words go with a token.
-abbrev pub word_limit : ℕ
-word_limit = 32
-
 abbrev pub no_words : GlobalIs
 no_words = record { put = []; heard = [] }
 
@@ -20,13 +16,13 @@ book_places = 256
 abbrev pub Book : Type 0
 Book = List (Option GlobalIs)
 
-abbrev pub with_members : Book → List ℕ → Book
-with_members book [] = book
-with_members book (m ∷ ms) = with_members (set book m (Some no_words)) ms
+abbrev pub with_places : Book → List ℕ → Book
+with_places book [] = book
+with_places book (m ∷ ms) = with_places (set book m (Some no_words)) ms
 
 -- Each member has a place without words.
 abbrev pub new_book : List ℕ → Book
-new_book members = with_members (replicate book_places None) members
+new_book members = with_places (replicate book_places None) members
 
 abbrev pub place_at : Book → ℕ → Option GlobalIs
 place_at book node = get_or book node None
@@ -35,7 +31,7 @@ abbrev pub or_no_words : Option GlobalIs → GlobalIs
 or_no_words None = no_words
 or_no_words (Some words) = words
 
--- What a node put and passed; nothing for who is no member.
+-- What a node put and passed; nothing for a node that is no member.
 abbrev pub words_at : Book → ℕ → GlobalIs
 words_at book node = or_no_words (place_at book node)
 

@@ -1,7 +1,8 @@
 //! A book of the global words, by node.
 ghost use Rattle.std.specs.Prelude.{◌≡◌, ◌≢◌, ◌≤◌, length, IfOk, IfSome, None, Some};
 ghost use Rattle.global_data.specs.Book.{place_at, heard_at, waiting_at, with_put, with_passed};
-ghost use Rattle.global_data.specs.Book.{new_book, word_limit};
+ghost use Rattle.global_data.specs.Book.{new_book};
+ghost use Rattle.plant_types.specs.Words.{global_limit};
 
 use crate::words::GlobalWords;
 use std::alloc::{AllocError, Global};
@@ -46,7 +47,7 @@ impl GlobalBook {
     /// A member puts words, at most 32. Takes no memory.
     pub fn put(&mut self, node: u8, words: &[u16])
         requires member { place_at self.old node ≢ None }
-        requires words { length words.now ≤ word_limit }
+        requires words { length words.now ≤ global_limit }
         ensures { self.new ≡ with_put self.old node words.now }
     {
         if let Some(place) = &mut self.places[node as usize] {
@@ -68,7 +69,7 @@ impl GlobalBook {
     pub fn get(&self, node: u8) -> Option<&[u16]>
         ensures words { IfSome result (λ words. heard_at (place_at self.now node)
             ≡ Some words.now) }
-        ensures fits { IfSome result (λ words. length words.now ≤ word_limit) }
+        ensures fits { IfSome result (λ words. length words.now ≤ global_limit) }
         ensures none { result ≡ None → place_at self.now node ≡ None }
     {
         match &self.places[node as usize] {

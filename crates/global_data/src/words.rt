@@ -1,6 +1,7 @@
 //! The global words of one node.
 ghost use Rattle.std.specs.Prelude.{◌≡◌, ◌≤◌, length};
-ghost use Rattle.global_data.specs.Book.{GlobalIs, no_words, word_limit};
+ghost use Rattle.global_data.specs.Book.{GlobalIs, no_words};
+ghost use Rattle.plant_types.specs.Words.{global_limit};
 
 use plant_types::Block;
 use std::marker::Model;
@@ -14,13 +15,14 @@ pub(crate) struct GlobalWords {
 
 impl Model for GlobalWords {
     ghost use Rattle.std.specs.Prelude.{◌≤◌, length};
-    ghost use Rattle.global_data.specs.Book.{GlobalIs, word_limit};
+    ghost use Rattle.global_data.specs.Book.{GlobalIs};
+    ghost use Rattle.plant_types.specs.Words.{global_limit};
 
     ghost Value = { GlobalIs };
 
     ghost view = { λ w. record { put = w.put; heard = w.heard } };
 
-    ghost invariant = { λ w. (length w.put ≤ word_limit) × (length w.heard ≤ word_limit) };
+    ghost invariant = { λ w. (length w.put ≤ global_limit) × (length w.heard ≤ global_limit) };
 }
 
 impl GlobalWords {
@@ -36,7 +38,7 @@ impl GlobalWords {
 
     /// Puts words, at most 32, in the place of those put before.
     pub fn put(&mut self, words: &[u16])
-        requires { length words.now ≤ word_limit }
+        requires { length words.now ≤ global_limit }
         ensures { self.new ≡ record { put = words.now; heard = self.old.heard } }
     {
         self.put = Block::of(words);
@@ -52,7 +54,7 @@ impl GlobalWords {
     /// The words that were put.
     pub fn waiting(&self) -> &[u16]
         ensures words { result.now ≡ self.now.put }
-        ensures fits { length self.now.put ≤ word_limit }
+        ensures fits { length self.now.put ≤ global_limit }
     {
         self.put.words()
     }
@@ -60,7 +62,7 @@ impl GlobalWords {
     /// The words that went with the latest token.
     pub fn heard(&self) -> &[u16]
         ensures words { result.now ≡ self.now.heard }
-        ensures fits { length self.now.heard ≤ word_limit }
+        ensures fits { length self.now.heard ≤ global_limit }
     {
         self.heard.words()
     }

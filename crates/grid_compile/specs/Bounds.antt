@@ -11,8 +11,8 @@ pub record IsWithin (op : Op) : Type 0 where
   pub first : 1 ≤ op.row
   pub last : op.row ≤ 7
 
--- So does each cell of a column, in strictly rising rows, and shorts join neighbours among them.
--- This project's own.
+-- Each cell of a column stands in one of the seven rows, the rows rise strictly, and the shorts
+-- join neighbours among them. This project's own.
 pub record IsColumn (laid : Column) : Type 0 where
   pub rows : AllByRecursion IsWithin laid.ops
   pub rises : Rises 1 laid.ops

@@ -31,7 +31,7 @@ shorts_of a b c d e f column =
     short_if a column 1 ++ (short_if b column 2 ++ (short_if c column 3 ++
     (short_if d column 4 ++ (short_if e column 5 ++ short_if f column 6))))
 
--- Those that a mask tells. This project's own.
+-- The shorts that a mask tells of a column. This project's own.
 abbrev pub shorts_at : ℕ → ℕ → List Short
 shorts_at marks column =
     shorts_of (row_on marks 1) (row_on marks 2) (row_on marks 3) (row_on marks 4) (row_on marks 5)

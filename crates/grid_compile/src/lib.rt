@@ -3,8 +3,6 @@
 
 mod grid;
 mod joining;
-#[cfg(test)]
-mod tests;
 
 pub use grid::{Column, Grid, Op, each_column_listed, each_grid_listed, grids_of};
 pub use joining::column_join;

@@ -24,7 +24,7 @@ use Rattle.host_port.specs.Legal.{Question, FitsHost, IsHostHistory, question_du
 use Rattle.host_port.specs.Legal.{questions_in, questions_of, refusal_to}
 use Rattle.host_port.specs.Host.{HostIs, due_ask, due_request, if_due, next_ask, request_for}
 use Rattle.host_port.specs.Following.{MayComeNext, HostMayFollow}
-use Rattle.host_port.specs.Kept.{IsDue}
+use Rattle.host_port.specs.Kept.{IsDueRequest}
 use Rattle.host_port.proofs.Lists.{all_at, behind, found, get_behind, split_last}
 use Rattle.host_port.proofs.Paths.{paths_are}
 use Rattle.host_port.proofs.Unanswered.{requests_answer, requests_ask, requests_served}
@@ -155,13 +155,13 @@ due_is hold (Some x) ask is = elim (cases_Bool (nat_le x.hold hold)) [
   | inr early ↦ let none : None ≡ Some ask = sym (ap (λ b. if b then Some x else None) early) ∙ is in absurd cc
 ]
 
-pub request_is : (v : HostIs) (hold : ℕ) (f : Frame) → IsHostPlan v.plan → due_request v hold ≡ Some f → IsDue v f
+pub request_is : (v : HostIs) (hold : ℕ) (f : Frame) → IsHostPlan v.plan → due_request v hold ≡ Some f → IsDueRequest v f
 request_is v hold f sound is =
     let p = parts (next_host_call v.plan v.history) (due_ask v hold) f is in
     let here = due_is hold (next_ask v) p.ask p.asked in
     let next = next_is v.plan v.history p.id p.named in
     let made : Frame = record { kind = Request; to = p.ask.to; id = p.id; pdu = p.ask.pdu } in
-    let due : IsDue v made = record {
+    let due : IsDueRequest v made = record {
       next = (p.named, ap (option_map question_due) here);
       from = (
         ap (λ (i : CallId). i.node) next.name,
@@ -169,7 +169,7 @@ request_is v hold f sound is =
         next.path,
       );
     } in
-    subst (IsDue v) p.frame due
+    subst (IsDueRequest v) p.frame due
 
 -- ---- how many
 

@@ -10,8 +10,8 @@ use Rattle.host_port.specs.Host.{HostIs, next_ask}
 abbrev pub HostMayFollow : HostIs → HostEntry → Type 0
 HostMayFollow v entry = IsHostHistory v.plan (v.history ++ entry ∷ [])
 
--- The same, by what stands there: an Ask is the next call, and asks what the plan asks next; an
--- Answer names a call that is out; and what is served is refused.
+-- An entry may come next by what stands there: an Ask is the next call, and asks what the plan asks
+-- next; an Answer names a call that is out; and what is served is refused.
 abbrev pub MayComeNext : HostIs → HostEntry → Type 0
 MayComeNext v (Ask id to pdu) =
     (next_host_call v.plan v.history ≡ Some id)

@@ -46,7 +46,7 @@ HasPath (Answer id result) = IsPath id.path
 HasPath (Served id request reply) = Unit {0}
 
 -- The Request that is due: its Ask may come next, and it may be posted by this host.
-pub record IsDue (v : HostIs) (request : Frame) : Type 0 where
+pub record IsDueRequest (v : HostIs) (request : Frame) : Type 0 where
   pub next : MayComeNext v (Ask request.id request.to request.pdu)
   pub from : IsFrom v.plan.node Request request
 
@@ -60,7 +60,7 @@ pub record IsHostKept (plan : HostPlan) (made : ℕ) (paths : List Path)
   pub count : made ≡ length (requests_in history)
   pub state : paths ≡ map (path_in history) network_paths
 
--- The same, of a plan that a host can have.
+-- A host is kept so, by a plan that a host can have.
 pub record IsHost (plan : HostPlan) (made : ℕ) (paths : List Path)
     (history : List HostEntry) : Type 0 where
   pub sound : IsHostPlan plan

@@ -67,7 +67,7 @@ OpenRequestsAreLast = (plan : HostPlan) (history : List HostEntry) (path : ℕ) 
     → IsOpenOn plan history path request
 
 -- A new call has the next name of a path, one of the four, that has no Request without an answer.
-pub record IsNewCall (plan : HostPlan) (history : List HostEntry) (id : CallId) : Type 0 where
+pub record IsNewAsk (plan : HostPlan) (history : List HostEntry) (id : CallId) : Type 0 where
   pub name : id ≡ call_on plan history id.path
   pub free : open_on history id.path ≡ None
   pub is_path : IsPath id.path
@@ -75,7 +75,7 @@ pub record IsNewCall (plan : HostPlan) (history : List HostEntry) (id : CallId) 
 abbrev pub AsksMakeNewCalls : Type 0
 AsksMakeNewCalls =
     (plan : HostPlan) (history : List HostEntry) (id : CallId) (to : ℕ) (pdu : List ℕ)
-    → IsHostHistory plan (history ++ Ask id to pdu ∷ []) → IsNewCall plan history id
+    → IsHostHistory plan (history ++ Ask id to pdu ∷ []) → IsNewAsk plan history id
 
 -- An Ask counts on its path, and nothing else does.
 pub record CountsFollow : Type 0 where

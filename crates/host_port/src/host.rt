@@ -9,20 +9,18 @@ ghost use Rattle.host_port.specs.Legal.{IsHostHistory, refusal_to};
 ghost use Rattle.host_port.specs.Host.{entry_asked, due_ask, due_request, host_is_done, next_ask};
 ghost use Rattle.host_port.specs.Host.{entry_noted, entry_served, HostWentOn};
 ghost use Rattle.host_port.specs.Following.{MayComeNext};
-ghost use Rattle.host_port.specs.Kept.{HasPath, IsDue, paths_after};
+ghost use Rattle.host_port.specs.Kept.{HasPath, IsDueRequest, paths_after};
 
 use crate::entry::{HostEntry, HostResult};
 use modbus_pdu::{ILLEGAL_FUNCTION, Reply, encode_reply};
 use mstr_block::CallId;
-use plant_types::{Copied, HostAsk, HostPlan, List, NetPlan, Pdu};
+use plant_types::{Copied, HostAsk, HostPlan, List, NETWORK_PATHS, NetPlan, Pdu};
 use ring_core::{Frame, FrameKind, is_path};
 use std::alloc::{AllocError, Global};
 use std::marker::Model;
 
 /// The paths of a node (*Modbus Plus Network Planning and Installation Guide*).
 const PATHS: usize = 4;
-
-const NETWORK_PATHS: [u8; PATHS] = [1, 2, 3, 4];
 
 /// One of the paths, as far as it was used.
 #[derive(Clone, Copy, Drop)]
@@ -206,7 +204,7 @@ impl Host {
     /// The Request that is due, if there is one and a path is free.
     fn due_request(&self, hold: u32) -> Result<Option<Frame>, AllocError>
         ensures request { IfOk result (λ request. request ≡ due_request self.now hold) }
-        ensures due { IfOk result (λ request. IfSome request (IsDue self.now)) }
+        ensures due { IfOk result (λ request. IfSome request (IsDueRequest self.now)) }
     {
         let Some(id) = self.next_call() else {
             return Ok(None);

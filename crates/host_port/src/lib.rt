@@ -12,6 +12,3 @@ pub use laws::{
     answers_end_one_call, asks_have_new_names, asks_keep_calls, open_requests_follow,
     serving_keeps_calls,
 };
-
-#[cfg(test)]
-mod tests;

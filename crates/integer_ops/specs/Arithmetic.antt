@@ -1,26 +1,13 @@
 -- What each block of integer arithmetic does when it is solved: Modicon Ladder Logic Block Library
 -- User Guide; the exact inputs and outputs are this project's own.
 use Rattle.std.specs.Prelude.{ℕ, ◌+◌, ◌-◌, ◌*◌, ◌/◌, ◌%◌, ◌==◌, nat_lt, min, max}
-use Rattle.std.specs.Prelude.{Bool, true, false, ◌&&◌, not, if◌then◌else◌, [], ◌∷◌}
+use Rattle.std.specs.Prelude.{Bool, ◌&&◌, not, if◌then◌else◌, [], ◌∷◌}
 use Rattle.std.specs.FinMap.{insert}
 use Rattle.plant_types.specs.declared.power.NodePower.{NodePower}
 use Rattle.plant_types.specs.declared.reference.Ref.{Ref}
 use Rattle.plant_types.specs.Effect.{Effect}
+use Rattle.plant_types.specs.Power.{no_output, top_output, middle_output, bottom_output}
 use Rattle.plant_types.specs.Store.{Contents, with_words}
-
--- No output is on.
-abbrev pub no_output : NodePower
-no_output = record { top = false; middle = false; bottom = false }
-
--- One output is on: the top one, the middle one, the bottom one.
-abbrev pub top_output : NodePower
-top_output = record no_output { top = true }
-
-abbrev pub middle_output : NodePower
-middle_output = record no_output { middle = true }
-
-abbrev pub bottom_output : NodePower
-bottom_output = record no_output { bottom = true }
 
 -- Nothing changes, and no output is on.
 abbrev pub no_effect : Contents → Effect

@@ -5,9 +5,7 @@
 //! changes and no output is on. The operands and results of four digits go up to 9999.
 #![tactic(auto)]
 
-ghost use Rattle.std.specs.Prelude.{◌≡◌};
-ghost use Rattle.plant_types.specs.Effect.{Does};
-ghost use Rattle.plant_types.specs.Power.{nodes_of};
+ghost use Rattle.plant_types.specs.Effect.{Acts};
 ghost use Rattle.plant_types.specs.Store.{HasRegisters};
 ghost use Rattle.integer_ops.specs.Arithmetic.{add_effect, sub_effect, mul_effect, div_effect};
 
@@ -22,29 +20,13 @@ const LARGEST: u16 = 9999;
 /// One more than the largest number of four digits.
 const BASE: u32 = 10_000;
 
-/// One output is on.
-const TOP: NodePower = NodePower {
-    top: true,
-    ..NodePower::OFF
-};
-
-const MIDDLE: NodePower = NodePower {
-    middle: true,
-    ..NodePower::OFF
-};
-
-const BOTTOM: NodePower = NodePower {
-    bottom: true,
-    ..NodePower::OFF
-};
-
 /// Adds two numbers: the last four digits of the sum go to `low`.
 ///
 /// The top output is on where the sum is above 9999.
 #[tactic(auto, unfolding(crate::specs::Arithmetic::add_effect))]
 pub fn add<R: RefStore>(a: u16, b: u16, low: Ref, inputs: u8, ram: &mut R) -> u8
     requires { HasRegisters (R.contents ram.old) low 1 }
-    ensures { Does (add_effect a b low (nodes_of inputs)) result
+    ensures { Acts (add_effect a b low) inputs result
         (R.contents ram.old) (R.contents ram.new) }
 {
     if !NodePower::of_bits(inputs).top {
@@ -66,7 +48,7 @@ pub fn add<R: RefStore>(a: u16, b: u16, low: Ref, inputs: u8, ram: &mut R) -> u8
 #[tactic(auto, unfolding(crate::specs::Arithmetic::sub_effect))]
 pub fn sub<R: RefStore>(a: u16, b: u16, low: Ref, inputs: u8, ram: &mut R) -> u8
     requires { HasRegisters (R.contents ram.old) low 1 }
-    ensures { Does (sub_effect a b low (nodes_of inputs)) result
+    ensures { Acts (sub_effect a b low) inputs result
         (R.contents ram.old) (R.contents ram.new) }
 {
     if !NodePower::of_bits(inputs).top {
@@ -88,7 +70,7 @@ pub fn sub<R: RefStore>(a: u16, b: u16, low: Ref, inputs: u8, ram: &mut R) -> u8
 #[tactic(auto, unfolding(crate::specs::Arithmetic::mul_effect))]
 pub fn mul<R: RefStore>(a: u16, b: u16, low: Ref, inputs: u8, ram: &mut R) -> u8
     requires { HasRegisters (R.contents ram.old) low 2 }
-    ensures { Does (mul_effect a b low (nodes_of inputs)) result
+    ensures { Acts (mul_effect a b low) inputs result
         (R.contents ram.old) (R.contents ram.new) }
 {
     if !NodePower::of_bits(inputs).top || a > LARGEST || b > LARGEST {
@@ -100,7 +82,7 @@ pub fn mul<R: RefStore>(a: u16, b: u16, low: Ref, inputs: u8, ram: &mut R) -> u8
         low,
         &[(product / BASE) as u16, (product % BASE) as u16],
     );
-    TOP.bits()
+    NodePower::TOP.bits()
 }
 
 /// Divides a number of eight digits by one of four: the quotient goes to `low`, and to the next
@@ -113,7 +95,7 @@ pub fn mul<R: RefStore>(a: u16, b: u16, low: Ref, inputs: u8, ram: &mut R) -> u8
 #[tactic(auto, unfolding(crate::specs::Arithmetic::div_effect))]
 pub fn div<R: RefStore>(high: u16, units: u16, by: u16, low: Ref, inputs: u8, ram: &mut R) -> u8
     requires { HasRegisters (R.contents ram.old) low 2 }
-    ensures { Does (div_effect high units by low (nodes_of inputs)) result
+    ensures { Acts (div_effect high units by low) inputs result
         (R.contents ram.old) (R.contents ram.new) }
 {
     let inputs = NodePower::of_bits(inputs);
@@ -121,13 +103,13 @@ pub fn div<R: RefStore>(high: u16, units: u16, by: u16, low: Ref, inputs: u8, ra
         return NodePower::OFF.bits();
     }
     if by == 0 {
-        return BOTTOM.bits();
+        return NodePower::BOTTOM.bits();
     }
     let dividend = u32::from(high) * BASE + u32::from(units);
     let by = u32::from(by);
     let quotient = dividend / by;
     if quotient > u32::from(LARGEST) {
-        return MIDDLE.bits();
+        return NodePower::MIDDLE.bits();
     }
     let remainder = dividend % by;
     let rest = if inputs.middle {
@@ -136,5 +118,5 @@ pub fn div<R: RefStore>(high: u16, units: u16, by: u16, low: Ref, inputs: u8, ra
         remainder
     };
     store_words(ram, low, &[quotient as u16, rest as u16]);
-    TOP.bits()
+    NodePower::TOP.bits()
 }

@@ -21,11 +21,11 @@ use Rattle.ring_core.specs.Legal.{IsLegal as IsLegalRing}
 use Rattle.controller_core.specs.Controller.{IsLegal}
 use Rattle.controller_core.specs.Laws.{FrontsAreLegal}
 use Rattle.host_port.specs.Legal.{IsHostHistory}
-use Rattle.comm_port.specs.declared.joint.ControllerLog.{ControllerLog}
-use Rattle.comm_port.specs.declared.joint.HostLog.{HostLog}
-use Rattle.comm_port.specs.declared.joint.Joint.{Joint}
-use Rattle.comm_port.specs.Complete.{IsComplete}
-use Rattle.comm_port.specs.JointLaws.{IsJoint, IsLegalHostLog, IsLegalLog, fixed_of}
+use Rattle.joint_history.specs.declared.joint.ControllerLog.{ControllerLog}
+use Rattle.joint_history.specs.declared.joint.HostLog.{HostLog}
+use Rattle.joint_history.specs.declared.joint.Joint.{Joint}
+use Rattle.joint_history.specs.Complete.{IsComplete}
+use Rattle.joint_history.specs.JointLaws.{IsJoint, IsLegalHostLog, IsLegalLog, fixed_of}
 use Rattle.joint_law.specs.Bound.{Bound, Breaks, Keeps, bounds_of, controller_bound, host_bound}
 use Rattle.joint_law.specs.Bound.{number_of}
 use Rattle.joint_law.specs.Differing.{BreaksAt, DifferAt}

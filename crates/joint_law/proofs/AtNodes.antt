@@ -17,11 +17,11 @@ use Rattle.plant_types.specs.declared.plan.Plant.{Plant}
 use Rattle.plant_types.specs.Plans.{IsPlant, controller_nodes, host_nodes}
 use Rattle.ring_core.specs.Machine.{addresses}
 use Rattle.ring_core.specs.declared.entry.RingEntry.{RingEntry}
-use Rattle.comm_port.specs.declared.joint.ControllerLog.{ControllerLog}
-use Rattle.comm_port.specs.declared.joint.HostLog.{HostLog}
-use Rattle.comm_port.specs.declared.joint.Joint.{Joint}
-use Rattle.comm_port.specs.Complete.{IsComplete}
-use Rattle.comm_port.specs.Complete.{IsCompleteHostLog, IsCompleteLog, NodeIsComplete}
+use Rattle.joint_history.specs.declared.joint.ControllerLog.{ControllerLog}
+use Rattle.joint_history.specs.declared.joint.HostLog.{HostLog}
+use Rattle.joint_history.specs.declared.joint.Joint.{Joint}
+use Rattle.joint_history.specs.Complete.{IsComplete}
+use Rattle.joint_history.specs.Complete.{IsCompleteHostLog, IsCompleteLog, NodeIsComplete}
 use Rattle.tied_lists.specs.Own.{own}
 use Rattle.joint_law.specs.AllComplete.{AreControllersDone, AreHostNodesDone}
 use Rattle.joint_law.specs.AllComplete.{IsHostNodeDone, IsNodeDone}

@@ -17,14 +17,14 @@ use Rattle.std.specs.Prelude.{◌↔◌, IsTrue, if◌then◌else◌}
 use Rattle.std.proofs.lemmas.Bool.{cases_lt, eqb-true}
 use Rattle.controller_core.specs.declared.fixed.Fixed.{Fixed}
 use Rattle.controller_core.specs.Replay.{replay}
-use Rattle.comm_port.specs.Complete.{ControllerIsComplete, is_end}
-use Rattle.comm_port.specs.Reading.{has_started_at}
+use Rattle.joint_history.specs.Complete.{ControllerIsComplete, is_end}
+use Rattle.joint_history.specs.Reading.{has_started_at}
 use Rattle.joint_law.specs.Ends.{CountsEnds, once_of}
 use Rattle.joint_law.specs.Named.{value_at}
 use Rattle.joint_law.specs.declared.by_call.ByCall.{ByCall}
 use Rattle.tied_lists.proofs.Boxes.{count-cons}
-use Rattle.comm_port.specs.Complete.{EndsEachCall}
-use Rattle.comm_port.specs.Reading.{items_of, host_items_of}
+use Rattle.joint_history.specs.Complete.{EndsEachCall}
+use Rattle.joint_history.specs.Reading.{items_of, host_items_of}
 use Rattle.joint_law.specs.Endings.{end_with, host_end_with}
 use Rattle.joint_law.specs.Ends.{EndsOnce, end_id_in, ends_of, host_end_id_in, id_of_call}
 use Rattle.joint_law.specs.Ends.{id_of_end}

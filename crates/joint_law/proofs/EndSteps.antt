@@ -19,7 +19,7 @@ use Rattle.std.proofs.lemmas.List.{map-append}
 use Rattle.controller_core.specs.declared.call.Call.{Call}
 use Rattle.controller_core.specs.declared.entry.Entry.{Entry}
 use Rattle.host_port.specs.declared.entry.HostEntry.{HostEntry}
-use Rattle.comm_port.specs.Reading.{called_of, host_items_of, items_of, sort_of}
+use Rattle.joint_history.specs.Reading.{called_of, host_items_of, items_of, sort_of}
 use Rattle.joint_law.specs.Endings.{NotesAsk, NotesCalls, NotesKind, end_with, ended_with}
 use Rattle.joint_law.specs.Endings.{ended_with_frame, host_end_with, kind_at, or_kind, pdu_for}
 use Rattle.joint_law.specs.Kinds.{kind_as}

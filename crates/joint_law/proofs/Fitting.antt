@@ -15,9 +15,9 @@ use Rattle.ring_core.specs.declared.frame.Frame.{Frame}
 use Rattle.ring_core.specs.declared.entry.RingEntry.{RingEntry}
 use Rattle.ring_core.specs.declared.entry.RingEntry.TheVariants.{Post, Send, Take, Local, GiveUp}
 use Rattle.ring_core.specs.declared.entry.RingEntry.TheVariants.{Pass, Leave}
-use Rattle.comm_port.specs.Complete.{AsksAllBeforeDone, AsksInItsHolds, IsOfDone}
-use Rattle.comm_port.specs.Complete.{RepliesBeforePasses}
-use Rattle.comm_port.specs.Complete.{StandsIn, StaysDone}
+use Rattle.joint_history.specs.Complete.{AsksAllBeforeDone, AsksInItsHolds, IsOfDone}
+use Rattle.joint_history.specs.Complete.{RepliesBeforePasses}
+use Rattle.joint_history.specs.Complete.{StandsIn, StaysDone}
 use Rattle.joint_law.specs.Completing.{AskFits, EachAllows, HasReplied, HostAllows}
 use Rattle.joint_law.specs.Completing.{NodeAllows, is_leave, progress_of, says_done}
 

@@ -5,7 +5,6 @@ pub mod CourseEnds
 pub mod CourseSteps
 pub mod EndCounts
 pub mod EndSteps
-pub mod Example
 pub mod Fitting
 pub mod LawSteps
 pub mod Leaving

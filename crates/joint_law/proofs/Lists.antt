@@ -13,8 +13,8 @@ use Rattle.controller_core.specs.declared.entry.Entry.TheVariants as entries
 use Rattle.host_port.specs.declared.entry.HostEntry.{HostEntry}
 use Rattle.host_port.specs.declared.entry.HostEntry.TheVariants as host_entries
 use Rattle.tied_lists.specs.Items.{Items, kind_in, no_items}
-use Rattle.comm_port.specs.Reading.{item_next, items_after, items_of, host_item_next}
-use Rattle.comm_port.specs.Reading.{host_items_after, host_items_of}
+use Rattle.joint_history.specs.Reading.{item_next, items_after, items_of, host_item_next}
+use Rattle.joint_history.specs.Reading.{host_items_after, host_items_of}
 use Rattle.joint_law.specs.Readings.{answer_in, calls_in, host_answer_in, host_call_in}
 use Rattle.joint_law.specs.Endings.{end_with, host_end_with}
 use Rattle.joint_law.specs.Split.{AreWithin, entry_at, picked}

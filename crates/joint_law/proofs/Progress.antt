@@ -17,7 +17,7 @@ use Rattle.ring_core.specs.declared.entry.RingEntry.TheVariants.{Pass, Leave}
 use Rattle.tied_lists.specs.Items.{Asked, Item, Taken, asked_by, asked_in, asked_of, replied_by}
 use Rattle.tied_lists.specs.Items.{replied_in, replied_of, taken_by, taken_in, taken_of}
 use Rattle.tied_lists.proofs.Boxes.{at-most-one, count-cons}
-use Rattle.comm_port.specs.Complete.{is_pass}
+use Rattle.joint_history.specs.Complete.{is_pass}
 use Rattle.joint_law.specs.Completing.{IsShort, posted_next, progress_next, progress_of}
 use Rattle.joint_law.specs.Completing.{says_done, taken_next}
 use Rattle.joint_law.specs.declared.completing.Progress.{Progress}

@@ -21,13 +21,13 @@ use Rattle.controller_core.specs.Laws.{FrontsAreLegal}
 use Rattle.host_port.specs.declared.entry.HostEntry.{HostEntry}
 use Rattle.host_port.specs.Calls.{request_by, requests_in}
 use Rattle.host_port.specs.Legal.{IsHostHistory, Question, question_of, questions_in}
-use Rattle.comm_port.specs.declared.joint.ControllerLog.{ControllerLog}
-use Rattle.comm_port.specs.declared.joint.HostLog.{HostLog}
-use Rattle.comm_port.specs.declared.joint.Joint.{Joint}
-use Rattle.comm_port.specs.Complete.{IsComplete, IsCompleteHostLog, IsCompleteLog}
-use Rattle.comm_port.specs.JointLaws.{IsJoint, IsLegalHostLog, IsLegalJoint, IsLegalLog}
-use Rattle.comm_port.specs.JointLaws.{IsTiedController}
-use Rattle.comm_port.specs.JointLaws.{IsTiedHost, fixed_of}
+use Rattle.joint_history.specs.declared.joint.ControllerLog.{ControllerLog}
+use Rattle.joint_history.specs.declared.joint.HostLog.{HostLog}
+use Rattle.joint_history.specs.declared.joint.Joint.{Joint}
+use Rattle.joint_history.specs.Complete.{IsComplete, IsCompleteHostLog, IsCompleteLog}
+use Rattle.joint_history.specs.JointLaws.{IsJoint, IsLegalHostLog, IsLegalJoint, IsLegalLog}
+use Rattle.joint_history.specs.JointLaws.{IsTiedController}
+use Rattle.joint_history.specs.JointLaws.{IsTiedHost, fixed_of}
 use Rattle.joint_law.specs.AllComplete.{IsFirstIncomplete}
 use Rattle.joint_law.specs.Bound.{Bound, Breaks, Keeps, bounds_of, controller_bound, host_bound}
 use Rattle.joint_law.specs.Differing.{BreaksAt, DifferAt}

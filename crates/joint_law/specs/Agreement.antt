@@ -2,7 +2,7 @@
 use Rattle.std.specs.Prelude.{◌≡◌, ℕ}
 use Rattle.plant_types.specs.declared.plan.Plant.{Plant}
 use Rattle.plant_types.specs.Plans.{IsPlant}
-use Rattle.comm_port.specs.declared.joint.Joint.{Joint}
+use Rattle.joint_history.specs.declared.joint.Joint.{Joint}
 use Rattle.joint_law.specs.Spots.{IsVerdict}
 use Rattle.joint_law.specs.declared.verdict.Verdict.{Verdict}
 

@@ -6,9 +6,9 @@ use Rattle.plant_types.specs.declared.net.HostPlan.{HostPlan}
 use Rattle.plant_types.specs.declared.plan.Plant.{Plant}
 use Rattle.ring_core.specs.Machine.{addresses}
 use Rattle.ring_core.specs.declared.entry.RingEntry.{RingEntry}
-use Rattle.comm_port.specs.declared.joint.ControllerLog.{ControllerLog}
-use Rattle.comm_port.specs.declared.joint.HostLog.{HostLog}
-use Rattle.comm_port.specs.declared.joint.Joint.{Joint}
+use Rattle.joint_history.specs.declared.joint.ControllerLog.{ControllerLog}
+use Rattle.joint_history.specs.declared.joint.HostLog.{HostLog}
+use Rattle.joint_history.specs.declared.joint.Joint.{Joint}
 use Rattle.joint_law.specs.Completing.{EachAllows, HostAllows, NodeAllows, is_leave}
 use Rattle.joint_law.specs.Spots.{IsCompleteAt}
 
@@ -18,17 +18,17 @@ pub record IsNodeDone (is_done : Bool) (b : List RingEntry) : Type 0 where
   pub fits : EachAllows NodeAllows b
   pub left : list_any is_leave b ≡ true
 
--- A host too.
+-- A host's station was done, its node on the ring, and it asked nothing too early.
 pub record IsHostNodeDone (plan : HostPlan) (is_done : Bool) (b : List RingEntry) : Type 0 where
   pub node : IsNodeDone is_done b
   pub asks : EachAllows (HostAllows plan) b
 
--- All controllers of a node were.
+-- Each controller of a node was done, and its node on the ring.
 abbrev pub AreControllersDone : List ControllerLog → List Bool → ℕ → List RingEntry → Type 0
 AreControllersDone logs done node b = (k : ℕ) (d : ControllerLog) → k < length logs
     → (get_or logs k d).node ≡ node → IsNodeDone (get_or done k false) b
 
--- And all hosts.
+-- Each host of a node was done, its node on the ring, and it asked nothing too early.
 abbrev pub AreHostNodesDone : List HostPlan → List HostLog → List Bool → ℕ → List RingEntry
     → Type 0
 AreHostNodesDone plans logs done node b = (k : ℕ) (p : HostPlan) (d : HostLog) → k < length logs

@@ -7,10 +7,10 @@ use Rattle.tied_lists.specs.Items.{due_replies, ended_by, item_of, net_ask, plai
 use Rattle.tied_lists.specs.Items.{port_answers, replied_by, replies_in, stats_items, taken_by}
 use Rattle.tied_lists.specs.Tied.{AsksAreCalls, PeersAreTaken, PortIsTaken, RepliesAreDue}
 use Rattle.tied_lists.specs.Tied.{EndsAreMet}
-use Rattle.comm_port.specs.declared.joint.ControllerLog.{ControllerLog}
-use Rattle.comm_port.specs.declared.joint.HostLog.{HostLog}
-use Rattle.comm_port.specs.declared.joint.Joint.{Joint}
-use Rattle.comm_port.specs.Reading.{items_of, host_items_of}
+use Rattle.joint_history.specs.declared.joint.ControllerLog.{ControllerLog}
+use Rattle.joint_history.specs.declared.joint.HostLog.{HostLog}
+use Rattle.joint_history.specs.declared.joint.Joint.{Joint}
+use Rattle.joint_history.specs.Reading.{items_of, host_items_of}
 use Rattle.joint_law.specs.Differing.{DifferAt}
 use Rattle.joint_law.specs.declared.law.Law.{Law}
 use Rattle.joint_law.specs.declared.law.Law.TheVariants.{Asks, Answers, Replies, Ends}
@@ -84,7 +84,7 @@ Keeps Answers s = PeersAreTaken s.items s.ring × PortIsTaken s.ring
 Keeps Replies s = RepliesAreDue s.items s.ring
 Keeps Ends s = EndsAreMet s.station s.items s.ring
 
--- And breaks it at a place, the first at which the two lists of the law differ.
+-- A station breaks a law at a place, the first at which the two lists of the law differ.
 abbrev pub Breaks : Law → Bound → ℕ → Type 0
 Breaks Asks s place = DifferAt (asked_by s.ring) (filter_map net_ask s.items.calls) place
 Breaks Answers s place =

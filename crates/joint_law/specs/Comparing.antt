@@ -16,7 +16,7 @@ abbrev pub any_bound : Station → Items → List RingEntry → Bound
 any_bound station items ring =
     record { node = 0; station = station; items = items; ring = ring }
 
--- It keeps a law, or breaks it first at a place counted from 0.
+-- A station keeps a law, or breaks it first at a place counted from 0.
 abbrev pub IsLawEnd : Law → Station → Items → List RingEntry → Option ℕ → Type 0
 IsLawEnd law station items ring None = Keeps law (any_bound station items ring)
 IsLawEnd law station items ring (Some place) =

@@ -9,7 +9,7 @@ use Rattle.ring_core.specs.declared.frame.FrameKind.TheVariants.{Request, Reply}
 use Rattle.ring_core.specs.declared.entry.RingEntry.{RingEntry}
 use Rattle.ring_core.specs.declared.entry.RingEntry.TheVariants.{Leave, Pass, Post, Take}
 use Rattle.tied_lists.specs.Items.{asked_by, replied_by, taken_by}
-use Rattle.comm_port.specs.Complete.{IsOfDone, StandsIn, is_pass}
+use Rattle.joint_history.specs.Complete.{IsOfDone, StandsIn, is_pass}
 use Rattle.joint_law.specs.declared.completing.Progress.{Progress}
 
 -- A Pass that says done.
@@ -32,7 +32,7 @@ progress_of b = record {
   is_done = list_any says_done b;
 }
 
--- And by one more.
+-- What a node has done with a frame more that it posted.
 abbrev pub posted_next : Progress → FrameKind → Progress
 posted_next p Request = record p { asked = p.asked + 1 }
 posted_next p Reply = record p { replied = p.replied + 1 }
@@ -86,11 +86,11 @@ HostFits plan p (Post n f) = AskFits plan p f.kind
 HostFits plan p (Pass n done words) = done ≡ true → p.asked ≡ length plan.requests
 HostFits plan p _ = Unit {0}
 
--- The same, by the entries before.
+-- An entry fits what its node has done by the entries before it.
 abbrev pub NodeAllows : List RingEntry → RingEntry → Type 0
 NodeAllows before e = NodeFits (progress_of before) e
 
--- And of a host.
+-- An entry fits what its host has done by the entries before it.
 abbrev pub HostAllows : HostPlan → List RingEntry → RingEntry → Type 0
 HostAllows plan before e = HostFits plan (progress_of before) e
 

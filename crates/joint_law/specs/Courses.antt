@@ -9,7 +9,7 @@ abbrev pub FollowedTo : {E : Type 0} → (List E → Type 0) → List E → Opti
 FollowedTo Legal entries None = Legal entries
 FollowedTo Legal entries (Some place) = BreaksAt Legal entries (place + 1)
 
--- The same, and whether a station with a legal list was done.
+-- A list is legal or breaks off with an entry, and whether a station with a legal list was done.
 abbrev pub IsCourse : {E : Type 0} → (List E → Type 0) → Type 0 → List E → Course → Type 0
 IsCourse Legal Done entries (Breaks place) = BreaksAt Legal entries (place + 1)
 IsCourse Legal Done entries (Whole done) = Legal entries × (IsTrue done ↔ Done)

@@ -15,7 +15,7 @@ use Rattle.host_port.specs.declared.entry.HostEntry.TheVariants as host_entries
 use Rattle.tied_lists.specs.Items.{Asked, Called, Came, Ended, Kind, NetCall, Station}
 use Rattle.tied_lists.specs.Items.{ended_at_home, kind_in, outcome_of_reply}
 use Rattle.tied_lists.specs.Items.{or_some, outcome_of_word}
-use Rattle.comm_port.specs.Reading.{outcome_of}
+use Rattle.joint_history.specs.Reading.{outcome_of}
 use Rattle.joint_law.specs.declared.by_call.ByCall.{ByCall}
 use Rattle.joint_law.specs.declared.ending.EndKind.{EndKind}
 use Rattle.joint_law.specs.Kinds.{kind_as}
@@ -45,7 +45,7 @@ abbrev pub pdu_for : CallId → Option Asked → Option (List ℕ)
 pdu_for id None = None
 pdu_for id (Some a) = if is_same_call a.id id then Some a.pdu else None
 
--- It was noted.
+-- A request was noted, if there is one.
 abbrev pub NotesAsk : ByCall (List ℕ) → Option Asked → ByCall (List ℕ) → Type 0
 NotesAsk old asked new = (q : CallId) → value_at new q ≡ or_some (pdu_for q asked) (value_at old q)
 
@@ -55,13 +55,13 @@ end_with kinds (entries.Finish id result) =
     Some (record { id = id; kind = kinds id; outcome = Came result })
 end_with kinds _ = None
 
--- And that a host's entry tells.
+-- The end that an entry of a host tells.
 abbrev pub host_end_with : (CallId → Option Kind) → HostEntry → Option Ended
 host_end_with kinds (host_entries.Answer id result) =
     Some (record { id = id; kind = kinds id; outcome = outcome_of result })
 host_end_with kinds _ = None
 
--- The end that an entry of the ring gives.
+-- The end that a frame gives which was taken.
 abbrev pub ended_with_frame : Station → (CallId → Option (List ℕ))
     → FrameKind → Frame → Option Ended
 ended_with_frame station asked Request f = None
@@ -71,7 +71,7 @@ ended_with_frame station asked Reply f = Some (record {
   outcome = outcome_of_reply station (asked f.id) f.pdu;
 })
 
--- The same of any entry.
+-- The end that an entry of the ring gives.
 abbrev pub ended_with : Station → (CallId → Option (List ℕ)) → RingEntry → Option Ended
 ended_with station asked (Take n f) = ended_with_frame station asked f.kind f
 ended_with station asked (Local n id op result) = ended_at_home n id op result

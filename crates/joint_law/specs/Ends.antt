@@ -19,12 +19,12 @@ id_of_call call = call.id
 abbrev pub id_of_end : Ended → CallId
 id_of_end end = end.id
 
--- The call that an entry ends.
+-- The call that an entry of a controller ends.
 abbrev pub end_id_in : Entry → Option CallId
 end_id_in (Finish id result) = Some id
 end_id_in _ = None
 
--- And of a host's.
+-- The call that an entry of a host ends.
 abbrev pub host_end_id_in : HostEntry → Option CallId
 host_end_id_in (Answer id result) = Some id
 host_end_id_in _ = None
@@ -33,7 +33,7 @@ host_end_id_in _ = None
 abbrev pub ends_of : List CallId → CallId → ℕ
 ends_of ends call = count_by (λ (id : CallId). is_same_call id call) ends
 
--- It ends once.
+-- A call ends once.
 abbrev pub EndsOnce : List CallId → CallId → Type 0
 EndsOnce ends call = ends_of ends call ≡ 1
 

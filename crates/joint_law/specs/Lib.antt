@@ -8,7 +8,6 @@ pub mod Courses
 pub mod Differing
 pub mod Endings
 pub mod Ends
-pub mod Example
 pub mod Kinds
 pub mod LawEnds
 pub mod Named

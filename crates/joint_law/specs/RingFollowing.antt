@@ -10,7 +10,7 @@ pub record RingMade (old : RingLog) (entry : RingEntry) (new : RingLog) : Type 0
   pub net : new.net ≡ old.net
   pub history : new.history ≡ old.history ++ entry ∷ []
 
--- It was followed, or is no step here.
+-- An entry was followed, or it is no step of the ring here.
 abbrev pub RingFollowed : RingLog → RingEntry → RingLog → Bool → Type 0
 RingFollowed old entry new true = RingMade old entry new
 RingFollowed old entry new false = IsRingStep old.net old.history entry → ⊥

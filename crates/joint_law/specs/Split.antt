@@ -28,7 +28,7 @@ pub record ArePlacesIn (ring : List RingEntry) (size : ℕ) (node : ℕ) (places
 abbrev pub numbers : ℕ
 numbers = 256
 
--- The same for all nodes.
+-- The lists give, for each node, the places of its entries.
 pub record IsSplit (ring : List RingEntry) (size : ℕ) (lists : List (List ℕ)) : Type 0 where
   pub count : length lists ≡ numbers
   pub each : (node : ℕ) → node < numbers → ArePlacesIn ring size node (get_or lists node [])

@@ -9,11 +9,12 @@ use Rattle.ring_core.specs.Legal.{IsLegal as IsLegalRing}
 use Rattle.controller_core.specs.Controller.{IsLegal}
 use Rattle.controller_core.specs.Machine.{IsRunnable}
 use Rattle.host_port.specs.Legal.{IsHostHistory}
-use Rattle.comm_port.specs.declared.joint.ControllerLog.{ControllerLog}
-use Rattle.comm_port.specs.declared.joint.HostLog.{HostLog}
-use Rattle.comm_port.specs.declared.joint.Joint.{Joint}
-use Rattle.comm_port.specs.Complete.{IsComplete, IsCompleteLog, IsCompleteHostLog}
-use Rattle.comm_port.specs.JointLaws.{IsJoint, IsLegalHostLog, IsLegalJoint, IsLegalLog, fixed_of}
+use Rattle.joint_history.specs.declared.joint.ControllerLog.{ControllerLog}
+use Rattle.joint_history.specs.declared.joint.HostLog.{HostLog}
+use Rattle.joint_history.specs.declared.joint.Joint.{Joint}
+use Rattle.joint_history.specs.Complete.{IsComplete, IsCompleteLog, IsCompleteHostLog}
+use Rattle.joint_history.specs.JointLaws.{IsJoint, IsLegalHostLog, IsLegalJoint, IsLegalLog}
+use Rattle.joint_history.specs.JointLaws.{fixed_of}
 use Rattle.joint_law.specs.Bound.{Bound, Breaks, Keeps, bounds_of, number_of}
 use Rattle.joint_law.specs.Differing.{BreaksAt}
 use Rattle.joint_law.specs.declared.law.Law.{Law}
@@ -37,7 +38,7 @@ pub record HasSections (plant : Plant) (joint : Joint) : Type 0 where
 abbrev pub controllers_of : Plant → Joint → List (ControllerPlan × ControllerLog)
 controllers_of plant joint = zip plant.controllers joint.controllers
 
--- And each host.
+-- Each host of a plant with its list.
 abbrev pub hosts_of : Plant → Joint → List (HostPlan × HostLog)
 hosts_of plant joint = zip plant.hosts joint.hosts
 
@@ -46,7 +47,7 @@ abbrev pub AreLegalLogs : Plant → ℕ → Joint → Type 0
 AreLegalLogs plant scans joint =
     AllZip (IsLegalLog plant scans) plant.controllers joint.controllers
 
--- And those of all hosts.
+-- The lists of all hosts are legal.
 abbrev pub AreLegalHostLogs : Plant → Joint → Type 0
 AreLegalHostLogs plant joint = AllZip IsLegalHostLog plant.hosts joint.hosts
 
@@ -62,7 +63,7 @@ pub record ControllerSpot (plant : Plant) (scans : ℕ) (joint : Joint) (node en
       × BreaksAt (IsLegal (fixed_of plant scans of.0)) of.1.entries entry)
       (controllers_of plant joint)
 
--- The first host.
+-- The first host whose list isn't legal, and the entry that makes it so.
 pub record HostSpot (plant : Plant) (scans : ℕ) (joint : Joint) (node entry : ℕ) : Type 0 where
   pub sections : HasSections plant joint
   pub controllers : AreLegalLogs plant scans joint
@@ -95,14 +96,14 @@ pub record IsCompleteAt (plant : Plant) (scans : ℕ) (joint : Joint) (node : �
   pub hosts : All (λ of. of.1.node ≡ node → IsCompleteHostLog plant joint.ring of.0 of.1)
       (hosts_of plant joint)
 
--- The first station that isn't.
+-- The first station that is not complete.
 pub record IncompleteSpot (plant : Plant) (scans : ℕ) (joint : Joint) (node : ℕ) : Type 0 where
   pub legal : IsLegalJoint plant scans joint
   pub tied : IsJoint joint
   pub earlier : (n : ℕ) → n < node → IsCompleteAt plant scans joint n
   pub here : IsCompleteAt plant scans joint node → ⊥
 
--- A whole run: its lists are legal, keep the laws between them, and are complete.
+-- A complete run: its lists are legal, keep the laws between them, and are complete.
 pub record IsWholeRun (plant : Plant) (scans : ℕ) (joint : Joint) : Type 0 where
   pub legal : IsLegalJoint plant scans joint
   pub tied : IsJoint joint
@@ -119,7 +120,7 @@ IsSpot plant scans joint (spots.Law number node place) =
     (law : Law) × (number_of law ≡ number) × LawSpot plant scans joint law node place
 IsSpot plant scans joint (spots.Incomplete node) = IncompleteSpot plant scans joint node
 
--- The first spot of a joint history; none where it is a whole run.
+-- The first spot of a joint history; none where it is a complete run.
 abbrev pub IsFirstSpot : Plant → ℕ → Joint → Option Spot → Type 0
 IsFirstSpot plant scans joint None = IsWholeRun plant scans joint
 IsFirstSpot plant scans joint (Some spot) = IsSpot plant scans joint spot

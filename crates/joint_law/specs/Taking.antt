@@ -3,18 +3,18 @@ use Rattle.std.specs.Prelude.{◌≡◌, ℕ, Bool, true, false, List, [], ◌�
 use Rattle.tied_lists.specs.Items.{ForStats, Item, Plain, Taken, due_replies, plain_items, rest_of}
 use Rattle.tied_lists.specs.Items.{stats_items}
 
--- Those for the port, or those for the station.
+-- The requests that were taken for the port, or those for the station.
 abbrev pub items_for : Bool → List Taken → List Item
 items_for true taken = stats_items taken
 items_for false taken = plain_items taken
 
--- What is left of the answers of a station behind them.
+-- What is left of the answers of a station behind those to some requests.
 abbrev pub left_plain : List Taken → List (List ℕ) → List (List ℕ)
 left_plain [] peers = peers
 left_plain (Plain id pdu ∷ ts) peers = left_plain ts (rest_of peers)
 left_plain (ForStats id pdu ∷ ts) peers = left_plain ts peers
 
--- And of its port.
+-- What is left of the answers of a port behind those to some requests.
 abbrev pub left_stats : List Taken → List (List ℕ) → List (List ℕ)
 left_stats [] locals = locals
 left_stats (Plain id pdu ∷ ts) locals = left_stats ts locals

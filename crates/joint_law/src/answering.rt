@@ -3,7 +3,7 @@ ghost use Rattle.std.specs.Prelude.{◌≡◌, ◌++◌, [], true, false, Some, 
 ghost use Rattle.std.specs.List.{cons_option};
 ghost use Rattle.tied_lists.specs.Items.{answered_of, port_answers, request_of, taken_by};
 ghost use Rattle.tied_lists.specs.Items.{taken_in, taken_of};
-ghost use Rattle.comm_port.specs.Reading.{host_items_of, items_of};
+ghost use Rattle.joint_history.specs.Reading.{host_items_of, items_of};
 ghost use Rattle.joint_law.specs.Bound.{sorted, sorted_answer, taken_in_order};
 ghost use Rattle.joint_law.specs.Readings.{answer_in, host_answer_in};
 ghost use Rattle.joint_law.specs.Split.{AreWithin, picked};

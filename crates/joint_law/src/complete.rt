@@ -9,7 +9,7 @@ ghost use Rattle.joint_law.specs.Split.{IsSplit, picked};
 
 use crate::completing::{all_fit, all_fit_host, has_left};
 use crate::own_lists::OwnLists;
-use comm_port::{ControllerLog, HostLog, Joint};
+use joint_history::{ControllerLog, HostLog, Joint};
 use plant_types::{HostPlan, Plant};
 use ring_core::RingEntry;
 

@@ -1,7 +1,7 @@
 //! Whether a node was done on the ring.
 ghost use Rattle.std.specs.Prelude.{◌≡◌, ◌↔◌, [], IsTrue};
 ghost use Rattle.std.specs.List.{list_any};
-ghost use Rattle.comm_port.specs.Complete.{IsOfDone};
+ghost use Rattle.joint_history.specs.Complete.{IsOfDone};
 ghost use Rattle.joint_law.specs.Completing.{EachAllows, HostAllows, HostFits, IsInHold};
 ghost use Rattle.joint_law.specs.Completing.{IsShort, NodeAllows, NodeFits, is_leave};
 ghost use Rattle.joint_law.specs.Completing.{passed_next, posted_next, progress_next};

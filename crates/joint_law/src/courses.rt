@@ -4,7 +4,7 @@ ghost use Rattle.joint_law.specs.Spots.{AreLegalLogs, CanBeJudged, HasSections};
 ghost use Rattle.joint_law.specs.AllCourses.{ControllersEnd, HostsEnd};
 
 use crate::following::{Course, controller_course, host_course};
-use comm_port::Joint;
+use joint_history::Joint;
 use plant_types::{List, Plant};
 use std::alloc::{AllocError, Global};
 

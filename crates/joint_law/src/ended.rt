@@ -1,8 +1,8 @@
 //! Whether each call of a station has ended, once.
 ghost use Rattle.std.specs.Prelude.{◌≡◌, ◌↔◌, ◌++◌, [], true, Some, All, IfOk, IsTrue, OnOk, map};
 ghost use Rattle.std.specs.List.{cons_option};
-ghost use Rattle.comm_port.specs.Complete.{EndsEachCall};
-ghost use Rattle.comm_port.specs.Reading.{called_of, host_items_of, items_of};
+ghost use Rattle.joint_history.specs.Complete.{EndsEachCall};
+ghost use Rattle.joint_history.specs.Reading.{called_of, host_items_of, items_of};
 ghost use Rattle.joint_law.specs.Ends.{CountsEnds, EndsOnce, NotesEnd, end_id_in, host_end_id_in};
 ghost use Rattle.joint_law.specs.Ends.{id_of_call, id_of_end};
 ghost use Rattle.joint_law.specs.Named.{value_at};

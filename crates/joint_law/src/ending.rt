@@ -4,7 +4,8 @@ ghost use Rattle.std.specs.List.{cons_option};
 ghost use Rattle.std.specs.Option.{option_map};
 ghost use Rattle.tied_lists.specs.Items.{asked_of, ended_at_home, ended_by, kind_of_sort};
 ghost use Rattle.tied_lists.specs.Items.{outcome_of_reply, outcome_of_word};
-ghost use Rattle.comm_port.specs.Reading.{called_of, host_items_of, items_of, outcome_of, sort_of};
+ghost use Rattle.joint_history.specs.Reading.{called_of, host_items_of, items_of, outcome_of};
+ghost use Rattle.joint_history.specs.Reading.{sort_of};
 ghost use Rattle.joint_law.specs.Endings.{NotesAsk, NotesCalls, NotesKind, end_with};
 ghost use Rattle.joint_law.specs.Endings.{ended_with, ended_with_frame, host_end_with, kind_at};
 ghost use Rattle.joint_law.specs.Kinds.{kind_as, outcome_as, station_of};
@@ -19,10 +20,10 @@ use controller_core::{Call, CallKind, Entry};
 use host_port::{HostEntry, HostResult};
 use mstr_block::{CallId, MstrResult};
 use plant_types::{Copied, Pdu};
+use reply_laws::result_of;
 use ring_core::{Frame, FrameKind, LocalOp, RingEntry};
 use std::alloc::{AllocError, Global};
 use std::marker::Model;
-use tied_lists::result_of;
 
 /// The word of a reply that tells no result.
 const NO_RESULT: u16 = 0x3000;

@@ -4,9 +4,9 @@ ghost use Rattle.plant_types.specs.Plans.{IsHostPlan};
 ghost use Rattle.controller_core.specs.Controller.{IsLegal};
 ghost use Rattle.controller_core.specs.Machine.{IsRunnable};
 ghost use Rattle.host_port.specs.Legal.{IsHostHistory};
-ghost use Rattle.comm_port.specs.Complete.{ControllerIsComplete, EndsEachCall, is_end};
-ghost use Rattle.comm_port.specs.JointLaws.{fixed_of};
-ghost use Rattle.comm_port.specs.Reading.{host_items_of};
+ghost use Rattle.joint_history.specs.Complete.{ControllerIsComplete, EndsEachCall, is_end};
+ghost use Rattle.joint_history.specs.JointLaws.{fixed_of};
+ghost use Rattle.joint_history.specs.Reading.{host_items_of};
 ghost use Rattle.joint_law.specs.Courses.{FollowedTo, IsCourse};
 
 use crate::ended::{ends_each_call, host_ends_each_call};

@@ -1,7 +1,7 @@
 //! The judge.
 ghost use Rattle.std.specs.Prelude.{◌≡◌, ◌↔◌, IfOk};
 ghost use Rattle.plant_types.specs.Plans.{IsPlant};
-ghost use Rattle.comm_port.specs.JointLaws.{IsLegalJoint};
+ghost use Rattle.joint_history.specs.JointLaws.{IsLegalJoint};
 ghost use Rattle.effect_laws.specs.Effects.{EffectsAreRight};
 ghost use Rattle.joint_law.specs.AllCourses.{AreDone, AreHostsDone};
 ghost use Rattle.joint_law.specs.Spots.{AreLegalHostLogs, AreLegalLogs, CanBeJudged, HasSections};
@@ -14,9 +14,9 @@ use crate::own_lists::OwnLists;
 use crate::ring_following::first_illegal;
 use crate::sections::has_sections;
 use crate::verdict::{Spot, Verdict};
-use comm_port::Joint;
 use controller_core::fronts_are_legal;
 use effect_laws::effects_are_right;
+use joint_history::Joint;
 use plant_types::{List, Plant};
 use std::alloc::{AllocError, Global};
 
@@ -132,8 +132,8 @@ fn first_spot(
 
 /// Judges a joint history: Legal where its lists are those of the plant's stations, legal for so
 /// many scans, keep the laws between them and are complete; else it names the first spot. Where it
-/// is Legal each call takes effect at most once, and once if it reports success. Takes time and
-/// memory in proportion to the history.
+/// is Legal each call takes effect at its target at most once, and once if it reports success.
+/// Takes time and memory in proportion to the history.
 pub fn judge(alloc: Global, plant: &Plant, joint: &Joint, scans: u32) -> Result<Verdict, AllocError>
     requires { CanBeJudged plant.now scans }
     ensures verdict { IfOk result (IsVerdict plant.now scans joint.now) }

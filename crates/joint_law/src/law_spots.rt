@@ -8,7 +8,7 @@ use crate::law::Law;
 use crate::own_lists::OwnLists;
 use crate::stations::{controller_breaks, host_breaks};
 use crate::verdict::Spot;
-use comm_port::{ControllerLog, HostLog, Joint};
+use joint_history::{ControllerLog, HostLog, Joint};
 use ring_core::RingEntry;
 use std::alloc::{AllocError, Global};
 
@@ -118,7 +118,8 @@ fn node_breaks(
     host_logs_break(alloc, law, ring, lists, node, joint.hosts.as_slice())
 }
 
-/// A place, counted from 1. A spot has no number for more of them, and then memory is wanting.
+/// A place, counted from 1. A spot has no number above 2^32 - 1; for such a place the answer is
+/// that memory ran out.
 pub(crate) fn number(place: usize) -> Result<u32, AllocError>
     ensures number { IfOk result (λ number. number ≡ place + 1) }
     ensures wants { IsErr result ↔ (2 ^ 32 ≤ place + 1) }

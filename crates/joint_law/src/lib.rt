@@ -28,6 +28,3 @@ pub use judging::judge;
 pub use law::Law;
 pub use laws::verdicts_agree;
 pub use verdict::{Spot, Verdict};
-
-#[cfg(test)]
-mod tests;

@@ -5,7 +5,7 @@ ghost use Rattle.std.specs.List.{cons_option};
 ghost use Rattle.tied_lists.specs.Items.{answered_of, due_replies, port_answers, replied_by};
 ghost use Rattle.tied_lists.specs.Items.{replied_of, replies_in, reply_of, taken_by, taken_in};
 ghost use Rattle.tied_lists.specs.Items.{taken_of, words_told};
-ghost use Rattle.comm_port.specs.Reading.{host_items_of, items_of};
+ghost use Rattle.joint_history.specs.Reading.{host_items_of, items_of};
 ghost use Rattle.joint_law.specs.Readings.{answer_in, host_answer_in};
 ghost use Rattle.joint_law.specs.Split.{AreWithin, picked};
 ghost use Rattle.joint_law.specs.Taking.{DueNext, left_plain, left_stats};

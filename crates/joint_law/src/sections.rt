@@ -2,7 +2,7 @@
 ghost use Rattle.std.specs.Prelude.{◌≡◌, ◌↔◌, IsTrue, map};
 ghost use Rattle.joint_law.specs.Spots.{HasSections};
 
-use comm_port::{ControllerLog, HostLog, Joint};
+use joint_history::{ControllerLog, HostLog, Joint};
 use plant_types::{ControllerPlan, HostPlan, Plant};
 
 fn are_of_controllers(plans: &[ControllerPlan], logs: &[ControllerLog]) -> bool

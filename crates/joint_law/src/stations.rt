@@ -2,7 +2,7 @@
 ghost use Rattle.std.specs.Prelude.{◌≡◌, ◌++◌, [], true, map, IfOk};
 ghost use Rattle.tied_lists.specs.Items.{AController, AHost, asked_by, due_replies, ended_by};
 ghost use Rattle.tied_lists.specs.Items.{port_answers, replied_by, replies_in, taken_by};
-ghost use Rattle.comm_port.specs.Reading.{host_items_of, items_of};
+ghost use Rattle.joint_history.specs.Reading.{host_items_of, items_of};
 ghost use Rattle.joint_law.specs.Bound.{sorted_answer, taken_in_order};
 ghost use Rattle.joint_law.specs.Comparing.{Compared, IsLawEnd};
 ghost use Rattle.joint_law.specs.Kinds.{station_of};

@@ -31,9 +31,9 @@ use Rattle.controller_core.specs.declared.entry.Entry.TheVariants as entries
 use Rattle.controller_core.specs.Calls.{call_of, calls_of, kind_of}
 use Rattle.controller_core.specs.Controller.{EachFits, Fits}
 use Rattle.controller_core.specs.Replay.{State, apply, start, table_of}
-use Rattle.comm_port.specs.declared.joint.ControllerLog.{ControllerLog}
-use Rattle.comm_port.specs.declared.joint.HostLog.{HostLog}
-use Rattle.comm_port.specs.JointLaws.{IsLegalLog, IsLegalHostLog}
+use Rattle.joint_history.specs.declared.joint.ControllerLog.{ControllerLog}
+use Rattle.joint_history.specs.declared.joint.HostLog.{HostLog}
+use Rattle.joint_history.specs.JointLaws.{IsLegalLog, IsLegalHostLog}
 use Rattle.journal_text.specs.Journal.{IsPlainCall, IsPlainEntry, IsPlainFrame, IsPlainGot}
 use Rattle.journal_text.specs.Journal.{IsPlainKind, IsPlainRing}
 use Rattle.journal_text.specs.Laws.{LegalIsPlain}

@@ -16,9 +16,9 @@ use Rattle.controller_core.specs.declared.entry.Entry.{Entry}
 use Rattle.controller_core.specs.declared.entry.Entry.TheVariants as entries
 use Rattle.host_port.specs.declared.entry.HostEntry.{HostEntry}
 use Rattle.host_port.specs.declared.entry.HostEntry.TheVariants as host_entries
-use Rattle.comm_port.specs.declared.joint.ControllerLog.{ControllerLog}
-use Rattle.comm_port.specs.declared.joint.HostLog.{HostLog}
-use Rattle.comm_port.specs.declared.joint.Joint.{Joint}
+use Rattle.joint_history.specs.declared.joint.ControllerLog.{ControllerLog}
+use Rattle.joint_history.specs.declared.joint.HostLog.{HostLog}
+use Rattle.joint_history.specs.declared.joint.Joint.{Joint}
 use Rattle.journal_text.specs.declared.draft.Head.{Head}
 use Rattle.journal_text.specs.declared.draft.Head.TheVariants as heads
 use Rattle.journal_text.specs.declared.draft.Draft.{Draft}

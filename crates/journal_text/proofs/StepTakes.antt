@@ -12,9 +12,9 @@ use Rattle.std.proofs.lemmas.List.Concat.{flat_map-cons}
 use Rattle.std.proofs.lemmas.List.Elements.{All-nil, All-cons, All-head, All-push}
 use Rattle.controller_core.specs.declared.entry.Entry.{Entry}
 use Rattle.host_port.specs.declared.entry.HostEntry.{HostEntry}
-use Rattle.comm_port.specs.declared.joint.ControllerLog.{ControllerLog}
-use Rattle.comm_port.specs.declared.joint.HostLog.{HostLog}
-use Rattle.comm_port.specs.declared.joint.Joint.{Joint}
+use Rattle.joint_history.specs.declared.joint.ControllerLog.{ControllerLog}
+use Rattle.joint_history.specs.declared.joint.HostLog.{HostLog}
+use Rattle.joint_history.specs.declared.joint.Joint.{Joint}
 use Rattle.journal_text.specs.declared.draft.Head.{Head}
 use Rattle.journal_text.specs.declared.draft.Head.TheVariants as heads
 use Rattle.journal_text.specs.declared.draft.Draft.{Draft}

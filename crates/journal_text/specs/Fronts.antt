@@ -3,7 +3,7 @@
 use Rattle.std.specs.Prelude.{◌≡◌, ◌≢◌, ℕ, ◌+◌, ◌-◌, ◌^◌, min, List, [], ◌∷◌, ◌++◌, length}
 use Rattle.std.specs.Prelude.{Result, Ok, Err}
 use Rattle.std.specs.List.{All, flat_map}
-use Rattle.comm_port.specs.declared.joint.Joint.{Joint}
+use Rattle.joint_history.specs.declared.joint.Joint.{Joint}
 use Rattle.journal_text.specs.declared.fault.JournalFault.{JournalFault}
 use Rattle.journal_text.specs.declared.fault.JournalFault.TheVariants.{Text, NoMemory}
 use Rattle.journal_text.specs.Journal.{IsPlain, journal}
@@ -15,7 +15,8 @@ pub record IsJournalOf (joint : Joint) (bytes : List ℕ) : Type 0 where
   pub fits : FitsJoint joint
   pub text : bytes ≡ journal joint
 
--- They are the journal of some plain joint history; and some journal begins with them.
+-- The bytes are the journal of some plain joint history; the other word says that some journal
+-- begins with them.
 abbrev pub IsJournal : List ℕ → Type 0
 IsJournal bytes = (joint : Joint) × IsJournalOf joint bytes
 
@@ -57,7 +58,7 @@ abbrev pub IsFault : List ℕ → JournalFault → Type 0
 IsFault bytes (Text number) = IsText bytes number
 IsFault bytes NoMemory = Unit {0}
 
--- A journal gives its joint history, unless memory is wanting.
+-- A journal gives its joint history, unless memory runs out.
 abbrev pub IsWant : JournalFault → Type 0
 IsWant (Text number) = ⊥
 IsWant NoMemory = Unit {0}

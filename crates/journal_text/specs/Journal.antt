@@ -15,9 +15,9 @@ use Rattle.controller_core.specs.declared.call.CallKind.{CallKind}
 use Rattle.controller_core.specs.declared.call.CallKind.TheVariants.{Net, Local}
 use Rattle.controller_core.specs.declared.entry.Entry.{Entry}
 use Rattle.controller_core.specs.declared.entry.Entry.TheVariants.{Collect}
-use Rattle.comm_port.specs.declared.joint.ControllerLog.{ControllerLog}
-use Rattle.comm_port.specs.declared.joint.HostLog.{HostLog}
-use Rattle.comm_port.specs.declared.joint.Joint.{Joint}
+use Rattle.joint_history.specs.declared.joint.ControllerLog.{ControllerLog}
+use Rattle.joint_history.specs.declared.joint.HostLog.{HostLog}
+use Rattle.joint_history.specs.declared.joint.Joint.{Joint}
 use Rattle.journal_text.specs.Lines.{controller_line, host_line, ring_line}
 
 -- The section of a station: its letter with its node, and its entries.
@@ -53,12 +53,12 @@ abbrev pub IsPlainEntry : Entry → Type 0
 IsPlainEntry (Collect calls) = (calls ≢ []) × All IsPlainCall calls
 IsPlainEntry _ = Unit {0}
 
--- A Reply goes to who asked.
+-- A Reply that is posted goes to the node that asked.
 abbrev pub IsPlainFrame : FrameKind → Frame → Type 0
 IsPlainFrame Request frame = Unit {0}
 IsPlainFrame Reply frame = frame.to ≡ frame.id.node
 
--- And who takes a Request is its target.
+-- A Request is taken by its target, and a Reply by the node that asked.
 abbrev pub IsPlainGot : ℕ → FrameKind → Frame → Type 0
 IsPlainGot node Request frame = frame.to ≡ node
 IsPlainGot node Reply frame = frame.to ≡ frame.id.node

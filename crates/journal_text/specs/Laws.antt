@@ -1,9 +1,9 @@
 -- Which joint histories have a journal. This project's own.
-use Rattle.std.specs.Prelude.{◌≡◌, ℕ, List}
+use Rattle.std.specs.Prelude.{◌≡◌, ℕ, List, ◌++◌}
 use Rattle.plant_types.specs.declared.plan.Plant.{Plant}
 use Rattle.plant_types.specs.Plans.{IsPlant}
-use Rattle.comm_port.specs.declared.joint.Joint.{Joint}
-use Rattle.comm_port.specs.JointLaws.{IsLegalJoint}
+use Rattle.joint_history.specs.declared.joint.Joint.{Joint}
+use Rattle.joint_history.specs.JointLaws.{IsLegalJoint}
 use Rattle.journal_text.specs.Journal.{IsPlain}
 use Rattle.journal_text.specs.Fronts.{IsJournalOf}
 
@@ -17,3 +17,12 @@ abbrev pub OneHistoryOfAText : Type 0
 OneHistoryOfAText =
     (one other : Joint) (bytes : List ℕ) → IsJournalOf one bytes → IsJournalOf other bytes
     → one ≡ other
+
+-- Bytes have one journal in front: where two journals begin the same bytes, they tell one joint
+-- history, and the same stands behind them.
+abbrev pub OneJournalInFront : Type 0
+OneJournalInFront =
+    (one other : Joint) (front other_front behind other_behind : List ℕ)
+    → IsJournalOf one front → IsJournalOf other other_front
+    → front ++ behind ≡ other_front ++ other_behind
+    → (one ≡ other) × (behind ≡ other_behind)

@@ -66,7 +66,7 @@ host_line (host_entries.Answer id result) =
     codes "A " ++ id_text id ++ codes " " ++ answer_text result ++ codes "\n"
 host_line (host_entries.Served id request reply) = peer_line id request reply
 
--- A frame that is posted, and one that is taken: who takes a Request is its target.
+-- A frame that is posted, and one that is taken: the node that takes a Request is its target.
 abbrev pub sent_text : FrameKind → CallId → ℕ → List ℕ → List ℕ
 sent_text Request id to pdu = request_text id to pdu
 sent_text Reply id to pdu = codes "R " ++ id_text id ++ codes " " ++ hex_bytes pdu

@@ -77,7 +77,7 @@ call_from parts = record { id = parts.0; kind = parts.1 }
 unfoldable pub call_of : List ℕ → Option Call
 call_of text = made call_from (two id_of kind_of 61) text
 
--- Calls, with a blank between them.
+-- Calls, separated by one space.
 abbrev pub each_of : {V : Type 0} → (List ℕ → Option V) → List (List ℕ) → Option (List V)
 each_of read [] = Some []
 each_of read (text ∷ texts) =
@@ -152,8 +152,8 @@ host_kinds =
 unfoldable pub host_entry_of : List ℕ → Option HostEntry
 host_entry_of line = first_of host_kinds None line
 
--- The frames that are posted and taken: a Reply goes to who asked, and who takes a Request is its
--- target.
+-- The frames that are posted and taken: a Reply goes to the node that asked, and a Request is taken
+-- by its target.
 abbrev pub request_frame : CallId × (ℕ × List ℕ) → Frame
 request_frame parts =
     record { kind = Request; to = parts.1.0; id = parts.0; pdu = parts.1.1 }

@@ -16,7 +16,7 @@ abbrev pub ◌>>=◌ : {A B : Type 0} → Option A → (A → Option B) → Opti
 (Some value) >>= more = more value
 None >>= more = None
 
--- What a reader answered, unless memory was wanting.
+-- What a reader answered, unless memory ran out.
 abbrev pub Refuses : {V : Type 0} → LineFault → Option V → Type 0
 Refuses faults.NoMemory read = Unit {0}
 Refuses faults.Wrong read = read ≡ None
@@ -32,13 +32,13 @@ cut at (byte ∷ bytes) =
     if byte == at then Some ([], bytes)
     else (cut at bytes >>= λ parts. Some (byte ∷ parts.0, parts.1))
 
--- What stands behind a front.
+-- What stands behind a prefix.
 unfoldable pub behind : List ℕ → List ℕ → Option (List ℕ)
 behind [] text = Some text
 behind (byte ∷ front) [] = None
 behind (byte ∷ front) (first ∷ text) = if first == byte then behind front text else None
 
--- What is read behind a front, or else otherwise; and behind the first front of a table.
+-- What is read behind a prefix, or else otherwise; and behind the first prefix of a table.
 abbrev pub or_else : {V : Type 0} → Option (List ℕ) → (List ℕ → Option V) → Option V → Option V
 or_else (Some text) read other = read text
 or_else None read other = other

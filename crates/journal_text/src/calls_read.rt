@@ -134,7 +134,7 @@ fn call_of(alloc: Global, text: &[u8]) -> Result<Call, LineFault>
     Ok(Call { id, kind })
 }
 
-/// Calls with a blank between them.
+/// Calls, separated by one space.
 pub(crate) fn calls_of(alloc: Global, text: &[u8]) -> Result<List<Call>, LineFault>
     ensures { Reads (λ calls. calls) result (calls_of text.now) }
 {

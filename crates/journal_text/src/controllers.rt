@@ -7,8 +7,8 @@ ghost use Rattle.journal_text.specs.Fields.{hex_words, id_text, result_text};
 ghost use Rattle.journal_text.specs.Journal.{controller_section};
 
 use crate::fields::{Name, push_bytes, push_op, push_result, push_words};
-use comm_port::ControllerLog;
 use controller_core::{Call, CallKind, Entry};
+use joint_history::ControllerLog;
 use mstr_block::{CallId, MstrResult};
 use plant_types::Pdu;
 use std::alloc::AllocError;

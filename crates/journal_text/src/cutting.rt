@@ -45,7 +45,7 @@ pub(crate) fn cut(text: &[u8], at: u8) -> Result<(&[u8], &[u8]), LineFault>
     }
 }
 
-/// What stands behind a front.
+/// What stands behind a prefix.
 pub(crate) fn behind<'a>(text: &'a [u8], front: &str) -> Option<&'a [u8]>
     ensures { option_map (λ rest. rest.now) result ≡ behind front.now text.now }
 {

@@ -11,7 +11,7 @@ ghost use Rattle.journal_text.specs.Drafts.{ring_line_of, ring_step, start_line,
 use crate::cutting::{LineFault, behind, is_text, small_of};
 use crate::ring_read::ring_entry_of;
 use crate::stations_read::{entry_of, host_entry_of};
-use comm_port::{ControllerLog, HostLog, Joint};
+use joint_history::{ControllerLog, HostLog, Joint};
 use plant_types::List;
 use std::alloc::Global;
 

@@ -7,8 +7,8 @@ ghost use Rattle.journal_text.specs.Journal.{host_section};
 
 use crate::controllers::push_peer;
 use crate::fields::{HexWord, Name, push_bytes};
-use comm_port::HostLog;
 use host_port::{HostEntry, HostResult};
+use joint_history::HostLog;
 use mstr_block::CallId;
 use plant_types::Pdu;
 use std::alloc::AllocError;

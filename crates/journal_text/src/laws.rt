@@ -1,5 +1,5 @@
 //! Which joint histories have a journal.
-ghost use Rattle.journal_text.specs.Laws.{LegalIsPlain, OneHistoryOfAText};
+ghost use Rattle.journal_text.specs.Laws.{LegalIsPlain, OneHistoryOfAText, OneJournalInFront};
 
 use mstr_block::calls_are_taken_in_order;
 use ring_laws::{only_its_target, reply_to_its_caller};
@@ -16,4 +16,9 @@ pub fn legal_is_plain()
 /// A journal is that of one joint history.
 pub fn one_history_of_a_text()
     ensures { OneHistoryOfAText }
+{}
+
+/// What begins with a journal begins with one alone.
+pub fn one_journal_in_front()
+    ensures { OneJournalInFront }
 {}

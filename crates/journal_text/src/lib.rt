@@ -13,17 +13,14 @@ mod plain;
 mod reading;
 mod ring_read;
 mod rings;
+mod sizes;
 mod stations_read;
 mod words_read;
 mod writing;
 
 pub use fault::JournalFault;
-pub use laws::{legal_is_plain, one_history_of_a_text};
+pub use laws::{legal_is_plain, one_history_of_a_text, one_journal_in_front};
 pub use plain::is_plain;
 pub use reading::read_journal;
+pub use sizes::fits_its_types;
 pub use writing::journal_text;
-
-#[cfg(test)]
-mod read_tests;
-#[cfg(test)]
-mod tests;

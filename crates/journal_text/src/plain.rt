@@ -4,8 +4,8 @@ ghost use Rattle.std.specs.List.Sorted.{IsStrictlyIncreasing};
 ghost use Rattle.journal_text.specs.Journal.{IsOwnOp, IsPlain, IsPlainCall, IsPlainEntry};
 ghost use Rattle.journal_text.specs.Journal.{IsPlainFrame, IsPlainGot, IsPlainRing};
 
-use comm_port::{ControllerLog, HostLog, Joint};
 use controller_core::{Call, CallKind, Entry};
+use joint_history::{ControllerLog, HostLog, Joint};
 use ring_core::{Frame, FrameKind, LocalOp, RingEntry};
 
 fn is_own_op(op: &LocalOp) -> bool

@@ -1,13 +1,13 @@
 //! A journal read back.
 ghost use Rattle.std.specs.Prelude.{◌≡◌, ◌-◌, ◌^◌, min, IfErr, IfOk};
-ghost use Rattle.comm_port.specs.declared.joint.Joint.{Joint as History};
+ghost use Rattle.joint_history.specs.declared.joint.Joint.{Joint as History};
 ghost use Rattle.journal_text.specs.Fronts.{Gives, IsFault, IsJournalOf};
 ghost use Rattle.journal_text.specs.Drafts.{Takes, ending, step};
 
 use crate::cutting::{LineFault, parted};
 use crate::draft::{Draft, step};
 use crate::fault::JournalFault;
-use comm_port::Joint;
+use joint_history::Joint;
 use std::alloc::Global;
 
 /// The number of a line as a fault tells it.

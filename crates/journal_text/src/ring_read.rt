@@ -23,7 +23,7 @@ fn sent_request_of(alloc: Global, text: &[u8]) -> Result<Frame, LineFault>
     Ok(Frame { kind, to, id, pdu })
 }
 
-/// A Reply goes to who asked.
+/// A Reply goes to the node that asked.
 fn reply_frame_of(alloc: Global, text: &[u8]) -> Result<Frame, LineFault>
     ensures { Reads (λ frame. frame) result (made reply_frame named_of text.now) }
 {
@@ -72,7 +72,7 @@ fn got_of(alloc: Global, text: &[u8]) -> Result<(FrameKind, CallId, Pdu), LineFa
     Err(LineFault::Wrong)
 }
 
-/// Who takes a Request is its target, and a Reply goes to who asked.
+/// A Request is taken by its target, and a Reply goes to the node that asked.
 fn target_of(kind: FrameKind, node: u8, id: CallId) -> u8
     ensures { result ≡ target_of kind node id }
 {

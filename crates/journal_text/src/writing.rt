@@ -3,7 +3,7 @@ ghost use Rattle.std.specs.Prelude.{◌≡◌, IfOk};
 ghost use Rattle.journal_text.specs.Journal.{IsPlain, journal};
 
 use crate::{controllers, hosts, rings};
-use comm_port::Joint;
+use joint_history::Joint;
 use std::alloc::{AllocError, Global};
 
 /// The journal of a joint history, each line with its line feed.

@@ -4,7 +4,7 @@ use Rattle.std.proofs.Common.{ap, length, arith}
 use Rattle.std.specs.List.{slice_range}
 use Rattle.std.specs.Option.{option_map}
 use Rattle.plant_types.specs.declared.network.Segment.{Segment}
-use Rattle.integer_ops.specs.Arithmetic.{top_output, middle_output}
+use Rattle.plant_types.specs.Power.{top_output, middle_output}
 use Rattle.ladder_solver.specs.declared.flow.Solved.{Solved}
 use Rattle.ladder_solver.specs.declared.program.Span.{Span}
 use Rattle.ladder_solver.specs.State.{State}

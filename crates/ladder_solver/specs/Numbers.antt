@@ -20,7 +20,7 @@ mstrs_in elements = length (filter is_message elements)
 abbrev pub rows_elements : List Cell → ℕ → ℕ → List Element
 rows_elements cells column count = map (λ cell. cell.element) (cells_from cells column 1 count)
 
--- Those of so many columns of seven rows, from one to the right. This project's own.
+-- The elements of so many columns of seven rows, from one to the right. This project's own.
 unfoldable pub columns_elements : List Cell → ℕ → ℕ → List Element
 columns_elements cells column zero = []
 columns_elements cells column (suc count) =
@@ -88,6 +88,6 @@ grids_elements grids = flat_map grid_elements grids
 abbrev pub program_elements : List (List Grid) → List Element
 program_elements segments = flat_map grids_elements segments
 
--- How many MSTR blocks they list. This project's own.
+-- How many MSTR blocks these grids list. This project's own.
 abbrev pub mstr_count : List (List Grid) → ℕ
 mstr_count segments = mstrs_in (program_elements segments)

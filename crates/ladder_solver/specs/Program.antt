@@ -76,7 +76,7 @@ spans_from first (label ∷ labels) =
     with_span label (record { first = first; end = suc first + prefix_len is_none labels })
     (spans_from (suc first) labels)
 
--- Those of the grids of a segment. This project's own.
+-- The spans of the grids of a segment. This project's own.
 abbrev pub spans_of : List Grid → List (Option Span)
 spans_of grids = spans_from 0 (map label_in grids)
 

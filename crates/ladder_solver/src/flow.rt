@@ -1,6 +1,6 @@
 //! Where a solve goes on behind an element or a network.
 ghost use Rattle.std.specs.Prelude.{◌≡◌, ◌==◌, if◌then◌else◌};
-ghost use Rattle.integer_ops.specs.Arithmetic.{no_output};
+ghost use Rattle.plant_types.specs.Power.{no_output};
 ghost use Rattle.ladder_solver.specs.Flow.{GoesOn, Stopped, is_going};
 
 use plant_types::NodePower;

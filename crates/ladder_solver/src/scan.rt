@@ -14,7 +14,7 @@ pub(crate) struct Scan {
     pub left: u32,
 }
 
-/// What is lent to each cell and stays as it is: the program, and the discretes as the scan before
+/// What is lent to each cell and stays as it is: the program, and the discretes as the last scan
 /// ended.
 #[derive(Drop)]
 pub(crate) struct Lent<'a, P> {

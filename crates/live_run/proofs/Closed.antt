@@ -13,12 +13,12 @@ use Rattle.plant_types.specs.Plans.{IsPlant, controller_nodes, host_nodes}
 use Rattle.ring_core.specs.declared.entry.RingEntry.{RingEntry}
 use Rattle.ring_core.specs.Legal.{IsLegal as IsLegalRing}
 use Rattle.ring_core.specs.Words.{maker}
-use Rattle.comm_port.specs.declared.joint.ControllerLog.{ControllerLog}
-use Rattle.comm_port.specs.declared.joint.HostLog.{HostLog}
-use Rattle.comm_port.specs.declared.joint.Joint.{Joint}
-use Rattle.comm_port.specs.JointLaws.{IsJoint, IsLegalHostLog, IsLegalJoint, IsLegalLog}
-use Rattle.comm_port.specs.JointLaws.{IsTiedController, IsTiedHost, fixed_of}
-use Rattle.comm_port.specs.Reading.{host_items_of}
+use Rattle.joint_history.specs.declared.joint.ControllerLog.{ControllerLog}
+use Rattle.joint_history.specs.declared.joint.HostLog.{HostLog}
+use Rattle.joint_history.specs.declared.joint.Joint.{Joint}
+use Rattle.joint_history.specs.JointLaws.{IsJoint, IsLegalHostLog, IsLegalJoint, IsLegalLog}
+use Rattle.joint_history.specs.JointLaws.{IsTiedController, IsTiedHost, fixed_of}
+use Rattle.joint_history.specs.Reading.{host_items_of}
 use Rattle.tied_lists.specs.Items.{AHost}
 use Rattle.tied_lists.specs.Own.{own}
 use Rattle.tied_lists.specs.Tied.{Tied}
@@ -28,6 +28,8 @@ use Rattle.turn_laws.proofs.HostOthers.{host-others}
 use Rattle.turn_laws.proofs.Others.{others}
 use Rattle.turn_laws.proofs.Spent.{nobody-spends}
 use Rattle.turn_laws.proofs.Stands.{host-stands-others, stands-others}
+use Rattle.entry_causes.specs.InTime.{HostInTime}
+use Rattle.entry_causes.specs.Joint.{IsControllerInTime, IsHostInTime, StationsAreInTime}
 use Rattle.live_run.specs.Runs.{AreBrought, IsBrought}
 use Rattle.live_run.specs.Stations.{CameToEnd, HostCameToEnd}
 use Rattle.live_run.proofs.Closing.{rest-others}
@@ -111,6 +113,7 @@ at-node node_of C P f (x ∷ xs) (y ∷ ys) all (suc k) n low is = at-node node_
 pub record Closes (plant : Plant) (scans : ℕ) (joint : Joint) : Type 0 where
   pub legal : IsLegalJoint plant scans joint
   pub ties : IsJoint joint
+  pub timely : StationsAreInTime joint
   pub controllers : AllZip (HasFinished plant scans joint.ring) plant.controllers joint.controllers
   pub hosts : AllZip (HostHasFinished plant joint.ring) plant.hosts joint.hosts
   pub unspent : NoneSpent joint.ring
@@ -129,6 +132,11 @@ closes plant scans joint p sound unopened owns heard legal one two = record {
     controllers = zip-second (EndedOn plant scans h) (IsTiedController h) (λ a b e. e.finished.stands.tied) plant.controllers joint.controllers ran;
     hosts = zip-second (HostEndedOn plant h) (IsTiedHost h)
         (λ a b e. subst (λ n. Tied AHost (host_items_of b.entries) (own n h)) (sym e.finished.node) e.finished.stands.tied) plant.hosts joint.hosts served;
+  };
+  timely = record {
+    controllers = zip-second (EndedOn plant scans h) (IsControllerInTime h) (λ a b e. e.finished.keeps.timely.timely) plant.controllers joint.controllers ran;
+    hosts = zip-second (HostEndedOn plant h) (IsHostInTime h)
+        (λ a b e. subst (λ n. HostInTime b.entries (own n h)) (sym e.finished.node) e.finished.keeps.timely.timely) plant.hosts joint.hosts served;
   };
   controllers = zip-each (EndedOn plant scans h) (HasFinished plant scans h) (λ a b e. e.finished) plant.controllers joint.controllers ran;
   hosts = zip-each (HostEndedOn plant h) (HostHasFinished plant h) (λ a b e. e.finished) plant.hosts joint.hosts served;

@@ -13,11 +13,11 @@ use Rattle.controller_core.specs.declared.fixed.Fixed.{Fixed}
 use Rattle.controller_core.specs.Controller.{IsLegal}
 use Rattle.controller_core.proofs.NextEntry.{front_legal}
 use Rattle.host_port.specs.Host.{HostIs}
-use Rattle.comm_port.specs.declared.joint.ControllerLog.{ControllerLog}
-use Rattle.comm_port.specs.declared.joint.HostLog.{HostLog}
-use Rattle.comm_port.specs.JointLaws.{fixed_of}
+use Rattle.joint_history.specs.declared.joint.ControllerLog.{ControllerLog}
+use Rattle.joint_history.specs.declared.joint.HostLog.{HostLog}
+use Rattle.joint_history.specs.JointLaws.{fixed_of}
 use Rattle.comm_port.specs.HostTurns.{HostWorkerIs}
-use Rattle.comm_port.specs.Reading.{is_ours}
+use Rattle.joint_history.specs.Reading.{is_ours}
 use Rattle.comm_port.specs.Sides.{RingSideIs}
 use Rattle.comm_port.specs.Worker.{WorkerIs}
 use Rattle.turn_laws.specs.KeepsOn.{HasFinished, HostHasFinished, HostKeepsOn, KeepsOn, NoneSpent}
@@ -52,10 +52,10 @@ came-to-end {Q} plant scans plan gate w side ring p h log unopened fixed node ne
             (subst (λ x. StandsTied x side.net w.node h ring) fixed (subst (λ l. StandsTied gate.fixed side.net w.node l ring) (sym same) s.stands)));
         keeps = subst (λ x. KeepsOn f x plan.node h ring true) net (subst (λ x. KeepsOn f side.net x h ring true) node
             (subst (λ x. KeepsOn x side.net w.node h ring true) fixed (subst (λ l. KeepsOn gate.fixed side.net w.node l ring true) (sym same) s.keeps)));
-        ended = subst (λ x. Rattle.comm_port.specs.Reading.has_ended_at x h ≡ true) fixed
-            (subst (λ l. Rattle.comm_port.specs.Reading.has_ended_at gate.fixed l ≡ true) (sym same) (s.ended refl));
-        collected = subst (λ x. Rattle.comm_port.specs.Reading.has_started_at x h ≡ false) fixed
-            (subst (λ l. Rattle.comm_port.specs.Reading.has_started_at gate.fixed l ≡ false) (sym same) (s.collected refl));
+        ended = subst (λ x. Rattle.joint_history.specs.Reading.has_ended_at x h ≡ true) fixed
+            (subst (λ l. Rattle.joint_history.specs.Reading.has_ended_at gate.fixed l ≡ true) (sym same) (s.ended refl));
+        collected = subst (λ x. Rattle.joint_history.specs.Reading.has_started_at x h ≡ false) fixed
+            (subst (λ l. Rattle.joint_history.specs.Reading.has_started_at gate.fixed l ≡ false) (sym same) (s.collected refl));
       };
       unspent = subst (λ n. NoneSpent (own n ring)) node t.unspent;
     })

@@ -25,7 +25,7 @@ use Rattle.comm_port.proofs.Standings.{standing-others}
 use Rattle.turn_laws.specs.KeepsOn.{HostKeepsOn, KeepsOn, NoneSpent, StandsTied}
 use Rattle.turn_laws.specs.Laws.{TurnsKeepOn}
 use Rattle.turn_laws.proofs.HostOthers.{host-others}
-use Rattle.turn_laws.proofs.HostTurns.{host-turn-keeps}
+use Rattle.turn_laws.proofs.HostTurns.{host-turns-keep}
 use Rattle.turn_laws.proofs.Others.{others}
 use Rattle.turn_laws.proofs.Spent.{hosts-spend, leaves-ended, turns-spend}
 use Rattle.turn_laws.proofs.Stands.{host-stands-of, stands-of, stands-others}
@@ -185,5 +185,5 @@ attends-next {Q} alone w w' host host' side side' ring ring' left plan same work
       unspent = subst (λ n. NoneSpent (own n ring')) (sym node) (hosts-spend alone side.net w.node host.plan left host.history host'.history ring ring' free a.unspent);
       keeps = subst (λ (s : RingSideIs Q). HostKeepsOn host'.plan s.net host'.history ring' left) (sym same)
           (subst (λ p. HostKeepsOn p side.net host'.history ring' left) (sym plan)
-          (host-turn-keeps host.plan alone side.net w.budget left host.history host'.history ring ring' turn old new a.keeps));
+          (host-turns-keep alone side.net host.plan w.budget left host.history host'.history ring ring' turn old new a.keeps));
     }

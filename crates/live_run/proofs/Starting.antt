@@ -15,7 +15,7 @@ use Rattle.host_port.specs.Host.{HostIs}
 use Rattle.host_port.specs.Legal.{IsHostHistory, questions_of}
 use Rattle.tied_lists.specs.Waits.{IsOnRing}
 use Rattle.comm_port.specs.HostTurns.{HostWorkerIs}
-use Rattle.comm_port.specs.Sides.{RamSideIs, RingSideIs, Serves}
+use Rattle.comm_port.specs.Sides.{RamSideIs, RingSideIs, MayWrite}
 use Rattle.comm_port.specs.Worker.{WorkerIs}
 use Rattle.comm_port.proofs.Standings.{standing-new}
 use Rattle.turn_laws.proofs.HostOthers.{host-starts}
@@ -35,8 +35,8 @@ low-member net n s member = All-contains (λ m. m < addresses) net.members n (lo
 on-start : (net : NetPlan) (n : ℕ) → IsNetPlan net → IsMember net n → IsOnRing net [] n
 on-start net n s member = record { members = low-members net s; legal = tt; member = member }
 
-serves-as : (writer : Option ℕ) (n : ℕ) → writer ≡ Some n → Serves writer n
-serves-as writer n is = subst (λ w. Serves w n) (sym is) refl
+serves-as : (writer : Option ℕ) (n : ℕ) → writer ≡ Some n → MayWrite writer n
+serves-as writer n is = subst (λ w. MayWrite w n) (sym is) refl
 
 host-talks : {Q : Type 0} (plan : HostPlan) (net : NetPlan) (side : RingSideIs Q) → IsNetPlan net → IsMember net plan.node → side.net ≡ net → side.writer ≡ Some plan.node
     → AttendsOn (record { node = plan.node; budget = false; passes = 0 }) (record { plan = plan; history = [] }) side [] false
@@ -88,7 +88,7 @@ controller-talks n net ram side node sound member same writer =
       here = λ is. subst (λ m. Rattle.comm_port.specs.Leaving.IsHere m [] n) (sym same) (member-there net n (low-member net n sound member) member);
       unspent = λ k d within. absurd (omega (arith, within));
       so_far = λ legal. record {
-        stands = stands-start ram.fixed side.net n [] on refl;
+        stands = stands-start ram.fixed side.net n [] node on refl;
         keeps = starts ram.fixed side.net n [] refl;
         ended = λ is. absurd (let no' : false ≡ true = is in cc);
         collected = λ is. absurd (let no' : false ≡ true = is in cc);

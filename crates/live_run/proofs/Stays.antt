@@ -23,7 +23,7 @@ use Rattle.tied_lists.specs.Own.{is_of, own, added_if, WentOn}
 use Rattle.tied_lists.specs.Waits.{IsOnRing, last_number}
 use Rattle.tied_lists.proofs.Turns.{legal-parts, own-found}
 use Rattle.tied_lists.proofs.Histories.{legal-follows}
-use Rattle.comm_port.specs.Reading.{is_ours}
+use Rattle.joint_history.specs.Reading.{is_ours}
 use Rattle.live_run.specs.Cells.{maker_number}
 use Rattle.controller_core.specs.declared.fixed.Fixed.{Fixed}
 use Rattle.controller_core.specs.declared.call.Call.{Call}
@@ -32,8 +32,8 @@ use Rattle.controller_core.specs.Controller.{AreOf}
 use Rattle.controller_core.specs.Laws.{ConditionsStay}
 use Rattle.tied_lists.specs.Calls.{AreNewCalls, IsOut}
 use Rattle.tied_lists.specs.Items.{Items}
-use Rattle.comm_port.specs.Reading.{called_of, items_of, controller_at, has_started_at}
-use Rattle.comm_port.proofs.Items.{items-same}
+use Rattle.joint_history.specs.Reading.{called_of, items_of, controller_at, has_started_at}
+use Rattle.joint_history.proofs.Items.{items-same}
 
 module _ {E : Type 0} (maker : E → ℕ) where
   -- what one call added, each entry by the maker

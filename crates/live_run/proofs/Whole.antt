@@ -15,11 +15,12 @@ use Rattle.ring_core.specs.declared.entry.RingEntry.{RingEntry}
 use Rattle.ring_core.specs.Legal.{IsMember}
 use Rattle.ring_core.specs.Machine.{addresses}
 use Rattle.std.proofs.lemmas.List.Elements.{All-contains_itself}
-use Rattle.comm_port.specs.declared.joint.ControllerLog.{ControllerLog}
-use Rattle.comm_port.specs.declared.joint.HostLog.{HostLog}
+use Rattle.joint_history.specs.declared.joint.ControllerLog.{ControllerLog}
+use Rattle.joint_history.specs.declared.joint.HostLog.{HostLog}
 use Rattle.live_run.specs.Dealing.{GatheredInto, HasLog, IsAt, Seat, brought, fresh_station}
 use Rattle.live_run.specs.Dealing.{seen_by}
-use Rattle.live_run.specs.Runs.{CanRunPlant, IsThrough}
+use Rattle.joint_history.specs.Runnable.{CanRunPlant}
+use Rattle.live_run.specs.Runs.{IsThrough}
 use Rattle.live_run.specs.Stations.{CameToEnd, CanRunAll, HasRun, HostCameToEnd, HostHasRun}
 use Rattle.live_run.specs.Stations.{RanEach}
 use Rattle.live_run.proofs.Dealt.{plant-new}

@@ -16,7 +16,7 @@ AreNew given (n ∷ ns) = (n ≢ 0) × (is_among n given ≡ false) × AreNew (n
 abbrev pub Seat : Type 0 → Type 0
 Seat L = Station GatedRingIs L
 
--- That of a node before the run.
+-- The station of a node before the run.
 abbrev pub fresh_station : {L : Type 0} → GateFacts RingEntry NetPlan → ℕ → Seat L
 fresh_station gate node = record {
   ring = record { gate = gate; number = node; seen = gate.name.opening };
@@ -28,7 +28,7 @@ pub record IsAt {L : Type 0} (gate : GateFacts RingEntry NetPlan) (seat : Seat L
   pub gate_is : seat.ring.gate ≡ gate
   pub number : seat.ring.number ≢ 0
 
--- A history was there, and stands last now.
+-- A history that was there now stands last.
 pub record IsLogged {L : Type 0} (log : Option L) (old new : List L) : Type 0 where
   pub item : L
   pub log_is : log ≡ Some item

@@ -7,11 +7,23 @@ use Rattle.controller_core.specs.declared.fixed.Fixed.{Fixed}
 use Rattle.comm_port.specs.Sides.{RamSideIs, RingSideIs}
 use Rattle.comm_port.specs.Worker.{WorkerIs}
 use Rattle.live_run.specs.Cells.{maker_number}
+use Rattle.live_run.specs.Sides.{GatedRamIs}
 use Rattle.live_run.specs.Talking.{TalksOn}
 
 -- What a side over a controller's gate keeps.
 abbrev pub ram_side : GateFacts Entry Fixed → RamSideIs (GateFacts Entry Fixed)
 ram_side gate = record { fixed = gate.fixed; place = gate }
+
+-- A controller's worker without a budget stands between two turns, at a side over its gate.
+abbrev pub TalksAt : {Q : Type 0} → WorkerIs → GatedRamIs → RingSideIs Q → List RingEntry → Bool
+    → Type 0
+TalksAt worker ram side ring left = TalksOn worker (ram_side ram.gate) ram.seen side ring left
+
+-- A worker has the node and the sides that it had.
+abbrev pub StaysAt : {Q : Type 0} → WorkerIs → WorkerIs → GatedRamIs → GatedRamIs → RingSideIs Q
+    → RingSideIs Q → Type 0
+StaysAt old new old_ram ram old_side side =
+    (ram_side ram.gate ≡ ram_side old_ram.gate) × (new.node ≡ old.node) × (side ≡ old_side)
 
 -- Pass 0 has the passes of both workers back; where they came so far, the communication left.
 pub record IsBack {Q : Type 0} (gate : GateFacts Entry Fixed) (worker : WorkerIs)

@@ -1,23 +1,17 @@
 -- A run whose passes of the ring are all back. This project's own.
 use Rattle.std.specs.Prelude.{◌≡◌, ℕ, Bool, true, List}
-use Rattle.std.specs.List.{All, AllZip, Contains}
+use Rattle.std.specs.List.{AllZip, Contains}
 use Rattle.turn_gate.specs.Known.{GateFacts, HasAllBack, IsOutside, PassFacts, own as made_by}
 use Rattle.plant_types.specs.declared.net.NetPlan.{NetPlan}
 use Rattle.plant_types.specs.declared.plan.Plant.{Plant}
-use Rattle.plant_types.specs.Plans.{IsPlant}
 use Rattle.ring_core.specs.declared.entry.RingEntry.{RingEntry}
 use Rattle.ring_core.specs.Words.{maker}
-use Rattle.controller_core.specs.Machine.{CanRun}
-use Rattle.comm_port.specs.declared.joint.ControllerLog.{ControllerLog}
-use Rattle.comm_port.specs.declared.joint.HostLog.{HostLog}
+use Rattle.joint_history.specs.declared.joint.ControllerLog.{ControllerLog}
+use Rattle.joint_history.specs.declared.joint.HostLog.{HostLog}
+use Rattle.live_run.specs.declared.runs.Outcome.{Outcome}
 use Rattle.live_run.specs.Stations.{CameToEnd, HostCameToEnd}
 
--- A plant that can run.
-pub record CanRunPlant (plant : Plant) : Type 0 where
-  pub sound : IsPlant plant
-  pub controllers : All CanRun plant.controllers
-
--- Among what passes brought back is that of a node, with a list of which this holds.
+-- The passes brought back that of a node, with a list of which this holds.
 pub record IsBrought (joined : List (ℕ × List RingEntry)) (heard : List (List RingEntry)) (node : ℕ)
     (Holds : List RingEntry → Type 0) : Type 0 where
   pub seen : List RingEntry
@@ -43,3 +37,9 @@ pub record IsThrough (plant : Plant) (scans : ℕ) (gate : GateFacts RingEntry N
       plant.controllers logs
   pub served : done ≡ true
       → AreBrought p.joined p.heard (λ plan. plan.node) (HostCameToEnd plant) plant.hosts host_logs
+
+-- What a run through the ring's gate came to.
+abbrev pub IsOutcome : Plant → ℕ → GateFacts RingEntry NetPlan → Outcome → Type 0
+IsOutcome plant scans gate outcome =
+    IsThrough plant scans gate outcome.pass outcome.controllers.items outcome.hosts.items
+    outcome.done

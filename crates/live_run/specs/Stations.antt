@@ -9,9 +9,9 @@ use Rattle.ring_core.specs.Legal.{IsMember}
 use Rattle.ring_core.specs.declared.entry.RingEntry.{RingEntry}
 use Rattle.controller_core.specs.Machine.{IsRunnable}
 use Rattle.tied_lists.specs.Own.{own}
-use Rattle.comm_port.specs.declared.joint.ControllerLog.{ControllerLog}
-use Rattle.comm_port.specs.declared.joint.HostLog.{HostLog}
-use Rattle.comm_port.specs.JointLaws.{fixed_of}
+use Rattle.joint_history.specs.declared.joint.ControllerLog.{ControllerLog}
+use Rattle.joint_history.specs.declared.joint.HostLog.{HostLog}
+use Rattle.joint_history.specs.JointLaws.{fixed_of}
 use Rattle.comm_port.specs.Sides.{RingSideIs}
 use Rattle.turn_laws.specs.KeepsOn.{HasFinished, HostHasFinished, NoneSpent}
 use Rattle.live_run.specs.declared.stations.Station.{Station}
@@ -40,7 +40,7 @@ pub record CameToEnd (plant : Plant) (scans : ℕ) (plan : ControllerPlan) (log 
   pub finished : HasFinished plant scans ring plan log
   pub unspent : NoneSpent (own plan.node ring)
 
--- And so did a host.
+-- A host came to its end, as its history and what its node has seen of the ring tell.
 pub record HostCameToEnd (plant : Plant) (plan : HostPlan) (log : HostLog)
     (ring : List RingEntry) : Type 0 where
   pub finished : HostHasFinished plant ring plan log
@@ -62,7 +62,7 @@ module _ {S Q L : Type 0} (side : S → RingSideIs Q) where
   AreFresh known plant node_of plans stations =
       AllZip (λ plan station. IsFresh known plant (node_of plan) station) plans stations
 
-  -- They all have run, and their sides are the same.
+  -- All stations have run, and their sides are the same.
   pub record RanEach {P : Type 0} (Ran : P → Station S L → Type 0) (plans : List P)
       (old new : List (Station S L)) : Type 0 where
     pub ran : AllZip Ran plans new
@@ -74,8 +74,32 @@ abbrev pub HasRun : {S : Type 0} → (S → List RingEntry) → Plant → ℕ �
 HasRun known plant scans plan station =
     IfSome station.log (λ log. CameToEnd plant scans plan log (known station.ring))
 
--- And so of a host.
+-- Where a station has a history, its host came to its end.
 abbrev pub HostHasRun : {S : Type 0} → (S → List RingEntry) → Plant → HostPlan
     → Station S HostLog → Type 0
 HostHasRun known plant plan station =
     IfSome station.log (λ log. HostCameToEnd plant plan log (known station.ring))
+
+-- The stations of these controllers have not run.
+abbrev pub AreControllersFresh : {S Q : Type 0} → (S → RingSideIs Q) → (S → List RingEntry) → Plant
+    → List ControllerPlan → List (Station S ControllerLog) → Type 0
+AreControllersFresh side known plant plans stations =
+    AreFresh side known plant (λ plan. plan.node) plans stations
+
+-- The stations of these hosts have not run.
+abbrev pub AreHostsFresh : {S Q : Type 0} → (S → RingSideIs Q) → (S → List RingEntry) → Plant
+    → List HostPlan → List (Station S HostLog) → Type 0
+AreHostsFresh side known plant plans stations =
+    AreFresh side known plant (λ plan. plan.node) plans stations
+
+-- The stations of these controllers have run, and their sides are the same.
+abbrev pub AllRan : {S Q : Type 0} → (S → RingSideIs Q) → (S → List RingEntry) → Plant → ℕ
+    → List ControllerPlan → List (Station S ControllerLog) → List (Station S ControllerLog)
+    → Type 0
+AllRan side known plant scans plans old new =
+    RanEach side (HasRun known plant scans) plans old new
+
+-- The stations of these hosts have run, and their sides are the same.
+abbrev pub AllServed : {S Q : Type 0} → (S → RingSideIs Q) → (S → List RingEntry) → Plant
+    → List HostPlan → List (Station S HostLog) → List (Station S HostLog) → Type 0
+AllServed side known plant plans old new = RanEach side (HostHasRun known plant) plans old new

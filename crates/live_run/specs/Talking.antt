@@ -8,7 +8,7 @@ use Rattle.tied_lists.specs.Own.{own}
 use Rattle.comm_port.specs.Sides.{RamSideIs, RingSideIs}
 use Rattle.comm_port.specs.HostTurns.{CountsPasses, HostTies, HostWorkerIs}
 use Rattle.comm_port.specs.Leaving.{IsHere}
-use Rattle.comm_port.specs.Reading.{has_ended_at, has_started_at}
+use Rattle.joint_history.specs.Reading.{has_ended_at, has_started_at}
 use Rattle.comm_port.specs.Worker.{IsMemberWorker, Standing, WorkerIs}
 use Rattle.turn_laws.specs.KeepsOn.{HostKeepsOn, KeepsOn, NoneSpent, StandsTied}
 
@@ -31,7 +31,7 @@ pub record TalksOn {P Q : Type 0} (w : WorkerIs) (ram : RamSideIs P) (known : Li
   pub unspent : NoneSpent (own w.node ring)
   pub so_far : IsLegal ram.fixed known → SoFar w ram known side ring left
 
--- And so does a host's.
+-- A host's worker without a budget stands between two turns.
 pub record AttendsOn {Q : Type 0} (w : HostWorkerIs) (host : HostIs) (side : RingSideIs Q)
     (ring : List RingEntry) (left : Bool) : Type 0 where
   pub node : host.plan.node ≡ w.node

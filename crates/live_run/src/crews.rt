@@ -1,11 +1,49 @@
 //! What all workers of a run share.
+ghost use Rattle.std.specs.Prelude.{◌≡◌};
+
 use crate::flags::{Flag, Watch};
+use crate::meets::Meet;
 use plant_types::Plant;
 use std::alloc::{AllocError, Global};
+use std::sync::Wait;
 use std::sync::atomic::{AtomicU64, Ordering};
 
-/// The workers of a run: the flag that tells them of want of memory, how many have begun, and where
-/// the token of the ring went.
+/// What the stations of a live run share.
+#[derive(Drop)]
+pub(crate) struct Run<'a, M: Meet, R: Wait> {
+    pub(crate) rt: &'a R,
+    pub(crate) crew: &'a Crew,
+    pub(crate) meet: &'a M,
+    pub(crate) plant: &'a Plant,
+    pub(crate) alloc: Global,
+    pub(crate) scans: u32,
+}
+
+impl<'a, M: Meet, R: Wait> Run<'a, M, R> {
+    pub(crate) fn new(
+        rt: &'a R,
+        crew: &'a Crew,
+        meet: &'a M,
+        plant: &'a Plant,
+        alloc: Global,
+        scans: u32,
+    ) -> Run<'a, M, R>
+        ensures plant { result.plant.now ≡ plant.now }
+        ensures scans { result.scans ≡ scans }
+    {
+        Run {
+            rt,
+            crew,
+            meet,
+            plant,
+            alloc,
+            scans,
+        }
+    }
+}
+
+/// The workers of a run: the flag that tells them that memory ran out, how many have begun, and
+/// where the token of the ring went.
 #[derive(Drop)]
 pub(crate) struct Crew {
     flag: Flag,

@@ -1,4 +1,4 @@
-//! Want of memory, told to all workers.
+//! A flag that tells all workers that memory ran out.
 ghost use Rattle.std.specs.Prelude.{◌≡◌, ◌<◌, true};
 
 use atomic_table::{Play, Seat, Table, TableRule};

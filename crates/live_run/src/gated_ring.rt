@@ -36,7 +36,7 @@ impl<'a, M: Meet, R: Wait> Model for GatedRing<'a, M, R> {
 
 impl<'a, M: Meet, R: Wait> GatedRing<'a, M, R> {
     /// A side with a pass whose number is the node in whose name it writes. All sides of a ring
-    /// share one word, which tells outside the gate who was given the token last.
+    /// share one word, which tells outside the gate which node was given the token last.
     pub fn new(
         rt: &'a R,
         meet: &'a M,

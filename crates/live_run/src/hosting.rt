@@ -4,14 +4,17 @@ ghost use Rattle.plant_types.specs.Plans.{IsHostPlan};
 ghost use Rattle.live_run.specs.Stations.{IsUnused, HostCameToEnd};
 ghost use Rattle.live_run.specs.Talking.{AttendsOn};
 
-use crate::crews::Crew;
+use crate::crews::{Crew, Run};
+use crate::meets::Meet;
 use crate::pauses::Pause;
 use crate::tallies::Outside;
-use comm_port::{HostLog, HostWorker, RingSide};
+use comm_port::{HostWorker, RingSide};
 use host_port::Host;
-use plant_types::{HostPlan, Plant};
-use std::alloc::{AllocError, Global};
+use joint_history::HostLog;
+use plant_types::HostPlan;
+use std::alloc::AllocError;
 use std::sync::Wait;
+use std::time::Clock;
 
 /// Makes a hold turn, where the node holds the token; whether it left.
 fn take_turn<G: RingSide + Outside>(
@@ -38,7 +41,7 @@ fn take_turn<G: RingSide + Outside>(
 }
 
 /// Makes hold turns until the node has left; whether it came so far.
-pub(crate) fn attend<G: RingSide + Outside, R: Wait>(
+pub(crate) fn attend<G: RingSide + Outside, R: Wait + Clock>(
     rt: &R,
     crew: &Crew,
     node: u8,
@@ -61,7 +64,7 @@ pub(crate) fn attend<G: RingSide + Outside, R: Wait>(
         }
         match take_turn(node, worker, host, ring) {
             Ok(true) => return true,
-            Ok(false) => pause.rest(crew, &mut watch, ring.entries()),
+            Ok(false) => pause.rest(rt, crew, &mut watch, ring.entries()),
             Err(_) => {
                 watch.raise();
                 return false;
@@ -72,22 +75,21 @@ pub(crate) fn attend<G: RingSide + Outside, R: Wait>(
 }
 
 /// The history of a host that ran to its end.
-pub(crate) fn run_host<G: RingSide + Outside, R: Wait>(
-    rt: &R,
-    crew: &Crew,
-    plant: &Plant,
+pub(crate) fn run_host<G: RingSide + Outside, M: Meet, R: Wait + Clock>(
+    run: &Run<'_, M, R>,
     plan: &HostPlan,
     ring: &mut G,
-    alloc: Global,
 ) -> Result<HostLog, AllocError>
     requires plan { IsHostPlan plan.now }
-    requires unused { IsUnused plant.now plan.now.node (G.side ring.old) (G.known ring.old) }
-    ensures ended { IfOk result (λ log. HostCameToEnd plant.now plan.now log (G.known ring.new)) }
+    requires unused { IsUnused run.now.plant.now plan.now.node (G.side ring.old) (G.known ring.old) }
+    ensures ended { IfOk result
+        (λ log. HostCameToEnd run.now.plant.now plan.now log (G.known ring.new)) }
     ensures side { G.side ring.new ≡ G.side ring.old }
 {
-    let mut host = Host::new(alloc, plan, &plant.net)?;
-    let mut worker = HostWorker::new(alloc, plan.node, &plant.net, false)?;
-    if !attend(rt, crew, plan.node, &mut worker, &mut host, ring) {
+    let net = &run.plant.net;
+    let mut host = Host::new(run.alloc, plan, net)?;
+    let mut worker = HostWorker::new(run.alloc, plan.node, net, false)?;
+    if !attend(run.rt, run.crew, plan.node, &mut worker, &mut host, ring) {
         return Err(AllocError);
     }
     Ok(HostLog {

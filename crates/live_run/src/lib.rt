@@ -15,8 +15,6 @@ mod scanning;
 mod stations;
 mod talking;
 mod tallies;
-#[cfg(test)]
-mod tests;
 
 pub use cells::{RamCell, RingCell};
 pub use gated_ram::GatedRam;

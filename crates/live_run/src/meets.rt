@@ -1,4 +1,4 @@
-//! Whoever wants to be told where the threads of a run are.
+//! An object that is told where the threads of a run are.
 
 /// Is told where the threads of a run are; each call may wait.
 pub trait Meet {

@@ -2,17 +2,22 @@
 use crate::crews::Crew;
 use crate::flags::Watch;
 use crossbeam_utils::Backoff;
+use std::thread::sleep;
+use std::time::{Clock, Duration};
 
 /// How often a worker waits for one that has not begun: where no thread could be made, that one may
 /// stand behind the worker itself.
-const MOST_WAITS: u64 = 10_000_000;
+const MOST_WAITS: u32 = 10_000;
+
+/// Each of these waits takes so many thousandths of a second, and hardly any processor time.
+const A_WAIT: u64 = 1;
 
 /// Waits longer and longer, as long as turns do nothing.
 #[derive(Drop)]
 pub(crate) struct Pause {
     backoff: Backoff,
     entries: u64,
-    waits: u64,
+    waits: u32,
 }
 
 impl Pause {
@@ -25,23 +30,31 @@ impl Pause {
     }
 
     /// Waits, unless the worker made entries of the ring besides its Pass since the last time. It
-    /// waits for nobody who has given up, and raises the flag where others do not begin.
-    pub(crate) fn rest(&mut self, crew: &Crew, watch: &mut Watch<'_>, entries: u64) {
+    /// does not wait for a worker that has given up, and raises the flag where others do not begin.
+    pub(crate) fn rest<C: Clock>(
+        &mut self,
+        clock: &C,
+        crew: &Crew,
+        watch: &mut Watch<'_>,
+        entries: u64,
+    ) {
         let made = entries.wrapping_sub(self.entries);
         self.entries = entries;
         if made > 1 {
             self.backoff.reset();
         } else if !watch.is_raised() {
-            self.wait(crew, watch);
+            self.wait(clock, crew, watch);
         }
     }
 
-    fn wait(&mut self, crew: &Crew, watch: &mut Watch<'_>) {
-        if self.waits >= MOST_WAITS && !crew.is_whole() {
-            watch.raise();
-        } else {
-            self.waits = self.waits.saturating_add(1);
+    fn wait<C: Clock>(&mut self, clock: &C, crew: &Crew, watch: &mut Watch<'_>) {
+        if crew.is_whole() || !self.backoff.is_completed() {
             self.backoff.snooze();
+        } else if self.waits < MOST_WAITS {
+            self.waits = self.waits.saturating_add(1);
+            sleep(clock, Duration::from_millis(A_WAIT));
+        } else {
+            watch.raise();
         }
     }
 }

@@ -1,5 +1,5 @@
 //! The whole run.
-ghost use Rattle.std.specs.Prelude.{◌≡◌, ◌<◌, ◌++◌, true, [], All, OnOk, length, map, reverse};
+ghost use Rattle.std.specs.Prelude.{◌≡◌, ◌<◌, ◌++◌, true, false, [], All, OnOk, length, map, reverse};
 ghost use Rattle.std.specs.Prelude.{vec_len, vec_capacity};
 ghost use Rattle.std.specs.List.{AllZip};
 ghost use Rattle.turn_gate.specs.Known.{first_pass, IsOutside};
@@ -8,25 +8,29 @@ ghost use Rattle.live_run.specs.Dealing.{AreNew, fresh_station, IsAt, IsLogged, 
 ghost use Rattle.live_run.specs.Dealing.{GatheredInto};
 ghost use Rattle.std.specs.Prelude.{◌≤◌, IfOk};
 ghost use Rattle.plant_types.specs.Plans.{IsPlant};
-ghost use Rattle.comm_port.specs.Complete.{IsComplete};
-ghost use Rattle.comm_port.specs.JointLaws.{IsJoint, IsLegalJoint};
+ghost use Rattle.joint_history.specs.Complete.{IsComplete};
+ghost use Rattle.joint_history.specs.JointLaws.{IsJoint, IsLegalJoint};
 ghost use Rattle.effect_laws.specs.Effects.{EffectsAreRight};
+ghost use Rattle.entry_causes.specs.Joint.{IsInOneOrder};
 ghost use Rattle.turn_laws.specs.KeepsOn.{NoneSpent};
 ghost use Rattle.live_run.specs.Stations.{CanRunAll, CanServeAll};
-ghost use Rattle.live_run.specs.Runs.{CanRunPlant, IsThrough};
+ghost use Rattle.joint_history.specs.Runnable.{CanRunPlant};
+ghost use Rattle.live_run.specs.Runs.{IsOutcome};
 
 use crate::cells::RingCell;
-use crate::crews::Crew;
+use crate::crews::{Crew, Run};
 use crate::gated_ring::GatedRing;
 use crate::meets::Meet;
 use crate::stations::{Station, run_all};
-use comm_port::{ControllerLog, HostLog, Joint};
 use effect_laws::effects_are_right;
+use entry_causes::joint_is_in_one_order;
+use joint_history::{ControllerLog, HostLog, Joint};
 use plant_types::{ControllerPlan, HostPlan, List, Plant};
 use ring_core::Ring;
 use std::alloc::{AllocError, Global};
 use std::sync::Wait;
 use std::thread::Threads;
+use std::time::Clock;
 use turn_gate::{Gate, Pass};
 use turn_laws::runs_complete;
 
@@ -58,9 +62,7 @@ impl HasNode for HostPlan {
 
 /// Gives the node of each plan a pass of the ring and a side.
 fn deal<'a, P: HasNode, L, M: Meet, R: Wait>(
-    rt: &'a R,
-    meet: &'a M,
-    crew: &'a Crew,
+    run: &Run<'a, M, R>,
     gate: &'a Gate<RingCell>,
     mut pass: Pass<RingCell>,
     plans: &[P],
@@ -80,7 +82,7 @@ fn deal<'a, P: HasNode, L, M: Meet, R: Wait>(
         let (zero, other) = gate.split(pass, u32::from(plans[index].node()));
         pass = zero;
         room.push_reserved(Station {
-            ring: GatedRing::new(rt, meet, crew.token(), gate, other),
+            ring: GatedRing::new(run.rt, run.meet, run.crew.token(), gate, other),
             log: None,
         });
     }
@@ -123,57 +125,73 @@ fn gather<'a, L: Drop, M: Meet, R: Wait>(
     (pass, logs, done)
 }
 
+/// What a run through the ring's gate comes to.
+struct Outcome {
+    pass: Pass<RingCell>,
+    controllers: Vec<ControllerLog>,
+    hosts: Vec<HostLog>,
+    done: bool,
+}
+
+/// A run that could not begin.
+fn not_begun(pass: Pass<RingCell>, alloc: Global) -> Outcome
+    ensures pass { result.pass ≡ pass }
+    ensures done { result.done ≡ false }
+{
+    Outcome {
+        pass,
+        controllers: Vec::new(alloc),
+        hosts: Vec::new(alloc),
+        done: false,
+    }
+}
+
 /// Runs all stations through the ring's gate.
-fn through_ring<M: Meet + Sync, R: Threads + Wait + Sync>(
-    rt: &R,
-    meet: &M,
-    alloc: Global,
-    plant: &Plant,
+fn through_ring<M: Meet + Sync, R: Threads + Wait + Clock + Sync>(
+    run: &Run<'_, M, R>,
     gate: &Gate<RingCell>,
     pass: Pass<RingCell>,
-    crew: &Crew,
-    scans: u32,
-) -> (Pass<RingCell>, Vec<ControllerLog>, Vec<HostLog>, bool)
-    requires plant { IsPlant plant.now }
-    requires runnable { CanRunAll plant.now scans plant.now.controllers
-        × CanServeAll plant.now.hosts }
-    requires net { gate.now.fixed ≡ plant.now.net }
+) -> Outcome
+    requires plant { IsPlant run.now.plant.now }
+    requires runnable { CanRunAll run.now.plant.now run.now.scans run.now.plant.now.controllers }
+    requires serving { CanServeAll run.now.plant.now.hosts }
+    requires net { gate.now.fixed ≡ run.now.plant.now.net }
     requires opening { gate.now.name.opening ≡ [] }
     requires pass { pass ≡ first_pass gate.now.name }
-    ensures { IsThrough plant.now scans gate.now result.0 result.1.items result.2.items result.3 }
+    ensures { IsOutcome run.now.plant.now run.now.scans gate.now result }
 {
-    let plans = plant.controllers.as_slice();
-    let host_plans = plant.hosts.as_slice();
-    let Ok(room) = Vec::with_capacity(alloc, plans.len()) else {
-        return (pass, Vec::new(alloc), Vec::new(alloc), false);
+    let plans = run.plant.controllers.as_slice();
+    let host_plans = run.plant.hosts.as_slice();
+    let Ok(room) = Vec::with_capacity(run.alloc, plans.len()) else {
+        return not_begun(pass, run.alloc);
     };
-    let Ok(host_room) = Vec::with_capacity(alloc, host_plans.len()) else {
+    let Ok(host_room) = Vec::with_capacity(run.alloc, host_plans.len()) else {
         room.destroy_empty();
-        return (pass, Vec::new(alloc), Vec::new(alloc), false);
+        return not_begun(pass, run.alloc);
     };
-    let (pass, mut stations) = deal(rt, meet, crew, gate, pass, plans, room);
-    let (pass, mut hosts) = deal(rt, meet, crew, gate, pass, host_plans, host_room);
+    let (pass, mut stations) = deal(run, gate, pass, plans, room);
+    let (pass, mut serving) = deal(run, gate, pass, host_plans, host_room);
     run_all(
-        rt,
-        crew,
-        meet,
-        plant,
+        run,
         plans,
         host_plans,
         stations.as_mut_slice(),
-        hosts.as_mut_slice(),
-        alloc,
-        scans,
+        serving.as_mut_slice(),
     );
-    let (pass, logs, done) = gather(gate, pass, stations, alloc);
-    let (pass, host_logs, host_done) = gather(gate, pass, hosts, alloc);
-    (pass, logs, host_logs, done & host_done)
+    let (pass, controllers, done) = gather(gate, pass, stations, run.alloc);
+    let (pass, hosts, hosts_done) = gather(gate, pass, serving, run.alloc);
+    Outcome {
+        pass,
+        controllers,
+        hosts,
+        done: done & hosts_done,
+    }
 }
 
-/// Runs a plant in threads, where threads can be made: each controller with its scan worker and
-/// its communication worker behind a gate, each host with its worker, and the ring behind a gate.
-/// The workers have no budget. Only memory can want.
-pub fn live<M: Meet + Sync, R: Threads + Wait + Sync>(
+/// Runs a plant in threads, where threads can be made: each controller with its scan worker and its
+/// communication worker behind a gate, each host with its worker, and the ring behind a gate. The
+/// workers have no budget. The only error is that memory ran out.
+pub fn live<M: Meet + Sync, R: Threads + Wait + Clock + Sync>(
     rt: &R,
     alloc: Global,
     plant: &Plant,
@@ -187,15 +205,21 @@ pub fn live<M: Meet + Sync, R: Threads + Wait + Sync>(
     ensures complete { IfOk result (IsComplete plant.now scans) }
     ensures unspent { IfOk result (λ joint. NoneSpent joint.ring) }
     ensures effects { IfOk result EffectsAreRight }
+    ensures in_time { IfOk result IsInOneOrder }
 {
     effects_are_right();
     runs_complete();
+    joint_is_in_one_order();
     let ring = Ring::new(alloc, &plant.net)?;
     let crew = Crew::new(alloc, plant, ring.holder())?;
     let (gate, pass) = Gate::new(alloc, RingCell::new(ring))?;
-    let (pass, controllers, hosts, done) = through_ring(
-        rt, meet, alloc, plant, &gate, pass, &crew, scans,
-    );
+    let run = Run::new(rt, &crew, meet, plant, alloc, scans);
+    let Outcome {
+        pass,
+        controllers,
+        hosts,
+        done,
+    } = through_ring(&run, &gate, pass);
     let ring = gate.close(pass).into_inner();
     if !done {
         return Err(AllocError);

@@ -2,7 +2,7 @@
 ghost use Rattle.std.specs.Prelude.{◌≡◌, ◌≤◌, ◌+◌, true, length, IfOk, OnErr};
 ghost use Rattle.turn_gate.specs.Known.{IsReady};
 ghost use Rattle.controller_core.specs.Controller.{WentOn, has_ended, step_entries};
-ghost use Rattle.comm_port.specs.Reading.{has_ended_at};
+ghost use Rattle.joint_history.specs.Reading.{has_ended_at};
 ghost use Rattle.live_run.specs.Cells.{maker_number};
 ghost use Rattle.live_run.specs.Scanning.{IsOver};
 

@@ -8,6 +8,7 @@ use crate::tallies::Outside;
 use comm_port::{CommWorker, RamSide, RingSide};
 use std::alloc::AllocError;
 use std::sync::Wait;
+use std::time::Clock;
 use turn_laws::turns_keep_on;
 
 /// Makes a hold turn, where the node holds the token; whether it left.
@@ -38,7 +39,7 @@ fn take_turn<M: RamSide, G: RingSide + Outside>(
 
 /// Makes hold turns until the node has left; whether it came so far. A worker without a budget
 /// leaves no call uncollected.
-pub(crate) fn talk<M: RamSide, G: RingSide + Outside, R: Wait>(
+pub(crate) fn talk<M: RamSide, G: RingSide + Outside, R: Wait + Clock>(
     rt: &R,
     crew: &Crew,
     node: u8,
@@ -63,7 +64,7 @@ pub(crate) fn talk<M: RamSide, G: RingSide + Outside, R: Wait>(
         }
         match take_turn(node, worker, ram, ring) {
             Ok(true) => return true,
-            Ok(false) => pause.rest(crew, &mut watch, ring.entries()),
+            Ok(false) => pause.rest(rt, crew, &mut watch, ring.entries()),
             Err(_) => {
                 watch.raise();
                 return false;

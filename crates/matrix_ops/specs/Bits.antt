@@ -14,8 +14,11 @@ matrix_bits (word ∷ words) = word_bits word ++ matrix_bits words
 abbrev pub bit_number : List Bool → ℕ → Bool
 bit_number bits k = slice_index_or bits (k - 1) false
 
--- The registers that have these bits, 16 in each. Modicon Ladder Logic Block Library User Guide.
+-- The register at a place of those that have these bits, 16 in each. Modicon Ladder Logic Block
+-- Library User Guide.
+abbrev pub matrix_word : List Bool → ℕ → ℕ
+matrix_word bits place = number_of_bits (take 16 (drop (16 * place) bits))
+
+-- The registers that have these bits. Modicon Ladder Logic Block Library User Guide.
 unfoldable pub matrix_words : List Bool → List ℕ
-matrix_words bits =
-    map (λ place. number_of_bits (take 16 (drop (16 * place) bits)))
-    (range_with_len 0 (length bits / 16))
+matrix_words bits = map (matrix_word bits) (range_with_len 0 (length bits / 16))

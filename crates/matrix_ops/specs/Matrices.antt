@@ -1,7 +1,7 @@
 -- What each block that works on the bits of a matrix does when it is solved.
 use Rattle.std.specs.Prelude.{◌≡◌, ◌≤◌, ℕ, ◌+◌, ◌-◌, ◌*◌, ◌/◌, Bool, false, not, ◌&&◌, nat_le}
-use Rattle.std.specs.Prelude.{if◌then◌else◌, List, [], ◌∷◌, ◌++◌, take, drop, map, zip}
-use Rattle.std.specs.Prelude.{slice_index_or, slice_set}
+use Rattle.std.specs.Prelude.{if◌then◌else◌, List, [], ◌∷◌, ◌++◌, length, take, drop, map, zip}
+use Rattle.std.specs.Prelude.{slice_index_or, slice_set, bit_and, bit_or, bit_xor}
 use Rattle.std.specs.Prelude.{Option, is_some, option_map, unwrap_or}
 use Rattle.std.specs.Int.{bit_not, w16}
 use Rattle.std.specs.List.{position_from}
@@ -20,15 +20,28 @@ use Rattle.matrix_ops.specs.Bits.{matrix_bits, bit_number, matrix_words}
 abbrev pub word_by_word : (ℕ → ℕ → ℕ) → List ℕ → List ℕ → List ℕ
 word_by_word rule words others = map (λ pair. rule pair.0 pair.1) (zip words others)
 
--- AND, OR and XOR: a matrix becomes what a rule makes of it and of another, word by word.
--- Modicon Ladder Logic Block Library User Guide; the exact outputs are this project's own.
+-- The contents after a matrix is put together with another, word by word. This project's own.
+abbrev pub combined : (ℕ → ℕ → ℕ) → Ref → Ref → ℕ → Contents → Contents
+combined rule top mid length m =
+    with_words m mid (word_by_word rule (words_from m mid length) (words_from m top length))
+
+-- AND, OR and XOR: the middle matrix is replaced, word by word, by what a rule gives for a word of
+-- each matrix. Modicon Ladder Logic Block Library User Guide; the exact outputs are this project's
+-- own.
 abbrev pub combine_effect : (ℕ → ℕ → ℕ) → Ref → Ref → ℕ → NodePower → Contents → Effect
-combine_effect rule top mid length inputs m =
-    let both = word_by_word rule (words_from m mid length) (words_from m top length) in
-    record {
-      outputs = record { top = inputs.top; middle = false; bottom = false };
-      stored = if inputs.top then with_words m mid both else m;
-    }
+combine_effect rule top mid length inputs m = record {
+  outputs = record { top = inputs.top; middle = false; bottom = false };
+  stored = if inputs.top then combined rule top mid length m else m;
+}
+
+abbrev pub and_effect : Ref → Ref → ℕ → NodePower → Contents → Effect
+and_effect = combine_effect bit_and
+
+abbrev pub or_effect : Ref → Ref → ℕ → NodePower → Contents → Effect
+or_effect = combine_effect bit_or
+
+abbrev pub xor_effect : Ref → Ref → ℕ → NodePower → Contents → Effect
+xor_effect = combine_effect bit_xor
 
 -- COMP: a matrix becomes the inverse of another. Modicon Ladder Logic Block Library User Guide;
 -- the exact outputs are this project's own.
@@ -47,6 +60,12 @@ is_apart pair = if pair.0 then not pair.1 else pair.1
 abbrev pub first_difference : ℕ → List Bool → List Bool → Option ℕ
 first_difference behind bits others =
     position_from is_apart (behind + 1) (drop behind (zip bits others))
+
+-- The same of two matrices in registers. Modicon Ladder Logic Block Library User Guide.
+abbrev pub difference_in : Contents → ℕ → Ref → Ref → ℕ → Option ℕ
+difference_in m behind top second length =
+    first_difference behind (matrix_bits (words_from m top length))
+    (matrix_bits (words_from m second length))
 
 -- CMPR: the pointer is left at the first bit behind it that differs from the matrix behind the
 -- pointer, or at 0. Modicon Ladder Logic Block Library User Guide; the exact inputs and outputs
@@ -74,6 +93,14 @@ left_turned bits bit_in = drop 1 bits ++ bit_in ∷ []
 -- Modicon Ladder Logic Block Library User Guide.
 abbrev pub right_turned : ℕ → List Bool → Bool → List Bool
 right_turned count bits bit_in = bit_in ∷ take (count - 1) bits
+
+-- The bits of a matrix of registers turned by one to the left, or to the right. Modicon Ladder
+-- Logic Block Library User Guide.
+abbrev pub turned_left : List ℕ → Bool → List Bool
+turned_left words bit_in = left_turned (matrix_bits words) bit_in
+
+abbrev pub turned_right : List ℕ → Bool → List Bool
+turned_right words bit_in = right_turned (16 * length words) (matrix_bits words) bit_in
 
 -- BROT: a matrix turned by one bit, which comes in again or not. Modicon Ladder Logic Block
 -- Library User Guide; the exact inputs and outputs are this project's own.

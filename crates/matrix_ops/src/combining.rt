@@ -1,19 +1,19 @@
 //! AND, OR, XOR and COMP.
-ghost use Rattle.std.specs.Prelude.{◌≡◌, ◌≤◌, false, length, map, bit_and, bit_or, bit_xor};
+ghost use Rattle.std.specs.Prelude.{◌≡◌, ◌≤◌, false, length, map};
 ghost use Rattle.std.specs.Int.{bit_not, w16};
 ghost use Rattle.plant_types.specs.declared.element.Element.{Element};
 ghost use Rattle.plant_types.specs.declared.element.MatrixOp.{MatrixOp};
 ghost use Rattle.plant_types.specs.declared.element.Operand.{Operand};
-ghost use Rattle.plant_types.specs.Effect.{Does};
+ghost use Rattle.plant_types.specs.Effect.{Acts};
 ghost use Rattle.plant_types.specs.Operands.{HasOperands};
-ghost use Rattle.plant_types.specs.Power.{nodes_of, bits_of};
+ghost use Rattle.plant_types.specs.Power.{bits_of};
 ghost use Rattle.plant_types.specs.Slots.{matrix_limit};
-ghost use Rattle.plant_types.specs.Store.{HasRegisters, Keeps, words_from, with_words};
-ghost use Rattle.matrix_ops.specs.Matrices.{word_by_word, combine_effect, comp_effect};
-ghost use Rattle.matrix_ops.specs.Rule.{rule_of};
+ghost use Rattle.plant_types.specs.Store.{HasRegisters, Keeps};
+ghost use Rattle.matrix_ops.specs.Matrices.{word_by_word, combined, and_effect, or_effect};
+ghost use Rattle.matrix_ops.specs.Matrices.{xor_effect, comp_effect};
+ghost use Rattle.matrix_ops.specs.Rule.{rule_of, rule_effect};
 
-use crate::MATRIX_LIMIT;
-use plant_types::{NodePower, Ref, RefStore, load_words, store_words};
+use plant_types::{MATRIX_LIMIT, NodePower, Ref, RefStore, load_words, store_words};
 
 /// How two words become one, bit by bit.
 #[derive(Clone, Copy)]
@@ -48,15 +48,14 @@ fn combine_registers<R: RefStore>(rule: Rule, top: Ref, mid: Ref, length: u16, r
     requires length { length ≤ matrix_limit }
     requires source { HasRegisters (R.contents ram.old) top length }
     requires matrix { HasRegisters (R.contents ram.old) mid length }
-    ensures stored { R.contents ram.new ≡ with_words (R.contents ram.old) mid
-        (word_by_word (rule_of rule) (words_from (R.contents ram.old) mid length)
-        (words_from (R.contents ram.old) top length)) }
+    ensures stored { R.contents ram.new ≡
+        combined (rule_of rule) top mid length (R.contents ram.old) }
     ensures keeps { Keeps (R.contents ram.old) (R.contents ram.new) }
 {
-    let mut words = [0; MATRIX_LIMIT];
+    let mut words = [0; MATRIX_LIMIT as usize];
     let words = &mut words[..usize::from(length)];
     load_words(ram, mid, words);
-    let mut others = [0; MATRIX_LIMIT];
+    let mut others = [0; MATRIX_LIMIT as usize];
     let others = &mut others[..usize::from(length)];
     load_words(ram, top, others);
     combine_words(rule, words, others);
@@ -79,7 +78,7 @@ fn combine<R: RefStore>(rule: Rule, top: Ref, mid: Ref, length: u16, inputs: u8,
     requires length { length ≤ matrix_limit }
     requires source { HasRegisters (R.contents ram.old) top length }
     requires matrix { HasRegisters (R.contents ram.old) mid length }
-    ensures { Does (combine_effect (rule_of rule) top mid length (nodes_of inputs)) result
+    ensures { Acts (rule_effect rule top mid length) inputs result
         (R.contents ram.old) (R.contents ram.new) }
 {
     let power = NodePower::of_bits(inputs).top;
@@ -96,7 +95,7 @@ fn combine<R: RefStore>(rule: Rule, top: Ref, mid: Ref, length: u16, inputs: u8,
 pub fn and<R: RefStore>(top: Ref, mid: Ref, length: u16, inputs: u8, ram: &mut R) -> u8
     requires { HasOperands (R.contents ram.old)
         (Element.Matrix MatrixOp.And (Operand.At top) mid length) }
-    ensures { Does (combine_effect bit_and top mid length (nodes_of inputs)) result
+    ensures { Acts (and_effect top mid length) inputs result
         (R.contents ram.old) (R.contents ram.new) }
 {
     combine(Rule::Both, top, mid, length, inputs, ram)
@@ -108,7 +107,7 @@ pub fn and<R: RefStore>(top: Ref, mid: Ref, length: u16, inputs: u8, ram: &mut R
 pub fn or<R: RefStore>(top: Ref, mid: Ref, length: u16, inputs: u8, ram: &mut R) -> u8
     requires { HasOperands (R.contents ram.old)
         (Element.Matrix MatrixOp.Or (Operand.At top) mid length) }
-    ensures { Does (combine_effect bit_or top mid length (nodes_of inputs)) result
+    ensures { Acts (or_effect top mid length) inputs result
         (R.contents ram.old) (R.contents ram.new) }
 {
     combine(Rule::Either, top, mid, length, inputs, ram)
@@ -120,7 +119,7 @@ pub fn or<R: RefStore>(top: Ref, mid: Ref, length: u16, inputs: u8, ram: &mut R)
 pub fn xor<R: RefStore>(top: Ref, mid: Ref, length: u16, inputs: u8, ram: &mut R) -> u8
     requires { HasOperands (R.contents ram.old)
         (Element.Matrix MatrixOp.Xor (Operand.At top) mid length) }
-    ensures { Does (combine_effect bit_xor top mid length (nodes_of inputs)) result
+    ensures { Acts (xor_effect top mid length) inputs result
         (R.contents ram.old) (R.contents ram.new) }
 {
     combine(Rule::OneAlone, top, mid, length, inputs, ram)
@@ -140,12 +139,12 @@ fn invert_words(words: &mut [u16])
 pub fn comp<R: RefStore>(top: Ref, mid: Ref, length: u16, inputs: u8, ram: &mut R) -> u8
     requires { HasOperands (R.contents ram.old)
         (Element.Matrix MatrixOp.Comp (Operand.At top) mid length) }
-    ensures { Does (comp_effect top mid length (nodes_of inputs)) result
+    ensures { Acts (comp_effect top mid length) inputs result
         (R.contents ram.old) (R.contents ram.new) }
 {
     let power = NodePower::of_bits(inputs).top;
     if power {
-        let mut words = [0; MATRIX_LIMIT];
+        let mut words = [0; MATRIX_LIMIT as usize];
         let words = &mut words[..usize::from(length)];
         load_words(ram, top, words);
         invert_words(words);

@@ -3,18 +3,16 @@ ghost use Rattle.std.specs.Prelude.{◌≡◌, ◌≤◌, ◌+◌, ◌*◌, leng
 ghost use Rattle.plant_types.specs.declared.element.Element.{Element};
 ghost use Rattle.plant_types.specs.declared.element.MatrixOp.{MatrixOp};
 ghost use Rattle.plant_types.specs.declared.element.Operand.{Operand};
-ghost use Rattle.plant_types.specs.Effect.{Does};
+ghost use Rattle.plant_types.specs.Effect.{Acts};
 ghost use Rattle.plant_types.specs.Operands.{HasOperands};
-ghost use Rattle.plant_types.specs.Power.{nodes_of};
 ghost use Rattle.plant_types.specs.Slots.{matrix_limit};
-ghost use Rattle.plant_types.specs.Store.{HasRegisters, words_from};
+ghost use Rattle.plant_types.specs.Store.{HasRegisters};
 ghost use Rattle.matrix_ops.specs.Bits.{matrix_bits};
-ghost use Rattle.matrix_ops.specs.Matrices.{first_difference, cmpr_effect};
+ghost use Rattle.matrix_ops.specs.Matrices.{first_difference, difference_in, cmpr_effect};
 
-use crate::MATRIX_LIMIT;
 use crate::bits::matrix_bit;
 use crate::single_bits::bit;
-use plant_types::{NodePower, Ref, RefStore, load_words, ref_after};
+use plant_types::{MATRIX_LIMIT, NodePower, Ref, RefStore, load_words, ref_after};
 
 /// The number of the first bit behind so many in which two matrices of one length differ.
 fn difference_behind(behind: u16, words: &[u16], others: &[u16]) -> Option<u16>
@@ -44,16 +42,14 @@ fn register_difference<R: RefStore>(
     requires size { length ≤ matrix_limit }
     requires first { HasRegisters (R.contents ram.now) top length }
     requires second { HasRegisters (R.contents ram.now) second length }
-    ensures found { result ≡ first_difference behind
-        (matrix_bits (words_from (R.contents ram.now) top length))
-        (matrix_bits (words_from (R.contents ram.now) second length)) }
+    ensures found { result ≡ difference_in (R.contents ram.now) behind top second length }
     ensures counts_from_one { IfSome result (λ k. 1 ≤ k) }
     ensures within { IfSome result (λ k. k ≤ 16 * length) }
 {
-    let mut words = [0; MATRIX_LIMIT];
+    let mut words = [0; MATRIX_LIMIT as usize];
     let words = &mut words[..usize::from(length)];
     load_words(ram, top, words);
-    let mut others = [0; MATRIX_LIMIT];
+    let mut others = [0; MATRIX_LIMIT as usize];
     let others = &mut others[..usize::from(length)];
     load_words(ram, second, others);
     difference_behind(behind, words, others)
@@ -69,7 +65,7 @@ fn register_difference<R: RefStore>(
 pub fn cmpr<R: RefStore>(top: Ref, mid: Ref, length: u16, inputs: u8, ram: &mut R) -> u8
     requires { HasOperands (R.contents ram.old)
         (Element.Matrix MatrixOp.Cmpr (Operand.At top) mid length) }
-    ensures { Does (cmpr_effect top mid length (nodes_of inputs)) result
+    ensures { Acts (cmpr_effect top mid length) inputs result
         (R.contents ram.old) (R.contents ram.new) }
 {
     let nodes = NodePower::of_bits(inputs);

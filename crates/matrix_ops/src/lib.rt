@@ -13,9 +13,6 @@ pub use comparing::cmpr;
 pub use single_bits::{mbit, sens, sets_one_bit};
 pub use turning::brot;
 
-/// Room for the largest matrix.
-const MATRIX_LIMIT: usize = 100;
-
 #[cfg(test)]
 mod testing;
 #[cfg(test)]

@@ -3,8 +3,7 @@ ghost use Rattle.std.specs.Prelude.{◌≡◌, ◌≤◌, true, ◌*◌, ◌&&�
 ghost use Rattle.plant_types.specs.Operands.{HasOperands, HasNumber, operand_number};
 ghost use Rattle.plant_types.specs.declared.element.Element.{Element};
 ghost use Rattle.plant_types.specs.declared.element.MatrixOp.{MatrixOp};
-ghost use Rattle.plant_types.specs.Effect.{Does};
-ghost use Rattle.plant_types.specs.Power.{nodes_of};
+ghost use Rattle.plant_types.specs.Effect.{Acts};
 ghost use Rattle.plant_types.specs.Slots.{matrix_limit};
 ghost use Rattle.plant_types.specs.Store.{HasRegisters, Keeps, words_from};
 ghost use Rattle.matrix_ops.specs.Bits.{matrix_bits, bit_number};
@@ -83,7 +82,7 @@ pub fn sets_one_bit()
 pub fn mbit<R: RefStore>(top: Operand, mid: Ref, length: u16, inputs: u8, ram: &mut R) -> u8
     requires { HasOperands (R.contents ram.old)
         (Element.Matrix MatrixOp.Mbit top mid length) }
-    ensures { Does (mbit_effect top mid length (nodes_of inputs)) result
+    ensures { Acts (mbit_effect top mid length) inputs result
         (R.contents ram.old) (R.contents ram.new) }
 {
     let nodes = NodePower::of_bits(inputs);
@@ -127,7 +126,7 @@ fn number_to_tell<R: RefStore>(nodes: NodePower, top: Operand, ram: &R) -> u16
 pub fn sens<R: RefStore>(top: Operand, mid: Ref, length: u16, inputs: u8, ram: &mut R) -> u8
     requires { HasOperands (R.contents ram.old)
         (Element.Matrix MatrixOp.Sens top mid length) }
-    ensures { Does (sens_effect top mid length (nodes_of inputs)) result
+    ensures { Acts (sens_effect top mid length) inputs result
         (R.contents ram.old) (R.contents ram.new) }
 {
     let nodes = NodePower::of_bits(inputs);

@@ -1,26 +1,22 @@
 //! BROT.
-ghost use Rattle.std.specs.Prelude.{◌≡◌, ◌≤◌, ◌<◌, ◌*◌, length, take, drop};
+ghost use Rattle.std.specs.Prelude.{◌≡◌, ◌<◌, length};
 ghost use Rattle.plant_types.specs.declared.element.Element.{Element};
 ghost use Rattle.plant_types.specs.declared.element.MatrixOp.{MatrixOp};
 ghost use Rattle.plant_types.specs.declared.element.Operand.{Operand};
-ghost use Rattle.plant_types.specs.Effect.{Does};
+ghost use Rattle.plant_types.specs.Effect.{Acts};
 ghost use Rattle.plant_types.specs.Operands.{HasOperands};
-ghost use Rattle.plant_types.specs.Power.{nodes_of};
 ghost use Rattle.plant_types.specs.Slots.{matrix_limit};
 ghost use Rattle.plant_types.specs.Store.{HasRegisters};
-ghost use Rattle.matrix_ops.specs.Bits.{matrix_bits, matrix_words};
-ghost use Rattle.plant_types.specs.Discretes.{number_of_bits};
-ghost use Rattle.matrix_ops.specs.Matrices.{left_turned, right_turned, brot_effect};
+ghost use Rattle.matrix_ops.specs.Bits.{matrix_word, matrix_words};
+ghost use Rattle.matrix_ops.specs.Matrices.{turned_left, turned_right, brot_effect};
 
-use crate::MATRIX_LIMIT;
 use crate::bits::matrix_bit;
-use plant_types::{NodePower, Ref, RefStore, load_words, store_words};
+use plant_types::{MATRIX_LIMIT, NodePower, Ref, RefStore, load_words, store_words};
 
 /// The word at a place of the matrix turned to the left.
 fn left_word(words: &[u16], place: usize, bit_in: bool) -> u16
     requires { place < length words.now }
-    ensures { result ≡ number_of_bits (take 16 (drop (16 * place)
-        (left_turned (matrix_bits words.now) bit_in))) }
+    ensures { result ≡ matrix_word (turned_left words.now bit_in) place }
 {
     let last = if place + 1 < words.len() {
         words[place + 1] >> 15
@@ -32,7 +28,7 @@ fn left_word(words: &[u16], place: usize, bit_in: bool) -> u16
 
 fn turn_left(words: &[u16], bit_in: bool, turned: &mut [u16])
     requires same { length turned.old ≡ length words.now }
-    ensures { turned.new ≡ matrix_words (left_turned (matrix_bits words.now) bit_in) }
+    ensures { turned.new ≡ matrix_words (turned_left words.now bit_in) }
 {
     for (place, word) in turned.iter_mut().enumerate() {
         *word = left_word(words, place, bit_in);
@@ -42,8 +38,7 @@ fn turn_left(words: &[u16], bit_in: bool, turned: &mut [u16])
 /// The word at a place of the matrix turned to the right.
 fn right_word(words: &[u16], place: usize, bit_in: bool) -> u16
     requires { place < length words.now }
-    ensures { result ≡ number_of_bits (take 16 (drop (16 * place)
-        (right_turned (16 * length words.now) (matrix_bits words.now) bit_in))) }
+    ensures { result ≡ matrix_word (turned_right words.now bit_in) place }
 {
     let first = if place > 0 {
         words[place - 1] & 1
@@ -55,8 +50,7 @@ fn right_word(words: &[u16], place: usize, bit_in: bool) -> u16
 
 fn turn_right(words: &[u16], bit_in: bool, turned: &mut [u16])
     requires same { length turned.old ≡ length words.now }
-    ensures { turned.new ≡ matrix_words
-        (right_turned (16 * length words.now) (matrix_bits words.now) bit_in) }
+    ensures { turned.new ≡ matrix_words (turned_right words.now bit_in) }
 {
     for (place, word) in turned.iter_mut().enumerate() {
         *word = right_word(words, place, bit_in);
@@ -71,19 +65,19 @@ fn turn_right(words: &[u16], bit_in: bool, turned: &mut [u16])
 pub fn brot<R: RefStore>(top: Ref, mid: Ref, length: u16, inputs: u8, ram: &mut R) -> u8
     requires { HasOperands (R.contents ram.old)
         (Element.Matrix MatrixOp.Brot (Operand.At top) mid length) }
-    ensures { Does (brot_effect top mid length (nodes_of inputs)) result
+    ensures { Acts (brot_effect top mid length) inputs result
         (R.contents ram.old) (R.contents ram.new) }
 {
     let nodes = NodePower::of_bits(inputs);
     if !nodes.top {
         return NodePower::OFF.bits();
     }
-    let mut words = [0; MATRIX_LIMIT];
+    let mut words = [0; MATRIX_LIMIT as usize];
     let words = &mut words[..usize::from(length)];
     load_words(ram, top, words);
     let bit_out = matrix_bit(words, if nodes.middle { 0 } else { 16 * length - 1 });
     let bit_in = nodes.bottom && bit_out;
-    let mut turned = [0; MATRIX_LIMIT];
+    let mut turned = [0; MATRIX_LIMIT as usize];
     let turned = &mut turned[..usize::from(length)];
     if nodes.middle {
         turn_left(words, bit_in, turned);

@@ -22,31 +22,31 @@ use Rattle.modbus_exec.specs.declared.end.ExecEnd.{ExecEnd}
 use Rattle.modbus_exec.specs.declared.end.ExecEnd.TheVariants.{Exception, NoMemory}
 use Rattle.plant_types.specs.Discretes.{bit_words}
 use Rattle.modbus_exec.specs.Runs.{reference_at}
-use Rattle.modbus_exec.specs.Answer.{Outcome, outcome_of, has_named_references, reply_by, stored_by}
+use Rattle.modbus_exec.specs.Answer.{Execution, execution_of, has_named_references, reply_by, stored_by}
 use Rattle.modbus_exec.specs.Answer.{masked, IsOneOf, Writes}
 use Rattle.modbus_exec.specs.Executing.{Executes}
 use Rattle.plant_types.proofs.DiscretesLemmas.{length-bits_from, length-bit_words}
 use Rattle.modbus_exec.proofs.Outcomes.{chosen}
 
 -- The outcome that a request has.
-abbrev due : Request → Contents → Outcome
+abbrev due : Request → Contents → Execution
 due request m = record { reply = reply_by request m; stored = stored_by request m }
 
 -- A test that chose an outcome held, and chose that one.
-of_test : (b : Bool) (outcome found : Outcome) → chosen b outcome ≡ Ok found
+of_test : (b : Bool) (outcome found : Execution) → chosen b outcome ≡ Ok found
     → (b ≡ true) × (outcome ≡ found)
 of_test true outcome found e = (refl, cc)
 of_test false outcome found e = absurd cc
 
 -- Where there is an outcome, the map has the references, and the outcome is what is due.
-came : (request : Request) (m : Contents) (outcome : Outcome) → outcome_of request m ≡ Ok outcome
+came : (request : Request) (m : Contents) (outcome : Execution) → execution_of request m ≡ Ok outcome
     → (has_named_references m request ≡ true) × (due request m ≡ outcome)
 came (Stats clear) m outcome e = absurd cc
 came request m outcome e = of_test (has_named_references m request) (due request m) outcome e
 
 -- Where there is an outcome, the map has the references.
-pub answered_has : (request : Request) (m : Contents) (outcome : Outcome)
-    → outcome_of request m ≡ Ok outcome → has_named_references m request ≡ true
+pub answered_has : (request : Request) (m : Contents) (outcome : Execution)
+    → execution_of request m ≡ Ok outcome → has_named_references m request ≡ true
 answered_has request m outcome e = (came request m outcome e).0
 
 -- A reply that fits a request, in range.
@@ -55,8 +55,8 @@ pub record Fits (request : Request) (reply : Reply) : Type 0 where
   pub to : IsReplyTo request reply
 
 -- The reply that is due fits, if it is of the map.
-reply_fits : (request : Request) (m : Contents) (outcome : Outcome) → IsRequestInRange request
-    → outcome_of request m ≡ Ok outcome → Fits request (reply_by request m)
+reply_fits : (request : Request) (m : Contents) (outcome : Execution) → IsRequestInRange request
+    → execution_of request m ≡ Ok outcome → Fits request (reply_by request m)
 reply_fits (ReadCoils address quantity) m outcome range e =
     let long = length-bits_from m (reference_at kinds.Coil address) quantity in
     record { range = (inl refl, (omega arith, omega arith)); to = (refl, long) }
@@ -82,10 +82,10 @@ reply_fits (ReadWrite read quantity write words) m outcome range e =
 reply_fits _ m outcome range e = record { range = tt; to = refl }
 
 -- The reply of every answer fits the request.
-pub answer_fits : (request : Request) (m : Contents) (outcome : Outcome) → IsRequestInRange request
-    → outcome_of request m ≡ Ok outcome → Fits request outcome.reply
+pub answer_fits : (request : Request) (m : Contents) (outcome : Execution) → IsRequestInRange request
+    → execution_of request m ≡ Ok outcome → Fits request outcome.reply
 answer_fits request m outcome range e =
-    let is = ap (λ (o : Outcome). o.reply) (came request m outcome e).1 in
+    let is = ap (λ (o : Execution). o.reply) (came request m outcome e).1 in
     subst (Fits request) is (reply_fits request m outcome range e)
 
 -- A reference that is not one of so many is none of them.
@@ -146,17 +146,17 @@ stored_keeps (ReadWrite read quantity write words) m =
 stored_keeps _ m = λ at h. h
 
 -- Every reference that a request does not write stays.
-answer_others : (request : Request) (m : Contents) (at : Ref) (outcome : Outcome)
-    → ¬ Writes request at → outcome_of request m ≡ Ok outcome → get outcome.stored at ≡ get m at
+answer_others : (request : Request) (m : Contents) (at : Ref) (outcome : Execution)
+    → ¬ Writes request at → execution_of request m ≡ Ok outcome → get outcome.stored at ≡ get m at
 answer_others request m at outcome other e =
-    ap (λ (o : Outcome). get o.stored at) (sym (came request m outcome e).1)
+    ap (λ (o : Execution). get o.stored at) (sym (came request m outcome e).1)
     ∙ stored_others request m at other
 
 -- No reference of the map is lost.
-pub answer_keeps : (request : Request) (m : Contents) (outcome : Outcome)
-    → outcome_of request m ≡ Ok outcome → Keeps m outcome.stored
+pub answer_keeps : (request : Request) (m : Contents) (outcome : Execution)
+    → execution_of request m ≡ Ok outcome → Keeps m outcome.stored
 answer_keeps request m outcome e =
-    let is = ap (λ (o : Outcome). o.stored) (came request m outcome e).1 in
+    let is = ap (λ (o : Execution). o.stored) (came request m outcome e).1 in
     subst (Keeps m) is (stored_keeps request m)
 
 same_kept : (m : Contents) → Keeps m m

@@ -16,7 +16,7 @@ use Rattle.modbus_pdu.specs.declared.request.Request.TheVariants.{Stats, WriteCo
 use Rattle.modbus_pdu.specs.declared.request.Request.TheVariants.{Mask, ReadWrite}
 use Rattle.modbus_pdu.specs.declared.reply.Reply.TheVariants as replies
 use Rattle.modbus_pdu.proofs.Reading.{code_first, request_found, none_found}
-use Rattle.modbus_exec.specs.Answer.{Outcome, answer_of, answer_with, outcome_of, refusal}
+use Rattle.modbus_exec.specs.Answer.{Execution, answer_of, answer_with, execution_of, refusal}
 use Rattle.modbus_exec.specs.Executing.{Answers}
 
 -- The function of each request is listed.
@@ -46,7 +46,7 @@ misformed_answer bytes m h = rw (h.0, none_found bytes h.1) refl
 
 -- The answer where a request is spelled.
 pub spelled_answer : (bytes : List ℕ) (m : Contents) (request : Request) → Spells bytes request
-    → answer_of bytes m ≡ answer_with (slice_index bytes 0) (outcome_of request m) m
+    → answer_of bytes m ≡ answer_with (slice_index bytes 0) (execution_of request m) m
 spelled_answer bytes m request s =
     let listed : is_listed (slice_index bytes 0) ≡ true =
     ap is_listed (code_first bytes request s) ∙ function_listed request in
@@ -54,10 +54,10 @@ spelled_answer bytes m request s =
 
 -- The same by the function of the request.
 pub answer_by_function : (bytes : List ℕ) (m : Contents) (request : Request) → Spells bytes request
-    → answer_of bytes m ≡ answer_with (function_of request) (outcome_of request m) m
+    → answer_of bytes m ≡ answer_with (function_of request) (execution_of request m) m
 answer_by_function bytes m request s =
     spelled_answer bytes m request s
-    ∙ ap (λ (function : ℕ). answer_with function (outcome_of request m) m) (code_first bytes request s)
+    ∙ ap (λ (function : ℕ). answer_with function (execution_of request m) m) (code_first bytes request s)
 
 -- An exception reply in place of a request.
 pub refused_answer : (bytes : List ℕ) (m : Contents) (pdu : List ℕ) (code : ℕ)
@@ -84,18 +84,18 @@ refused_answer bytes m pdu code (Err (Exception other)) e ends unlisted misforme
 
 -- An exception reply to a request.
 pub failed_answer : (bytes : List ℕ) (m : Contents) (request : Request) (pdu : List ℕ) (code : ℕ)
-    → Spells bytes request → outcome_of request m ≡ Err code
+    → Spells bytes request → execution_of request m ≡ Err code
     → pdu ≡ reply_bytes (replies.Exception (slice_index bytes 0) code) → Answers bytes m m pdu
 failed_answer bytes m request pdu code s e is =
     spelled_answer bytes m request s
-    ∙ ap (λ (result : Result Outcome ℕ). answer_with (slice_index bytes 0) result m) e
+    ∙ ap (λ (result : Result Execution ℕ). answer_with (slice_index bytes 0) result m) e
     ∙ (λ i. record { reply = sym is i; stored = m })
 
 -- The reply to a request.
-pub done_answer : (bytes : List ℕ) (m after : Contents) (request : Request) (outcome : Outcome)
-    → (pdu : List ℕ) → Spells bytes request → outcome_of request m ≡ Ok outcome
+pub done_answer : (bytes : List ℕ) (m after : Contents) (request : Request) (outcome : Execution)
+    → (pdu : List ℕ) → Spells bytes request → execution_of request m ≡ Ok outcome
     → pdu ≡ reply_bytes outcome.reply → after ≡ outcome.stored → Answers bytes m after pdu
 done_answer bytes m after request outcome pdu s e is stored =
     spelled_answer bytes m request s
-    ∙ ap (λ (result : Result Outcome ℕ). answer_with (slice_index bytes 0) result m) e
+    ∙ ap (λ (result : Result Execution ℕ). answer_with (slice_index bytes 0) result m) e
     ∙ (λ i. record { reply = sym is i; stored = sym stored i })

@@ -6,14 +6,14 @@ use Rattle.plant_types.specs.declared.reference.RefKind.TheVariants as kinds
 use Rattle.plant_types.specs.Reference.{ref_from}
 use Rattle.plant_types.specs.Store.{Contents, word_at, with_words}
 use Rattle.plant_types.proofs.RunLemmas.{get-with_words_at, get-with_words_other}
-use Rattle.modbus_exec.specs.Answer.{Outcome}
+use Rattle.modbus_exec.specs.Answer.{Execution}
 
 -- The outcome where a test holds, else exception 2. This project's own.
-abbrev pub chosen : Bool → Outcome → Result Outcome ℕ
+abbrev pub chosen : Bool → Execution → Result Execution ℕ
 chosen b outcome = cond b (Ok outcome) (Err 2)
 
 -- There is an outcome where the references are in the map.
-pub is_there : (b : Bool) (outcome : Outcome) → true ≡ b → (found : Outcome) × (chosen b outcome ≡ Ok found)
+pub is_there : (b : Bool) (outcome : Execution) → true ≡ b → (found : Execution) × (chosen b outcome ≡ Ok found)
 is_there true outcome e = (outcome, refl)
 is_there false outcome e = absurd cc
 

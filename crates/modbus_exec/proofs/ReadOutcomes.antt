@@ -8,7 +8,7 @@ use Rattle.plant_types.specs.Store.{Contents, words_from}
 use Rattle.modbus_pdu.specs.Quantities.{most_discretes_read, most_registers_read}
 use Rattle.modbus_pdu.specs.Steps.{most_read, read_request, reading_function}
 use Rattle.modbus_pdu.specs.declared.reply.Reply.TheVariants as replies
-use Rattle.modbus_exec.specs.Answer.{reply_by, stored_by, outcome_of}
+use Rattle.modbus_exec.specs.Answer.{reply_by, stored_by, execution_of}
 use Rattle.plant_types.specs.Discretes.{bits_from}
 use Rattle.modbus_exec.specs.Runs.{reference_at, are_in_map}
 use Rattle.modbus_exec.proofs.Outcomes.{chosen}
@@ -48,7 +48,7 @@ reads_fit InputRegister count fits = omega arith
 
 -- A read comes to its reply where the map has the references, else to exception 2.
 pub read_chosen : (kind : RefKind) (address count : ℕ) (m : Contents)
-    → outcome_of (read_request kind address count) m
+    → execution_of (read_request kind address count) m
     ≡ chosen (are_in_map m (reference_at kind address) count) (record {
       reply = reply_by (read_request kind address count) m;
       stored = m;

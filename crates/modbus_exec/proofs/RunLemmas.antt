@@ -14,7 +14,7 @@ use Rattle.plant_types.specs.Store.{Contents, is_on, words_from, with_words}
 use Rattle.plant_types.proofs.RunLemmas.{ref_from-zero, ref_from-ref_from, length-words_from}
 use Rattle.plant_types.proofs.RunLemmas.{get_or-words_from, with_words-push}
 use Rattle.plant_types.specs.Discretes.{bits_from, bit_words}
-use Rattle.modbus_exec.specs.Runs.{last_number, is_in_map, are_in_map, HasRun}
+use Rattle.modbus_exec.specs.Runs.{largest_number, is_in_map, are_in_map, HasReferences}
 
 and_false : (a b : Bool) → b ≡ false → (a && b) ≡ false
 and_false true b e = e
@@ -24,22 +24,22 @@ next : (at : Ref) (place : ℕ) → ref_from (ref_from at 1) place ≡ ref_from 
 next at place = ref_from-ref_from at 1 place ∙ ap (ref_from at) (let e : 1 + place ≡ suc place = omega arith in e)
 
 -- A reference of the map has a number, and the map has it.
-pub in_map_is : (m : Contents) (at : Ref) → is_in_map m at ≡ true → (at.number ≤ last_number) × (contains_key m at ≡ true)
+pub in_map_is : (m : Contents) (at : Ref) → is_in_map m at ≡ true → (at.number ≤ largest_number) × (contains_key m at ≡ true)
 in_map_is m at h =
-    let number = first_so (nat_le at.number last_number) (contains_key m at) h in
-    (leb-true _ _ number, second_so (nat_le at.number last_number) (contains_key m at) h)
+    let number = first_so (nat_le at.number largest_number) (contains_key m at) h in
+    (leb-true _ _ number, second_so (nat_le at.number largest_number) (contains_key m at) h)
 
 -- What the map has under a number is of the map.
-in_map : (m : Contents) (at : Ref) → at.number ≤ last_number → contains_key m at ≡ true → is_in_map m at ≡ true
+in_map : (m : Contents) (at : Ref) → at.number ≤ largest_number → contains_key m at ≡ true → is_in_map m at ≡ true
 in_map m at near held = both_true (le-leb _ _ near) held
 
 -- Where each is of the map, all are.
-pub all_in_map : (m : Contents) (at : Ref) (count : ℕ) → HasRun m at count → are_in_map m at count ≡ true
+pub all_in_map : (m : Contents) (at : Ref) (count : ℕ) → HasReferences m at count → are_in_map m at count ≡ true
 unfolding are_in_map
 all_in_map m at zero h = refl
 all_in_map m at (suc count) h =
     let first = in_map m (ref_from at 0) (h.fits 0 (omega arith)) (h.held 0 (omega arith)) in
-    let rest : HasRun m (ref_from at 1) count = record {
+    let rest : HasReferences m (ref_from at 1) count = record {
       fits = λ place lt. let far = h.fits (suc place) (omega arith) in omega arith;
       held = λ place lt. ap (contains_key m) (next at place) ∙ h.held (suc place) (omega arith);
     } in
@@ -54,7 +54,7 @@ not_in_map m at (suc count) (suc place) lt h =
     and_false (is_in_map m at) _ (not_in_map m (ref_from at 1) count place (omega arith) (ap (is_in_map m) (next at place) ∙ h))
 
 -- Where all are of the map, they are a run.
-pub run_of : (m : Contents) (at : Ref) (count : ℕ) → are_in_map m at count ≡ true → HasRun m at count
+pub run_of : (m : Contents) (at : Ref) (count : ℕ) → are_in_map m at count ≡ true → HasReferences m at count
 unfolding are_in_map
 run_of m at zero h = record { fits = λ place lt. absurd (omega arith); held = λ place lt. absurd (omega arith) }
 run_of m at (suc count) h =
@@ -66,18 +66,18 @@ run_of m at (suc count) h =
       held = held here.1 rest;
     }
   where
-    fits : at.number ≤ last_number → HasRun m (ref_from at 1) count → (place : ℕ) → place < suc count → at.number + place ≤ last_number
+    fits : at.number ≤ largest_number → HasReferences m (ref_from at 1) count → (place : ℕ) → place < suc count → at.number + place ≤ largest_number
     fits near rest zero lt = omega arith
     fits near rest (suc place) lt = let far = rest.fits place (omega arith) in omega arith
 
-    held : contains_key m at ≡ true → HasRun m (ref_from at 1) count → (place : ℕ) → place < suc count → contains_key m (ref_from at place) ≡ true
+    held : contains_key m at ≡ true → HasReferences m (ref_from at 1) count → (place : ℕ) → place < suc count → contains_key m (ref_from at place) ≡ true
     held first rest zero lt = ap (contains_key m) (ref_from-zero at) ∙ first
     held first rest (suc place) lt = ap (contains_key m) (sym (next at place)) ∙ rest.held place (omega arith)
 
 -- One more reference of a run.
-pub one_more : (m : Contents) (at here : Ref) (count : ℕ) → HasRun m at count
-    → at.number + count ≤ last_number → here ≡ ref_from at count → contains_key m here ≡ true
-    → HasRun m at (count + 1)
+pub one_more : (m : Contents) (at here : Ref) (count : ℕ) → HasReferences m at count
+    → at.number + count ≤ largest_number → here ≡ ref_from at count → contains_key m here ≡ true
+    → HasReferences m at (count + 1)
 one_more m at here count run fits is held = record {
   fits = λ place lt. omega arith;
   held = below_more (λ place. contains_key m (ref_from at place) ≡ true) count run.held (ap (contains_key m) (sym is) ∙ held);

@@ -17,8 +17,8 @@ use Rattle.modbus_pdu.specs.Spelling.{is_listed, reply_bytes}
 use Rattle.plant_types.specs.Discretes.{bits_from, with_bits}
 use Rattle.modbus_exec.specs.Runs.{reference_at, is_in_map, are_in_map}
 
--- A reply, and the contents that the request leaves. This project's own.
-pub record Outcome : Type 0 where
+-- What a request comes to: its reply, and the contents that it leaves. This project's own.
+pub record Execution : Type 0 where
   pub reply : Reply
   pub stored : Contents
 
@@ -87,11 +87,11 @@ reply_by (requests.ReadWrite read quantity write words) m =
     replies.Words 23 (words_from after (reference_at kinds.Register read) quantity)
 reply_by request m = replies.Same request
 
--- The outcome of a request, or the code of the exception that is due. Exception 1 for statistics,
+-- What a request comes to, or the code of the exception that is due. Exception 1 for statistics,
 -- which are not asked of a map, is this project's own, and so is that it comes before exception 2.
-abbrev pub outcome_of : Request → Contents → Result Outcome ℕ
-outcome_of (requests.Stats clear) m = Err illegal_function
-outcome_of request m =
+abbrev pub execution_of : Request → Contents → Result Execution ℕ
+execution_of (requests.Stats clear) m = Err illegal_function
+execution_of request m =
     if has_named_references m request
     then Ok (record { reply = reply_by request m; stored = stored_by request m })
     else Err illegal_address
@@ -109,7 +109,7 @@ refusal function code m = record {
 }
 
 -- The answer with what a request came to. Modicon Modbus Protocol Reference Guide.
-abbrev pub answer_with : ℕ → Result Outcome ℕ → Contents → Answer
+abbrev pub answer_with : ℕ → Result Execution ℕ → Contents → Answer
 answer_with function (Ok outcome) m = record {
   reply = reply_bytes outcome.reply;
   stored = outcome.stored;
@@ -118,7 +118,7 @@ answer_with function (Err code) m = refusal function code m
 
 -- The answer to a request, if the bytes spell one. Modicon Modbus Protocol Reference Guide.
 abbrev pub answer_to : ℕ → Option Request → Contents → Answer
-answer_to function (Some request) m = answer_with function (outcome_of request m) m
+answer_to function (Some request) m = answer_with function (execution_of request m) m
 answer_to function None m = refusal function illegal_value m
 
 -- The answer to bytes: exception 1 where their function is not served, else exception 3 where they

@@ -1,3 +1,4 @@
 pub mod Runs
 pub mod Answer
 pub mod Executing
+pub mod Laws

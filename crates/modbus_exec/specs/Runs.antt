@@ -11,13 +11,13 @@ use Rattle.plant_types.specs.Store.{Contents}
 abbrev pub reference_at : RefKind → ℕ → Ref
 reference_at kind address = record { kind = kind; number = address + 1 }
 
--- The last number that a reference can have. This project's own.
-abbrev pub last_number : ℕ
-last_number = 65535
+-- The largest number that a reference can have. This project's own.
+abbrev pub largest_number : ℕ
+largest_number = 65535
 
 -- A reference of the map. This project's own.
 abbrev pub is_in_map : Contents → Ref → Bool
-is_in_map m at = nat_le at.number last_number && contains_key m at
+is_in_map m at = nat_le at.number largest_number && contains_key m at
 
 -- Whether so many references from one on are all of the map. This project's own.
 unfoldable pub are_in_map : Contents → Ref → ℕ → Bool
@@ -25,6 +25,6 @@ are_in_map m at zero = true
 are_in_map m at (suc count) = is_in_map m at && are_in_map m (ref_from at 1) count
 
 -- Each of so many references from one on is of the map. This project's own.
-pub record HasRun (m : Contents) (at : Ref) (count : ℕ) : Type 0 where
-  pub fits : (place : ℕ) → place < count → at.number + place ≤ last_number
+pub record HasReferences (m : Contents) (at : Ref) (count : ℕ) : Type 0 where
+  pub fits : (place : ℕ) → place < count → at.number + place ≤ largest_number
   pub held : (place : ℕ) → place < count → contains_key m (ref_from at place) ≡ true

@@ -34,8 +34,8 @@ fn refused(alloc: Global, function: u8, code: u8) -> Result<Prepared, AllocError
 
 fn prepare<R: RefStore>(alloc: Global, bytes: &[u8], ram: &R) -> Result<Prepared, AllocError>
     requires { 1 ≤ length bytes.now }
-    ensures { IfOk result (λ prepared.
-        IsPrepared bytes.now (R.contents ram.now) prepared.reply prepared.request) }
+    ensures { IfOk result (λ made.
+        IsPrepared bytes.now (R.contents ram.now) made.reply made.request) }
 {
     let function = bytes[0];
     let request = match decode(alloc, bytes) {
@@ -80,8 +80,8 @@ pub fn answer<R: RefStore>(alloc: Global, bytes: &[u8], ram: &mut R) -> Result<P
     Ok(prepared.reply)
 }
 
-/// The same with the bytes of the answer twice, for who keeps one of them. The memory of both is
-/// taken before anything is written.
+/// The answer as by `answer`, with its bytes twice, for a caller that keeps one copy. The memory of
+/// both is taken before anything is written.
 pub fn answer_twice<R: RefStore>(
     alloc: Global,
     bytes: &[u8],

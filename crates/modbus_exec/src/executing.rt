@@ -1,9 +1,9 @@
 //! Requests on the references of a store.
-ghost use Rattle.std.specs.Prelude.{◌≡◌, ℕ, ◌↔◌, Ok, Err, IfOk, OnErr, IsErrOf};
+ghost use Rattle.std.specs.Prelude.{◌≡◌, IfOk, OnErr};
 ghost use Rattle.modbus_pdu.specs.Spelling.{IsRequestInRange, IsReplyInRange, IsReplyTo};
 ghost use Rattle.plant_types.specs.Store.{Keeps};
-ghost use Rattle.modbus_exec.specs.Answer.{outcome_of};
 ghost use Rattle.modbus_exec.specs.Executing.{ComesTo, Executes, KeepsOthers, Replies};
+ghost use Rattle.modbus_exec.specs.Executing.{TellsException};
 
 use crate::end::ExecEnd;
 use crate::reading::read;
@@ -78,8 +78,7 @@ pub fn exec<R: RefStore>(alloc: Global, request: &Request, ram: &mut R) -> Resul
     requires { IsRequestInRange request.now }
     ensures answered { IfOk result
         (ComesTo request.now (R.contents ram.old) (R.contents ram.new)) }
-    ensures exception { (code : ℕ) → IsErrOf result (ExecEnd.Exception code)
-        ↔ (outcome_of request.now (R.contents ram.old) ≡ Err code) }
+    ensures exception { TellsException request.now (R.contents ram.old) result }
     ensures unchanged { OnErr result (R.contents ram.new ≡ R.contents ram.old) }
     ensures others { KeepsOthers request.now (R.contents ram.old) (R.contents ram.new) }
     ensures keeps { Keeps (R.contents ram.old) (R.contents ram.new) }

@@ -14,6 +14,3 @@ pub use answering::{answer, answer_twice};
 pub use end::ExecEnd;
 pub use executing::exec;
 pub use laws::answers_follow_the_grammar;
-
-#[cfg(test)]
-mod tests;

@@ -4,7 +4,7 @@ ghost use Rattle.plant_types.specs.Reference.{is_discrete};
 ghost use Rattle.modbus_pdu.specs.Steps.{most_read, read_request, reading_function};
 ghost use Rattle.modbus_exec.specs.Answer.{reply_by};
 ghost use Rattle.modbus_exec.specs.Executing.{Replies};
-ghost use Rattle.modbus_exec.specs.Runs.{reference_at, HasRun};
+ghost use Rattle.modbus_exec.specs.Runs.{reference_at, HasReferences};
 
 use crate::end::ExecEnd;
 use crate::runs::{are_in_map, read_bits, read_run};
@@ -37,7 +37,7 @@ fn reply_of<R: RefStore>(
     address: u16,
     count: usize,
 ) -> Result<Reply, AllocError>
-    requires run { HasRun (R.contents ram.now) (reference_at kind address) count }
+    requires run { HasReferences (R.contents ram.now) (reference_at kind address) count }
     requires most { count ≤ most_read kind }
     ensures { IfOk result (λ reply.
         reply ≡ reply_by (read_request kind address count) (R.contents ram.now)) }

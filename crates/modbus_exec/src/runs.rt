@@ -4,7 +4,7 @@ ghost use Rattle.plant_types.specs.Reference.{is_discrete, ref_from};
 ghost use Rattle.plant_types.specs.Store.{words_from, with_words};
 ghost use Rattle.modbus_pdu.specs.Quantities.{most_discretes_read, most_registers_read};
 ghost use Rattle.plant_types.specs.Discretes.{bits_from, with_bits};
-ghost use Rattle.modbus_exec.specs.Runs.{reference_at, is_in_map, are_in_map, HasRun};
+ghost use Rattle.modbus_exec.specs.Runs.{reference_at, is_in_map, are_in_map, HasReferences};
 
 use plant_types::{List, Ref, RefKind, RefStore, Words};
 use std::alloc::{AllocError, Global};
@@ -38,7 +38,7 @@ fn is_in_map_behind<R: RefStore>(ram: &R, kind: RefKind, address: u16, place: us
 pub(crate) fn are_in_map<R: RefStore>(ram: &R, kind: RefKind, address: u16, count: usize) -> bool
     requires { count ≤ most_discretes_read }
     ensures all { result ≡ are_in_map (R.contents ram.now) (reference_at kind address) count }
-    ensures run { IsTrue result → HasRun (R.contents ram.now) (reference_at kind address) count }
+    ensures run { IsTrue result → HasReferences (R.contents ram.now) (reference_at kind address) count }
 {
     for place in 0..count {
         if !is_in_map_behind(ram, kind, address, place) {
@@ -78,7 +78,7 @@ pub(crate) fn read_bits<R: RefStore>(
     address: u16,
     count: usize,
 ) -> Result<List<bool>, AllocError>
-    requires run { HasRun (R.contents ram.now) (reference_at kind address) count }
+    requires run { HasReferences (R.contents ram.now) (reference_at kind address) count }
     requires kind { is_discrete kind ≡ true }
     ensures { IfOk result (λ bits.
         bits ≡ bits_from (R.contents ram.now) (reference_at kind address) count) }
@@ -92,10 +92,10 @@ pub(crate) fn read_bits<R: RefStore>(
 
 /// Reads the registers from an address on, as many as `words` has places.
 fn read_words<R: RefStore>(ram: &R, kind: RefKind, address: u16, words: &mut [u16])
-    requires run { HasRun (R.contents ram.now) (reference_at kind address) (length words.old) }
+    requires run { HasReferences (R.contents ram.now) (reference_at kind address) (length words.old) }
     requires kind { is_discrete kind ≡ false }
-    ensures { let count = length words.old in
-        words.new ≡ words_from (R.contents ram.now) (reference_at kind address) count }
+    ensures { words.new ≡
+        words_from (R.contents ram.now) (reference_at kind address) (length words.old) }
 {
     for (place, word) in words.iter_mut().enumerate() {
         *word = ram.word(reference_behind(kind, address, place));
@@ -110,7 +110,7 @@ pub(crate) fn read_run<R: RefStore>(
     address: u16,
     count: usize,
 ) -> Result<Words, AllocError>
-    requires run { HasRun (R.contents ram.now) (reference_at kind address) count }
+    requires run { HasReferences (R.contents ram.now) (reference_at kind address) count }
     requires kind { is_discrete kind ≡ false }
     requires most { count ≤ most_registers_read }
     ensures { IfOk result (λ words.
@@ -124,9 +124,9 @@ pub(crate) fn read_run<R: RefStore>(
 
 /// Sets the coils from an address on.
 pub(crate) fn write_bits<R: RefStore>(ram: &mut R, address: u16, bits: &[bool])
-    requires { HasRun (R.contents ram.old) (reference_at RefKind.Coil address) (length bits.now) }
-    ensures { let at = reference_at RefKind.Coil address in
-        R.contents ram.new ≡ with_bits (R.contents ram.old) at bits.now }
+    requires { HasReferences (R.contents ram.old) (reference_at RefKind.Coil address) (length bits.now) }
+    ensures { R.contents ram.new ≡
+        with_bits (R.contents ram.old) (reference_at RefKind.Coil address) bits.now }
 {
     for (place, on) in bits.iter().enumerate() {
         ram.set_bit(reference_behind(RefKind::Coil, address, place), *on);
@@ -135,10 +135,10 @@ pub(crate) fn write_bits<R: RefStore>(ram: &mut R, address: u16, bits: &[bool])
 
 /// Stores words in the registers from an address on.
 pub(crate) fn write_words<R: RefStore>(ram: &mut R, address: u16, words: &[u16])
-    requires { let at = reference_at RefKind.Register address in
-        HasRun (R.contents ram.old) at (length words.now) }
-    ensures { let at = reference_at RefKind.Register address in
-        R.contents ram.new ≡ with_words (R.contents ram.old) at words.now }
+    requires { HasReferences (R.contents ram.old)
+        (reference_at RefKind.Register address) (length words.now) }
+    ensures { R.contents ram.new ≡
+        with_words (R.contents ram.old) (reference_at RefKind.Register address) words.now }
 {
     for (place, word) in words.iter().enumerate() {
         ram.set_word(reference_behind(RefKind::Register, address, place), *word);

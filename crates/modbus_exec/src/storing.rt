@@ -1,8 +1,6 @@
 //! What requests write.
 ghost use Rattle.std.specs.Prelude.{◌≡◌, true};
-ghost use Rattle.std.specs.FinMap as map;
-ghost use Rattle.plant_types.specs.Store.{word_at, with_bit};
-ghost use Rattle.modbus_exec.specs.Answer.{has_named_references, stored_by, masked};
+ghost use Rattle.modbus_exec.specs.Answer.{has_named_references, stored_by};
 ghost use Rattle.modbus_exec.specs.Runs.{reference_at, is_in_map};
 
 use crate::runs::{reference_of, write_bits, write_words};
@@ -12,8 +10,8 @@ use plant_types::{RefKind, RefStore};
 #[tactic(auto, using(crate::proofs::RunLemmas::in_map_is))]
 fn store_coil<R: RefStore>(ram: &mut R, address: u16, on: bool)
     requires { is_in_map (R.contents ram.old) (reference_at RefKind.Coil address) ≡ true }
-    ensures { let at = reference_at RefKind.Coil address in
-        R.contents ram.new ≡ with_bit (R.contents ram.old) at on }
+    ensures { R.contents ram.new ≡
+        stored_by (Request.WriteCoil address on) (R.contents ram.old) }
 {
     ram.set_bit(reference_of(RefKind::Coil, address), on);
 }
@@ -21,8 +19,8 @@ fn store_coil<R: RefStore>(ram: &mut R, address: u16, on: bool)
 #[tactic(auto, using(crate::proofs::RunLemmas::in_map_is))]
 fn store_register<R: RefStore>(ram: &mut R, address: u16, value: u16)
     requires { is_in_map (R.contents ram.old) (reference_at RefKind.Register address) ≡ true }
-    ensures { let at = reference_at RefKind.Register address in
-        R.contents ram.new ≡ map.insert (R.contents ram.old) at value }
+    ensures { R.contents ram.new ≡
+        stored_by (Request.WriteRegister address value) (R.contents ram.old) }
 {
     ram.set_word(reference_of(RefKind::Register, address), value);
 }
@@ -30,9 +28,8 @@ fn store_register<R: RefStore>(ram: &mut R, address: u16, value: u16)
 #[tactic(auto, using(crate::proofs::RunLemmas::in_map_is))]
 fn store_masked<R: RefStore>(ram: &mut R, address: u16, and_mask: u16, or_mask: u16)
     requires { is_in_map (R.contents ram.old) (reference_at RefKind.Register address) ≡ true }
-    ensures { let old = R.contents ram.old in
-        let at = reference_at RefKind.Register address in
-        R.contents ram.new ≡ map.insert old at (masked (word_at old at) and_mask or_mask) }
+    ensures { R.contents ram.new ≡
+        stored_by (Request.Mask address and_mask or_mask) (R.contents ram.old) }
 {
     let value = ram.word(reference_of(RefKind::Register, address));
     store_register(ram, address, (value & and_mask) | (or_mask & !and_mask));

@@ -1,11 +1,9 @@
 //! Replies to requests that write, found before anything is written.
 ghost use Rattle.std.specs.Prelude.{◌≡◌, ◌+◌, ◌≤◌, length, IfOk};
-ghost use Rattle.plant_types.specs.Reference.{ref_from};
-ghost use Rattle.plant_types.specs.Store.{word_at, words_from, with_words};
 ghost use Rattle.modbus_pdu.specs.Quantities.{most_coils_written, most_registers_written};
 ghost use Rattle.modbus_pdu.specs.Quantities.{most_registers_read, most_registers_exchanged};
-ghost use Rattle.modbus_exec.specs.Executing.{Replies};
-ghost use Rattle.modbus_exec.specs.Runs.{reference_at, HasRun};
+ghost use Rattle.modbus_exec.specs.Executing.{Replies, word_after, words_after};
+ghost use Rattle.modbus_exec.specs.Runs.{reference_at, HasReferences};
 
 use crate::end::ExecEnd;
 use crate::runs::{are_in_map, is_in_map, reference_behind};
@@ -98,10 +96,8 @@ pub(crate) fn write_registers<R: RefStore>(
 
 /// The word that a register has once words are stored from an address on.
 fn word_after<R: RefStore>(ram: &R, read: u16, place: usize, write: u16, words: &[u16]) -> u16
-    requires { HasRun (R.contents ram.now) (reference_at RefKind.Register read) (place + 1) }
-    ensures { result ≡ word_at
-        (with_words (R.contents ram.now) (reference_at RefKind.Register write) words.now)
-        (ref_from (reference_at RefKind.Register read) place) }
+    requires { HasReferences (R.contents ram.now) (reference_at RefKind.Register read) (place + 1) }
+    ensures { result ≡ word_after (R.contents ram.now) read place write words.now }
 {
     let at = reference_behind(RefKind::Register, read, place);
     let from = read as usize + place;
@@ -117,10 +113,9 @@ fn word_after<R: RefStore>(ram: &R, read: u16, place: usize, write: u16, words: 
 
 /// The words of so many registers once words are stored from an address on.
 fn words_after<R: RefStore>(ram: &R, read: u16, found: &mut [u16], write: u16, words: &[u16])
-    requires { HasRun (R.contents ram.now) (reference_at RefKind.Register read) (length found.old) }
-    ensures { found.new ≡ words_from
-        (with_words (R.contents ram.now) (reference_at RefKind.Register write) words.now)
-        (reference_at RefKind.Register read) (length found.old) }
+    requires { HasReferences (R.contents ram.now) (reference_at RefKind.Register read) (length found.old) }
+    ensures { found.new ≡
+        words_after (R.contents ram.now) read (length found.old) write words.now }
 {
     for (place, word) in found.iter_mut().enumerate() {
         *word = word_after(ram, read, place, write, words);
@@ -136,11 +131,10 @@ fn read_after<R: RefStore>(
     write: u16,
     words: &[u16],
 ) -> Result<Words, AllocError>
-    requires run { HasRun (R.contents ram.now) (reference_at RefKind.Register read) count }
+    requires run { HasReferences (R.contents ram.now) (reference_at RefKind.Register read) count }
     requires most { count ≤ most_registers_read }
-    ensures { IfOk result (λ found. found ≡ words_from
-        (with_words (R.contents ram.now) (reference_at RefKind.Register write) words.now)
-        (reference_at RefKind.Register read) count) }
+    ensures { IfOk result (λ found.
+        found ≡ words_after (R.contents ram.now) read count write words.now) }
 {
     let mut found = [0; 125];
     let found = &mut found[..count];
@@ -159,8 +153,8 @@ pub(crate) fn read_write<R: RefStore>(
 ) -> Result<Reply, ExecEnd>
     requires read { quantity ≤ most_registers_read }
     requires written { length words.now ≤ most_registers_exchanged }
-    ensures { let request = Request.ReadWrite read quantity write words.now in
-        Replies request (R.contents ram.now) result }
+    ensures { Replies (Request.ReadWrite read quantity write words.now)
+        (R.contents ram.now) result }
 {
     let count = quantity as usize;
     let words = words.words();

@@ -44,6 +44,10 @@ spare_count quantity = 8 * bytes_for quantity - quantity
 abbrev pub clear_spare : ℕ → List Bool
 clear_spare quantity = replicate (spare_count quantity) false
 
+-- Bits, with spare bits that are 0 behind them. This project's own.
+abbrev pub packed_clear : List Bool → List ℕ
+packed_clear bits = packed (bytes_for (length bits)) (bits ++ clear_spare (length bits))
+
 -- A byte count, then bits and the spare bits behind them. Modicon Modbus Protocol Reference Guide.
 abbrev pub counted_bits : List Bool → List Bool → List ℕ
 counted_bits bits spare =

@@ -33,6 +33,11 @@ abbrev pub IsDecodeEnd : DecodeEnd → Type 0
 IsDecodeEnd (ends.Exception code) = (code ≡ illegal_function) ⊎ (code ≡ illegal_value)
 IsDecodeEnd ends.NoMemory = ⊤
 
+-- A reply has one spelling at most.
+abbrev pub HasOneSpelling : Reply → Type 0
+HasOneSpelling reply =
+    (one other : List ℕ) → SpellsReply one reply → SpellsReply other reply → one ≡ other
+
 -- The bytes are the spelling of a reply to the request.
 abbrev pub IsSpelledReply : Request → List ℕ → Reply → Type 0
 IsSpelledReply request bytes reply = IsReplyTo request reply × SpellsReply bytes reply

@@ -1,15 +1,15 @@
 -- What the steps of the decoding answer. No public clause cites any of it. This project's own.
-use Rattle.std.specs.Prelude.{◌≡◌, ◌≤◌, ◌<◌, ◌*◌, false, slice_index_or, ℕ, List, [], ◌∷◌, ◌++◌}
-use Rattle.std.specs.Prelude.{length, Bool, Result, Ok, Err, ◌⊎◌}
+use Rattle.std.specs.Prelude.{◌≡◌, ◌≢◌, ◌≤◌, ◌<◌, ◌*◌, false, slice_index_or, ℕ, List, [], ◌∷◌}
+use Rattle.std.specs.Prelude.{◌++◌, length, Bool, Result, Ok, Err, ◌⊎◌}
 use Rattle.plant_types.specs.declared.reference.RefKind.{RefKind}
 use Rattle.plant_types.specs.declared.reference.RefKind.TheVariants.{Coil, Input}
 use Rattle.plant_types.specs.declared.reference.RefKind.TheVariants.{InputRegister, Register}
 use Rattle.modbus_pdu.specs.Bytes.{word_bytes, spare_count, unpacked}
 use Rattle.modbus_pdu.specs.Exceptions.{illegal_value}
 use Rattle.modbus_pdu.specs.Quantities.{most_discretes_read, most_registers_read}
-use Rattle.modbus_pdu.specs.Quantities.{most_coils_written, most_registers_written}
+use Rattle.modbus_pdu.specs.Quantities.{IsUpTo, most_coils_written, most_registers_written}
 use Rattle.modbus_pdu.specs.Spelling.{IsRequestInRange, function_of, fields_of, SpellsReply}
-use Rattle.modbus_pdu.specs.Spelling.{IsReplyTo}
+use Rattle.modbus_pdu.specs.Spelling.{IsReplyTo, exception_code}
 use Rattle.modbus_pdu.specs.declared.end.BadReply.{BadReply}
 use Rattle.modbus_pdu.specs.declared.end.BadReply.TheVariants as bad
 use Rattle.modbus_pdu.specs.declared.reply.Reply.{Reply}
@@ -23,15 +23,36 @@ use Rattle.modbus_pdu.specs.declared.request.Request.TheVariants as requests
 abbrev pub AreTwoWords : List ℕ → ℕ → ℕ → Type 0
 AreTwoWords bytes first second = bytes ≡ word_bytes first ++ word_bytes second
 
+abbrev pub HasNoTwoWords : List ℕ → Type 0
+HasNoTwoWords bytes = (first second : ℕ) → ¬ AreTwoWords bytes first second
+
+-- An address and a quantity from one up to the most, and nothing else.
+abbrev pub IsRange : ℕ → List ℕ → ℕ → ℕ → Type 0
+IsRange most bytes address quantity = IsUpTo most quantity × AreTwoWords bytes address quantity
+
+abbrev pub HasNoRange : ℕ → List ℕ → Type 0
+HasNoRange most bytes =
+    (address quantity : ℕ) → IsUpTo most quantity → ¬ AreTwoWords bytes address quantity
+
 -- Three words and nothing else.
 abbrev pub AreThreeWords : List ℕ → ℕ → ℕ → ℕ → Type 0
 AreThreeWords bytes first second third =
     bytes ≡ word_bytes first ++ word_bytes second ++ word_bytes third
 
+abbrev pub HasNoThreeWords : List ℕ → Type 0
+HasNoThreeWords bytes = (first second third : ℕ) → ¬ AreThreeWords bytes first second third
+
+-- No byte counts the bytes behind it.
+abbrev pub IsUncounted : List ℕ → Type 0
+IsUncounted bytes = (rest : List ℕ) → bytes ≢ length rest ∷ rest
+
 -- An address, a quantity, and what stands behind a byte that counts it.
 abbrev pub Counts : List ℕ → ℕ → ℕ → List ℕ → Type 0
 Counts fields address quantity rest =
     fields ≡ word_bytes address ++ word_bytes quantity ++ (length rest ∷ rest)
+
+abbrev pub CountsNone : List ℕ → Type 0
+CountsNone fields = (address quantity : ℕ) (rest : List ℕ) → ¬ Counts fields address quantity rest
 
 -- Two addresses with a quantity each, and what stands behind a byte that counts it.
 abbrev pub CountsBoth : List ℕ → ℕ → ℕ → ℕ → ℕ → List ℕ → Type 0
@@ -43,9 +64,40 @@ CountsBoth fields read quantity write count rest =
     ++ word_bytes count
     ++ (length rest ∷ rest)
 
+abbrev pub CountsNoBoth : List ℕ → Type 0
+CountsNoBoth fields =
+    (read quantity write count : ℕ) (rest : List ℕ)
+    → ¬ CountsBoth fields read quantity write count rest
+
+-- A function, and what a byte behind it counts.
+abbrev pub IsCounted : ℕ → List ℕ → List ℕ → Type 0
+IsCounted function bytes rest = bytes ≡ function ∷ length rest ∷ rest
+
+abbrev pub HasNoCount : ℕ → List ℕ → Type 0
+HasNoCount function bytes = (rest : List ℕ) → bytes ≢ function ∷ length rest ∷ rest
+
+-- A function, and two words behind it.
+abbrev pub AreTwoOf : ℕ → List ℕ → ℕ → ℕ → Type 0
+AreTwoOf function bytes first second =
+    bytes ≡ function ∷ word_bytes first ++ word_bytes second
+
+abbrev pub HasNoTwoOf : ℕ → List ℕ → Type 0
+HasNoTwoOf function bytes =
+    (first second : ℕ) → bytes ≢ function ∷ word_bytes first ++ word_bytes second
+
 -- An operation on statistics, and what stands behind it.
 abbrev pub IsOperation : List ℕ → ℕ → List ℕ → Type 0
 IsOperation bytes operation rest = bytes ≡ 8 ∷ word_bytes 21 ++ word_bytes operation ++ rest
+
+abbrev pub HasNoOperation : List ℕ → Type 0
+HasNoOperation bytes = (operation : ℕ) (rest : List ℕ) → ¬ IsOperation bytes operation rest
+
+-- An exception reply of a function, with its code.
+abbrev pub IsExceptionOf : ℕ → List ℕ → ℕ → Type 0
+IsExceptionOf function bytes code = bytes ≡ exception_code function ∷ code ∷ []
+
+abbrev pub IsNoExceptionOf : ℕ → List ℕ → Type 0
+IsNoExceptionOf function bytes = (code : ℕ) → bytes ≢ exception_code function ∷ code ∷ []
 
 -- The form of a request, behind the function code.
 abbrev pub HasFields : List ℕ → Request → Type 0

@@ -2,19 +2,18 @@
 ghost use Rattle.std.specs.Prelude.{◌≡◌, ◌+◌, ◌*◌, ◌<◌, ◌≤◌, [], ◌∷◌, ◌++◌, length, IfOk};
 ghost use Rattle.modbus_pdu.specs.Quantities.{most_discretes_read};
 ghost use Rattle.plant_types.specs.Words.{most_pdu_bytes};
-ghost use Rattle.modbus_pdu.specs.Bytes.{word_bytes, words_bytes, packed, bytes_for, clear_spare};
+ghost use Rattle.modbus_pdu.specs.Bytes.{word_bytes, words_bytes, packed_clear, bytes_for};
 
 use crate::bits::{byte_at, bytes_for};
-use crate::limits::PDU_BYTES;
 use byteorder::{BigEndian, ByteOrder};
-use plant_types::Pdu;
+use plant_types::{PDU_LIMIT, Pdu};
 use std::alloc::{AllocError, Global};
 use std::marker::Model;
 
 /// Up to as many bytes as a PDU has, in a fixed array.
 #[derive(Drop)]
 pub(crate) struct Draft {
-    bytes: [u8; PDU_BYTES],
+    bytes: [u8; PDU_LIMIT],
     count: usize,
 }
 
@@ -35,7 +34,7 @@ impl Draft {
         ensures { result ≡ [] }
     {
         Draft {
-            bytes: [0; PDU_BYTES],
+            bytes: [0; PDU_LIMIT],
             count: 0,
         }
     }
@@ -77,8 +76,7 @@ impl Draft {
     pub(crate) fn bits(&mut self, bits: &[bool])
         requires room { length self.old + bytes_for (length bits.now) ≤ most_pdu_bytes }
         requires most { length bits.now ≤ most_discretes_read }
-        ensures bytes { let count = length bits.now in
-            self.new ≡ self.old ++ packed (bytes_for count) (bits.now ++ clear_spare count) }
+        ensures bytes { self.new ≡ self.old ++ packed_clear bits.now }
         ensures length { length self.new ≡ length self.old + bytes_for (length bits.now) }
     {
         for index in 0..bytes_for(bits.len()) {

@@ -1,7 +1,8 @@
 //! What holds of all spellings.
 ghost use Rattle.std.specs.Prelude.{◌≡◌, ◌↔◌, ℕ, List, Some};
 ghost use Rattle.modbus_pdu.specs.Reading.{request_of};
-ghost use Rattle.modbus_pdu.specs.Spelling.{Spells, SpellsReply};
+ghost use Rattle.modbus_pdu.specs.Decoding.{HasOneSpelling};
+ghost use Rattle.modbus_pdu.specs.Spelling.{Spells};
 ghost use Rattle.modbus_pdu.specs.declared.request.Request.{Request as AnyRequest};
 ghost use Rattle.modbus_pdu.specs.declared.reply.Reply.{Reply as AnyReply};
 
@@ -19,6 +20,5 @@ pub fn request_is_spelled()
 
 /// A reply has one spelling at most.
 pub fn one_reply_spelling()
-    ensures { (reply : AnyReply) (one other : List ℕ) →
-        SpellsReply one reply → SpellsReply other reply → one ≡ other }
+    ensures { (reply : AnyReply) → HasOneSpelling reply }
 {}

@@ -21,6 +21,3 @@ pub use limits::{ILLEGAL_ADDRESS, ILLEGAL_FUNCTION, ILLEGAL_VALUE};
 pub use reply::Reply;
 pub use reply_decoding::decode_reply;
 pub use request::Request;
-
-#[cfg(test)]
-mod tests;

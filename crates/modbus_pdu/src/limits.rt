@@ -1,8 +1,5 @@
 //! How many references requests and replies may tell, and the codes of exceptions.
 
-/// Bytes in a PDU.
-pub(crate) const PDU_BYTES: usize = 253;
-
 /// Coils or inputs in one read.
 pub(crate) const DISCRETES_READ: u16 = 2000;
 
@@ -17,9 +14,6 @@ pub(crate) const REGISTERS_WRITTEN: u16 = 123;
 
 /// Registers that function 23 writes.
 pub(crate) const REGISTERS_EXCHANGED: u16 = 121;
-
-/// Words of network statistics.
-pub(crate) const STATISTICS_WORDS: usize = 20;
 
 /// The function is not served.
 pub const ILLEGAL_FUNCTION: u8 = 1;

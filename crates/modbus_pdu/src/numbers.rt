@@ -1,9 +1,10 @@
 //! Two-byte numbers.
-ghost use Rattle.std.specs.Prelude.{◌≡◌, ◌≢◌, ℕ, List, ◌∷◌, ◌++◌, ◌<◌, ◌*◌, ◌≤◌, length};
-ghost use Rattle.std.specs.Prelude.{MatchOption, IfOk};
+ghost use Rattle.std.specs.Prelude.{◌≡◌, ◌∷◌, ◌++◌, ◌<◌, ◌*◌, ◌≤◌, length, MatchOption, IfOk};
 ghost use Rattle.modbus_pdu.specs.Bytes.{word_bytes, words_bytes};
-ghost use Rattle.modbus_pdu.specs.Quantities.{IsUpTo, most_registers_read};
-ghost use Rattle.modbus_pdu.specs.Steps.{AreTwoWords, AreThreeWords, Counts, CountsBoth};
+ghost use Rattle.modbus_pdu.specs.Quantities.{most_registers_read};
+ghost use Rattle.modbus_pdu.specs.Steps.{AreTwoWords, HasNoTwoWords, IsRange, HasNoRange};
+ghost use Rattle.modbus_pdu.specs.Steps.{AreThreeWords, HasNoThreeWords, IsUncounted, Counts};
+ghost use Rattle.modbus_pdu.specs.Steps.{CountsNone, CountsBoth, CountsNoBoth};
 
 use crate::limits::REGISTERS_READ;
 use byteorder::{BigEndian, ByteOrder};
@@ -23,8 +24,7 @@ pub(crate) fn word_at(bytes: &[u8]) -> Option<(u16, &[u8])>
 
 /// Two numbers and nothing else.
 pub(crate) fn two_words(bytes: &[u8]) -> Option<(u16, u16)>
-    ensures { MatchOption result
-        ((first second : ℕ) → ¬ AreTwoWords bytes.now first second)
+    ensures { MatchOption result (HasNoTwoWords bytes.now)
         (λ found. AreTwoWords bytes.now found.0 found.1) }
 {
     if bytes.len() != 4 {
@@ -37,9 +37,8 @@ pub(crate) fn two_words(bytes: &[u8]) -> Option<(u16, u16)>
 
 /// An address and a quantity from one up to the most, and nothing else.
 pub(crate) fn range_in(bytes: &[u8], most: u16) -> Option<(u16, u16)>
-    ensures { MatchOption result
-        ((address quantity : ℕ) → IsUpTo most quantity → ¬ AreTwoWords bytes.now address quantity)
-        (λ found. IsUpTo most found.1 × AreTwoWords bytes.now found.0 found.1) }
+    ensures { MatchOption result (HasNoRange most bytes.now)
+        (λ found. IsRange most bytes.now found.0 found.1) }
 {
     let (address, quantity) = two_words(bytes)?;
     if quantity < 1 || quantity > most {
@@ -50,9 +49,8 @@ pub(crate) fn range_in(bytes: &[u8], most: u16) -> Option<(u16, u16)>
 
 /// Three numbers and nothing else.
 pub(crate) fn three_words(bytes: &[u8]) -> Option<(u16, u16, u16)>
-    ensures { MatchOption result
-        ((first second third : ℕ) → ¬ AreThreeWords bytes.now first second third)
-        (λ found. AreThreeWords bytes.now found.0 found.1 found.2) }
+    ensures { MatchOption result (HasNoThreeWords bytes.now)
+        (λ w. AreThreeWords bytes.now w.0 w.1 w.2) }
 {
     if bytes.len() != 6 {
         return None;
@@ -83,8 +81,7 @@ pub(crate) fn words_in(alloc: Global, bytes: &[u8], count: usize) -> Result<Word
 
 /// What a byte counts: the bytes behind it, no more and no fewer.
 pub(crate) fn counted(bytes: &[u8]) -> Option<&[u8]>
-    ensures { MatchOption result
-        ((rest : List ℕ) → bytes.now ≢ length rest ∷ rest)
+    ensures { MatchOption result (IsUncounted bytes.now)
         (λ rest. bytes.now ≡ length rest.now ∷ rest.now) }
 {
     match bytes {
@@ -95,8 +92,7 @@ pub(crate) fn counted(bytes: &[u8]) -> Option<&[u8]>
 
 /// An address, a quantity and what a byte counts.
 pub(crate) fn written(bytes: &[u8]) -> Option<(u16, u16, &[u8])>
-    ensures { MatchOption result
-        ((address quantity : ℕ) (rest : List ℕ) → ¬ Counts bytes.now address quantity rest)
+    ensures { MatchOption result (CountsNone bytes.now)
         (λ found. Counts bytes.now found.0 found.1 found.2.now) }
 {
     let (address, rest) = word_at(bytes)?;
@@ -107,10 +103,8 @@ pub(crate) fn written(bytes: &[u8]) -> Option<(u16, u16, &[u8])>
 
 /// Two addresses with a quantity each, and what a byte counts.
 pub(crate) fn read_written(bytes: &[u8]) -> Option<(u16, u16, u16, u16, &[u8])>
-    ensures { MatchOption result
-        ((read quantity write count : ℕ) (rest : List ℕ) →
-        ¬ CountsBoth bytes.now read quantity write count rest)
-        (λ found. CountsBoth bytes.now found.0 found.1 found.2 found.3 found.4.now) }
+    ensures { MatchOption result (CountsNoBoth bytes.now)
+        (λ w. CountsBoth bytes.now w.0 w.1 w.2 w.3 w.4.now) }
 {
     let (read, rest) = word_at(bytes)?;
     let (quantity, rest) = word_at(rest)?;

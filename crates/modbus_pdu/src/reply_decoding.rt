@@ -1,29 +1,28 @@
 //! Replies from bytes.
-ghost use Rattle.std.specs.Prelude.{◌≡◌, ◌≢◌, if◌then◌else◌, ℕ, ◌≤◌, ◌<◌, ◌⊎◌, List, [], ◌∷◌, ◌++◌};
-ghost use Rattle.std.specs.Prelude.{length, IsTrue, IfOk, IsErrOf, ◌↔◌, MatchOption};
-ghost use Rattle.modbus_pdu.specs.Bytes.{word_bytes};
+ghost use Rattle.std.specs.Prelude.{◌≡◌, if◌then◌else◌, ◌⊎◌, IsTrue, IfOk, IsErrOf, ◌↔◌};
+ghost use Rattle.std.specs.Prelude.{MatchOption};
 ghost use Rattle.modbus_pdu.specs.Decoding.{IsSpelledReply, IsOnlyReply, HasReply, HasNoReply};
 ghost use Rattle.plant_types.specs.Words.{statistics_words};
-ghost use Rattle.modbus_pdu.specs.Spelling.{function_of, exception_code, IsReplyTo, SpellsReply};
+ghost use Rattle.modbus_pdu.specs.Spelling.{function_of, IsReplyTo, SpellsReply};
 ghost use Rattle.modbus_pdu.specs.Steps.{Finds, IsBits, IsWords, IsWritten, IsStats, IsSame};
-ghost use Rattle.modbus_pdu.specs.Steps.{IsNormal, IsOperation, IsWriting};
+ghost use Rattle.modbus_pdu.specs.Steps.{IsNormal, IsOperation, HasNoOperation, IsWriting};
+ghost use Rattle.modbus_pdu.specs.Steps.{IsCounted, HasNoCount, AreTwoOf};
+ghost use Rattle.modbus_pdu.specs.Steps.{HasNoTwoOf, IsExceptionOf, IsNoExceptionOf};
 
 use crate::bits::{bytes_for, spare_is_clear, unpack};
 use crate::encoding::{exception_code, stats_operation};
 use crate::end::BadReply;
-use crate::limits::{
-    COILS_WRITTEN, DISCRETES_READ, REGISTERS_READ, REGISTERS_WRITTEN, STATISTICS_WORDS,
-};
+use crate::limits::{COILS_WRITTEN, DISCRETES_READ, REGISTERS_READ, REGISTERS_WRITTEN};
 use crate::numbers::{counted, three_words, two_words, word_at, words_in};
 use crate::reply::Reply;
 use crate::request::Request;
+use plant_types::STATISTICS_WORDS;
 use std::alloc::Global;
 
 /// What a byte behind the function counts.
 fn counted_behind(function: u8, bytes: &[u8]) -> Option<&[u8]>
-    ensures { MatchOption result
-        ((rest : List ℕ) → bytes.now ≢ function ∷ length rest ∷ rest)
-        (λ rest. bytes.now ≡ function ∷ length rest.now ∷ rest.now) }
+    ensures { MatchOption result (HasNoCount function bytes.now)
+        (λ rest. IsCounted function bytes.now rest.now) }
 {
     match bytes {
         [code, rest @ ..] if *code == function => counted(rest),
@@ -33,9 +32,8 @@ fn counted_behind(function: u8, bytes: &[u8]) -> Option<&[u8]>
 
 /// Two numbers behind the function.
 fn two_behind(function: u8, bytes: &[u8]) -> Option<(u16, u16)>
-    ensures { MatchOption result
-        ((first second : ℕ) → bytes.now ≢ function ∷ word_bytes first ++ word_bytes second)
-        (λ found. bytes.now ≡ function ∷ word_bytes found.0 ++ word_bytes found.1) }
+    ensures { MatchOption result (HasNoTwoOf function bytes.now)
+        (λ w. AreTwoOf function bytes.now w.0 w.1) }
 {
     match bytes {
         [code, rest @ ..] if *code == function => two_words(rest),
@@ -99,8 +97,7 @@ fn decode_written(
 
 /// The operation behind function 8 and sub-function 21, and what follows it.
 fn operation_behind(bytes: &[u8]) -> Option<(u16, &[u8])>
-    ensures { MatchOption result
-        ((operation : ℕ) (rest : List ℕ) → ¬ IsOperation bytes.now operation rest)
+    ensures { MatchOption result (HasNoOperation bytes.now)
         (λ found. IsOperation bytes.now found.0 found.1.now) }
 {
     match bytes {
@@ -124,7 +121,7 @@ fn decode_stats(alloc: Global, quantity: usize, bytes: &[u8]) -> Result<Reply, B
 }
 
 fn is_two(function: u8, first: u16, second: u16, bytes: &[u8]) -> bool
-    ensures { IsTrue result ↔ (bytes.now ≡ function ∷ word_bytes first ++ word_bytes second) }
+    ensures { IsTrue result ↔ AreTwoOf function bytes.now first second }
 {
     matches!(two_behind(function, bytes), Some((one, two)) if one == first && two == second)
 }
@@ -177,7 +174,11 @@ fn stats_quantity(clear: bool) -> usize
     ensures due { result ≡ (if clear then 0 else statistics_words) }
     ensures either { (result ≡ 0) ⊎ (result ≡ statistics_words) }
 {
-    if clear { 0 } else { STATISTICS_WORDS }
+    if clear {
+        0
+    } else {
+        usize::from(STATISTICS_WORDS)
+    }
 }
 
 fn normal_reply(alloc: Global, request: &Request, bytes: &[u8]) -> Result<Reply, BadReply>
@@ -227,9 +228,8 @@ fn function_of(request: &Request) -> u8
 
 /// The code of an exception reply of a function.
 fn exception_in(function: u8, bytes: &[u8]) -> Option<u8>
-    ensures { MatchOption result
-        ((code : ℕ) → bytes.now ≢ exception_code function ∷ code ∷ [])
-        (λ code. bytes.now ≡ exception_code function ∷ code ∷ []) }
+    ensures { MatchOption result (IsNoExceptionOf function bytes.now)
+        (IsExceptionOf function bytes.now) }
 {
     match bytes {
         [first, code] if *first == exception_code(function) => Some(*code),

@@ -9,7 +9,8 @@ use Rattle.mstr_block.specs.declared.operation.Operation.{Operation}
 use Rattle.mstr_block.specs.declared.operation.Operation.TheVariants as op
 use Rattle.plant_types.specs.Operands.{is_length}
 use Rattle.plant_types.specs.Reference.{most_references}
-use Rattle.mstr_block.specs.Operations.{operation_of, statistics_words}
+use Rattle.plant_types.specs.Words.{statistics_words}
+use Rattle.mstr_block.specs.Operations.{operation_of}
 use Rattle.mstr_block.specs.Control.{has_bad_length, has_bad_start, has_bad_end, has_small_area}
 use Rattle.mstr_block.specs.Control.{has_bad_route, asks_itself, most_address, first_failing}
 use Rattle.mstr_block.specs.Control.{tests_of, tests_passed, checked, start_of, ask_of}

@@ -17,7 +17,8 @@ use Rattle.mstr_block.specs.declared.control.Control.{Control}
 use Rattle.mstr_block.specs.declared.operation.Operation.{Operation}
 use Rattle.mstr_block.specs.declared.operation.Operation.TheVariants as op
 use Rattle.mstr_block.specs.Operations.{operation_of, uses_network, moves_registers}
-use Rattle.mstr_block.specs.Operations.{reads_statistics, names_node, most_words, statistics_words}
+use Rattle.plant_types.specs.Words.{statistics_words}
+use Rattle.mstr_block.specs.Operations.{reads_statistics, names_node, most_words}
 
 -- The nine registers of a control block: operation, status, length, first register there or first
 -- word of the statistics, and the route with the node first.

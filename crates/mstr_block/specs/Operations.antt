@@ -2,6 +2,7 @@
 -- lengths are this project's own.
 use Rattle.std.specs.Prelude.{ℕ, Bool, true, false, ◌==◌, ◌||◌, List, [], ◌∷◌, Option, Some, None}
 use Rattle.std.specs.List.{find}
+use Rattle.plant_types.specs.Words.{statistics_words, global_limit}
 use Rattle.mstr_block.specs.declared.operation.Operation.{Operation}
 use Rattle.mstr_block.specs.declared.operation.Operation.TheVariants.{WriteData, ReadData}
 use Rattle.mstr_block.specs.declared.operation.Operation.TheVariants.{LocalStatistics, ClearLocal}
@@ -57,16 +58,9 @@ reads_global _ = false
 abbrev pub names_node : Operation → Bool
 names_node operation = uses_network operation || reads_global operation
 
--- The most registers that are read or written in one call, the words of the statistics, and the
--- most words of global data.
+-- The most registers that are read or written in one call.
 abbrev pub data_limit : ℕ
 data_limit = 100
-
-abbrev pub statistics_words : ℕ
-statistics_words = 20
-
-abbrev pub global_limit : ℕ
-global_limit = 32
 
 -- The greatest length of an operation; none where it moves no words.
 abbrev pub most_words : Operation → Option ℕ

@@ -17,23 +17,24 @@ use Rattle.mstr_block.specs.declared.state.BlockState.TheVariants.{Idle, Waiting
 use Rattle.mstr_block.specs.declared.state.BlockState.TheVariants.{Ready}
 use Rattle.plant_types.specs.Reference.{most_references}
 use Rattle.mstr_block.specs.Control.{most_address}
-use Rattle.mstr_block.specs.Operations.{uses_network, data_limit, statistics_words, global_limit}
+use Rattle.plant_types.specs.Words.{statistics_words, global_limit}
+use Rattle.mstr_block.specs.Operations.{uses_network, data_limit}
 use Rattle.mstr_block.specs.Table.{BlockTable, running_in, own_path, path_count, last_call_number}
 
 -- Another node of the network.
 abbrev pub IsOther : ℕ → ℕ → Type 0
 IsOther own node = (1 ≤ node) × (node ≤ most_address) × (node ≢ own)
 
--- So many holding registers from one on, as many as one call moves.
+-- So many holding registers from one on that a node can have and one call can move.
 abbrev pub AreRegisters : ℕ → ℕ → Type 0
 AreRegisters start count =
     (1 ≤ start) × (1 ≤ count) × (count ≤ data_limit) × (start + count ≤ most_references + 1)
 
--- So many words of the statistics from one on.
+-- So many words of the twenty of the statistics, from one on.
 abbrev pub AreStatistics : ℕ → ℕ → Type 0
 AreStatistics start count = (1 ≤ count) × (start + count ≤ statistics_words)
 
--- So many words of global data.
+-- So many words of global data, from 1 to as many as go with a token.
 abbrev pub AreGlobal : ℕ → Type 0
 AreGlobal count = (1 ≤ count) × (count ≤ global_limit)
 

@@ -1,10 +1,11 @@
 -- What an MSTR block does when it is solved. Modicon Ladder Logic Block Library User Guide; the
 -- states and their exact outputs are this project's own.
-use Rattle.std.specs.Prelude.{◌≡◌, ℕ, min, true, false, not, ◌&&◌, if◌then◌else◌, List, [], set}
+use Rattle.std.specs.Prelude.{◌≡◌, ℕ, min, not, ◌&&◌, if◌then◌else◌, List, [], set}
 use Rattle.std.specs.Prelude.{take, drop, Option, Some, None, Result, Ok, Err}
 use Rattle.std.specs.FinMap.{insert}
 use Rattle.plant_types.specs.declared.power.NodePower.{NodePower}
-use Rattle.plant_types.specs.Power.{bits_of}
+use Rattle.plant_types.specs.Power.{bits_of, no_output, top_output, middle_output}
+use Rattle.plant_types.specs.Power.{bottom_output}
 use Rattle.plant_types.specs.Store.{Contents, Keeps, words_from, with_words}
 use Rattle.mstr_block.specs.declared.call.MstrResult.{MstrResult}
 use Rattle.mstr_block.specs.declared.call.MstrResult.TheVariants.{Good, Bad}
@@ -38,17 +39,14 @@ pub record SolvesBlock (solved : Solved) (left : BlockTable) (answer : ℕ) (old
   pub keeps : Keeps old new
 
 -- The outputs: active at the top, ended with an error in the middle, with success at the bottom.
-abbrev pub silent : NodePower
-silent = record { top = false; middle = false; bottom = false }
-
 abbrev pub active : NodePower
-active = record { top = true; middle = false; bottom = false }
+active = top_output
 
 abbrev pub error : NodePower
-error = record { top = false; middle = true; bottom = false }
+error = middle_output
 
 abbrev pub success : NodePower
-success = record { top = false; middle = false; bottom = true }
+success = bottom_output
 
 -- Nothing changes.
 abbrev pub unchanged : BlockTable → NodePower → Contents → Solved
@@ -78,15 +76,19 @@ launched table block operation control words (Some path) =
       kept = kept_of operation control;
     }))) { numbers = set table.numbers path id.seq }
 
+-- The block runs the next call of the path of an operation, with the words of its area.
+abbrev pub launched_at : BlockTable → ℕ → Site → Operation → Control → Contents → BlockTable
+launched_at table block site operation control m =
+    launched table block operation control (words_from m site.area control.length)
+    (path_for table operation)
+
 -- A start with the registers as they are: the error word of the first test that fails, else a call
 -- on the least free path, or the block waits for one.
 abbrev pub start_by : BlockTable → ℕ → Site → Contents → Result Operation ℕ → Solved
 start_by table block site m (Err word) = ended_with word Idle table block site m
 start_by table block site m (Ok operation) =
-    let control = control_block_of m site.control in
-    let words = words_from m site.area control.length in
     record {
-      table = launched table block operation control words (path_for table operation);
+      table = launched_at table block site operation (control_block_of m site.control) m;
       outputs = active;
       stored = insert m (status_register site.control) 0;
     }
@@ -144,17 +146,37 @@ block_ended kept result table block site m = record {
 abbrev pub solved_in : BlockState → BlockTable → ℕ → Site → NodePower → Contents → Solved
 solved_in Idle table block site inputs m =
     if inputs.top && not inputs.middle then started table block site m
-    else unchanged table silent m
+    else unchanged table no_output m
 solved_in Waiting table block site inputs m =
     if inputs.middle then ended_with user_abort Idle table block site m
     else started table block site m
 solved_in (Active running) table block site inputs m =
     if inputs.middle then ended_with user_abort (given_up (Active running)) table block site m
     else unchanged table active m
-solved_in (Aborted running) table block site inputs m = unchanged table silent m
+solved_in (Aborted running) table block site inputs m = unchanged table no_output m
 solved_in (Ready kept result) table block site inputs m = block_ended kept result table block site m
 
 -- A block is solved.
 unfoldable pub block_solved : BlockTable → ℕ → Site → NodePower → Contents → Solved
 block_solved table block site inputs m =
     solved_in (block_state table block) table block site inputs m
+
+-- A call has started a block, has ended it with an error word, has given its call up, or has solved
+-- it.
+abbrev pub StartsBlock : ℕ → Site → BlockTable → BlockTable → ℕ → Contents → Contents → Type 0
+StartsBlock block site table left answer old new =
+    SolvesBlock (started table block site old) left answer old new
+
+abbrev pub EndsBlock : ℕ → BlockState → ℕ → Site → BlockTable → BlockTable → ℕ → Contents
+    → Contents → Type 0
+EndsBlock word state block site table left answer old new =
+    SolvesBlock (ended_with word state table block site old) left answer old new
+
+abbrev pub AbortsBlock : ℕ → Site → BlockTable → BlockTable → ℕ → Contents → Contents → Type 0
+AbortsBlock block site table left answer old new =
+    EndsBlock user_abort (given_up (block_state table block)) block site table left answer old new
+
+abbrev pub SolvesWith : ℕ → Site → NodePower → BlockTable → BlockTable → ℕ → Contents → Contents
+    → Type 0
+SolvesWith block site nodes table left answer old new =
+    SolvesBlock (block_solved table block site nodes old) left answer old new

@@ -16,23 +16,11 @@ use plant_types::{NodePower, RefStore, store_words};
 // The outputs of a block.
 pub(crate) const SILENT: NodePower = NodePower::OFF;
 
-pub(crate) const ACTIVE: NodePower = NodePower {
-    top: true,
-    middle: false,
-    bottom: false,
-};
+pub(crate) const ACTIVE: NodePower = NodePower::TOP;
 
-pub(crate) const ERROR: NodePower = NodePower {
-    top: false,
-    middle: true,
-    bottom: false,
-};
+pub(crate) const ERROR: NodePower = NodePower::MIDDLE;
 
-const SUCCESS: NodePower = NodePower {
-    top: false,
-    middle: false,
-    bottom: true,
-};
+const SUCCESS: NodePower = NodePower::BOTTOM;
 
 impl Operation {
     /// The words that it answers, of those of a good result.

@@ -9,10 +9,10 @@ ghost use Rattle.mstr_block.specs.Solve.{SolvesBlock, block_solved};
 ghost use Rattle.mstr_block.specs.Table.{IsBlock, idle_table, started_calls, has_started};
 ghost use Rattle.mstr_block.specs.Table.{first_taken, is_out, finished};
 
-use crate::blocks::{Blocks, PATHS};
+use crate::blocks::Blocks;
 use crate::call::{CallId, MstrCall, MstrResult};
 use crate::site::Site;
-use plant_types::{NodePower, Ref, RefStore};
+use plant_types::{NodePower, PATH_PLACES, Ref, RefStore};
 use std::alloc::{AllocError, Global};
 use std::marker::Model;
 
@@ -39,7 +39,7 @@ impl MstrBank {
     pub fn new(alloc: Global, node: u8, blocks: u16) -> Result<MstrBank, AllocError>
         ensures { IfOk result (λ bank. bank ≡ idle_table node blocks) }
     {
-        let blocks = Blocks::new(alloc, node, blocks, [0; PATHS])?;
+        let blocks = Blocks::new(alloc, node, blocks, [0; PATH_PLACES])?;
         Ok(MstrBank { blocks })
     }
 
@@ -49,7 +49,7 @@ impl MstrBank {
         alloc: Global,
         node: u8,
         blocks: u16,
-        numbers: [u32; PATHS],
+        numbers: [u32; PATH_PLACES],
     ) -> Result<MstrBank, AllocError> {
         let blocks = Blocks::new(alloc, node, blocks, numbers)?;
         Ok(MstrBank { blocks })

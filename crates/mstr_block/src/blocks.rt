@@ -2,14 +2,13 @@
 ghost use Rattle.std.specs.Prelude.{◌≡◌, ◌-◌, ◌==◌, ◌<◌, true, set, replicate, if◌then◌else◌, None};
 ghost use Rattle.std.specs.Prelude.{slice_get, IfOk, IfSome};
 ghost use Rattle.std.specs.List.{position, find, list_any};
-ghost use Rattle.plant_types.specs.Power.{nodes_of};
 ghost use Rattle.plant_types.specs.Slots.{control_block};
-ghost use Rattle.plant_types.specs.Store.{HasRegisters, words_from};
-ghost use Rattle.mstr_block.specs.Control.{FitsStart, user_abort};
-ghost use Rattle.mstr_block.specs.Solve.{SolvesBlock, launched, ended_with, started, solved_in};
-ghost use Rattle.mstr_block.specs.Solve.{block_solved};
+ghost use Rattle.plant_types.specs.Store.{HasRegisters};
+ghost use Rattle.mstr_block.specs.Control.{FitsStart};
+ghost use Rattle.mstr_block.specs.Solve.{launched_at, StartsBlock, EndsBlock, AbortsBlock};
+ghost use Rattle.mstr_block.specs.Solve.{SolvesWith};
 ghost use Rattle.mstr_block.specs.Table.{path_count, network_paths, runs_on, is_spent, is_free};
-ghost use Rattle.mstr_block.specs.Table.{path_for, next_call, block_state, with_state, given_up};
+ghost use Rattle.mstr_block.specs.Table.{path_for, next_call, with_state};
 ghost use Rattle.mstr_block.specs.Table.{CanGive, IsBlock, resting_table, started_calls};
 ghost use Rattle.mstr_block.specs.Table.{has_started, is_untaken, first_taken, is_out, finished};
 
@@ -19,15 +18,9 @@ use crate::control::{Control, status_register};
 use crate::operation::Operation;
 use crate::site::Site;
 use crate::state::{BlockState, Kept, Running};
-use plant_types::{NodePower, Ref, RefStore};
+use plant_types::{NETWORK_PATHS, NodePower, PATH_PLACES, Ref, RefStore};
 use std::alloc::{AllocError, Global};
 use std::marker::Model;
-
-/// The paths of a station: that of its own calls, and four by the network.
-pub(crate) const PATHS: usize = 5;
-
-/// The paths by the network.
-const NETWORK_PATHS: [u8; 4] = [1, 2, 3, 4];
 
 /// The path of calls of the own station.
 const OWN_PATH: u8 = 0;
@@ -40,7 +33,7 @@ const USER_ABORT: u16 = 0x1001;
 pub(crate) struct Blocks {
     node: u8,
     blocks: Vec<BlockState>,
-    numbers: [u32; PATHS],
+    numbers: [u32; PATH_PLACES],
 }
 
 impl Model for Blocks {
@@ -68,7 +61,7 @@ impl Blocks {
         alloc: Global,
         node: u8,
         blocks: u16,
-        numbers: [u32; PATHS],
+        numbers: [u32; PATH_PLACES],
     ) -> Result<Blocks, AllocError>
         ensures { IfOk result (λ made. made ≡ resting_table node blocks numbers) }
     {
@@ -225,9 +218,8 @@ impl Blocks {
         requires block { IsBlock self.old block }
         requires fits { FitsStart site.room operation control.now }
         requires area { HasRegisters (R.contents ram.now) site.area site.room }
-        ensures { self.new ≡ launched self.old block operation control.now
-            (words_from (R.contents ram.now) site.area control.now.length)
-            (path_for self.old operation) }
+        ensures { self.new ≡
+            launched_at self.old block site operation control.now (R.contents ram.now) }
     {
         let state = match self.path_for(operation) {
             Some(path) => BlockState::Active(Running {
@@ -255,8 +247,8 @@ impl Blocks {
     ) -> u8
         requires block { IsBlock self.old block }
         requires control { HasRegisters (R.contents ram.old) site.control control_block }
-        ensures { SolvesBlock (ended_with word state self.old block site (R.contents ram.old))
-            self.new result (R.contents ram.old) (R.contents ram.new) }
+        ensures { EndsBlock word state block site self.old self.new result
+            (R.contents ram.old) (R.contents ram.new) }
     {
         ram.set_word(status_register(site.control), word);
         self.set_state(block, state);
@@ -268,8 +260,8 @@ impl Blocks {
         requires block { IsBlock self.old block }
         requires control { HasRegisters (R.contents ram.old) site.control control_block }
         requires area { HasRegisters (R.contents ram.old) site.area site.room }
-        ensures { SolvesBlock (started self.old block site (R.contents ram.old))
-            self.new result (R.contents ram.old) (R.contents ram.new) }
+        ensures { StartsBlock block site self.old self.new result
+            (R.contents ram.old) (R.contents ram.new) }
     {
         let control = Control::read(site.control, ram);
         match control.start(self.node, site.room) {
@@ -286,10 +278,8 @@ impl Blocks {
     fn abort<R: RefStore>(&mut self, block: u16, site: Site, ram: &mut R) -> u8
         requires block { IsBlock self.old block }
         requires control { HasRegisters (R.contents ram.old) site.control control_block }
-        ensures { SolvesBlock
-            (ended_with user_abort (given_up (block_state self.old block)) self.old block site
-            (R.contents ram.old))
-            self.new result (R.contents ram.old) (R.contents ram.new) }
+        ensures { AbortsBlock block site self.old self.new result
+            (R.contents ram.old) (R.contents ram.new) }
     {
         ram.set_word(status_register(site.control), USER_ABORT);
         self.blocks[usize::from(block - 1)].give_up();
@@ -308,8 +298,8 @@ impl Blocks {
         requires block { IsBlock self.old block }
         requires control { HasRegisters (R.contents ram.old) site.control control_block }
         requires area { HasRegisters (R.contents ram.old) site.area site.room }
-        ensures { SolvesBlock (block_solved self.old block site nodes (R.contents ram.old))
-            self.new result (R.contents ram.old) (R.contents ram.new) }
+        ensures { SolvesWith block site nodes self.old self.new result
+            (R.contents ram.old) (R.contents ram.new) }
     {
         match &self.blocks[usize::from(block - 1)] {
             BlockState::Idle => {

@@ -9,8 +9,11 @@ ghost use Rattle.mstr_block.specs.Control.{has_bad_end, has_small_area, has_bad_
 ghost use Rattle.mstr_block.specs.Control.{start_of, ask_of, FitsStart};
 
 use crate::call::MstrAsk;
-use crate::operation::{Operation, STATISTICS_WORDS};
-use plant_types::{Block, Ref, RefStore, load_words, ref_after};
+use crate::operation::Operation;
+use plant_types::{
+    BLOCK_LIMIT, Block, NODE_LIMIT, REFERENCE_LIMIT, Ref, RefStore, STATISTICS_WORDS, load_words,
+    ref_after,
+};
 
 /// The registers of a route behind its first node.
 const HOP_COUNT: usize = 4;
@@ -39,15 +42,6 @@ const START: u16 = 3;
 const NODE: u16 = 4;
 
 const ROUTE_BEHIND: u16 = 5;
-
-/// The most references of a kind.
-const REFERENCE_LIMIT: u32 = 9984;
-
-/// The most words that a call writes.
-const WRITE_LIMIT: usize = 100;
-
-/// The greatest address of a node.
-const ADDRESS_LIMIT: u16 = 64;
 
 // The error words of a start.
 const ILLEGAL_OPERATION: u16 = 0x2001;
@@ -105,7 +99,7 @@ fn words_to_write<R: RefStore>(area: Ref, count: u16, ram: &R) -> Block
     requires area { HasRegisters (R.contents ram.now) area count }
     ensures { result ≡ words_from (R.contents ram.now) area count }
 {
-    let mut words = [0; WRITE_LIMIT];
+    let mut words = [0; BLOCK_LIMIT];
     let run = &mut words[..usize::from(count)];
     load_words(ram, area, run);
     Block::of(run)
@@ -146,7 +140,7 @@ impl Control {
         ensures { result ≡ has_bad_end operation self.now }
     {
         let end = u32::from(self.start) + u32::from(self.length);
-        operation.moves_registers() && end.saturating_sub(1) > REFERENCE_LIMIT
+        operation.moves_registers() && end.saturating_sub(1) > u32::from(REFERENCE_LIMIT)
             || operation.reads_statistics() && end > u32::from(STATISTICS_WORDS)
     }
 
@@ -165,7 +159,7 @@ impl Control {
     fn has_bad_route(&self, operation: Operation) -> bool
         ensures { result ≡ has_bad_route operation self.now }
     {
-        operation.names_node() && (self.node < 1 || self.node > ADDRESS_LIMIT)
+        operation.names_node() && (self.node < 1 || self.node > u16::from(NODE_LIMIT))
             || operation.uses_network() && !self.ends_at_node()
     }
 

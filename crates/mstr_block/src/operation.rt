@@ -3,6 +3,8 @@ ghost use Rattle.std.specs.Prelude.{◌≡◌};
 ghost use Rattle.mstr_block.specs.Operations.{operation_of, uses_network, moves_registers};
 ghost use Rattle.mstr_block.specs.Operations.{reads_statistics, names_node, most_words};
 
+use plant_types::{GLOBAL_LIMIT, STATISTICS_WORDS};
+
 /// What the first register of a control block asks for.
 #[derive(Clone, Copy, Drop)]
 pub(crate) enum Operation {
@@ -18,12 +20,6 @@ pub(crate) enum Operation {
 
 /// The most registers of a read or a write.
 const DATA_LIMIT: u16 = 100;
-
-/// The words of the statistics.
-pub(crate) const STATISTICS_WORDS: u16 = 20;
-
-/// The most words of global data.
-const GLOBAL_LIMIT: u16 = 32;
 
 impl Operation {
     /// None exactly where the code is not 1 to 8.

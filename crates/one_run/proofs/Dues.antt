@@ -32,7 +32,7 @@ use Rattle.comm_port.specs.HoldTurn.{EndedAs, IsEnded, IsGivenUp, IsMade, IsServ
 use Rattle.comm_port.specs.HoldTurn.{ServedAs}
 use Rattle.comm_port.specs.Making.{request_frame}
 use Rattle.comm_port.specs.Parts.{InOrder}
-use Rattle.comm_port.specs.Reading.{controller_at}
+use Rattle.joint_history.specs.Reading.{controller_at}
 use Rattle.comm_port.specs.Replies.{reply_frame}
 use Rattle.one_run.proofs.Meets.{Behind, IsMine, May, behind-by, closing, closing_kind, closings}
 use Rattle.one_run.proofs.Meets.{each-front, each-rest, endings, finish-same, may-as, may-front}

@@ -32,10 +32,11 @@ use Rattle.tied_lists.specs.Own.{is_of}
 use Rattle.tied_lists.proofs.Turns.{legal-parts}
 use Rattle.comm_port.specs.Giving.{part_at}
 use Rattle.comm_port.specs.HostTurns.{AsksAllDue, EachSends, EndsHostTurn, GivenUp, GivesUpDue}
-use Rattle.comm_port.specs.HostTurns.{HoldsHostTurn, IsFailed, IsSendingStep, NoneFailed, SendsOut}
+use Rattle.comm_port.specs.HostTurns.{HoldsHostTurn, IsFailed, IsSendingStep, SendsOut}
 use Rattle.comm_port.specs.HostTurns.{ServesFrame, ServesInbox, ServesKind, TellsTaken, ask_of}
 use Rattle.comm_port.specs.HostTurns.{bad_answer_of, bad_answer_to, give_up_of, hold_of, host_at}
-use Rattle.comm_port.specs.HostTurns.{host_cause, inbox_of, notes_of, went_on}
+use Rattle.comm_port.specs.Giving.{inbox_of}
+use Rattle.comm_port.specs.HostTurns.{host_cause, notes_of, went_on}
 use Rattle.comm_port.specs.Leaving.{last_entry}
 use Rattle.comm_port.specs.Replies.{reply_frame}
 use Rattle.turn_laws.proofs.Passes.{cons-head, cons-tail, nil-cons}
@@ -98,7 +99,7 @@ module _ (net : NetPlan) (n : ℕ) where
   -- what is served adds to both lists
   serves-goes : (a b : List HostEntry) (x y : List RingEntry) → ServesInbox true net n a b x y → Goes n a b x y
   serves-goes a b x y s = record {
-    noted = flat_map notes_of (inbox_of net x n);
+    noted = flat_map notes_of (inbox_of net n x);
     known_is = s.all.notes;
     done = flat_map (λ part. part) s.all.parts;
     ring_is = grew-is (is_of n) x _ y s.all.grew;
@@ -111,7 +112,7 @@ module _ (net : NetPlan) (n : ℕ) where
   serves-same a b b' x y y' s legal s' legal' =
       let is = grew-is (is_of n) x _ y s.all.grew in
       let is' = grew-is (is_of n) x _ y' s'.all.grew in
-      let same = parts-same (inbox_of net x n) x s.all.parts s'.all.parts (subst (IsLegalRing net) is legal) (subst (IsLegalRing net) is' legal')
+      let same = parts-same (inbox_of net n x) x s.all.parts s'.all.parts (subst (IsLegalRing net) is legal) (subst (IsLegalRing net) is' legal')
       s.all.serves s'.all.serves in
       (s.all.notes ∙ sym s'.all.notes, is ∙ ap (λ parts. x ++ flat_map (λ part. part) parts) same ∙ sym is')
 

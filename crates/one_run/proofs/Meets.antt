@@ -25,7 +25,7 @@ use Rattle.tied_lists.specs.Items.{LocalCall, asked_of, ended_by, ended_in, ende
 use Rattle.tied_lists.specs.Items.{no_items}
 use Rattle.tied_lists.specs.Tied.{Tied}
 use Rattle.tied_lists.proofs.Turns.{legal-parts}
-use Rattle.comm_port.specs.Reading.{item_next, items_after, items_of}
+use Rattle.joint_history.specs.Reading.{item_next, items_after, items_of}
 use Rattle.turn_laws.proofs.Passes.{cons-head, cons-tail, ended-join}
 use Rattle.turn_laws.proofs.Rests.{items-push}
 

@@ -27,8 +27,8 @@ use Rattle.comm_port.specs.HoldTurn.{IsNextSending, NoneFailed}
 use Rattle.comm_port.specs.HoldTurn.{SendsAll, finish_of}
 use Rattle.comm_port.specs.HostTurns.{IsFailed}
 use Rattle.comm_port.specs.Parts.{InOrder, PartOf}
-use Rattle.comm_port.specs.Reading.{called_of, controller_at, has_started_at, is_ours, items_of}
-use Rattle.comm_port.proofs.Collected.{CallLaws, collected-new}
+use Rattle.joint_history.specs.Reading.{called_of, controller_at, has_started_at, is_ours, items_of}
+use Rattle.joint_history.proofs.Collected.{CallLaws, collected-new}
 use Rattle.turn_laws.proofs.Passes.{cancel, each-join}
 use Rattle.one_run.proofs.Dues.{One, OneDue, one-in-order}
 use Rattle.one_run.proofs.Fails.{HasFailedOn}

@@ -21,14 +21,15 @@ use Rattle.controller_core.proofs.NextEntry.{front_legal}
 use Rattle.tied_lists.specs.Own.{own}
 use Rattle.tied_lists.proofs.Turns.{legal-parts}
 use Rattle.host_port.specs.declared.entry.HostEntry.{HostEntry}
-use Rattle.comm_port.specs.declared.joint.ControllerLog.{ControllerLog}
-use Rattle.comm_port.specs.declared.joint.HostLog.{HostLog}
-use Rattle.comm_port.specs.declared.joint.Joint.{Joint}
+use Rattle.joint_history.specs.declared.joint.ControllerLog.{ControllerLog}
+use Rattle.joint_history.specs.declared.joint.HostLog.{HostLog}
+use Rattle.joint_history.specs.declared.joint.Joint.{Joint}
 use Rattle.comm_port.specs.HoldTurn.{HoldsTurn}
 use Rattle.comm_port.specs.HostTurns.{HoldsHostTurn}
-use Rattle.comm_port.specs.JointLaws.{IsJoint, IsLegalJoint, IsLegalLog, IsTiedController, fixed_of}
-use Rattle.comm_port.specs.Reading.{controller_at}
-use Rattle.comm_port.proofs.Collected.{CallLaws}
+use Rattle.joint_history.specs.JointLaws.{IsJoint, IsLegalJoint, IsLegalLog, IsTiedController}
+use Rattle.joint_history.specs.JointLaws.{fixed_of}
+use Rattle.joint_history.specs.Reading.{controller_at}
+use Rattle.joint_history.proofs.Collected.{CallLaws}
 use Rattle.serial_run.specs.declared.order.Turn.{Turn}
 use Rattle.serial_run.specs.declared.order.Turn.TheVariants.{Step, Hold, Visit}
 use Rattle.serial_run.specs.Turns.{HoldsAt, HostHoldsAt, IsControllerAt, MakesHold}

@@ -18,7 +18,7 @@ use Rattle.ring_core.specs.Legal.{IsHeard, IsLegal as IsLegalRing, IsPath, IsRin
 use Rattle.ring_core.specs.Machine.{NodeIs, RingIs, awaited_number, path_of, ring_node, ring_after}
 use Rattle.ring_core.specs.Refusals.{or_no, other_no, awaited_no, word_of}
 use Rattle.comm_port.specs.Giving.{part_at}
-use Rattle.comm_port.specs.HostTurns.{NoneFailed}
+use Rattle.comm_port.specs.HostTurns.{NoneFailedOn}
 use Rattle.one_run.proofs.Dues.{ring-step}
 use Rattle.one_run.proofs.Fails.{HasFailedOn, SendsOn, SendsPath, next-fails}
 use Rattle.one_run.proofs.Meets.{IsMine}
@@ -57,7 +57,7 @@ OneFailed on c = (p q : ℕ) → IsPath p → IsPath q → on p ≡ true → on 
 
 -- it sends where none has failed, and gives up one that has
 abbrev pub IsSend : (ℕ → Bool) → NodeIs → RingEntry → Type 0
-IsSend on c (Send m heard) = NoneFailed on c
+IsSend on c (Send m heard) = NoneFailedOn on c
 IsSend on c (GiveUp id word) = (on id.path ≡ true) × HasFailedOn c id.path
 IsSend on c _ = ⊥
 
@@ -68,7 +68,7 @@ SendsSo net n on past (e ∷ more) = IsSend on (part_at net n past) e × SendsSo
 -- nothing is left to be sent or given up
 pub record HasSent (net : NetPlan) (n : ℕ) (on : ℕ → Bool) (ring : List RingEntry) : Type 0 where
   pub empty : (part_at net n ring).outbox ≡ []
-  pub none : NoneFailed on (part_at net n ring)
+  pub none : NoneFailedOn on (part_at net n ring)
 
 module _ (net : NetPlan) (n : ℕ) (on : ℕ → Bool) where
   abbrev r : List RingEntry → RingIs
@@ -132,7 +132,7 @@ module _ (net : NetPlan) (n : ℕ) (on : ℕ → Bool) where
   -- ---- at most one call has failed behind it
 
   -- a node sends only where no call has failed
-  sent-none : (past : List RingEntry) (e : RingEntry) (p : ℕ) → IsSend on (c past) e → SendsPath (r past) e n p → NoneFailed on (c past)
+  sent-none : (past : List RingEntry) (e : RingEntry) (p : ℕ) → IsSend on (c past) e → SendsPath (r past) e n p → NoneFailedOn on (c past)
   sent-none past (Send m h) p a s = a
   sent-none past (Post m f) p a s = absurd s
   sent-none past (Take m f) p a s = absurd s

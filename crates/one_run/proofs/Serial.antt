@@ -13,11 +13,11 @@ use Rattle.controller_core.specs.declared.fixed.Fixed.{Fixed}
 use Rattle.controller_core.specs.Event.{entry_of}
 use Rattle.controller_core.specs.Replay.{State, apply, replay}
 use Rattle.controller_core.specs.Run.{entries_from}
-use Rattle.comm_port.specs.declared.joint.ControllerLog.{ControllerLog}
-use Rattle.comm_port.specs.declared.joint.Joint.{Joint}
-use Rattle.comm_port.specs.JointLaws.{fixed_of}
-use Rattle.comm_port.specs.Reading.{has_ended_at}
-use Rattle.comm_port.proofs.Collected.{CallLaws}
+use Rattle.joint_history.specs.declared.joint.ControllerLog.{ControllerLog}
+use Rattle.joint_history.specs.declared.joint.Joint.{Joint}
+use Rattle.joint_history.specs.JointLaws.{fixed_of}
+use Rattle.joint_history.specs.Reading.{has_ended_at}
+use Rattle.joint_history.proofs.Collected.{CallLaws}
 use Rattle.serial_run.specs.declared.order.Turn.TheVariants.{Hold}
 use Rattle.serial_run.specs.Serial.{Finishes, IsChain, IsLateRound, IsRepetition, IsSerial}
 use Rattle.serial_run.specs.Serial.{MakesRound, MakesRounds, Repeats, all_have_ended, log_with_scan}

@@ -29,8 +29,8 @@ use Rattle.comm_port.specs.HoldTurn.{IsEnded, IsGivenUp, IsMade, IsServed, MadeA
 use Rattle.comm_port.specs.HoldTurn.{SendsAll, ServedAs, VisitsEnd, inbox_of, overdue}
 use Rattle.comm_port.specs.Leaving.{cause_due, last_entry}
 use Rattle.comm_port.specs.Parts.{InOrder, PartOf, calls_waiting}
-use Rattle.comm_port.specs.Reading.{has_ended_at, has_started_at, is_ours}
-use Rattle.comm_port.proofs.Collected.{CallLaws}
+use Rattle.joint_history.specs.Reading.{has_ended_at, has_started_at, is_ours}
+use Rattle.joint_history.proofs.Collected.{CallLaws}
 use Rattle.turn_laws.proofs.Passes.{each-join}
 use Rattle.one_run.proofs.Dues.{one-ended, one-given, one-made, one-served}
 use Rattle.one_run.proofs.Fails.{HasFailedOn, IsNoSend, no-more-fail}

@@ -5,12 +5,12 @@ use Rattle.controller_core.specs.declared.entry.Entry.{Entry}
 use Rattle.controller_core.specs.declared.fixed.Fixed.{Fixed}
 use Rattle.ring_core.specs.declared.entry.RingEntry.{RingEntry}
 use Rattle.turn_laws.specs.KeepsOn.{StandsTied}
-use Rattle.comm_port.proofs.Collected.{CallLaws}
+use Rattle.joint_history.proofs.Collected.{CallLaws}
 use Rattle.one_run.specs.OneRun.{IsRunOf, OneSerialRun, OneTurnsRun}
 use Rattle.one_run.specs.OneTurn.{OneHostTurn, OneTurn, OneVisit}
 use Rattle.plant_types.specs.Plans.{IsPlant}
 use Rattle.plant_types.specs.declared.plan.Plant.{Plant}
-use Rattle.comm_port.specs.declared.joint.Joint.{Joint}
+use Rattle.joint_history.specs.declared.joint.Joint.{Joint}
 use Rattle.serial_run.specs.Turns.{nothing_made}
 use Rattle.one_run.proofs.Meets.{May, behind-tied, meets-tied}
 use Rattle.one_run.proofs.HostTurn.{host-same}

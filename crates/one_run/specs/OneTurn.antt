@@ -1,5 +1,6 @@
--- A turn makes one thing of the lists that it begins with, where those that it leaves are legal
--- and, at a controller, keep the laws between them. This project's own.
+-- A turn is deterministic: it gives one pair of lists from those that it begins with, where the
+-- lists that it leaves are legal and, at a controller, keep the laws between them. This project's
+-- own.
 use Rattle.std.specs.Prelude.{◌≡◌, ◌<◌, ℕ, Bool, true, List}
 use Rattle.plant_types.specs.declared.net.HostPlan.{HostPlan}
 use Rattle.plant_types.specs.declared.net.NetPlan.{NetPlan}

@@ -1,4 +1,4 @@
-//! Laws of what turns and runs make: it is one thing. This project's own.
+//! Laws of turns and runs: they are deterministic. This project's own.
 ghost use Rattle.one_run.specs.OneTurn.{OneHostTurn, OneTurn, OneVisit};
 ghost use Rattle.one_run.specs.OneRun.{OneSerialRun, OneTurnsRun};
 
@@ -15,7 +15,7 @@ pub fn one_turn()
     stays_table();
 }
 
-/// So do two visits of a controller whose node has left.
+/// Two visits of a controller whose node has left that begin alike end alike.
 pub fn one_visit()
     ensures { OneVisit }
 {
@@ -25,7 +25,7 @@ pub fn one_visit()
     stays_table();
 }
 
-/// So do two holds of the token by a host.
+/// Two holds of the token by a host that begin alike end alike.
 pub fn one_host_turn()
     ensures { OneHostTurn }
 {}
@@ -41,7 +41,8 @@ pub fn one_turns_run()
     stays_table();
 }
 
-/// So are two of its serial run.
+/// Two joint histories of a plant's serial run are equal, where their lists are legal and keep the
+/// laws between them.
 pub fn one_serial_run()
     ensures { OneSerialRun }
 {

@@ -6,9 +6,9 @@ use Rattle.plant_types.specs.declared.net.HostPlan.{HostPlan}
 use Rattle.plant_types.specs.declared.plan.ControllerPlan.{ControllerPlan}
 use Rattle.plant_types.specs.declared.plan.Plant.{Plant}
 use Rattle.controller_core.specs.Machine.{IsRunnable}
-use Rattle.comm_port.specs.declared.joint.ControllerLog.{ControllerLog}
-use Rattle.comm_port.specs.declared.joint.HostLog.{HostLog}
-use Rattle.comm_port.specs.JointLaws.{IsLegalHostLog, IsLegalLog, fixed_of}
+use Rattle.joint_history.specs.declared.joint.ControllerLog.{ControllerLog}
+use Rattle.joint_history.specs.declared.joint.HostLog.{HostLog}
+use Rattle.joint_history.specs.JointLaws.{IsLegalHostLog, IsLegalLog, fixed_of}
 use Rattle.panel_text.specs.Panel.{CanShow, IsHostLog, most_scans}
 
 -- each log is a legal one of some host

@@ -10,10 +10,10 @@ use Rattle.controller_core.specs.Controller.{ControllerIs, IsLegal}
 use Rattle.controller_core.specs.Machine.{IsRunnable}
 use Rattle.controller_core.specs.Panel.{panel_lines}
 use Rattle.host_port.specs.Legal.{IsHostHistory}
-use Rattle.comm_port.specs.declared.joint.ControllerLog.{ControllerLog}
-use Rattle.comm_port.specs.declared.joint.HostLog.{HostLog}
-use Rattle.comm_port.specs.declared.joint.Joint.{Joint}
-use Rattle.comm_port.specs.JointLaws.{fixed_of}
+use Rattle.joint_history.specs.declared.joint.ControllerLog.{ControllerLog}
+use Rattle.joint_history.specs.declared.joint.HostLog.{HostLog}
+use Rattle.joint_history.specs.declared.joint.Joint.{Joint}
+use Rattle.joint_history.specs.JointLaws.{fixed_of}
 use Rattle.panel_text.specs.Hosts.{host_lines}
 use Rattle.panel_text.specs.Scans.{by_scan}
 

@@ -1,7 +1,7 @@
 //! The panel of a plant.
 ghost use Rattle.std.specs.Prelude.{◌≡◌, ◌++◌, length, IfOk, OnOk, map, string_bytes};
 ghost use Rattle.std.specs.List.{AllByRecursion, flat_map, zip};
-ghost use Rattle.comm_port.specs.JointLaws.{IsLegalJoint};
+ghost use Rattle.joint_history.specs.JointLaws.{IsLegalJoint};
 ghost use Rattle.panel_text.specs.Hosts.{host_lines};
 ghost use Rattle.panel_text.specs.Panel.{CanRunAll, CanShow, IsHostLog, log_lines, most_scans};
 ghost use Rattle.panel_text.specs.Panel.{panel};
@@ -9,7 +9,7 @@ ghost use Rattle.panel_text.specs.Panel.{panel};
 use crate::hosts::push_host;
 use crate::replay::log_lines;
 use crate::scans::push_scans;
-use comm_port::{ControllerLog, HostLog, Joint};
+use joint_history::{ControllerLog, HostLog, Joint};
 use plant_types::Plant;
 use std::alloc::{AllocError, Global};
 

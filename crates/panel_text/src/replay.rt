@@ -6,7 +6,7 @@ ghost use Rattle.controller_core.specs.Event.{step_of};
 ghost use Rattle.controller_core.specs.Following.{MayFollow};
 ghost use Rattle.controller_core.specs.Machine.{IsRunnable};
 ghost use Rattle.controller_core.specs.Panel.{line_of_step, panel_lines};
-ghost use Rattle.comm_port.specs.JointLaws.{fixed_of};
+ghost use Rattle.joint_history.specs.JointLaws.{fixed_of};
 ghost use Rattle.panel_text.specs.Panel.{HasMade, most_scans};
 
 use crate::lines::{Reading, push_line, readings_of};

@@ -7,3 +7,4 @@ mod Positionals
 mod Runs
 mod Spelled
 mod TwoNumbers
+mod Written

@@ -13,9 +13,9 @@ use Rattle.controller_core.specs.Controller.{EachFits, Fits, IsLegal}
 use Rattle.controller_core.specs.Event.{scan_steps}
 use Rattle.controller_core.specs.Replay.{State, apply, start}
 use Rattle.controller_core.specs.Scans.{all_due}
-use Rattle.comm_port.specs.declared.joint.ControllerLog.{ControllerLog}
-use Rattle.comm_port.specs.declared.joint.Joint.{Joint}
-use Rattle.comm_port.specs.JointLaws.{IsLegalJoint, IsLegalLog, fixed_of}
+use Rattle.joint_history.specs.declared.joint.ControllerLog.{ControllerLog}
+use Rattle.joint_history.specs.declared.joint.Joint.{Joint}
+use Rattle.joint_history.specs.JointLaws.{IsLegalJoint, IsLegalLog, fixed_of}
 
 -- an event does the same
 apply-same : (plant : Plant) (plan : ControllerPlan) (n m : ℕ) (s : State) (entry : Entry)

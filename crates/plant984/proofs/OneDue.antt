@@ -13,7 +13,7 @@ use Rattle.plant_types.specs.Plans.{IsPlant}
 use Rattle.plant_loader.specs.Refusals.{Refusal}
 use Rattle.plant_loader.specs.Plant.{plant_of}
 use Rattle.plant_loader.proofs.LoadedLemmas.{IsLoaded, gives-loaded}
-use Rattle.comm_port.specs.declared.joint.Joint.{Joint}
+use Rattle.joint_history.specs.declared.joint.Joint.{Joint}
 use Rattle.journal_text.specs.Fronts.{IsFront, IsJournal, IsLine, IsText, IsWrongLine, ended}
 use Rattle.journal_text.specs.Laws.{OneHistoryOfAText}
 use Rattle.journal_text.proofs.StepGoes.{line_is}

@@ -6,11 +6,11 @@ use Rattle.plant_types.specs.declared.plan.Plant.{Plant}
 use Rattle.plant_types.specs.Plans.{IsPlant}
 use Rattle.plant_loader.specs.Accepted.{IsSolvable}
 use Rattle.controller_core.specs.Machine.{CanRun}
-use Rattle.comm_port.specs.declared.joint.Joint.{Joint}
-use Rattle.comm_port.specs.JointLaws.{IsJoint, IsLegalJoint}
+use Rattle.joint_history.specs.declared.joint.Joint.{Joint}
+use Rattle.joint_history.specs.JointLaws.{IsJoint, IsLegalJoint}
 use Rattle.effect_laws.specs.Effects.{AllEffectsAreRight, EffectsAreRight}
 use Rattle.panel_text.specs.Panel.{CanRunAll, most_scans}
-use Rattle.serial_run.specs.Stations.{CanRunPlant}
+use Rattle.joint_history.specs.Runnable.{CanRunPlant}
 use Rattle.plant984.specs.declared.judging.Judged.TheVariants.{Whole}
 use Rattle.plant984.specs.declared.words.Command.{Command}
 use Rattle.plant984.specs.declared.words.Command.TheVariants.{Do, Gen}

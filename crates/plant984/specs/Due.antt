@@ -9,11 +9,13 @@ use Rattle.plant_types.specs.Fault.{fault_text, place_text}
 use Rattle.plant_loader.specs.Refusals.{Refusal}
 use Rattle.plant_loader.specs.Plant.{plant_of}
 use Rattle.plant_gen.specs.Text.{plant_text}
-use Rattle.comm_port.specs.declared.joint.Joint.{Joint}
+use Rattle.joint_history.specs.declared.joint.Joint.{Joint}
 use Rattle.effect_laws.specs.Effects.{EffectsAreRight}
+use Rattle.entry_causes.specs.Joint.{IsInOneOrder}
 use Rattle.turn_laws.specs.KeepsOn.{NoneSpent}
 use Rattle.serial_run.specs.Serial.{IsSerial}
 use Rattle.joint_law.specs.Spots.{IsWholeRun}
+use Rattle.journal_text.specs.Fronts.{IsJournalOf}
 use Rattle.journal_text.specs.Journal.{journal}
 use Rattle.panel_text.specs.Panel.{panel}
 use Rattle.summary_text.specs.Summary.{summary}
@@ -47,22 +49,25 @@ refusal_text fault place =
 abbrev pub illegal_text : List ℕ → List ℕ
 illegal_text spot = codes "illegal " ++ spot
 
--- A command reads the input, or nothing.
+-- Whether a command reads the input.
 abbrev pub reads_input : Command → Bool
 reads_input (Do task scans) = true
 reads_input (Gen number scans) = false
 
--- A task takes the joint history of a journal behind the plant file, or that of a run.
+-- Whether a task takes the joint history of a journal behind the plant file, and not that of a run;
+-- so a command, and how many scans it asks for.
 abbrev pub judges : Task → Bool
 judges Run = false
 judges Trace = false
 judges Check = true
 judges Replay = true
 
+-- Whether a command takes the joint history of a journal.
 abbrev pub reads_journal : Command → Bool
 reads_journal (Do task scans) = judges task
 reads_journal (Gen number scans) = false
 
+-- How many scans a command asks for.
 abbrev pub scans_of : Command → ℕ
 scans_of (Do task scans) = scans
 scans_of (Gen number scans) = scans
@@ -73,15 +78,18 @@ abbrev pub IsTaskFile : Bool → List ℕ → List ℕ → List ℕ → Type 0
 IsTaskFile true input file journal = IsCut input file journal
 IsTaskFile false input file journal = (file ≡ input) × (journal ≡ [])
 
+-- The plant file of a command, and the journal behind it; for a number the file that it stands for.
 abbrev pub IsFile : Command → List ℕ → List ℕ → List ℕ → Type 0
 IsFile (Do task scans) input file journal = IsTaskFile (judges task) input file journal
 IsFile (Gen number scans) input file journal = (file ≡ plant_text number) × (journal ≡ [])
 
--- The joint history of a plant's serial run: it is legal, it keeps the laws between its lists, and
--- it is complete.
+-- The joint history is that of the plant's serial run, and a complete run: legal, with the laws
+-- between its lists kept, and complete; and all its entries have one order in time, in which each
+-- stands behind its cause.
 pub record IsRun (plant : Plant) (scans : ℕ) (joint : Joint) : Type 0 where
   pub serial : IsSerial plant scans joint
   pub whole : IsWholeRun plant scans joint
+  pub in_time : IsInOneOrder joint
 
 -- The joint history that a command is about: that of the journal, or of the serial run.
 abbrev pub IsHistory : Bool → Plant → ℕ → List ℕ → Joint → Type 0
@@ -103,21 +111,25 @@ task_text Trace plant joint = journal joint ++ panel plant joint
 task_text Check plant joint = codes "legal\n"
 task_text Replay plant joint = panel plant joint
 
+-- What a command writes of a joint history: the text of its task, or a summary.
 abbrev pub text_of : Command → Plant → Joint → List ℕ
 text_of (Do task scans) plant joint = task_text task plant joint
 text_of (Gen number scans) plant joint = summary plant joint
 
--- With a plant that is accepted the text of such a joint history is due, in which each call takes
--- effect at most once, and once if it reports success.
+-- What is due with a plant that is accepted: the text of a joint history that the command is about,
+-- in which each call takes effect at its target at most once, and once if it reports success, and
+-- whose journal tells all of it.
 pub record IsShown (command : Command) (plant : Plant) (behind : List ℕ) (what : Due)
     : Type 0 where
   pub joint : Joint
   pub history : IsHistory (reads_journal command) plant (scans_of command) behind joint
   pub effects : EffectsAreRight joint
+  pub told : IsJournalOf joint (journal joint)
   pub status : what.status ≡ ends.Ok
   pub text : what.text ≡ text_of command plant joint
 
--- Or the line of the spot at which the journal is none of a whole run.
+-- What is due with a plant and a journal that is not that of a complete run: the line of its first
+-- spot.
 pub record IsIllegal (command : Command) (plant : Plant) (behind : List ℕ) (what : Due)
     : Type 0 where
   pub reads : reads_journal command ≡ true
@@ -126,39 +138,45 @@ pub record IsIllegal (command : Command) (plant : Plant) (behind : List ℕ) (wh
   pub status : what.status ≡ ends.Illegal
   pub text : what.text ≡ illegal_text spot
 
+-- What is due with a plant that is accepted: the text of a run, or the line of an illegal journal.
 abbrev pub IsDueWith : Command → Plant → List ℕ → Due → Type 0
 IsDueWith command plant behind what =
     IsShown command plant behind what ⊎ IsIllegal command plant behind what
 
--- With a plant that has a fault its refusal is.
+-- What is due with a plant file that has a fault: its refusal.
 abbrev pub refused : Refusal → Due
 refused fault = record { status = ends.Refused; text = refusal_text fault.0 fault.1 }
 
+-- What is due by what the plant file reads as: a plant, or a fault.
 abbrev pub IsDueOf : Command → List ℕ → Result Plant Refusal → Due → Type 0
 IsDueOf command behind (Ok plant) what = IsDueWith command plant behind what
 IsDueOf command behind (Err fault) what = what ≡ refused fault
 
--- This is due for a command and an input.
+-- This status and this text are due for a command and an input.
 pub record IsDue (command : Command) (input : List ℕ) (what : Due) : Type 0 where
   pub file : List ℕ
   pub behind : List ℕ
   pub parts : IsFile command input file behind
   pub due : IsDueOf command behind (plant_of file) what
 
--- What a live run shows: a joint history that is that of a whole run, in which no node left because
--- its Passes were spent.
+-- What is due for a live run of a plant: the journal and the panel of a complete run, in which no
+-- node left because its Passes were spent, and all entries of which have one order in time, each
+-- behind its cause.
 pub record IsLiveShown (scans : ℕ) (plant : Plant) (what : Due) : Type 0 where
   pub joint : Joint
   pub whole : IsWholeRun plant scans joint
   pub unspent : NoneSpent joint.ring
+  pub in_time : IsInOneOrder joint
   pub effects : EffectsAreRight joint
+  pub told : IsJournalOf joint (journal joint)
   pub status : what.status ≡ ends.Ok
   pub text : what.text ≡ task_text Trace plant joint
 
+-- What is due for a live run by what the plant file reads as: a plant, or a fault.
 abbrev pub IsLiveDueOf : ℕ → Result Plant Refusal → Due → Type 0
 IsLiveDueOf scans (Ok plant) what = IsLiveShown scans plant what
 IsLiveDueOf scans (Err fault) what = what ≡ refused fault
 
--- This is due for a live run of so many scans and an input.
+-- This status and this text are due for a live run of so many scans and an input.
 abbrev pub IsLiveDue : ℕ → List ℕ → Due → Type 0
 IsLiveDue scans input what = IsLiveDueOf scans (plant_of input) what

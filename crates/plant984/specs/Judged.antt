@@ -1,9 +1,9 @@
--- What a journal comes to: its joint history, or the spot at which it is none of a whole run. This
--- project's own.
+-- What a journal comes to: its joint history, or the spot at which it is not that of a complete
+-- run. This project's own.
 use Rattle.std.specs.Prelude.{◌≡◌, ◌⊎◌, ℕ, codes, List, ◌++◌, string_bytes}
 use Rattle.std.specs.Fmt.{decimal}
 use Rattle.plant_types.specs.declared.plan.Plant.{Plant}
-use Rattle.comm_port.specs.declared.joint.Joint.{Joint}
+use Rattle.joint_history.specs.declared.joint.Joint.{Joint}
 use Rattle.journal_text.specs.Fronts.{IsJournalOf, IsText}
 use Rattle.joint_law.specs.declared.verdict.Spot.{Spot}
 use Rattle.joint_law.specs.declared.verdict.Spot.TheVariants as spots
@@ -32,18 +32,18 @@ spot_text (spots.Ring entry) = codes "R " ++ decimal entry ++ codes "\n"
 spot_text (spots.Law law node place) = law_text law node place
 spot_text (spots.Incomplete node) = codes "D16 " ++ decimal node ++ codes "\n"
 
--- The bytes are the journal of a whole run of a plant.
+-- The bytes are the journal of a complete run of a plant.
 pub record IsRunRead (plant : Plant) (scans : ℕ) (bytes : List ℕ) (joint : Joint) : Type 0 where
   pub read : IsJournalOf joint bytes
   pub whole : IsWholeRun plant scans joint
 
--- They are no journal, from a line on.
+-- The bytes are no journal, from a line on.
 pub record IsNoJournal (bytes spot : List ℕ) : Type 0 where
   pub line : ℕ
   pub wrong : IsText bytes line
   pub text : spot ≡ line_text line
 
--- They are the journal of a joint history that is no whole run, as a spot of it shows.
+-- The bytes are the journal of a joint history that is not a complete run, as a spot of it shows.
 pub record IsNoRun (plant : Plant) (scans : ℕ) (bytes spot : List ℕ) : Type 0 where
   pub joint : Joint
   pub read : IsJournalOf joint bytes
@@ -51,7 +51,7 @@ pub record IsNoRun (plant : Plant) (scans : ℕ) (bytes spot : List ℕ) : Type 
   pub breaks : IsSpot plant scans joint there
   pub text : spot ≡ spot_text there
 
--- This spot shows that the bytes are not the journal of a whole run.
+-- This spot shows that the bytes are not the journal of a complete run.
 abbrev pub IsIllegalAt : Plant → ℕ → List ℕ → List ℕ → Type 0
 IsIllegalAt plant scans bytes spot = IsNoJournal bytes spot ⊎ IsNoRun plant scans bytes spot
 

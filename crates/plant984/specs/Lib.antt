@@ -4,4 +4,5 @@ pub mod Cut
 pub mod Judged
 pub mod Due
 pub mod OneDue
+pub mod Written
 pub mod Promise

@@ -48,7 +48,7 @@ pub record Wrote (IsDueHere : Due → Type 0) (status : Status) (had has : Optio
   pub ended : what.status ≡ status
   pub took : Took had has what.text
 
--- Of the text that was due a front was written, but not all of it.
+-- A prefix of the text that was due was written, but not all of it.
 pub record WroteFront (IsDueHere : Due → Type 0) (had has : Option (List ℕ)) : Type 0 where
   pub what : Due
   pub due : IsDueHere what
@@ -130,7 +130,7 @@ pub record Keeps
       → source.bytes ≡ Some input → input_limit < length input → ¬ (Failed source source_now)
       → (status ≡ ends.TooLong) ⊎ (status ≡ ends.NoMemory)
 
--- So it is with all commands but that of a live run, and with that one.
+-- What a call promises for every command but a live run.
 abbrev pub Promised : Status → List (List ℕ) → Side → Side → Side → Side → Type 0
 Promised status words source source_now sink sink_now =
     Keeps SpellsCommand reads_input IsDue status words source source_now sink sink_now
@@ -139,6 +139,7 @@ Promised status words source source_now sink sink_now =
 abbrev pub always : ℕ → Bool
 always scans = true
 
+-- What a call promises for a live run.
 abbrev pub PromisedLive : Status → List (List ℕ) → Side → Side → Side → Side → Type 0
 PromisedLive status words source source_now sink sink_now =
     Keeps SpellsLive always IsLiveDue status words source source_now sink sink_now
@@ -148,11 +149,13 @@ abbrev pub StartsLive : List (List ℕ) → Type 0
 StartsLive [] = ⊥
 StartsLive (name ∷ behind) = name ≡ codes "live"
 
--- The words ask for no input, so none is read: they are no command, or one that reads none.
+-- The words ask for no input, so none is read: they are no command, or one that reads nothing.
 pub record AsksNothing (words : List (List ℕ)) : Type 0 where
   pub live : StartsLive words → ¬ AsksInput SpellsLive always words
   pub other : ¬ StartsLive words → ¬ AsksInput SpellsCommand reads_input words
 
+-- What the top call promises: by its first word what is promised for a live run, or for every other
+-- command.
 pub record PromisedAll (status : Status) (words : List (List ℕ))
     (source source_now sink sink_now : Side) : Type 0 where
   pub live : StartsLive words → PromisedLive status words source source_now sink sink_now

@@ -35,6 +35,7 @@ command_numbers (Gen number scans) = decimal number ∷ decimal scans ∷ []
 abbrev pub IsNumberOfScans : ℕ → Type 0
 IsNumberOfScans scans = IsFromTo 1 2000 scans
 
+-- The numbers of a command are in their ranges.
 abbrev pub IsCommandInRange : Command → Type 0
 IsCommandInRange (Do task scans) = IsNumberOfScans scans
 IsCommandInRange (Gen number scans) = IsPlantNumber number × IsNumberOfScans scans
@@ -57,6 +58,7 @@ pub record SpellsLiveBehind (name : List ℕ) (behind : List (List ℕ)) (scans 
   pub numbers : without_dashes behind ≡ decimal scans ∷ []
   pub in_range : IsNumberOfScans scans
 
+-- The words are those of a live run: its name, and what stands behind it.
 abbrev pub SpellsLive : List (List ℕ) → ℕ → Type 0
 SpellsLive [] scans = ⊥
 SpellsLive (name ∷ behind) scans = SpellsLiveBehind name behind scans

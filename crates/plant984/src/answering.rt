@@ -1,9 +1,11 @@
 // What is due for a command and an input.
 ghost use Rattle.std.specs.Prelude.{◌≡◌, IfOk, string_bytes};
 ghost use Rattle.plant_loader.specs.Plant.{plant_of};
-ghost use Rattle.comm_port.specs.JointLaws.{IsLegalJoint};
+ghost use Rattle.joint_history.specs.JointLaws.{IsLegalJoint};
+ghost use Rattle.journal_text.specs.Fronts.{IsJournalOf};
+ghost use Rattle.journal_text.specs.Journal.{journal};
 ghost use Rattle.panel_text.specs.Panel.{most_scans};
-ghost use Rattle.serial_run.specs.Stations.{CanRunPlant};
+ghost use Rattle.joint_history.specs.Runnable.{CanRunPlant};
 ghost use Rattle.plant984.specs.Words.{IsCommandInRange, IsNumberOfScans};
 ghost use Rattle.plant984.specs.Due.{IsDue, IsDueOf, IsDueWith, IsFound, illegal_text, judges};
 ghost use Rattle.plant984.specs.Due.{reads_journal, refusal_text, refused, scans_of, task_text};
@@ -13,9 +15,9 @@ use crate::cutting::cut;
 use crate::judging::{Judged, judge_journal};
 use crate::status::Status;
 use crate::words::{Command, Task};
-use comm_port::Joint;
 use effect_laws::effects_are_right;
-use journal_text::{journal_text, legal_is_plain};
+use joint_history::Joint;
+use journal_text::{fits_its_types, journal_text, legal_is_plain};
 use panel_text::panel_text;
 use plant_gen::plant_from;
 use plant_loader::{LoadEnd, load};
@@ -57,6 +59,16 @@ fn illegal(alloc: Global, spot: &str) -> Result<Answer, AllocError>
         status: Status::Illegal,
         text: text.into_bytes(),
     })
+}
+
+/// The journal of a joint history tells all of it. A call made for the prover alone.
+pub fn journal_tells_all(plant: &Plant, joint: &Joint)
+    requires plant { CanRunPlant plant.now }
+    requires joint { IsLegalJoint plant.now most_scans joint.now }
+    ensures { IsJournalOf joint.now (journal joint.now) }
+{
+    legal_is_plain();
+    fits_its_types(joint);
 }
 
 /// The journal, and behind it the panel.
@@ -163,6 +175,7 @@ fn answer_with(
     effects_are_right();
     match history_of(alloc, command, plant, behind)? {
         Judged::Whole(joint) => {
+            journal_tells_all(plant, &joint);
             let text = text_of(alloc, command, plant, &joint)?;
             Ok(Answer {
                 status: Status::Ok,

@@ -1,10 +1,10 @@
 // What a journal comes to.
 ghost use Rattle.std.specs.Prelude.{◌≡◌, ◌≤◌, IfOk, string_bytes};
 ghost use Rattle.journal_text.specs.Fronts.{IsJournalOf};
-ghost use Rattle.serial_run.specs.Stations.{CanRunPlant};
+ghost use Rattle.joint_history.specs.Runnable.{CanRunPlant};
 ghost use Rattle.plant984.specs.Judged.{IsJudged, law_text, line_text, place_text, spot_text};
 
-use comm_port::Joint;
+use joint_history::Joint;
 use joint_law::{Spot, Verdict, judge};
 use journal_text::{JournalFault, read_journal};
 use plant_types::Plant;
@@ -14,9 +14,9 @@ use std::fmt::Write;
 /// What a journal comes to.
 #[derive(Drop)]
 pub enum Judged {
-    /// The joint history of a whole run.
+    /// The joint history of a complete run.
     Whole(Joint),
-    /// The text of the spot at which it is none.
+    /// The text of the spot at which it is not that of a complete run.
     Illegal(String),
 }
 

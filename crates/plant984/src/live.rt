@@ -1,13 +1,13 @@
 // The live top call: the plant runs in threads, and may wait.
 ghost use Rattle.std.specs.Prelude.{◌≡◌, ◌≤◌, ◌↔◌, IfOk, ℕ, Some, map, string_bytes};
 ghost use Rattle.plant_loader.specs.Plant.{plant_of};
-ghost use Rattle.serial_run.specs.Stations.{CanRunPlant};
+ghost use Rattle.joint_history.specs.Runnable.{CanRunPlant};
 ghost use Rattle.plant984.specs.Words.{IsNumberOfScans, SpellsLive, SpellsLiveBehind};
 ghost use Rattle.plant984.specs.Due.{IsLiveDue, IsLiveDueOf, IsLiveShown, told};
 ghost use Rattle.plant984.specs.Promise.{Answers, AsksInput, PromisedLive, always, side};
 ghost use Rattle.plant984.specs.Promise.{WritesNothing};
 
-use crate::answering::{Answer, refused, trace_text};
+use crate::answering::{Answer, journal_tells_all, refused, trace_text};
 use crate::arguments::scans_of;
 use crate::serial::INPUT_LIMIT;
 use crate::status::Status;
@@ -18,6 +18,7 @@ use plant_types::Plant;
 use std::alloc::{AllocError, Global};
 use std::sync::Wait;
 use std::thread::Threads;
+use std::time::Clock;
 
 /// How many scans the words behind the name of a live run ask for.
 fn live_named(alloc: Global, name: &str, behind: &[String]) -> Result<Option<u32>, AllocError>
@@ -43,7 +44,7 @@ fn live_scans(alloc: Global, words: &[String]) -> Result<Option<u32>, AllocError
 }
 
 /// The journal and the panel of a live run of a plant.
-fn show_live<M: Meet + Sync, R: Threads + Wait + Sync>(
+fn show_live<M: Meet + Sync, R: Threads + Wait + Clock + Sync>(
     rt: &R,
     alloc: Global,
     scans: u32,
@@ -55,6 +56,7 @@ fn show_live<M: Meet + Sync, R: Threads + Wait + Sync>(
     ensures { IfOk result (λ answer. IsLiveShown scans plant.now (told answer)) }
 {
     let joint = live(rt, alloc, plant, scans, meet)?;
+    journal_tells_all(plant, &joint);
     let text = trace_text(alloc, plant, &joint)?;
     Ok(Answer {
         status: Status::Ok,
@@ -63,7 +65,7 @@ fn show_live<M: Meet + Sync, R: Threads + Wait + Sync>(
 }
 
 /// The answer to a live run of the plant of a file.
-fn answer_live<M: Meet + Sync, R: Threads + Wait + Sync>(
+fn answer_live<M: Meet + Sync, R: Threads + Wait + Clock + Sync>(
     rt: &R,
     alloc: Global,
     scans: u32,
@@ -81,7 +83,7 @@ fn answer_live<M: Meet + Sync, R: Threads + Wait + Sync>(
 }
 
 /// Runs the plant of an input, and writes what is due.
-fn write_live<K: Sink, M: Meet + Sync, R: Threads + Wait + Sync>(
+fn write_live<K: Sink, M: Meet + Sync, R: Threads + Wait + Clock + Sync>(
     rt: &R,
     alloc: Global,
     scans: u32,
@@ -107,7 +109,7 @@ fn write_live<K: Sink, M: Meet + Sync, R: Threads + Wait + Sync>(
 
 /// Runs the plant of the input in threads, if the words say so, and writes its journal and its
 /// panel. It may wait; the outcome depends on the schedule.
-pub fn plant_live<S: Source, K: Sink, M: Meet + Sync, R: Threads + Wait + Sync>(
+pub fn plant_live<S: Source, K: Sink, M: Meet + Sync, R: Threads + Wait + Clock + Sync>(
     rt: &R,
     alloc: Global,
     words: &[String],

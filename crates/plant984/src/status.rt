@@ -18,7 +18,7 @@ pub enum Status {
     Refused,
     /// The input is longer than the limit.
     TooLong,
-    /// The journal is not that of a whole run of the plant.
+    /// The journal is not that of a complete run of the plant.
     Illegal,
 }
 

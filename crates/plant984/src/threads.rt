@@ -5,10 +5,10 @@ use crate::nets::{pumps, read2};
 use crate::status::Status;
 use crate::tests::{Outcome, outcome_over, sink_of, source_of, words_of};
 use crate::top::plant_top;
-use comm_port::Joint;
 use controller_core::Entry;
 use crossbeam_utils::Backoff;
 use host_port::{HostEntry, HostResult};
+use joint_history::Joint;
 use joint_law::{Verdict, judge};
 use journal_text::read_journal;
 use live_run::{Meet, NoMeet};
@@ -20,6 +20,7 @@ use std::sync::Wait;
 use std::sync::atomic::{AtomicU64, Ordering};
 use std::test::Fail;
 use std::thread::Threads;
+use std::time::Clock;
 
 // How often one looks for the other before it goes on alone.
 const MOST_TURNS: u32 = 10_000_000;
@@ -86,7 +87,7 @@ impl Meet for Meeting {
 }
 
 // How the top call ends over this plant, and what it writes.
-fn run_live<M: Meet + Sync, R: Threads + Wait + Sync>(
+fn run_live<M: Meet + Sync, R: Threads + Wait + Clock + Sync>(
     rt: &R,
     alloc: Global,
     line: &str,

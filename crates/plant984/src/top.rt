@@ -14,6 +14,7 @@ use std::alloc::Global;
 use std::process::ExitCode;
 use std::sync::Wait;
 use std::thread::Threads;
+use std::time::Clock;
 
 fn is_live(name: &str) -> bool
     ensures { IsTrue result ↔ (name.now ≡ codes "live") }
@@ -33,7 +34,7 @@ fn starts_live(words: &[String]) -> bool
 
 /// Does what the words after the program's name say, and answers how that ended: a live run in
 /// threads, which may wait, and all else without.
-pub fn plant_top<S: Source, K: Sink, M: Meet + Sync, R: Threads + Wait + Sync>(
+pub fn plant_top<S: Source, K: Sink, M: Meet + Sync, R: Threads + Wait + Clock + Sync>(
     rt: &R,
     alloc: Global,
     words: &[String],
@@ -57,7 +58,7 @@ pub fn plant_top<S: Source, K: Sink, M: Meet + Sync, R: Threads + Wait + Sync>(
 }
 
 /// The top call, and the number of its status, with which the process ends.
-pub fn exit_of<S: Source, K: Sink, M: Meet + Sync, R: Threads + Wait + Sync>(
+pub fn exit_of<S: Source, K: Sink, M: Meet + Sync, R: Threads + Wait + Clock + Sync>(
     rt: &R,
     alloc: Global,
     words: &[String],

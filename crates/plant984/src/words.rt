@@ -12,7 +12,7 @@ pub enum Task {
     Run,
     /// The journal of its run, and then the panel lines.
     Trace,
-    /// Whether the journal behind its file is that of a whole run.
+    /// Whether the journal behind its file is that of a complete run.
     Check,
     /// The panel lines of that journal.
     Replay,

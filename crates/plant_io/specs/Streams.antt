@@ -2,12 +2,12 @@
 use Rattle.std.specs.Prelude.{◌≡◌, ℕ, ◌+◌, ◌<◌, ◌≤◌, List, [], ◌++◌, length, take, drop}
 use Rattle.std.specs.Prelude.{Option, Some, None}
 
--- These bytes went from the front of what was left. This project's own.
+-- These bytes were read from the front of what was left. This project's own.
 abbrev pub Gave : Option (List ℕ) → Option (List ℕ) → List ℕ → Type 0
 Gave None new bytes = new ≡ None
 Gave (Some old) new bytes = (rest : List ℕ) × (new ≡ Some rest) × (old ≡ bytes ++ rest)
 
--- A front of what was left, of at most so many bytes, went. This project's own.
+-- At most so many bytes were read from the front of what was left. This project's own.
 abbrev pub GaveFront : Option (List ℕ) → Option (List ℕ) → ℕ → Type 0
 GaveFront old new most = (bytes : List ℕ) × (length bytes ≤ most) × Gave old new bytes
 
@@ -26,6 +26,7 @@ abbrev pub Took : Option (List ℕ) → Option (List ℕ) → List ℕ → Type 
 Took None new bytes = new ≡ None
 Took (Some old) new bytes = new ≡ Some (old ++ bytes)
 
--- A front of the text, but not all of it, was put behind what the sink had. This project's own.
+-- A prefix of the text, but not all of it, was written behind what the sink had. This project's
+-- own.
 abbrev pub TookFront : Option (List ℕ) → Option (List ℕ) → List ℕ → Type 0
 TookFront old new text = (count : ℕ) × (count < length text) × Took old new (take count text)

@@ -5,13 +5,13 @@ use Rattle.std.proofs.Common.{le-leb, arith}
 use Rattle.std.specs.Prelude.{codes, is_some, replicate, nat_le}
 use Rattle.std.proofs.lemmas.Bool.{and_from}
 use Rattle.std.proofs.lemmas.List.{length-replicate}
-use Rattle.toml.specs.Data.{Members, get_member}
+use Rattle.toml.specs.Data.{Members}
 use Rattle.plant_types.specs.declared.drops.Module.{Module}
 use Rattle.plant_types.specs.declared.drops.ScriptRow.{ScriptRow}
 use Rattle.plant_types.specs.declared.drops.ScriptRow.TheVariants.{Row}
 use Rattle.plant_types.specs.declared.drops.IoDrop.{IoDrop}
 use Rattle.plant_types.specs.declared.fault.PlantFault.TheVariants.{BadRef, BadDrop, BadScript}
-use Rattle.plant_types.specs.declared.fault.PlantFault.TheVariants.{BadKey, BadValue, TooLarge}
+use Rattle.plant_types.specs.declared.fault.PlantFault.TheVariants.{BadValue, TooLarge}
 use Rattle.plant_types.specs.declared.fault.Place.{Place}
 use Rattle.plant_types.specs.Sizes.{Sizes}
 use Rattle.plant_types.specs.Fault.{at_place}
@@ -30,13 +30,13 @@ use Rattle.traffic_cop.specs.DropTests.{script_place, number_tests, placed_modul
 use Rattle.traffic_cop.specs.DropTests.{placed_row_tests, word_tests, part_tests, drop_tests}
 use Rattle.plant_loader.specs.declared.owner.Owner.{Owner}
 use Rattle.plant_loader.specs.InOrder.{numbered_from}
-use Rattle.plant_loader.specs.Keys.{keys_pass, number_within, number_at_key, texts_at}
+use Rattle.plant_loader.specs.Keys.{keys_pass, number_at_key, texts_at}
 use Rattle.plant_loader.specs.Drops.{module_spelled, module_from, module_of, numbered_module}
 use Rattle.plant_loader.specs.Drops.{modules_of, row_spelled, script_row, numbered_row, rows_of}
-use Rattle.plant_loader.specs.Drops.{or_zeros, drop_from, drop_with, drop_keys, drop_required}
+use Rattle.plant_loader.specs.Drops.{or_zeros, drop_from, drop_with, drop_keys}
 use Rattle.plant_loader.specs.Drops.{drop_behind, drops_of}
 use Rattle.plant_loader.proofs.Common.{ok_value, at_place-ok, both-hold, placed-hold}
-use Rattle.plant_loader.proofs.KeyLemmas.{number_within-within, texts_at-few}
+use Rattle.plant_loader.proofs.KeyLemmas.{number_at_key-within, texts_at-few}
 use Rattle.plant_loader.proofs.TestLemmas.{each_behind-tests, each_from-tests, each_from-length}
 
 -- a module that is read passes its tests
@@ -138,16 +138,15 @@ drop_with-passes owner earlier drop number module_texts row_texts d within few_m
 
 drop_behind-passes : (owner : Owner) (earlier : List IoDrop) (table : ℕ × Members) (d : IoDrop) → drop_behind owner earlier table ≡ Ok d
     → first_failed (drop_tests owner.sizes earlier d) ≡ Ok tt
-unfolding drop_behind number_at_key
+unfolding drop_behind
 drop_behind-passes owner earlier table d h =
     let place = drop_place owner.position table.0 in
-    let keys = step-ok (keys_pass place drop_keys drop_required table.1) _ d h in
-    let number = step-ok (number_at_key place (codes "number") 1 32 table.1) _ d keys.1.1 in
+    let keys = step-ok (keys_pass place drop_keys table.1) _ d h in
+    let number = step-ok (number_at_key place BadValue (codes "number") 1 32 table.1) _ d keys.1.1 in
     let modules = step-ok (texts_at place module_limit (codes "modules") table.1) _ d number.1.1 in
     let rows = step-ok (texts_at place script_limit (codes "script") table.1) _ d modules.1.1 in
     let fresh = unless-ok (not (is_some (drop_named earlier number.0))) (BadDrop, place) _ d rows.1.1 in
-    let value = step-ok (or_fault (BadKey, place) (get_member (codes "number") table.1)) (number_within place (BadValue, place) 1 32) number.0 number.1.0 in
-    let within = number_within-within place (BadValue, place) 1 32 value.0 number.0 value.1.1 in
+    let within = number_at_key-within place BadValue (codes "number") 1 32 table.1 number.0 number.1.0 in
     drop_with-passes owner earlier table.0 number.0 modules.0 rows.0 d within
     (texts_at-few place module_limit (codes "modules") table.1 modules.0 modules.1.0)
     (texts_at-few place script_limit (codes "script") table.1 rows.0 rows.1.0) fresh.0 fresh.1

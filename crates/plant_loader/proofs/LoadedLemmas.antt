@@ -27,11 +27,12 @@ use Rattle.plant_types.specs.Plans.{IsFromTo, IsNode, IsNetPlan, IsAskOf, IsHost
 use Rattle.plant_types.specs.Plans.{IsPlant}
 use Rattle.cell_text.specs.Steps.{or_fault}
 use Rattle.cell_text.specs.Words.{text_words}
-use Rattle.cell_text.specs.Numbers.{value_of}
+use Rattle.plant_types.specs.Numerals.{value_of}
 use Rattle.cell_text.proofs.StepLemmas.{step-ok, or_fault-ok, or_fault-some, unless-ok, some-step}
 use Rattle.cell_text.proofs.StepLemmas.{some-guard}
 use Rattle.plant_loader.specs.declared.refusal.LoadEnd.{LoadEnd}
 use Rattle.plant_loader.specs.declared.net.NetRules.{NetRules}
+use Rattle.plant_loader.specs.declared.reading.Version.{Version}
 use Rattle.plant_loader.specs.Refusals.{Gives, plant_place, net_place, host_place}
 use Rattle.plant_loader.specs.Refusals.{request_place, bad_toml}
 use Rattle.plant_loader.specs.InOrder.{numbered_from}
@@ -41,12 +42,12 @@ use Rattle.plant_loader.specs.Requests.{is_numeral, is_numeral_within, numeral_w
 use Rattle.plant_loader.specs.Requests.{request_words, pdu_in, another, target_in, ask_from}
 use Rattle.plant_loader.specs.Requests.{request_of, numbered_request, requests_of}
 use Rattle.plant_loader.specs.Stations.{has_controller, controllers_of}
-use Rattle.plant_loader.specs.Hosts.{host_keys, host_required, request_limit, has_host, host_from}
+use Rattle.plant_loader.specs.Hosts.{host_keys, request_limit, has_host, host_from}
 use Rattle.plant_loader.specs.Hosts.{host_behind, hosts_of}
 use Rattle.plant_loader.specs.Rising.{by_node}
 use Rattle.plant_loader.specs.Net.{net_keys, fates_in, has_letters, fates_or, rules_from, rules_in}
 use Rattle.plant_loader.specs.Net.{rules_of, nodes_of, members_of, net_from, plant_from}
-use Rattle.plant_loader.specs.Plant.{document_of, version_passes, plant_keys, plant_required}
+use Rattle.plant_loader.specs.Plant.{document_of, version_of, plant_keys}
 use Rattle.plant_loader.specs.Plant.{controller_limit, host_limit, some_tables_at, plant_in}
 use Rattle.plant_loader.specs.Plant.{plant_at, plant_of}
 use Rattle.plant_loader.specs.Accepted.{IsSolvable, PassesDropTests}
@@ -111,7 +112,7 @@ host-is : (controllers : List ControllerPlan) (earlier : List HostPlan) (table :
 unfolding host_behind
 host-is controllers earlier table host h =
     let place = host_place table.0 in
-    let keys = step-ok (keys_pass place host_keys host_required table.1) _ host h in
+    let keys = step-ok (keys_pass place host_keys table.1) _ host h in
     let node = step-ok (address_at place table.1) _ host keys.1.1 in
     let texts = step-ok (texts_at place request_limit (codes "requests") table.1) _ host node.1.1 in
     let known = has_controller controllers node.0 || has_host earlier node.0 in
@@ -189,7 +190,7 @@ fates-few (Some d) fates h =
 rules-are : (ms : Members) (rules : NetRules) → rules_in ms ≡ Ok rules → AreRules rules
 unfolding rules_in
 rules-are ms rules h =
-    let keys = step-ok (keys_pass net_place net_keys [] ms) _ rules h in
+    let keys = step-ok (keys_pass net_place net_keys ms) _ rules h in
     let fates = step-ok (fates_or (get_member (codes "fates") ms)) _ rules keys.1.1 in
     let answer = step-ok (number_at_or net_place (codes "answer") 20 2 1000 ms) _ rules fates.1.1 in
     let rotations = step-ok (number_at_or net_place (codes "rotations") 4 1 10 ms) _ rules answer.1.1 in
@@ -335,11 +336,11 @@ some-tables place most key ms tables h =
     let is : 1 ≤ length read.0 = grind (arith, nat_tests, some.0) in
     rw (← same) (read.1.0, is)
 
--- what is read of a document of version 1
-plant_in-loaded : (top : Members) (plant : Plant) → plant_in top ≡ Ok plant → IsLoaded plant
+-- what is read of a document of a version
+plant_in-loaded : (version : Version) (top : Members) (plant : Plant) → plant_in version top ≡ Ok plant → IsLoaded plant
 unfolding plant_in
-plant_in-loaded top plant h =
-    let keys = step-ok (keys_pass plant_place plant_keys plant_required top) _ plant h in
+plant_in-loaded version top plant h =
+    let keys = step-ok (keys_pass plant_place (plant_keys version) top) _ plant h in
     let scan_time = step-ok (number_at_or plant_place (codes "scan_time") 10 1 1000 top) _ plant keys.1.1 in
     let watchdog = step-ok (number_at_or plant_place (codes "watchdog") 500 1 10000 top) _ plant scan_time.1.1 in
     let net = step-ok (table_at plant_place (codes "net") top) _ plant watchdog.1.1 in
@@ -367,8 +368,8 @@ plant_in-loaded top plant h =
 plant_at-loaded : (top : Members) (plant : Plant) → plant_at top ≡ Ok plant → IsLoaded plant
 unfolding plant_at
 plant_at-loaded top plant h =
-    let version = step-ok (version_passes top) _ plant h in
-    plant_in-loaded top plant version.1.1
+    let version = step-ok (version_of top) _ plant h in
+    plant_in-loaded version.0 top plant version.1.1
 
 -- the plant of bytes
 plant_of-loaded : (bytes : List ℕ) (plant : Plant) → plant_of bytes ≡ Ok plant → IsLoaded plant

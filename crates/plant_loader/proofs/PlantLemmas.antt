@@ -41,12 +41,13 @@ use Rattle.plant_loader.specs.Refusals.{Refusal}
 use Rattle.plant_loader.specs.InOrder.{numbered_from}
 use Rattle.plant_loader.specs.Keys.{keys_pass, address_at, size_at, discrete_size_at, texts_at}
 use Rattle.plant_loader.specs.Keys.{tables_at}
-use Rattle.plant_loader.specs.Controller.{sizes_from, sizes_at, panel_item, panel_of}
+use Rattle.plant_loader.specs.Controller.{sizes_from, owner_from, owner_at, panel_item}
+use Rattle.plant_loader.specs.Controller.{panel_of}
 use Rattle.plant_loader.specs.Drops.{drops_of}
 use Rattle.plant_loader.specs.Pieces.{segments_of}
 use Rattle.plant_loader.specs.Orders.{nameable, orders_of}
-use Rattle.plant_loader.specs.Stations.{controller_keys, controller_required, Arrays, arrays_from}
-use Rattle.plant_loader.specs.Stations.{arrays_at, plan_of, parts_of, has_controller, owner_of}
+use Rattle.plant_loader.specs.Stations.{controller_keys, Arrays, arrays_from}
+use Rattle.plant_loader.specs.Stations.{arrays_at, plan_of, parts_of, has_controller}
 use Rattle.plant_loader.specs.Stations.{controller_behind, controllers_of}
 use Rattle.plant_loader.specs.Accepted.{HasOrders, IsSolvable, PassesDropTests}
 use Rattle.plant_loader.proofs.Common.{ok_value, both-hold, placed-hold}
@@ -82,26 +83,34 @@ panel-pass owner texts panel h =
     (λ before n text at e. placed-hold (panel_place 1 (length before + 1)) ((has_reference owner.sizes at, BadRef) ∷ [])
     (one-test (has_reference owner.sizes at) BadRef (panel_item-held owner n text at e))) texts 1 panel h
 
--- the sizes that a table gives are sizes
-sizes_at-pass : (place : Place) (ms : Members) (sizes : Sizes) → sizes_at place ms ≡ Ok sizes → are_sizes sizes ≡ true
-unfolding sizes_at
-sizes_at-pass place ms sizes h =
-    let coils = step-ok (discrete_size_at place (codes "coils") ms) _ sizes h in
-    let inputs = step-ok (discrete_size_at place (codes "inputs") ms) _ sizes coils.1.1 in
-    let input_registers = step-ok (size_at place (codes "input_registers") ms) _ sizes inputs.1.1 in
+-- the numbers that a table gives are an address and sizes
+record HasNumbers (owner : Owner) : Type 0 where
+  node : (1 ≤ owner.node) × (owner.node ≤ 64)
+  sizes : are_sizes owner.sizes ≡ true
+
+owner_at-has : (position : ℕ) (ms : Members) (owner : Owner) → owner_at position ms ≡ Ok owner → HasNumbers owner
+unfolding owner_at
+owner_at-has position ms owner h =
+    let place = controller_place position in
+    let node = step-ok (address_at place ms) _ owner h in
+    let coils = step-ok (discrete_size_at place (codes "coils") ms) _ owner node.1.1 in
+    let inputs = step-ok (discrete_size_at place (codes "inputs") ms) _ owner coils.1.1 in
+    let input_registers = step-ok (size_at place (codes "input_registers") ms) _ owner inputs.1.1 in
     let registers = step-ok (size_at place (codes "registers") ms)
-    (λ registers. Ok (sizes_from coils.0 inputs.0 input_registers.0 registers)) sizes input_registers.1.1 in
-    let whole : Sizes = sizes_from coils.0 inputs.0 input_registers.0 registers.0 in
-    let same : whole ≡ sizes = ok_value whole sizes registers.1.1 in
+    (λ registers. Ok (owner_from position node.0 (sizes_from coils.0 inputs.0 input_registers.0 registers))) owner input_registers.1.1 in
+    let whole : Owner = owner_from position node.0 (sizes_from coils.0 inputs.0 input_registers.0 registers.0) in
+    let same : whole ≡ owner = ok_value whole owner registers.1.1 in
     let discretes = and_from (is_discrete_size coils.0) (is_discrete_size inputs.0)
     (discrete_size_at-is_discrete_size place (codes "coils") ms coils.0 coils.1.0)
     (discrete_size_at-is_discrete_size place (codes "inputs") ms inputs.0 inputs.1.0) in
     let words = and_from (is_size input_registers.0) (is_size registers.0)
     (size_at-is_size place (codes "input_registers") ms input_registers.0 input_registers.1.0)
     (size_at-is_size place (codes "registers") ms registers.0 registers.1.0) in
-    let passes : are_sizes whole ≡ true =
-    and_from (is_discrete_size coils.0 && is_discrete_size inputs.0) (is_size input_registers.0 && is_size registers.0) discretes words in
-    rw (← same) passes
+    let has : HasNumbers whole = record {
+      node = address_at-within place ms node.0 node.1.0;
+      sizes = and_from (is_discrete_size coils.0 && is_discrete_size inputs.0) (is_size input_registers.0 && is_size registers.0) discretes words;
+    } in
+    rw (← same) has
 
 -- the arrays of a table are few
 record AreFew (arrays : Arrays) : Type 0 where
@@ -137,15 +146,18 @@ pub record IsRead (plan : ControllerPlan) : Type 0 where
 three-hold : {F : Type 0} (a b c : Bool) (f g k : F) → a ≡ true → b ≡ true → c ≡ true → first_failed ((a, f) ∷ (b, g) ∷ (c, k) ∷ []) ≡ Ok tt
 three-hold a b c f g k p q r = rw (p, q, r) refl
 
-parts_of-read : (node : ℕ) (owner : Owner) (arrays : Arrays) (plan : ControllerPlan) → (1 ≤ node) × (node ≤ 64) → are_sizes owner.sizes ≡ true
-    → AreFew arrays → parts_of node owner arrays ≡ Ok plan → IsRead plan
+parts_of-read : (owner : Owner) (arrays : Arrays) (plan : ControllerPlan) → HasNumbers owner → AreFew arrays
+    → parts_of owner arrays ≡ Ok plan → IsRead plan
 unfolding parts_of
-parts_of-read node owner arrays plan within sizes few h =
+parts_of-read owner arrays plan numbers few h =
+    let node = owner.node in
+    let within = numbers.node in
+    let sizes = numbers.sizes in
     let drops = step-ok (drops_of owner arrays.drops) _ plan h in
     let segments = step-ok (segments_of owner arrays.segments) _ plan drops.1.1 in
     let orders = step-ok (orders_of (nameable owner segments.0 drops.0) arrays.orders) _ plan segments.1.1 in
-    let panel = step-ok (panel_of owner arrays.panel) (λ panel. Ok (plan_of node owner.sizes panel orders.0 drops.0 segments.0)) plan orders.1.1 in
-    let whole : ControllerPlan = plan_of node owner.sizes panel.0 orders.0 drops.0 segments.0 in
+    let panel = step-ok (panel_of owner arrays.panel) (λ panel. Ok (plan_of owner panel orders.0 drops.0 segments.0)) plan orders.1.1 in
+    let whole : ControllerPlan = plan_of owner panel.0 orders.0 drops.0 segments.0 in
     let same : whole ≡ plan = ok_value whole plan panel.1.1 in
     let segment_count = segments-count owner arrays.segments segments.0 segments.1.0 in
     let drop_count = with_positions-count _ arrays.drops drops.0 drops.1.0 in
@@ -186,33 +198,31 @@ record IsFresh (earlier : List ControllerPlan) (plan : ControllerPlan) : Type 0 
   fresh : has_controller earlier plan.node ≡ false
 
 -- the node of the parts
-parts_of-node : (node : ℕ) (owner : Owner) (arrays : Arrays) (plan : ControllerPlan) → parts_of node owner arrays ≡ Ok plan → plan.node ≡ node
+parts_of-node : (owner : Owner) (arrays : Arrays) (plan : ControllerPlan) → parts_of owner arrays ≡ Ok plan → plan.node ≡ owner.node
 unfolding parts_of
-parts_of-node node owner arrays plan h =
+parts_of-node owner arrays plan h =
     let drops = step-ok (drops_of owner arrays.drops) _ plan h in
     let segments = step-ok (segments_of owner arrays.segments) _ plan drops.1.1 in
     let orders = step-ok (orders_of (nameable owner segments.0 drops.0) arrays.orders) _ plan segments.1.1 in
-    let panel = step-ok (panel_of owner arrays.panel) (λ panel. Ok (plan_of node owner.sizes panel orders.0 drops.0 segments.0)) plan orders.1.1 in
-    let same : plan_of node owner.sizes panel.0 orders.0 drops.0 segments.0 ≡ plan =
-    ok_value (plan_of node owner.sizes panel.0 orders.0 drops.0 segments.0) plan panel.1.1 in
-    rw (← same) (refl {a = node})
+    let panel = step-ok (panel_of owner arrays.panel) (λ panel. Ok (plan_of owner panel orders.0 drops.0 segments.0)) plan orders.1.1 in
+    let same : plan_of owner panel.0 orders.0 drops.0 segments.0 ≡ plan =
+    ok_value (plan_of owner panel.0 orders.0 drops.0 segments.0) plan panel.1.1 in
+    rw (← same) (refl {a = owner.node})
 
 controller-read : (earlier : List ControllerPlan) (table : ℕ × Members) (plan : ControllerPlan) → controller_behind earlier table
     ≡ Ok plan → IsFresh earlier plan
 unfolding controller_behind
 controller-read earlier table plan h =
     let place = controller_place table.0 in
-    let keys = step-ok (keys_pass place controller_keys controller_required table.1) _ plan h in
-    let node = step-ok (address_at place table.1) _ plan keys.1.1 in
-    let sizes = step-ok (sizes_at place table.1) _ plan node.1.1 in
-    let arrays = step-ok (arrays_at place table.1) _ plan sizes.1.1 in
-    let fresh = unless-ok (not (has_controller earlier node.0)) (BadNode, place) _ plan arrays.1.1 in
-    let owner = owner_of table.0 sizes.0 in
-    let own = parts_of-node node.0 owner arrays.0 plan fresh.1 in
+    let keys = step-ok (keys_pass place controller_keys table.1) _ plan h in
+    let owner = step-ok (owner_at table.0 table.1) _ plan keys.1.1 in
+    let arrays = step-ok (arrays_at place table.1) _ plan owner.1.1 in
+    let fresh = unless-ok (not (has_controller earlier owner.0.node)) (BadNode, place) _ plan arrays.1.1 in
+    let own = parts_of-node owner.0 arrays.0 plan fresh.1 in
     record {
-      read = parts_of-read node.0 owner arrays.0 plan (address_at-within place table.1 node.0 node.1.0) (sizes_at-pass place table.1 sizes.0 sizes.1.0)
-          (arrays_at-few place table.1 arrays.0 arrays.1.0) fresh.1;
-      fresh = rw own (not-true (has_controller earlier node.0) fresh.0);
+      read = parts_of-read owner.0 arrays.0 plan (owner_at-has table.0 table.1 owner.0 owner.1.0) (arrays_at-few place table.1 arrays.0 arrays.1.0)
+          fresh.1;
+      fresh = rw own (not-true (has_controller earlier owner.0.node) fresh.0);
     }
 
 -- a node that no item has is none of the nodes

@@ -139,7 +139,7 @@ network_texts-few : (controller number : ℕ) (table : Members) (texts : List (L
 unfolding network_texts
 network_texts-few controller number table texts h =
     let place = segment_place controller number in
-    let keys = step-ok (keys_pass place segment_keys segment_keys table) _ texts h in
+    let keys = step-ok (keys_pass place segment_keys table) _ texts h in
     texts_at-few place network_limit (codes "networks") table texts keys.1.1
 
 segment-passes : (owner : Owner) (plan : ControllerPlan) (count : ℕ) → sizes_of plan ≡ owner.sizes → count ≡ length plan.segments

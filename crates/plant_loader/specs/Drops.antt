@@ -13,7 +13,7 @@ use Rattle.plant_types.specs.declared.drops.ScriptRow.{ScriptRow}
 use Rattle.plant_types.specs.declared.drops.ScriptRow.TheVariants.{Silent, Row}
 use Rattle.plant_types.specs.declared.drops.IoDrop.{IoDrop}
 use Rattle.plant_types.specs.declared.fault.PlantFault.TheVariants.{BadRef, BadDrop, BadScript}
-use Rattle.plant_types.specs.declared.fault.PlantFault.TheVariants.{TooLarge}
+use Rattle.plant_types.specs.declared.fault.PlantFault.TheVariants.{BadValue, TooLarge}
 use Rattle.plant_types.specs.declared.fault.Place.{Place}
 use Rattle.plant_types.specs.declared.sizes.Sizes.{Sizes}
 use Rattle.cell_text.specs.Steps.{◌>>=◌, or_fault, unless}
@@ -29,9 +29,10 @@ use Rattle.traffic_cop.specs.Tests.{fits_row}
 use Rattle.traffic_cop.specs.DropTests.{module_limit, script_limit, drop_place, module_place}
 use Rattle.traffic_cop.specs.DropTests.{script_place}
 use Rattle.plant_loader.specs.declared.owner.Owner.{Owner}
+use Rattle.plant_loader.specs.declared.modules.SpelledModule.{SpelledModule as FoundModule}
 use Rattle.plant_loader.specs.Refusals.{Refusal}
 use Rattle.plant_loader.specs.Hex.{is_hex_digit, hex_digit}
-use Rattle.plant_loader.specs.Keys.{keys_pass, number_at_key, texts_at}
+use Rattle.plant_loader.specs.Keys.{KeyTable, keys_from, keys_pass, number_at_key, texts_at}
 use Rattle.plant_loader.specs.InOrder.{with_positions, each_behind, each_of, each_from}
 
 -- A module as its text has it: its kind, the word of its first reference, and how many words it
@@ -43,6 +44,9 @@ pub record SpelledModule : Type 0 where
 
 abbrev pub spelled : ModuleKind → List ℕ → ℕ → SpelledModule
 spelled kind first count = record { kind = kind; first = first; count = count }
+
+abbrev pub module_in : FoundModule → SpelledModule
+module_in found = spelled found.kind found.first.now found.count
 
 -- The module of these words, where they are `in` or `out` and a reference, or `inw` or `outw`, a
 -- reference and a number.
@@ -99,15 +103,15 @@ is_hex_word word = list_all is_hex_digit word && (length word == 4)
 abbrev pub hex_value : List ℕ → ℕ
 hex_value word = fold (λ value digit. value * 16 + hex_digit digit) 0 word
 
-abbrev pub hex_word : Place → List ℕ → Result ℕ Refusal
-hex_word place word = if is_hex_word word then Ok (hex_value word) else Err (BadScript, place)
+abbrev pub word_spelled : Place → List ℕ → Result ℕ Refusal
+word_spelled place word = if is_hex_word word then Ok (hex_value word) else Err (BadScript, place)
 
 -- A script row: the word X, or hexadecimal words.
 unfoldable pub row_spelled : Place → List (List ℕ) → Result ScriptRow Refusal
 row_spelled place words =
     if are_words words (codes "X" ∷ [])
     then Ok Silent
-    else each_of (hex_word place) words >>= λ values. Ok (Row values)
+    else each_of (word_spelled place) words >>= λ values. Ok (Row values)
 
 -- A script row of a drop with these modules by its text: it reads, and fits them.
 unfoldable pub script_row : List Module → Place → List ℕ → Result ScriptRow Refusal
@@ -142,22 +146,20 @@ drop_with owner drop number module_texts row_texts = do
   Ok (drop_from number modules (or_zeros modules rows))
 
 -- The keys of a drop, and those that it must have.
-abbrev pub drop_keys : List (List ℕ)
-drop_keys = codes "number" ∷ codes "modules" ∷ codes "script" ∷ []
-
-abbrev pub drop_required : List (List ℕ)
-drop_required = codes "number" ∷ codes "modules" ∷ []
+abbrev pub drop_keys : KeyTable
+drop_keys =
+    keys_from (codes "number" ∷ codes "modules" ∷ codes "script" ∷ [])
+    (codes "number" ∷ codes "modules" ∷ [])
 
 -- A drop behind those before it, none of which has its number; a drop's place is its position.
 unfoldable pub drop_behind : Owner → List IoDrop → ℕ × Members → Result IoDrop Refusal
 drop_behind owner earlier table = do
-  keys ← keys_pass (drop_place owner.position table.0) drop_keys drop_required table.1
-  number ← number_at_key (drop_place owner.position table.0) (codes "number") 1 drop_limit table.1
-  module_texts ← texts_at (drop_place owner.position table.0) module_limit (codes "modules")
-      table.1
-  row_texts ← texts_at (drop_place owner.position table.0) script_limit (codes "script") table.1
-  fresh ← unless (not (is_some (drop_named earlier number)))
-      (BadDrop, drop_place owner.position table.0)
+  place ← Ok (drop_place owner.position table.0)
+  keys ← keys_pass place drop_keys table.1
+  number ← number_at_key place BadValue (codes "number") 1 drop_limit table.1
+  module_texts ← texts_at place module_limit (codes "modules") table.1
+  row_texts ← texts_at place script_limit (codes "script") table.1
+  fresh ← unless (not (is_some (drop_named earlier number))) (BadDrop, place)
   drop_with owner table.0 number module_texts row_texts
 
 -- The drops of a controller.

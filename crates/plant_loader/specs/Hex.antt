@@ -1,7 +1,7 @@
 -- Hexadecimal digits of either case. This project's own.
 use Rattle.std.specs.Prelude.{ℕ, ◌+◌, ◌*◌, ◌-◌, Bool, ◌&&◌, ◌||◌, nat_le, if◌then◌else◌, List, []}
 use Rattle.std.specs.Prelude.{◌∷◌}
-use Rattle.cell_text.specs.Numbers.{is_digit}
+use Rattle.plant_types.specs.Numerals.{is_digit}
 
 -- A hexadecimal digit of either case, and its value.
 abbrev pub is_hex_digit : ℕ → Bool

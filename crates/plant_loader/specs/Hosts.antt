@@ -8,17 +8,15 @@ use Rattle.plant_types.specs.declared.plan.ControllerPlan.{ControllerPlan}
 use Rattle.plant_types.specs.declared.fault.PlantFault.TheVariants.{BadNode}
 use Rattle.cell_text.specs.Steps.{◌>>=◌, unless}
 use Rattle.plant_loader.specs.Refusals.{Refusal, host_place}
-use Rattle.plant_loader.specs.Keys.{keys_pass, address_at, texts_at}
+use Rattle.plant_loader.specs.Keys.{KeyTable, keys_from, node_required, keys_pass}
+use Rattle.plant_loader.specs.Keys.{address_at, texts_at}
 use Rattle.plant_loader.specs.InOrder.{with_positions, each_behind}
 use Rattle.plant_loader.specs.Stations.{has_controller}
 use Rattle.plant_loader.specs.Requests.{requests_of}
 
--- The keys of a host, and the one that it must have.
-abbrev pub host_keys : List (List ℕ)
-host_keys = codes "node" ∷ codes "requests" ∷ []
-
-abbrev pub host_required : List (List ℕ)
-host_required = codes "node" ∷ []
+-- The keys of a host.
+abbrev pub host_keys : KeyTable
+host_keys = keys_from (codes "node" ∷ codes "requests" ∷ []) node_required
 
 -- The most requests of a host.
 abbrev pub request_limit : ℕ
@@ -38,7 +36,7 @@ unfoldable pub host_behind : List ControllerPlan → List HostPlan → ℕ × Me
     → Result HostPlan Refusal
 host_behind controllers earlier table = do
   place ← Ok (host_place table.0)
-  keys ← keys_pass place host_keys host_required table.1
+  keys ← keys_pass place host_keys table.1
   node ← address_at place table.1
   texts ← texts_at place request_limit (codes "requests") table.1
   fresh ← unless (not (has_controller controllers node || has_host earlier node)) (BadNode, place)

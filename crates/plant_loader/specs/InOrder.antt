@@ -35,6 +35,6 @@ each_from read number (x ∷ xs) = do
   ys ← each_from read (number + 1) xs
   Ok (y ∷ ys)
 
--- Those that are read, behind those that were read before.
+-- The items that are read, behind those that were read before.
 abbrev pub with_front : {A E : Type 0} → List A → Result (List A) E → Result (List A) E
 with_front front read = read >>= λ more. Ok (front ++ more)

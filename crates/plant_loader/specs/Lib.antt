@@ -1,5 +1,6 @@
 pub mod Refusals
 pub mod InOrder
+pub mod Given
 pub mod Keys
 pub mod Hex
 pub mod Controller

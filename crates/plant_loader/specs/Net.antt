@@ -12,14 +12,17 @@ use Rattle.plant_types.specs.declared.fault.PlantFault.TheVariants.{BadValue}
 use Rattle.cell_text.specs.Steps.{◌>>=◌, or_fault, unless}
 use Rattle.plant_loader.specs.declared.net.NetRules.{NetRules}
 use Rattle.plant_loader.specs.Refusals.{Refusal, net_place}
-use Rattle.plant_loader.specs.Keys.{keys_pass, number_at_or}
+use Rattle.plant_loader.specs.Keys.{KeyTable, keys_from, keys_pass, number_at_or}
 use Rattle.plant_loader.specs.InOrder.{each_of}
 use Rattle.plant_loader.specs.Rising.{by_node}
 
 -- The keys of the network, of which it must have none.
-abbrev pub net_keys : List (List ℕ)
-net_keys =
+abbrev pub net_known : List (List ℕ)
+net_known =
     codes "fates" ∷ codes "answer" ∷ codes "rotations" ∷ codes "rounds" ∷ codes "holds" ∷ []
+
+abbrev pub net_keys : KeyTable
+net_keys = keys_from net_known []
 
 -- What becomes of a transmission, by its letter.
 abbrev pub fate_of : ℕ → Option Fate
@@ -57,7 +60,7 @@ rules_from fates answer rotations rounds holds = record {
 -- The rules of a table, with a default for each key.
 unfoldable pub rules_in : Members → Result NetRules Refusal
 rules_in ms = do
-  keys ← keys_pass net_place net_keys [] ms
+  keys ← keys_pass net_place net_keys ms
   fates ← fates_or (get_member (codes "fates") ms)
   answer ← number_at_or net_place (codes "answer") 20 2 1000 ms
   rotations ← number_at_or net_place (codes "rotations") 4 1 10 ms
@@ -65,7 +68,7 @@ rules_in ms = do
   holds ← number_at_or net_place (codes "holds") 100000 1 100000 ms
   Ok (rules_from fates answer rotations rounds holds)
 
--- Those of no table are all defaults.
+-- The rules of the network by its table; without a table each is its default.
 abbrev pub rules_of : Option Members → Result NetRules Refusal
 rules_of None = rules_in no_members
 rules_of (Some ms) = rules_in ms

@@ -16,6 +16,7 @@ use Rattle.cell_text.specs.Words.{text_words}
 use Rattle.cell_text.specs.Numbers.{is_reference_word, spelled_number, reference_of}
 use Rattle.traffic_cop.specs.Drops.{drop_named}
 use Rattle.plant_loader.specs.declared.owner.Owner.{Owner}
+use Rattle.plant_loader.specs.declared.orders.OrderWords.{OrderWords as FoundWords}
 use Rattle.plant_loader.specs.Refusals.{Refusal}
 use Rattle.plant_loader.specs.InOrder.{each_from}
 
@@ -29,6 +30,10 @@ pub record OrderWords : Type 0 where
 abbrev pub order_words_from : List ℕ → List ℕ → List ℕ → List ℕ → OrderWords
 order_words_from segment control input output =
     record { segment = segment; control = control; input = input; output = output }
+
+abbrev pub order_in : FoundWords → OrderWords
+order_in found =
+    order_words_from found.segment.now found.control.now found.input.now found.output.now
 
 abbrev pub order_words : List (List ℕ) → Option OrderWords
 order_words (segment ∷ control ∷ input ∷ output ∷ []) =

@@ -61,7 +61,8 @@ cell_behind site earlier cell = do
   tested ← first_failed (site_cell_tests site earlier cell)
   Ok (Cell cell)
 
--- So is a short behind those before it. This project's own.
+-- A short behind those before it in its network is tested as a plan's own check tests it. This
+-- project's own.
 unfoldable pub short_behind : List plain_shorts.Short → plain_shorts.Short → Result Piece PlantFault
 short_behind earlier short = do
   tested ← first_failed (short_tests earlier short)

@@ -1,5 +1,5 @@
 -- The plant that the bytes of a plant file stand for, or why they are refused. This project's own.
-use Rattle.std.specs.Prelude.{codes, ℕ, ◌==◌, not, if◌then◌else◌, List, [], ◌∷◌, length, Option}
+use Rattle.std.specs.Prelude.{codes, ℕ, ℤ, pos, negsuc, ◌==◌, not, Some, if◌then◌else◌, List, [], ◌∷◌, length, Option}
 use Rattle.std.specs.Prelude.{None, Result, Ok}
 use Rattle.std.specs.Str.{is_utf8}
 use Rattle.toml.specs.Data.{Members, get_member, as_integer}
@@ -9,7 +9,10 @@ use Rattle.plant_types.specs.declared.fault.PlantFault.TheVariants.{BadKey, BadV
 use Rattle.plant_types.specs.declared.fault.Place.{Place}
 use Rattle.cell_text.specs.Steps.{◌>>=◌, or_fault, unless}
 use Rattle.plant_loader.specs.Refusals.{Refusal, plant_place, bad_toml}
-use Rattle.plant_loader.specs.Keys.{keys_pass, number_from, number_at_or, table_at, tables_at}
+use Rattle.plant_loader.specs.Keys.{KeyTable, keys_from, keys_pass, number_at_or}
+use Rattle.plant_loader.specs.Keys.{table_at, tables_at}
+use Rattle.plant_loader.specs.declared.reading.Version.{Version}
+use Rattle.plant_loader.specs.declared.reading.Version.TheVariants.{One}
 use Rattle.plant_loader.specs.Stations.{controllers_of}
 use Rattle.plant_loader.specs.Hosts.{hosts_of}
 use Rattle.plant_loader.specs.Net.{rules_of, plant_from}
@@ -18,22 +21,30 @@ use Rattle.plant_loader.specs.Net.{rules_of, plant_from}
 abbrev pub document_of : List ℕ → Option Members
 document_of bytes = if is_utf8 bytes then parse_document bytes else None
 
--- The version that a document names is 1.
-unfoldable pub version_passes : Members → Result (Unit {0}) Refusal
-version_passes top = do
-  d ← or_fault (BadKey, plant_place) (get_member (codes "version") top)
-  version ← or_fault (BadValue, plant_place) (as_integer d)
-  one ← or_fault (BadVersion, plant_place) (number_from 1 1 version)
-  Ok tt
+-- The version of a number, where it is one of a version.
+abbrev pub version_from : ℤ → Option Version
+version_from (pos n) = if n == 1 then Some One else None
+version_from (negsuc n) = None
 
--- The keys of a plant, and those that it must have.
-abbrev pub plant_keys : List (List ℕ)
-plant_keys =
+-- The version that a document names.
+unfoldable pub version_of : Members → Result Version Refusal
+version_of top = do
+  d ← or_fault (BadKey, plant_place) (get_member (codes "version") top)
+  number ← or_fault (BadValue, plant_place) (as_integer d)
+  or_fault (BadVersion, plant_place) (version_from number)
+
+-- The keys of a plant of version 1, and those that it must have.
+abbrev pub plant_known : List (List ℕ)
+plant_known =
     codes "version" ∷ codes "scan_time" ∷ codes "watchdog" ∷ codes "net" ∷ codes "controller"
     ∷ codes "host" ∷ []
 
 abbrev pub plant_required : List (List ℕ)
 plant_required = codes "version" ∷ codes "controller" ∷ []
+
+-- The keys of a plant by its version.
+abbrev pub plant_keys : Version → KeyTable
+plant_keys One = keys_from plant_known plant_required
 
 -- The most controllers and hosts of a plant.
 abbrev pub controller_limit : ℕ
@@ -49,26 +60,30 @@ some_tables_at place most key ms = do
   some ← unless (not (length tables == 0)) (BadValue, place)
   Ok tables
 
--- The plant of a document of version 1: a scan time of 1 to 1000 ticks, by default 10, a watchdog
+-- The tables of the controllers of a plant.
+abbrev pub controller_tables : Members → Result (List Members) Refusal
+controller_tables top = some_tables_at plant_place controller_limit (codes "controller") top
+
+-- The plant of a document of a version: a scan time of 1 to 1000 ticks, by default 10, a watchdog
 -- of 1 to 10,000 networks, by default 500, the network, the controllers and the hosts.
-unfoldable pub plant_in : Members → Result Plant Refusal
-plant_in top = do
-  keys ← keys_pass plant_place plant_keys plant_required top
+unfoldable pub plant_in : Version → Members → Result Plant Refusal
+plant_in version top = do
+  keys ← keys_pass plant_place (plant_keys version) top
   scan_time ← number_at_or plant_place (codes "scan_time") 10 1 1000 top
   watchdog ← number_at_or plant_place (codes "watchdog") 500 1 10000 top
   net ← table_at plant_place (codes "net") top
-  controller_tables ← some_tables_at plant_place controller_limit (codes "controller") top
+  tables ← controller_tables top
   host_tables ← tables_at plant_place host_limit (codes "host") top
   rules ← rules_of net
-  controllers ← controllers_of controller_tables
+  controllers ← controllers_of tables
   hosts ← hosts_of controllers host_tables
   Ok (plant_from scan_time watchdog rules controllers hosts)
 
 -- The plant of a document, whose version is tested before all else.
 unfoldable pub plant_at : Members → Result Plant Refusal
 plant_at top = do
-  version ← version_passes top
-  plant_in top
+  version ← version_of top
+  plant_in version top
 
 -- The plant of the bytes of a plant file, or the first fault with its place.
 unfoldable pub plant_of : List ℕ → Result Plant Refusal

@@ -1,6 +1,7 @@
 -- What was read of a controller's segments so far, and one more piece, network or segment behind
 -- it.
-use Rattle.std.specs.Prelude.{◌≡◌, ℕ, ◌+◌, List, [], ◌∷◌, ◌++◌, length, Result, Ok}
+use Rattle.std.specs.Prelude.{◌≡◌, ℕ, ◌+◌, Bool, List, [], ◌∷◌, ◌++◌, length, Result, Ok}
+use Rattle.std.specs.List.{list_any}
 use Rattle.toml.specs.Data.{Members}
 use Rattle.plant_types.specs.declared.network.Cell as plain_cells
 use Rattle.plant_types.specs.declared.network.Short as plain_shorts
@@ -11,14 +12,15 @@ use Rattle.plant_types.specs.declared.fault.Place.{Place}
 use Rattle.plant_types.specs.Sizes.{Sizes}
 use Rattle.plant_types.specs.Fault.{cell_place, at_place}
 use Rattle.plant_types.specs.PlanTests.{Site}
-use Rattle.plant_types.specs.Standing.{cells_before}
+use Rattle.plant_types.specs.Standing.{cells_before, is_label_of}
 use Rattle.cell_text.specs.declared.piece.Piece.{Piece}
 use Rattle.cell_text.specs.declared.piece.Piece.TheVariants.{Cell, Short}
 use Rattle.cell_text.specs.Steps.{◌>>=◌}
 use Rattle.plant_loader.specs.declared.owner.Owner.{Owner}
 use Rattle.plant_loader.specs.Refusals.{Refusal}
 use Rattle.plant_loader.specs.Texts.{network_texts}
-use Rattle.plant_loader.specs.Pieces.{site_behind, piece_behind, pieces_of}
+use Rattle.plant_loader.specs.Pieces.{site_behind, cell_behind, short_behind}
+use Rattle.plant_loader.specs.Pieces.{piece_behind, pieces_of}
 
 -- How many segments there are in all, those that are whole, the networks that are whole of the next
 -- one, and the cells and shorts so far of the network that is being read. This project's own.
@@ -41,6 +43,18 @@ open_network read = record { cells = read.cells; shorts = read.shorts }
 abbrev pub site_of : Sizes → ReadProgram → Site
 site_of sizes read = site_behind sizes read.count read.segments read.networks
 
+-- One of these cells is the LAB of a number; one of these networks, or of these segments, has it.
+-- This project's own.
+abbrev pub has_label_in : List plain_cells.Cell → ℕ → Bool
+has_label_in cells number = list_any (λ cell. is_label_of number cell.element) cells
+
+abbrev pub is_label_of_any : List Network → ℕ → Bool
+is_label_of_any networks number = list_any (λ network. has_label_in network.cells number) networks
+
+abbrev pub is_label_before : List Segment → ℕ → Bool
+is_label_before segments number =
+    list_any (λ segment. is_label_of_any segment.networks number) segments
+
 -- All cells so far. This project's own.
 abbrev pub cells_read : ReadProgram → List plain_cells.Cell
 cells_read read = cells_before read.segments read.networks ++ read.cells
@@ -53,6 +67,14 @@ added read (Short short) = record read { shorts = read.shorts ++ short ∷ [] }
 -- A piece that passed its tests is added. This project's own.
 abbrev pub with_tested : ReadProgram → Result Piece PlantFault → Result ReadProgram PlantFault
 with_tested read tested = tested >>= λ piece. Ok (added read piece)
+
+-- A cell at its place, and a short. This project's own.
+abbrev pub with_cell : Sizes → Place → ReadProgram → plain_cells.Cell → Result ReadProgram Refusal
+with_cell sizes place read cell =
+    at_place place (with_tested read (cell_behind (site_of sizes read) read.cells cell))
+
+abbrev pub with_short : Place → ReadProgram → plain_shorts.Short → Result ReadProgram Refusal
+with_short place read short = at_place place (with_tested read (short_behind read.shorts short))
 
 -- One more piece. This project's own.
 abbrev pub with_piece : Sizes → ReadProgram → List ℕ → Result ReadProgram PlantFault
@@ -69,11 +91,16 @@ place_of_next controller read =
     cell_place controller (length read.segments + 1) (length read.networks + 1)
     (piece_count read + 1)
 
+-- The piece that comes next, at its place. This project's own.
+abbrev pub with_next_piece : Owner → ReadProgram → List ℕ → Result ReadProgram Refusal
+with_next_piece owner read piece =
+    at_place (place_of_next owner.position read) (with_piece owner.sizes read piece)
+
 -- Pieces, each behind those before it. This project's own.
 unfoldable pub with_pieces : Owner → ReadProgram → List (List ℕ) → Result ReadProgram Refusal
 with_pieces owner read [] = Ok read
 with_pieces owner read (piece ∷ pieces) = do
-  next ← at_place (place_of_next owner.position read) (with_piece owner.sizes read piece)
+  next ← with_next_piece owner read piece
   with_pieces owner next pieces
 
 -- The network that was being read is whole. This project's own.

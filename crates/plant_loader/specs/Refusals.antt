@@ -35,6 +35,11 @@ abbrev pub Stops : {B : Type 0} → LoadEnd → Result B Refusal → Type 0
 Stops ends.NoMemory read = Unit {0}
 Stops (ends.Refused fault place) read = read ≡ Err (fault, place)
 
+-- What a call answered, seen by a view, is what it reads, or the first fault of that.
+abbrev pub Sees : {A B : Type 0} → (A → B) → Result A Refusal → Result B Refusal → Type 0
+Sees view (Ok x) read = read ≡ Ok (view x)
+Sees view (Err refusal) read = read ≡ Err refusal
+
 -- What a call answered, seen by a view, is what it reads, or the first fault of that, unless
 -- memory was refused.
 abbrev pub Gives : {A B : Type 0} → (A → B) → Result A LoadEnd → Result B Refusal → Type 0

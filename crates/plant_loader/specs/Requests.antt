@@ -8,7 +8,8 @@ use Rattle.plant_types.specs.declared.fault.Place.{Place}
 use Rattle.plant_types.specs.Words.{pdu_of}
 use Rattle.cell_text.specs.Steps.{◌>>=◌, or_fault, unless}
 use Rattle.cell_text.specs.Words.{text_words}
-use Rattle.cell_text.specs.Numbers.{is_digit, value_of, has_no_leading_zero}
+use Rattle.plant_types.specs.Numerals.{is_digit, value_of, has_no_leading_zero}
+use Rattle.plant_loader.specs.declared.requests.RequestWords.{RequestWords as FoundWords}
 use Rattle.plant_loader.specs.Refusals.{Refusal, request_place}
 use Rattle.plant_loader.specs.Hex.{is_hex_digit, hex_pairs}
 use Rattle.plant_loader.specs.InOrder.{each_from}
@@ -40,6 +41,9 @@ pub record RequestWords : Type 0 where
 
 abbrev pub request_words_from : List ℕ → List ℕ → List ℕ → RequestWords
 request_words_from hold to pdu = record { hold = hold; to = to; pdu = pdu }
+
+abbrev pub request_in : FoundWords → RequestWords
+request_in found = request_words_from found.hold.now found.to.now found.pdu.now
 
 abbrev pub request_words : List (List ℕ) → Option RequestWords
 request_words (hold ∷ to ∷ pdu ∷ []) = Some (request_words_from hold to pdu)

@@ -1,9 +1,8 @@
 -- The plans of controllers by their tables. This project's own.
-use Rattle.std.specs.Prelude.{codes, ℕ, ◌≤◌, ◌==◌, Bool, not, List, [], ◌∷◌, length, map, Result}
+use Rattle.std.specs.Prelude.{codes, ℕ, ◌≤◌, ◌==◌, Bool, not, List, [], ◌∷◌, length, Result}
 use Rattle.std.specs.Prelude.{Ok}
 use Rattle.std.specs.List.{list_any}
 use Rattle.toml.specs.Data.{Members}
-use Rattle.toml.specs.View.{table_view}
 use Rattle.plant_types.specs.declared.reference.Ref.{Ref}
 use Rattle.plant_types.specs.declared.network.Segment.{Segment}
 use Rattle.plant_types.specs.declared.drops.IoDrop.{IoDrop}
@@ -11,28 +10,29 @@ use Rattle.plant_types.specs.declared.plan.ControllerPlan.{ControllerPlan}
 use Rattle.plant_types.specs.declared.plan.OrderRow.{OrderRow}
 use Rattle.plant_types.specs.declared.fault.PlantFault.TheVariants.{BadNode}
 use Rattle.plant_types.specs.declared.fault.Place.{Place}
-use Rattle.plant_types.specs.Sizes.{Sizes}
 use Rattle.plant_types.specs.Fault.{controller_place}
 use Rattle.plant_types.specs.PlanTests.{panel_limit, drop_limit, segment_limit, order_limit}
 use Rattle.cell_text.specs.Steps.{◌>>=◌, unless}
 use Rattle.plant_loader.specs.declared.owner.Owner.{Owner}
 use Rattle.plant_loader.specs.declared.stations.Arrays.{Arrays as FoundArrays}
 use Rattle.plant_loader.specs.Refusals.{Refusal}
-use Rattle.plant_loader.specs.Keys.{keys_pass, address_at, texts_at, tables_at}
+use Rattle.plant_loader.specs.Given.{texts_in, tables_in}
+use Rattle.plant_loader.specs.Keys.{KeyTable, keys_from, node_required, keys_pass}
+use Rattle.plant_loader.specs.Keys.{texts_at, tables_at}
 use Rattle.plant_loader.specs.InOrder.{with_positions, each_behind}
-use Rattle.plant_loader.specs.Controller.{sizes_at, panel_of}
+use Rattle.plant_loader.specs.Controller.{owner_at, panel_of}
 use Rattle.plant_loader.specs.Drops.{drops_of}
 use Rattle.plant_loader.specs.Pieces.{segments_of}
 use Rattle.plant_loader.specs.Orders.{nameable, orders_of}
 
--- The keys of a controller, and the one that it must have.
-abbrev pub controller_keys : List (List ℕ)
-controller_keys =
+-- The keys of a controller.
+abbrev pub controller_known : List (List ℕ)
+controller_known =
     codes "node" ∷ codes "coils" ∷ codes "inputs" ∷ codes "input_registers" ∷ codes "registers"
     ∷ codes "panel" ∷ codes "drop" ∷ codes "segment" ∷ codes "orders" ∷ []
 
-abbrev pub controller_required : List (List ℕ)
-controller_required = codes "node" ∷ []
+abbrev pub controller_keys : KeyTable
+controller_keys = keys_from controller_known node_required
 
 -- The arrays of a controller's table: the texts of its panel and of its orders, and the tables of
 -- its drops and of its segments.
@@ -49,8 +49,8 @@ arrays_from panel drops segments orders =
 -- What the arrays of a call stand for, and that they are as many as a controller has at most.
 abbrev pub read_arrays : FoundArrays → Arrays
 read_arrays found =
-    arrays_from (map (λ t. t.now) found.panel.items) (map (λ t. table_view t.now) found.drops.items)
-    (map (λ t. table_view t.now) found.segments.items) (map (λ t. t.now) found.orders.items)
+    arrays_from (texts_in found.panel.items) (tables_in found.drops.items)
+    (tables_in found.segments.items) (texts_in found.orders.items)
 
 pub record AreFew (found : FoundArrays) : Type 0 where
   pub panel : length found.panel.items ≤ panel_limit
@@ -68,36 +68,32 @@ arrays_at place ms = do
   Ok (arrays_from panel drops segments orders)
 
 -- The plan of a controller from its parts.
-abbrev pub plan_of : ℕ → Sizes → List Ref → List OrderRow → List IoDrop → List Segment
+abbrev pub plan_of : Owner → List Ref → List OrderRow → List IoDrop → List Segment
     → ControllerPlan
-plan_of node sizes panel orders drops segments = record {
-  node = node;
-  coils = sizes.coils;
-  inputs = sizes.inputs;
-  input_registers = sizes.input_registers;
-  registers = sizes.registers;
+plan_of owner panel orders drops segments = record {
+  node = owner.node;
+  coils = owner.sizes.coils;
+  inputs = owner.sizes.inputs;
+  input_registers = owner.sizes.input_registers;
+  registers = owner.sizes.registers;
   panel = panel;
   orders = orders;
   drops = drops;
   segments = segments;
 }
 
--- A controller of this node and these sizes: its drops, its segments, its orders and its panel.
-unfoldable pub parts_of : ℕ → Owner → Arrays → Result ControllerPlan Refusal
-parts_of node owner arrays = do
+-- The plan of a controller of these arrays: its drops, its segments, its orders and its panel.
+unfoldable pub parts_of : Owner → Arrays → Result ControllerPlan Refusal
+parts_of owner arrays = do
   drops ← drops_of owner arrays.drops
   segments ← segments_of owner arrays.segments
   orders ← orders_of (nameable owner segments drops) arrays.orders
   panel ← panel_of owner arrays.panel
-  Ok (plan_of node owner.sizes panel orders drops segments)
+  Ok (plan_of owner panel orders drops segments)
 
 -- One of these controllers has this node.
 abbrev pub has_controller : List ControllerPlan → ℕ → Bool
 has_controller plans node = list_any (λ plan. plan.node == node) plans
-
--- The controller of a position by the map that its table gives.
-abbrev pub owner_of : ℕ → Sizes → Owner
-owner_of position sizes = record { position = position; sizes = sizes }
 
 -- The controller of a table behind those before it: its table, then its node, which none before it
 -- has, then its parts.
@@ -105,12 +101,11 @@ unfoldable pub controller_behind : List ControllerPlan → ℕ × Members
     → Result ControllerPlan Refusal
 controller_behind earlier table = do
   place ← Ok (controller_place table.0)
-  keys ← keys_pass place controller_keys controller_required table.1
-  node ← address_at place table.1
-  sizes ← sizes_at place table.1
+  keys ← keys_pass place controller_keys table.1
+  owner ← owner_at table.0 table.1
   arrays ← arrays_at place table.1
-  fresh ← unless (not (has_controller earlier node)) (BadNode, place)
-  parts_of node (owner_of table.0 sizes) arrays
+  fresh ← unless (not (has_controller earlier owner.node)) (BadNode, place)
+  parts_of owner arrays
 
 -- The controllers of a plant, in file order.
 abbrev pub controllers_of : List Members → Result (List ControllerPlan) Refusal

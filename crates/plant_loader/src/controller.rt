@@ -1,12 +1,13 @@
-//! The sizes of a controller's map, and its panel.
-ghost use Rattle.std.specs.Prelude.{◌≡◌, ◌≢◌, ◌≤◌, length, map, Err};
+//! The numbers of a controller's table, and its panel.
+ghost use Rattle.std.specs.Prelude.{◌≡◌, ◌≤◌, length, map};
 ghost use Rattle.toml.specs.View.{table_view};
+ghost use Rattle.plant_loader.specs.Given.{texts_in};
 ghost use Rattle.plant_loader.specs.Refusals.{Gives};
-ghost use Rattle.plant_loader.specs.Controller.{sizes_at, panel_item, panel_of};
+ghost use Rattle.plant_loader.specs.Controller.{owner_at, panel_item, panel_of};
 
-use crate::keys::{discrete_size_at, size_at};
+use crate::keys::{address_at, discrete_size_at, size_at};
 use crate::owner::Owner;
-use crate::refusal::LoadEnd;
+use crate::refusal::{LoadEnd, Refusal};
 use cell_text::{only_word, reference_of};
 use plant_types::{List, Place, PlantFault, Ref, Sizes};
 use std::alloc::Global;
@@ -15,30 +16,36 @@ use toml::Table;
 /// The most references of a panel.
 pub const PANEL_LIMIT: usize = 64;
 
-/// How many references of each kind the controller has.
-#[tactic(auto, unfolding(crate::specs::Controller::sizes_at))]
-pub fn sizes_at(place: Place, table: &Table) -> Result<Sizes, LoadEnd>
-    ensures read { Gives (λ sizes. sizes) result (sizes_at place (table_view table.now)) }
-    ensures no_memory { result ≢ Err LoadEnd.NoMemory }
+/// The numbers of the table of the controller at a position: its node, and how many references of
+/// each kind it has.
+#[tactic(auto, unfolding(crate::specs::Controller::owner_at))]
+pub fn owner_at(position: u32, table: &Table) -> Result<Owner, Refusal>
+    ensures { result ≡ owner_at position (table_view table.now) }
 {
+    let place = Place::controller(position);
+    let node = address_at(place, table)?;
     let coils = discrete_size_at(place, "coils", table)?;
     let inputs = discrete_size_at(place, "inputs", table)?;
     let input_registers = size_at(place, "input_registers", table)?;
     let registers = size_at(place, "registers", table)?;
-    Ok(Sizes {
+    let sizes = Sizes {
         coils,
         inputs,
         input_registers,
         registers,
+    };
+    Ok(Owner {
+        position,
+        node,
+        sizes,
     })
 }
 
 #[tactic(auto, unfolding(crate::specs::Controller::panel_item))]
-fn panel_item(owner: Owner, number: u32, text: &str) -> Result<Ref, LoadEnd>
-    ensures read { Gives (λ at. at) result (panel_item owner number text.now) }
-    ensures no_memory { result ≢ Err LoadEnd.NoMemory }
+fn panel_item(owner: Owner, number: u32, text: &str) -> Result<Ref, Refusal>
+    ensures { result ≡ panel_item owner number text.now }
 {
-    let refused = LoadEnd::Refused(PlantFault::BadRef, Place::panel(owner.position, number));
+    let refused = (PlantFault::BadRef, Place::panel(owner.position, number));
     let Some(word) = only_word(text.as_bytes()) else {
         return Err(refused);
     };
@@ -55,8 +62,7 @@ fn panel_item(owner: Owner, number: u32, text: &str) -> Result<Ref, LoadEnd>
 /// The references of the panel.
 pub fn panel_of(alloc: Global, owner: Owner, texts: &[&str]) -> Result<List<Ref>, LoadEnd>
     requires { length texts.now ≤ PANEL_LIMIT }
-    ensures { Gives (λ panel. panel) result (panel_of owner
-        (map (λ t. t.now) texts.now)) }
+    ensures { Gives (λ panel. panel) result (panel_of owner (texts_in texts.now)) }
 {
     let mut panel = List::new(alloc);
     let mut number = 0;

@@ -1,19 +1,20 @@
 //! The drops of a controller: their tables.
 ghost use Rattle.std.specs.Prelude.{◌≡◌, ◌≤◌, length, map};
 ghost use Rattle.toml.specs.View.{table_view};
+ghost use Rattle.plant_loader.specs.Given.{tables_in, texts_in};
 ghost use Rattle.plant_loader.specs.Orders.{drop_number};
 ghost use Rattle.plant_loader.specs.Refusals.{Gives};
 ghost use Rattle.plant_loader.specs.Drops.{modules_of, drop_with, drop_behind, drops_of};
 
-use crate::keys::{keys_pass, number_at_key, texts_at};
+use crate::keys::{Keys, keys_pass, number_at_key, texts_at};
 use crate::modules::module_of;
 use crate::owner::Owner;
-use crate::refusal::{LoadEnd, drop_place, module_place};
+use crate::refusal::LoadEnd;
 use crate::scripts::{SCRIPT_LIMIT, or_zeros, rows_of};
 use plant_types::{IoDrop, List, Module, PlantFault};
 use std::alloc::Global;
 use toml::Table;
-use traffic_cop::has_few_words;
+use traffic_cop::{drop_place, has_few_words, module_place};
 
 /// The most drops of a controller, and the highest number of one.
 pub const DROP_LIMIT: usize = 32;
@@ -48,7 +49,7 @@ fn modules_of(
 ) -> Result<List<Module>, LoadEnd>
     requires { length texts.now ≤ MODULE_LIMIT }
     ensures { Gives (λ modules. modules) result
-        (modules_of owner drop (map (λ t. t.now) texts.now)) }
+        (modules_of owner drop (texts_in texts.now)) }
 {
     let mut modules = List::new(alloc);
     let mut number = 0;
@@ -73,7 +74,7 @@ fn drop_with(
     requires modules { length module_texts.now ≤ MODULE_LIMIT }
     requires rows { length row_texts.now ≤ SCRIPT_LIMIT }
     ensures { Gives (λ drop. drop) result (drop_with owner place number
-        (map (λ t. t.now) module_texts.now) (map (λ t. t.now) row_texts.now)) }
+        (texts_in module_texts.now) (texts_in row_texts.now)) }
 {
     let modules = modules_of(alloc, owner, place, module_texts)?;
     if !has_few_words(modules.as_slice()) {
@@ -101,8 +102,19 @@ fn drop_behind(
         (drop_behind owner earlier.now (position, table_view table.now)) }
 {
     let place = drop_place(owner.position, position);
-    keys_pass(place, &DROP_KEYS, &DROP_REQUIRED, table)?;
-    let number = number_at_key(place, "number", 1, DROP_LIMIT as u32, table)?;
+    let keys = Keys {
+        known: &DROP_KEYS,
+        required: &DROP_REQUIRED,
+    };
+    keys_pass(place, &keys, table)?;
+    let number = number_at_key(
+        place,
+        PlantFault::BadValue,
+        "number",
+        1,
+        DROP_LIMIT as u32,
+        table,
+    )?;
     let modules = texts_at(alloc, place, MODULE_LIMIT, "modules", table)?;
     let rows = texts_at(alloc, place, SCRIPT_LIMIT, "script", table)?;
     if drop_number(earlier, number as u16).is_some() {
@@ -123,7 +135,7 @@ fn drop_behind(
 pub fn drops_of(alloc: Global, owner: Owner, tables: &[&Table]) -> Result<List<IoDrop>, LoadEnd>
     requires { length tables.now ≤ DROP_LIMIT }
     ensures { Gives (λ drops. drops) result
-        (drops_of owner (map (λ t. table_view t.now) tables.now)) }
+        (drops_of owner (tables_in tables.now)) }
 {
     let mut drops = List::new(alloc);
     let mut position = 0;

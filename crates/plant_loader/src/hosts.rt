@@ -1,10 +1,11 @@
 //! The hosts of a plant by their tables.
 ghost use Rattle.std.specs.Prelude.{◌≡◌, ◌≤◌, codes, length, map};
 ghost use Rattle.toml.specs.View.{table_view};
+ghost use Rattle.plant_loader.specs.Given.{tables_in};
 ghost use Rattle.plant_loader.specs.Refusals.{Gives};
 ghost use Rattle.plant_loader.specs.Hosts.{has_host, host_behind, hosts_of};
 
-use crate::keys::{address_at, keys_pass, texts_at};
+use crate::keys::{Keys, NODE_REQUIRED, address_at, keys_pass, texts_at};
 use crate::refusal::{LoadEnd, host_place};
 use crate::requests::{REQUEST_LIMIT, requests_of};
 use crate::stations::has_controller;
@@ -17,9 +18,6 @@ pub const HOST_LIMIT: usize = 16;
 
 /// The keys of a host.
 const HOST_KEYS: [&str; 2] = ["node", "requests"];
-
-/// The one that it must have.
-const HOST_REQUIRED: [&str; 1] = ["node"];
 
 /// Whether one of these hosts has this node.
 pub fn has_host(hosts: &[HostPlan], node: u8) -> bool
@@ -40,7 +38,11 @@ fn host_behind(
         (host_behind controllers.now earlier.now (position, table_view table.now)) }
 {
     let place = host_place(position);
-    keys_pass(place, &HOST_KEYS, &HOST_REQUIRED, table)?;
+    let keys = Keys {
+        known: &HOST_KEYS,
+        required: &NODE_REQUIRED,
+    };
+    keys_pass(place, &keys, table)?;
     let node = address_at(place, table)?;
     let texts = texts_at(alloc, place, REQUEST_LIMIT, "requests", table)?;
     if has_controller(controllers, node) || has_host(earlier, node) {
@@ -59,7 +61,7 @@ pub fn hosts_of(
 ) -> Result<Vec<HostPlan>, LoadEnd>
     requires { length tables.now ≤ HOST_LIMIT }
     ensures { Gives (λ hosts. hosts.items) result
-        (hosts_of controllers.now (map (λ t. table_view t.now) tables.now)) }
+        (hosts_of controllers.now (tables_in tables.now)) }
 {
     let mut hosts = Vec::new(alloc);
     let mut position = 0;

@@ -1,21 +1,22 @@
 //! The values at the keys of a table.
-ghost use Rattle.std.specs.Prelude.{◌≡◌, ◌≢◌, ◌≤◌, length, map, option_map, string_bytes, IfOk};
-ghost use Rattle.std.specs.Prelude.{Err};
+ghost use Rattle.std.specs.Prelude.{◌≡◌, ◌≤◌, length, map, option_map, string_bytes, IfOk};
+ghost use Rattle.std.specs.Prelude.{OnOk};
 ghost use Rattle.std.specs.BTreeMap as tree;
 ghost use Rattle.std.specs.Str.{bytes_eq};
 ghost use Rattle.std.specs.List.{list_any, list_all};
 ghost use Rattle.toml.specs.Data.{as_str, as_table, get_member};
 ghost use Rattle.toml.specs.View.{view, items_view, table_view};
-ghost use Rattle.plant_loader.specs.Refusals.{Gives};
-ghost use Rattle.plant_loader.specs.Keys.{has_only, has_each, keys_pass, number_within};
-ghost use Rattle.plant_loader.specs.Keys.{number_at_key};
-ghost use Rattle.plant_loader.specs.Keys.{address_at, number_at_or, size_at, in_sixteens};
-ghost use Rattle.plant_loader.specs.Keys.{discrete_size_at, items_as, list_in, texts_at, tables_at};
-ghost use Rattle.plant_loader.specs.Keys.{table_at};
+ghost use Rattle.plant_loader.specs.Given.{tables_in, texts_in};
+ghost use Rattle.plant_loader.specs.Refusals.{Gives, Sees};
+ghost use Rattle.plant_loader.specs.Keys.{has_only, has_each, keys_pass, number_within, InRange};
+ghost use Rattle.plant_loader.specs.Keys.{number_at_key, address_at, number_at_or, size_at};
+ghost use Rattle.plant_loader.specs.Keys.{discrete_size_at, array_at, are_few, items_as};
+ghost use Rattle.plant_loader.specs.Keys.{texts_at, tables_at, table_at};
 
-use crate::refusal::LoadEnd;
+use crate::refusal::{LoadEnd, Refusal};
 use plant_types::{Place, PlantFault};
 use std::alloc::Global;
+use std::marker::Model;
 use toml::{Table, Value};
 
 /// The highest number of a reference.
@@ -26,6 +27,28 @@ const NODE_LIMIT: u32 = 64;
 
 /// Discretes come in so many.
 const GROUP: u16 = 16;
+
+/// The one key that each node must have.
+pub const NODE_REQUIRED: [&str; 1] = ["node"];
+
+/// The keys that a table can have, and those that it must have.
+#[derive(Drop)]
+pub struct Keys<'a> {
+    pub known: &'a [&'a str],
+    pub required: &'a [&'a str],
+}
+
+impl<'a> Model for Keys<'a> {
+    ghost use Rattle.std.specs.Prelude.{map};
+    ghost use Rattle.plant_loader.specs.Keys.{KeyTable};
+
+    ghost Value = { KeyTable };
+
+    ghost view = { λ keys. record {
+      known = map (λ key. key.now) keys.known.now;
+      required = map (λ key. key.now) keys.required.now;
+    } };
+}
 
 /// What stands at a key.
 pub fn value_at<'a>(table: &'a Table, key: &str) -> Option<&'a Value>
@@ -48,13 +71,13 @@ fn all_among(table: &Table, known: &[&str]) -> bool
 }
 
 fn has_only(table: &Table, known: &[&str]) -> bool
-    ensures { result ≡ has_only (map (λ k. k.now) known.now) (table_view table.now) }
+    ensures { result ≡ has_only (texts_in known.now) (table_view table.now) }
 {
     all_among(table, known)
 }
 
 fn has_each(table: &Table, keys: &[&str]) -> bool
-    ensures { result ≡ has_each (map (λ k. k.now) keys.now) (table_view table.now) }
+    ensures { result ≡ has_each (texts_in keys.now) (table_view table.now) }
 {
     for key in keys {
         if value_at(table, key).is_none() {
@@ -65,21 +88,13 @@ fn has_each(table: &Table, keys: &[&str]) -> bool
 }
 
 /// A table has no key but those that are known, and each that is required.
-pub fn keys_pass(
-    place: Place,
-    known: &[&str],
-    required: &[&str],
-    table: &Table,
-) -> Result<(), LoadEnd>
-    ensures passes { Gives (λ _. tt) result
-        (keys_pass place (map (λ k. k.now) known.now) (map (λ k. k.now) required.now)
-        (table_view table.now)) }
-    ensures no_memory { result ≢ Err LoadEnd.NoMemory }
+pub fn keys_pass(place: Place, keys: &Keys, table: &Table) -> Result<(), Refusal>
+    ensures { result ≡ keys_pass place keys.now (table_view table.now) }
 {
-    if has_only(table, known) && has_each(table, required) {
+    if has_only(table, keys.known) && has_each(table, keys.required) {
         Ok(())
     } else {
-        Err(LoadEnd::Refused(PlantFault::BadKey, place))
+        Err((PlantFault::BadKey, place))
     }
 }
 
@@ -90,56 +105,48 @@ fn number_within(
     low: u32,
     high: u32,
     value: &Value,
-) -> Result<u32, LoadEnd>
-    ensures read { Gives (λ n. n) result
-        (number_within place (fault, place) low high (view value.now)) }
-    ensures within { IfOk result (λ n. (low ≤ n) × (n ≤ high)) }
-    ensures no_memory { result ≢ Err LoadEnd.NoMemory }
+) -> Result<u32, Refusal>
+    ensures read { result ≡ number_within place (fault, place) low high (view value.now) }
+    ensures within { IfOk result (InRange low high) }
 {
     let Some(number) = value.as_integer() else {
-        return Err(LoadEnd::Refused(PlantFault::BadValue, place));
+        return Err((PlantFault::BadValue, place));
     };
     let Ok(number) = u32::try_from(number) else {
-        return Err(LoadEnd::Refused(fault, place));
+        return Err((fault, place));
     };
     if low <= number && number <= high {
         Ok(number)
     } else {
-        Err(LoadEnd::Refused(fault, place))
+        Err((fault, place))
     }
 }
 
-/// The number at a key that has to be there.
+/// The number at a key that has to be there; `fault` is that of one out of range.
 #[tactic(auto, unfolding(crate::specs::Keys::number_at_key))]
 pub fn number_at_key(
     place: Place,
+    fault: PlantFault,
     key: &str,
     low: u32,
     high: u32,
     table: &Table,
-) -> Result<u32, LoadEnd>
-    ensures read { Gives (λ n. n) result
-        (number_at_key place key.now low high (table_view table.now)) }
-    ensures within { IfOk result (λ n. (low ≤ n) × (n ≤ high)) }
-    ensures no_memory { result ≢ Err LoadEnd.NoMemory }
+) -> Result<u32, Refusal>
+    ensures read { result ≡ number_at_key place fault key.now low high (table_view table.now) }
+    ensures within { IfOk result (InRange low high) }
 {
     match value_at(table, key) {
-        Some(value) => number_within(place, PlantFault::BadValue, low, high, value),
-        None => Err(LoadEnd::Refused(PlantFault::BadKey, place)),
+        Some(value) => number_within(place, fault, low, high, value),
+        None => Err((PlantFault::BadKey, place)),
     }
 }
 
 /// The address of a node.
-#[tactic(auto, unfolding(crate::specs::Keys::address_at))]
-pub fn address_at(place: Place, table: &Table) -> Result<u8, LoadEnd>
-    ensures read { Gives (λ n. n) result (address_at place (table_view table.now)) }
-    ensures within { IfOk result (λ n. (1 ≤ n) × (n ≤ 64)) }
-    ensures no_memory { result ≢ Err LoadEnd.NoMemory }
+pub fn address_at(place: Place, table: &Table) -> Result<u8, Refusal>
+    ensures read { result ≡ address_at place (table_view table.now) }
+    ensures within { IfOk result (InRange 1 64) }
 {
-    let Some(value) = value_at(table, "node") else {
-        return Err(LoadEnd::Refused(PlantFault::BadKey, place));
-    };
-    let node = number_within(place, PlantFault::BadNode, 1, NODE_LIMIT, value)?;
+    let node = number_at_key(place, PlantFault::BadNode, "node", 1, NODE_LIMIT, table)?;
     Ok(node as u8)
 }
 
@@ -151,12 +158,10 @@ pub fn number_at_or(
     low: u32,
     high: u32,
     table: &Table,
-) -> Result<u32, LoadEnd>
-    requires default { (low ≤ default) × (default ≤ high) }
-    ensures read { Gives (λ n. n) result
-        (number_at_or place key.now default low high (table_view table.now)) }
-    ensures within { IfOk result (λ n. (low ≤ n) × (n ≤ high)) }
-    ensures no_memory { result ≢ Err LoadEnd.NoMemory }
+) -> Result<u32, Refusal>
+    requires default { InRange low high default }
+    ensures read { result ≡ number_at_or place key.now default low high (table_view table.now) }
+    ensures within { IfOk result (InRange low high) }
 {
     match value_at(table, key) {
         Some(value) => number_within(place, PlantFault::BadValue, low, high, value),
@@ -165,29 +170,41 @@ pub fn number_at_or(
 }
 
 /// A number of references, 0 where its key is not there.
-pub fn size_at(place: Place, key: &str, table: &Table) -> Result<u16, LoadEnd>
-    ensures read { Gives (λ n. n) result (size_at place key.now (table_view table.now)) }
-    ensures no_memory { result ≢ Err LoadEnd.NoMemory }
+pub fn size_at(place: Place, key: &str, table: &Table) -> Result<u16, Refusal>
+    ensures { result ≡ size_at place key.now (table_view table.now) }
 {
     let size = number_at_or(place, key, 0, 0, REFERENCE_LIMIT, table)?;
     Ok(size as u16)
 }
 
 /// A number of discretes, which come in sixteens.
-pub fn discrete_size_at(place: Place, key: &str, table: &Table) -> Result<u16, LoadEnd>
-    ensures read { Gives (λ n. n) result (discrete_size_at place key.now (table_view table.now)) }
-    ensures no_memory { result ≢ Err LoadEnd.NoMemory }
+pub fn discrete_size_at(place: Place, key: &str, table: &Table) -> Result<u16, Refusal>
+    ensures { result ≡ discrete_size_at place key.now (table_view table.now) }
 {
     let size = size_at(place, key, table)?;
     if size % GROUP == 0 {
         Ok(size)
     } else {
-        Err(LoadEnd::Refused(PlantFault::BadValue, place))
+        Err((PlantFault::BadValue, place))
+    }
+}
+
+/// The items of the array at a key, where the key is there.
+fn array_at<'a>(place: Place, key: &str, table: &'a Table) -> Result<Option<&'a [Value]>, Refusal>
+    ensures { Sees (option_map (λ items. items_view items.now)) result
+        (array_at place key.now (table_view table.now)) }
+{
+    let Some(value) = value_at(table, key) else {
+        return Ok(None);
+    };
+    match value.as_array() {
+        Some(items) => Ok(Some(items.as_slice())),
+        None => Err((PlantFault::BadValue, place)),
     }
 }
 
 fn texts_of<'a>(alloc: Global, place: Place, items: &'a [Value]) -> Result<Vec<&'a str>, LoadEnd>
-    ensures read { Gives (λ texts. map (λ t. t.now) texts.items) result
+    ensures read { Gives (λ texts. texts_in texts.items) result
         (items_as as_str place (items_view items.now)) }
     ensures count { IfOk result (λ texts. length texts.items ≡ length items.now) }
 {
@@ -204,7 +221,7 @@ fn texts_of<'a>(alloc: Global, place: Place, items: &'a [Value]) -> Result<Vec<&
 }
 
 fn tables_of<'a>(alloc: Global, place: Place, items: &'a [Value]) -> Result<Vec<&'a Table>, LoadEnd>
-    ensures read { Gives (λ tables. map (λ t. table_view t.now) tables.items) result
+    ensures read { Gives (λ tables. tables_in tables.items) result
         (items_as as_table place (items_view items.now)) }
     ensures count { IfOk result (λ tables. length tables.items ≡ length items.now) }
 {
@@ -220,45 +237,15 @@ fn tables_of<'a>(alloc: Global, place: Place, items: &'a [Value]) -> Result<Vec<
     Ok(tables)
 }
 
-fn texts_in<'a>(
-    alloc: Global,
-    place: Place,
-    most: usize,
-    value: &'a Value,
-) -> Result<Vec<&'a str>, LoadEnd>
-    ensures read { Gives (λ texts. map (λ t. t.now) texts.items) result
-        (list_in as_str place most (view value.now)) }
-    ensures few { IfOk result (λ texts. length texts.items ≤ most) }
+/// An array has so many items at most.
+fn are_few(place: Place, most: usize, count: usize) -> Result<(), Refusal>
+    ensures read { result ≡ are_few place most count }
+    ensures few { OnOk result (count ≤ most) }
 {
-    let Some(items) = value.as_array() else {
-        return Err(LoadEnd::Refused(PlantFault::BadValue, place));
-    };
-    let texts = texts_of(alloc, place, items.as_slice())?;
-    if texts.len() <= most {
-        Ok(texts)
+    if count <= most {
+        Ok(())
     } else {
-        Err(LoadEnd::Refused(PlantFault::TooLarge, place))
-    }
-}
-
-fn tables_in<'a>(
-    alloc: Global,
-    place: Place,
-    most: usize,
-    value: &'a Value,
-) -> Result<Vec<&'a Table>, LoadEnd>
-    ensures read { Gives (λ tables. map (λ t. table_view t.now) tables.items) result
-        (list_in as_table place most (view value.now)) }
-    ensures few { IfOk result (λ tables. length tables.items ≤ most) }
-{
-    let Some(items) = value.as_array() else {
-        return Err(LoadEnd::Refused(PlantFault::BadValue, place));
-    };
-    let tables = tables_of(alloc, place, items.as_slice())?;
-    if tables.len() <= most {
-        Ok(tables)
-    } else {
-        Err(LoadEnd::Refused(PlantFault::TooLarge, place))
+        Err((PlantFault::TooLarge, place))
     }
 }
 
@@ -270,14 +257,16 @@ pub fn texts_at<'a>(
     key: &str,
     table: &'a Table,
 ) -> Result<Vec<&'a str>, LoadEnd>
-    ensures read { Gives (λ texts. map (λ t. t.now) texts.items) result
+    ensures read { Gives (λ texts. texts_in texts.items) result
         (texts_at place most key.now (table_view table.now)) }
     ensures few { IfOk result (λ texts. length texts.items ≤ most) }
 {
-    match value_at(table, key) {
-        Some(value) => texts_in(alloc, place, most, value),
-        None => Ok(Vec::new(alloc)),
-    }
+    let Some(items) = array_at(place, key, table)? else {
+        return Ok(Vec::new(alloc));
+    };
+    let texts = texts_of(alloc, place, items)?;
+    are_few(place, most, texts.len())?;
+    Ok(texts)
 }
 
 /// The tables of the array at a key, so many at most; none where the key is not there.
@@ -288,27 +277,28 @@ pub fn tables_at<'a>(
     key: &str,
     table: &'a Table,
 ) -> Result<Vec<&'a Table>, LoadEnd>
-    ensures read { Gives (λ tables. map (λ t. table_view t.now) tables.items) result
+    ensures read { Gives (λ tables. tables_in tables.items) result
         (tables_at place most key.now (table_view table.now)) }
     ensures few { IfOk result (λ tables. length tables.items ≤ most) }
 {
-    match value_at(table, key) {
-        Some(value) => tables_in(alloc, place, most, value),
-        None => Ok(Vec::new(alloc)),
-    }
+    let Some(items) = array_at(place, key, table)? else {
+        return Ok(Vec::new(alloc));
+    };
+    let tables = tables_of(alloc, place, items)?;
+    are_few(place, most, tables.len())?;
+    Ok(tables)
 }
 
 /// The table at a key, where the key is there.
-pub fn table_at<'a>(place: Place, key: &str, table: &'a Table) -> Result<Option<&'a Table>, LoadEnd>
-    ensures read { Gives (option_map (λ t. table_view t.now)) result
+pub fn table_at<'a>(place: Place, key: &str, table: &'a Table) -> Result<Option<&'a Table>, Refusal>
+    ensures { Sees (option_map (λ t. table_view t.now)) result
         (table_at place key.now (table_view table.now)) }
-    ensures no_memory { result ≢ Err LoadEnd.NoMemory }
 {
     let Some(value) = value_at(table, key) else {
         return Ok(None);
     };
     match value.as_table() {
         Some(found) => Ok(Some(found)),
-        None => Err(LoadEnd::Refused(PlantFault::BadValue, place)),
+        None => Err((PlantFault::BadValue, place)),
     }
 }

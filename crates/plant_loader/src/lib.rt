@@ -18,8 +18,6 @@ mod refusal;
 mod requests;
 mod scripts;
 mod stations;
-#[cfg(test)]
-mod tests;
 mod texts;
 
 pub use reading::load;

@@ -1,13 +1,12 @@
 //! The modules of a drop by their texts.
-ghost use Rattle.std.specs.Prelude.{◌≡◌, ◌≢◌, option_map, Err};
+ghost use Rattle.std.specs.Prelude.{◌≡◌, option_map};
 ghost use Rattle.plant_types.specs.FirstFault.{first_failed};
 ghost use Rattle.traffic_cop.specs.Tests.{module_tests, held_of};
 ghost use Rattle.cell_text.specs.Words.{text_words};
-ghost use Rattle.plant_loader.specs.Refusals.{Gives};
-ghost use Rattle.plant_loader.specs.Drops.{spelled, length_in, discretes_spelled};
+ghost use Rattle.plant_loader.specs.Drops.{module_in, length_in, discretes_spelled};
 ghost use Rattle.plant_loader.specs.Drops.{registers_spelled, module_spelled, module_of};
 
-use crate::refusal::LoadEnd;
+use crate::refusal::Refusal;
 use cell_text::{is_text, next_word, only_word, reference_number, reference_of, spelled_number};
 use plant_types::{Module, ModuleKind, Place, PlantFault, Sizes};
 use traffic_cop::{carries, is_regular, kind_of, module_fault};
@@ -22,8 +21,7 @@ struct SpelledModule<'a> {
 }
 
 fn discretes_spelled<'a>(name: &[u8], first: &'a [u8]) -> Option<SpelledModule<'a>>
-    ensures { option_map (λ m. spelled m.kind m.first.now m.count) result
-        ≡ discretes_spelled name.now first.now }
+    ensures { option_map module_in result ≡ discretes_spelled name.now first.now }
 {
     let kind = if is_text(name, "in") {
         ModuleKind::In
@@ -40,8 +38,7 @@ fn discretes_spelled<'a>(name: &[u8], first: &'a [u8]) -> Option<SpelledModule<'
 }
 
 fn registers_spelled<'a>(name: &[u8], first: &'a [u8], count: u16) -> Option<SpelledModule<'a>>
-    ensures { option_map (λ m. spelled m.kind m.first.now m.count) result
-        ≡ registers_spelled name.now first.now count }
+    ensures { option_map module_in result ≡ registers_spelled name.now first.now count }
 {
     let kind = if is_text(name, "inw") {
         ModuleKind::InWords
@@ -61,8 +58,7 @@ fn length_in(rest: &[u8]) -> Option<u16>
 }
 
 fn module_spelled(text: &[u8]) -> Option<SpelledModule<'_>>
-    ensures { option_map (λ m. spelled m.kind m.first.now m.count) result
-        ≡ module_spelled (text_words text.now) }
+    ensures { option_map module_in result ≡ module_spelled (text_words text.now) }
 {
     let (name, rest) = next_word(text)?;
     let (first, rest) = next_word(rest)?;
@@ -84,11 +80,10 @@ fn test_module(sizes: Sizes, io_module: Module) -> Result<(), PlantFault>
 
 /// A module of a drop: it reads and is regular, and its references are there.
 #[tactic(auto, unfolding(crate::specs::Drops::module_of))]
-pub fn module_of(sizes: Sizes, place: Place, text: &str) -> Result<Module, LoadEnd>
-    ensures read { Gives (λ m. m) result (module_of sizes place text.now) }
-    ensures no_memory { result ≢ Err LoadEnd.NoMemory }
+pub fn module_of(sizes: Sizes, place: Place, text: &str) -> Result<Module, Refusal>
+    ensures { result ≡ module_of sizes place text.now }
 {
-    let bad_drop = LoadEnd::Refused(PlantFault::BadDrop, place);
+    let bad_drop = (PlantFault::BadDrop, place);
     let Some(spelled) = module_spelled(text.as_bytes()) else {
         return Err(bad_drop);
     };
@@ -99,10 +94,10 @@ pub fn module_of(sizes: Sizes, place: Place, text: &str) -> Result<Module, LoadE
         return Err(bad_drop);
     }
     let Some(at) = reference_of(spelled.first) else {
-        return Err(LoadEnd::Refused(PlantFault::BadRef, place));
+        return Err((PlantFault::BadRef, place));
     };
     if !carries(spelled.kind, at.kind) {
-        return Err(LoadEnd::Refused(PlantFault::BadRef, place));
+        return Err((PlantFault::BadRef, place));
     }
     let io_module = Module {
         kind: spelled.kind,
@@ -111,6 +106,6 @@ pub fn module_of(sizes: Sizes, place: Place, text: &str) -> Result<Module, LoadE
     };
     match test_module(sizes, io_module) {
         Ok(()) => Ok(io_module),
-        Err(fault) => Err(LoadEnd::Refused(fault, place)),
+        Err(fault) => Err((fault, place)),
     }
 }

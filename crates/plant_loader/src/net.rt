@@ -10,7 +10,7 @@ ghost use Rattle.plant_loader.specs.Net.{fate_of, fates_in, fates_or, rules_in, 
 ghost use Rattle.plant_loader.specs.Net.{members_of, net_from, plant_from};
 ghost use Rattle.plant_loader.specs.Rising.{by_node};
 
-use crate::keys::{keys_pass, number_at_or, value_at};
+use crate::keys::{Keys, keys_pass, number_at_or, value_at};
 use crate::refusal::{LoadEnd, net_place};
 use plant_types::{ControllerPlan, Fate, HostPlan, List, NetPlan, Plant, PlantFault};
 use std::alloc::Global;
@@ -90,7 +90,11 @@ fn rules_in(alloc: Global, table: &Table) -> Result<NetRules, LoadEnd>
     ensures { Gives (λ rules. rules) result (rules_in (table_view table.now)) }
 {
     let place = net_place();
-    keys_pass(place, &NET_KEYS, &[], table)?;
+    let keys = Keys {
+        known: &NET_KEYS,
+        required: &[],
+    };
+    keys_pass(place, &keys, table)?;
     let fates = fates_or(alloc, value_at(table, "fates"))?;
     let answer = number_at_or(place, "answer", 20, 2, 1000, table)?;
     let rotations = number_at_or(place, "rotations", 4, 1, 10, table)?;

@@ -1,7 +1,7 @@
 //! Decimal numbers of any length.
 ghost use Rattle.std.specs.Prelude.{◌≡◌, ◌<◌, min, true};
 ghost use Rattle.std.specs.List.{list_all};
-ghost use Rattle.cell_text.specs.Numbers.{is_digit, value_of};
+ghost use Rattle.plant_types.specs.Numerals.{is_digit, value_of};
 ghost use Rattle.plant_loader.specs.Requests.{is_numeral, numeral_within, most_told};
 
 /// Numbers from here on are told apart from lower ones alone.

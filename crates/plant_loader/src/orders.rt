@@ -1,14 +1,15 @@
 //! The order rows of a controller.
-ghost use Rattle.std.specs.Prelude.{◌≡◌, ◌≢◌, ◌≤◌, length, map, option_map, Some, Err};
+ghost use Rattle.std.specs.Prelude.{◌≡◌, ◌≤◌, length, map, option_map, Some};
 ghost use Rattle.cell_text.specs.Words.{text_words};
+ghost use Rattle.plant_loader.specs.Given.{texts_in};
 ghost use Rattle.plant_loader.specs.Refusals.{Gives};
-ghost use Rattle.plant_loader.specs.Orders.{order_words_from, order_words, nameable, is_solved};
+ghost use Rattle.plant_loader.specs.Orders.{order_in, order_words, nameable, is_solved};
 ghost use Rattle.plant_loader.specs.Orders.{segment_in, names_nothing, reads_as_control};
 ghost use Rattle.plant_loader.specs.Orders.{control_in, drop_of, order_row, orders_of};
 
 use crate::drops::drop_number;
 use crate::owner::Owner;
-use crate::refusal::LoadEnd;
+use crate::refusal::{LoadEnd, Refusal};
 use cell_text::{is_reference_word, is_text, next_word, reference_of, spelled_number};
 use plant_types::{
     IoDrop, List, OrderRow, Place, PlantFault, Ref, Segment, Sizes, has_control, is_segment,
@@ -29,9 +30,7 @@ struct OrderWords<'a> {
 }
 
 fn order_words(text: &[u8]) -> Option<OrderWords<'_>>
-    ensures { option_map (λ w.
-        order_words_from w.segment.now w.control.now w.input.now w.output.now) result
-        ≡ order_words (text_words text.now) }
+    ensures { option_map order_in result ≡ order_words (text_words text.now) }
 {
     let (segment, rest) = next_word(text)?;
     let (control, rest) = next_word(rest)?;
@@ -79,20 +78,19 @@ fn reads_as_control(word: &[u8]) -> bool
 }
 
 #[tactic(auto, unfolding(crate::specs::Orders::control_in))]
-fn control_in(sizes: Sizes, place: Place, word: &[u8]) -> Result<Option<Ref>, LoadEnd>
-    ensures read { Gives (λ control. control) result (control_in sizes place word.now) }
-    ensures no_memory { result ≢ Err LoadEnd.NoMemory }
+fn control_in(sizes: Sizes, place: Place, word: &[u8]) -> Result<Option<Ref>, Refusal>
+    ensures { result ≡ control_in sizes place word.now }
 {
     if names_nothing(word) {
         return Ok(None);
     }
     let Some(at) = reference_of(word) else {
-        return Err(LoadEnd::Refused(PlantFault::BadRef, place));
+        return Err((PlantFault::BadRef, place));
     };
     if has_control(sizes, Some(at)) {
         Ok(Some(at))
     } else {
-        Err(LoadEnd::Refused(PlantFault::BadRef, place))
+        Err((PlantFault::BadRef, place))
     }
 }
 
@@ -113,13 +111,11 @@ fn order_row(
     drops: &[IoDrop],
     number: u32,
     text: &str,
-) -> Result<OrderRow, LoadEnd>
-    ensures read { Gives (λ row. row) result
-        (order_row (nameable owner segments.now drops.now) number text.now) }
-    ensures no_memory { result ≢ Err LoadEnd.NoMemory }
+) -> Result<OrderRow, Refusal>
+    ensures { result ≡ order_row (nameable owner segments.now drops.now) number text.now }
 {
     let place = Place::order(owner.position, number);
-    let bad_order = LoadEnd::Refused(PlantFault::BadOrder, place);
+    let bad_order = (PlantFault::BadOrder, place);
     let Some(words) = order_words(text.as_bytes()) else {
         return Err(bad_order);
     };
@@ -153,8 +149,8 @@ pub fn orders_of(
     texts: &[&str],
 ) -> Result<List<OrderRow>, LoadEnd>
     requires { length texts.now ≤ ORDER_LIMIT }
-    ensures { Gives (λ rows. rows) result
-        (orders_of (nameable owner segments.now drops.now) (map (λ t. t.now) texts.now)) }
+    ensures { let there = nameable owner segments.now drops.now in
+        Gives (λ rows. rows) result (orders_of there (texts_in texts.now)) }
 {
     let mut rows = List::new(alloc);
     let mut number = 0;

@@ -1,11 +1,12 @@
 //! The pieces of the texts of networks.
 ghost use Rattle.std.specs.Prelude.{◌≡◌, ◌+◌, ◌<◌, ◌≤◌, [], length, map, IfOk};
+ghost use Rattle.plant_loader.specs.Given.{tables_in, texts_in};
 ghost use Rattle.plant_loader.specs.Refusals.{Gives};
 ghost use Rattle.plant_types.specs.Fault.{at_place};
 ghost use Rattle.toml.specs.View.{table_view};
 ghost use Rattle.plant_loader.specs.Pieces.{plant_fault, has_word};
 ghost use Rattle.plant_loader.specs.Pieces.{pieces_of_line, pieces_of, segments_of};
-ghost use Rattle.plant_loader.specs.Program.{place_of_next, with_piece, with_pieces, with_text};
+ghost use Rattle.plant_loader.specs.Program.{with_next_piece, with_piece, with_pieces, with_text};
 ghost use Rattle.plant_loader.specs.Program.{with_texts};
 ghost use Rattle.plant_loader.specs.Program.{with_segment_texts, with_table, with_tables};
 ghost use Rattle.plant_loader.specs.Program.{IsBetweenSegments};
@@ -47,16 +48,14 @@ fn with_piece(program: Program, sizes: Sizes, place: Place, piece: &str) -> Resu
 }
 
 fn with_next_piece(program: Program, owner: Owner, piece: &str) -> Result<Program, LoadEnd>
-    ensures { let read = with_piece owner.sizes program piece.now in
-        Gives (λ p. p) result (at_place (place_of_next owner.position program) read) }
+    ensures { Gives (λ p. p) result (with_next_piece owner program piece.now) }
 {
     let place = program.place_of_next(owner.position);
     with_piece(program, owner.sizes, place, piece)
 }
 
 fn with_line(mut program: Program, owner: Owner, line: &str) -> Result<Program, LoadEnd>
-    ensures { Gives (λ p. p) result (with_pieces owner program
-        (pieces_of_line line.now)) }
+    ensures { Gives (λ p. p) result (with_pieces owner program (pieces_of_line line.now)) }
 {
     for piece in line.split(';') {
         if has_word(piece) {
@@ -92,8 +91,7 @@ fn with_texts(
     texts: &[&str],
 ) -> Result<Program, LoadEnd>
     requires { length program.networks + length texts.now ≤ NETWORK_LIMIT }
-    ensures { Gives (λ p. p) result (with_texts owner program
-        (map (λ t. t.now) texts.now)) }
+    ensures { Gives (λ p. p) result (with_texts owner program (texts_in texts.now)) }
 {
     for text in texts {
         program = with_text(alloc, program, owner, text)?;
@@ -111,8 +109,7 @@ fn with_segment_texts(
     requires segments { length program.segments < SEGMENT_LIMIT }
     requires between { IsBetweenSegments program }
     requires networks { length texts.now ≤ NETWORK_LIMIT }
-    ensures { Gives (λ p. p) result
-        (with_segment_texts owner program (map (λ t. t.now) texts.now)) }
+    ensures { Gives (λ p. p) result (with_segment_texts owner program (texts_in texts.now)) }
 {
     let program = with_texts(alloc, program, owner, texts)?;
     program.with_segment(alloc)
@@ -127,8 +124,7 @@ fn with_table(
 ) -> Result<Program, LoadEnd>
     requires segments { length program.segments < SEGMENT_LIMIT }
     requires between { IsBetweenSegments program }
-    ensures { Gives (λ p. p) result
-        (with_table owner program (table_view table.now)) }
+    ensures { Gives (λ p. p) result (with_table owner program (table_view table.now)) }
 {
     let texts = network_texts(alloc, owner.position, program.segment_number(), table)?;
     with_segment_texts(alloc, program, owner, texts.as_slice())
@@ -143,8 +139,7 @@ fn with_tables(
 ) -> Result<Program, LoadEnd>
     requires few { length program.segments + length tables.now ≤ SEGMENT_LIMIT }
     requires between { IsBetweenSegments program }
-    ensures read { Gives (λ p. p) result
-        (with_tables owner program (map (λ t. table_view t.now) tables.now)) }
+    ensures read { Gives (λ p. p) result (with_tables owner program (tables_in tables.now)) }
     ensures count { IfOk result
         (λ p. length p.segments ≡ length program.segments + length tables.now) }
 {
@@ -158,7 +153,7 @@ fn with_tables(
 pub fn segments_of(alloc: Global, owner: Owner, tables: &[&Table]) -> Result<List<Segment>, LoadEnd>
     requires { length tables.now ≤ SEGMENT_LIMIT }
     ensures read { Gives (λ segments. segments) result
-        (segments_of owner (map (λ t. table_view t.now) tables.now)) }
+        (segments_of owner (tables_in tables.now)) }
     ensures count { IfOk result (λ segments. length segments ≡ length tables.now) }
 {
     let program = with_tables(alloc, Program::new(alloc, tables.len()), owner, tables)?;

@@ -9,13 +9,12 @@ ghost use Rattle.plant_types.specs.Standing.{coils_in, is_driven, message_count,
 ghost use Rattle.plant_types.specs.Network.{driven_by};
 ghost use Rattle.plant_types.specs.PlanTests.{site_cell_tests};
 ghost use Rattle.plant_types.specs.FirstFault.{short_tests};
-ghost use Rattle.plant_types.specs.Fault.{at_place};
 ghost use Rattle.plant_loader.specs.Driven.{HoldsJust};
 ghost use Rattle.plant_loader.specs.Refusals.{Gives, Makes};
-ghost use Rattle.plant_loader.specs.Pieces.{cell_behind, short_behind};
-ghost use Rattle.plant_loader.specs.Program.{ReadProgram, cells_read, nothing_read, site_of};
-ghost use Rattle.plant_loader.specs.Program.{with_tested, piece_count, place_of_next, with_network};
-ghost use Rattle.plant_loader.specs.Program.{with_segment};
+ghost use Rattle.plant_loader.specs.Program.{ReadProgram, cells_read, has_label_in};
+ghost use Rattle.plant_loader.specs.Program.{is_label_before, is_label_of_any, nothing_read};
+ghost use Rattle.plant_loader.specs.Program.{piece_count, place_of_next, site_of, with_cell};
+ghost use Rattle.plant_loader.specs.Program.{with_network, with_segment, with_short};
 
 use crate::refusal::LoadEnd;
 use plant_types::{
@@ -93,14 +92,13 @@ fn with_coil(mut driven: BTreeSet<Ref>, coil: Option<Ref>) -> Result<BTreeSet<Re
 }
 
 fn has_label_in(cells: &[Cell], number: u16) -> bool
-    ensures { result ≡ list_any (λ cell. is_label_of number cell.element) cells.now }
+    ensures { result ≡ has_label_in cells.now number }
 {
     cells.iter().any(|cell| is_label_of(number, cell.element))
 }
 
 fn is_label_of_any(networks: &[Network], number: u16) -> bool
-    ensures { result ≡ list_any (λ network.
-        list_any (λ cell. is_label_of number cell.element) network.cells) networks.now }
+    ensures { result ≡ is_label_of_any networks.now number }
 {
     networks
         .iter()
@@ -108,9 +106,7 @@ fn is_label_of_any(networks: &[Network], number: u16) -> bool
 }
 
 fn is_label_before(segments: &[Segment], number: u16) -> bool
-    ensures { result ≡ list_any (λ segment. list_any (λ network.
-        list_any (λ cell. is_label_of number cell.element) network.cells) segment.networks)
-        segments.now }
+    ensures { result ≡ is_label_before segments.now number }
 {
     segments.iter().any(|segment| is_label_of_any(segment.networks.as_slice(), number))
 }
@@ -121,12 +117,8 @@ fn is_label_in_parts(
     cells: &[Cell],
     number: u16,
 ) -> bool
-    ensures { result ≡ (list_any (λ segment. list_any (λ network.
-        list_any (λ cell. is_label_of number cell.element) network.cells) segment.networks)
-        segments.now
-        || list_any (λ network. list_any (λ cell. is_label_of number cell.element) network.cells)
-        networks.now)
-        || list_any (λ cell. is_label_of number cell.element) cells.now }
+    ensures { result ≡ (is_label_before segments.now number
+        || is_label_of_any networks.now number) || has_label_in cells.now number }
 {
     (is_label_before(segments, number) || is_label_of_any(networks, number))
         || has_label_in(cells, number)
@@ -134,8 +126,7 @@ fn is_label_in_parts(
 
 /// Whether one of the cells of segments, networks and a network is the LAB of this number.
 fn is_label_among(segments: &[Segment], networks: &[Network], cells: &[Cell], number: u16) -> bool
-    ensures { result ≡ list_any (λ cell. is_label_of number cell.element)
-        (cells_before segments.now networks.now ++ cells.now) }
+    ensures { result ≡ has_label_in (cells_before segments.now networks.now ++ cells.now) number }
 {
     is_label_in_parts(segments, networks, cells, number)
 }
@@ -258,8 +249,7 @@ impl Program {
     /// One more cell of the network that is being read, or the first of its faults.
     #[tactic(auto, unfolding(crate::specs::Pieces::cell_behind))]
     pub fn with_cell(self, sizes: Sizes, place: Place, cell: Cell) -> Result<Program, LoadEnd>
-        ensures { let tested = cell_behind (site_of sizes self) self.cells cell in
-            Gives (λ program. program) result (at_place place (with_tested self tested)) }
+        ensures { Gives (λ program. program) result (with_cell sizes place self cell) }
     {
         match self.test_cell(sizes, cell) {
             Ok(()) => self.put_cell(sizes, cell),
@@ -296,8 +286,7 @@ impl Program {
     /// One more short of the network that is being read, or the first of its faults.
     #[tactic(auto, unfolding(crate::specs::Pieces::short_behind))]
     pub fn with_short(self, place: Place, short: Short) -> Result<Program, LoadEnd>
-        ensures { let tested = short_behind self.shorts short in
-            Gives (λ program. program) result (at_place place (with_tested self tested)) }
+        ensures { Gives (λ program. program) result (with_short place self short) }
     {
         match short.check(self.shorts.as_slice()) {
             Ok(()) => self.put_short(short),

@@ -1,25 +1,34 @@
 //! The whole file.
-ghost use Rattle.std.specs.Prelude.{◌≡◌, ◌≢◌, ◌≤◌, codes, length, map, IfOk, Err};
+ghost use Rattle.std.specs.Prelude.{◌≡◌, ◌≤◌, length, IfOk};
 ghost use Rattle.std.specs.List.{All};
 ghost use Rattle.toml.specs.View.{table_view};
 ghost use Rattle.plant_types.specs.Plans.{IsPlant};
 ghost use Rattle.cell_text.specs.Steps.{or_fault};
+ghost use Rattle.plant_loader.specs.Given.{tables_in};
 ghost use Rattle.plant_loader.specs.Refusals.{Gives, bad_toml, plant_place};
-ghost use Rattle.plant_loader.specs.Plant.{document_of, version_passes, some_tables_at};
-ghost use Rattle.plant_loader.specs.Plant.{controller_limit, plant_at, plant_in, plant_of};
+ghost use Rattle.plant_loader.specs.Keys.{keys_pass};
+ghost use Rattle.plant_loader.specs.Plant.{controller_tables, document_of, plant_keys, version_of};
+ghost use Rattle.plant_loader.specs.Plant.{plant_at, plant_in, plant_of};
 ghost use Rattle.plant_loader.specs.Accepted.{IsSolvable, PassesDropTests};
 
 use crate::hosts::{HOST_LIMIT, hosts_of};
-use crate::keys::{keys_pass, number_at_or, table_at, tables_at, value_at};
+use crate::keys::{Keys, keys_pass, number_at_or, table_at, tables_at, value_at};
 use crate::net::{plant_from, rules_of};
-use crate::refusal::{LoadEnd, bad_toml};
+use crate::refusal::{LoadEnd, Refusal, bad_toml};
 use crate::stations::{CONTROLLER_LIMIT, controllers_of};
 use plant_types::{Place, Plant, PlantFault};
 use std::alloc::Global;
 use std::str;
 use toml::Table;
 
-/// The keys of a plant.
+/// The versions of plant files.
+#[derive(Clone, Copy, Debug, PartialEq, Eq)]
+pub enum Version {
+    /// One network.
+    One,
+}
+
+/// The keys of a plant of version 1.
 const PLANT_KEYS: [&str; 6] = [
     "version",
     "scan_time",
@@ -50,25 +59,38 @@ fn document(alloc: Global, bytes: &[u8]) -> Result<Table, LoadEnd>
     }
 }
 
-#[tactic(auto, unfolding(crate::specs::Plant::version_passes))]
-fn version_passes(top: &Table) -> Result<(), LoadEnd>
-    ensures passes { Gives (λ _. tt) result (version_passes (table_view top.now)) }
-    ensures no_memory { result ≢ Err LoadEnd.NoMemory }
+/// The version that a document names.
+#[tactic(auto, unfolding(crate::specs::Plant::version_of))]
+fn version_of(top: &Table) -> Result<Version, Refusal>
+    ensures { result ≡ version_of (table_view top.now) }
 {
     let Some(value) = value_at(top, "version") else {
-        return Err(LoadEnd::Refused(PlantFault::BadKey, Place::PLANT));
+        return Err((PlantFault::BadKey, Place::PLANT));
     };
     match value.as_integer() {
-        Some(1) => Ok(()),
-        Some(_) => Err(LoadEnd::Refused(PlantFault::BadVersion, Place::PLANT)),
-        None => Err(LoadEnd::Refused(PlantFault::BadValue, Place::PLANT)),
+        Some(1) => Ok(Version::One),
+        Some(_) => Err((PlantFault::BadVersion, Place::PLANT)),
+        None => Err((PlantFault::BadValue, Place::PLANT)),
     }
+}
+
+/// The keys of a plant are those of its version.
+fn plant_keys_pass(version: Version, top: &Table) -> Result<(), Refusal>
+    ensures { result ≡ keys_pass plant_place (plant_keys version) (table_view top.now) }
+{
+    let keys = match version {
+        Version::One => Keys {
+            known: &PLANT_KEYS,
+            required: &PLANT_REQUIRED,
+        },
+    };
+    keys_pass(Place::PLANT, &keys, top)
 }
 
 /// The tables of the array at `controller`, which must have one at least.
 fn controller_tables(alloc: Global, top: &Table) -> Result<Vec<&Table>, LoadEnd>
-    ensures read { Gives (λ tables. map (λ t. table_view t.now) tables.items) result
-        (some_tables_at plant_place controller_limit (codes "controller") (table_view top.now)) }
+    ensures read { Gives (λ tables. tables_in tables.items) result
+        (controller_tables (table_view top.now)) }
     ensures few { IfOk result (λ tables. length tables.items ≤ CONTROLLER_LIMIT) }
 {
     let tables = tables_at(alloc, Place::PLANT, CONTROLLER_LIMIT, "controller", top)?;
@@ -78,12 +100,12 @@ fn controller_tables(alloc: Global, top: &Table) -> Result<Vec<&Table>, LoadEnd>
     Ok(tables)
 }
 
-/// The plant of a document of version 1.
+/// The plant of a document of a version.
 #[tactic(auto, unfolding(crate::specs::Plant::plant_in))]
-fn plant_in(alloc: Global, top: &Table) -> Result<Plant, LoadEnd>
-    ensures { Gives (λ plant. plant) result (plant_in (table_view top.now)) }
+fn plant_in(alloc: Global, version: Version, top: &Table) -> Result<Plant, LoadEnd>
+    ensures { Gives (λ plant. plant) result (plant_in version (table_view top.now)) }
 {
-    keys_pass(Place::PLANT, &PLANT_KEYS, &PLANT_REQUIRED, top)?;
+    plant_keys_pass(version, top)?;
     let scan_time = number_at_or(Place::PLANT, "scan_time", 10, 1, 1000, top)?;
     let watchdog = number_at_or(Place::PLANT, "watchdog", 500, 1, 10_000, top)?;
     let net = table_at(Place::PLANT, "net", top)?;
@@ -100,8 +122,8 @@ fn plant_in(alloc: Global, top: &Table) -> Result<Plant, LoadEnd>
 fn plant_at(alloc: Global, top: &Table) -> Result<Plant, LoadEnd>
     ensures { Gives (λ plant. plant) result (plant_at (table_view top.now)) }
 {
-    version_passes(top)?;
-    plant_in(alloc, top)
+    let version = version_of(top)?;
+    plant_in(alloc, version, top)
 }
 
 /// Reads a plant. The answer is the plant of the file, or its first fault.

@@ -1,13 +1,14 @@
 //! How loading ends without a plant.
 ghost use Rattle.std.specs.Prelude.{◌≡◌};
-ghost use Rattle.plant_types.specs.Fault.{at_place};
-ghost use Rattle.traffic_cop.specs.DropTests.{drop_place, module_place, script_place};
-ghost use Rattle.plant_loader.specs.declared.refusal.LoadEnd.TheVariants.{NoMemory};
-ghost use Rattle.plant_loader.specs.Refusals.{Gives, Refusal, plant_place, net_place, host_place};
+ghost use Rattle.plant_loader.specs.declared.refusal.LoadEnd.TheVariants.{Refused, NoMemory};
+ghost use Rattle.plant_loader.specs.Refusals.{Refusal, plant_place, net_place, host_place};
 ghost use Rattle.plant_loader.specs.Refusals.{request_place};
 
 use plant_types::{Part, Place, PlantFault};
 use std::alloc::AllocError;
+
+/// The first fault of what is read, and where it is.
+pub type Refusal = (PlantFault, Place);
 
 /// Why there is no plant.
 #[derive(Clone, Copy, Debug, PartialEq, Eq)]
@@ -26,6 +27,14 @@ impl From<AllocError> for LoadEnd {
     }
 }
 
+impl From<Refusal> for LoadEnd {
+    ghost from_gives = { λ refusal end. end ≡ Refused refusal.0 refusal.1 };
+
+    fn from(refusal: Refusal) -> LoadEnd {
+        LoadEnd::Refused(refusal.0, refusal.1)
+    }
+}
+
 /// The bytes are no document.
 pub fn bad_toml() -> LoadEnd
     ensures { result ≡ LoadEnd.Refused PlantFault.BadToml plant_place }
@@ -40,36 +49,6 @@ pub fn net_place() -> Place
     Place {
         part: Part::Net,
         at: [0; 4],
-    }
-}
-
-/// A drop of a controller.
-pub fn drop_place(controller: u32, drop: u32) -> Place
-    ensures { result ≡ drop_place controller drop }
-{
-    Place {
-        part: Part::Drop,
-        at: [controller, drop, 0, 0],
-    }
-}
-
-/// A module of a drop.
-pub fn module_place(controller: u32, drop: u32, io_module: u32) -> Place
-    ensures { result ≡ module_place controller drop io_module }
-{
-    Place {
-        part: Part::Module,
-        at: [controller, drop, io_module, 0],
-    }
-}
-
-/// A row of the script of a drop.
-pub fn script_place(controller: u32, drop: u32, row: u32) -> Place
-    ensures { result ≡ script_place controller drop row }
-{
-    Place {
-        part: Part::Script,
-        at: [controller, drop, row, 0],
     }
 }
 

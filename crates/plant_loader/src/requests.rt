@@ -3,9 +3,10 @@ ghost use Rattle.std.specs.Prelude.{◌≡◌, ◌≢◌, ◌≤◌, length, map
 ghost use Rattle.std.specs.List.{list_all};
 ghost use Rattle.cell_text.specs.Words.{text_words};
 ghost use Rattle.plant_types.specs.Words.{pdu_of};
+ghost use Rattle.plant_loader.specs.Given.{texts_in};
 ghost use Rattle.plant_loader.specs.Hex.{is_hex_digit, hex_pairs};
 ghost use Rattle.plant_loader.specs.Refusals.{Gives, Makes};
-ghost use Rattle.plant_loader.specs.Requests.{request_words_from, request_words, pdu_in, target_in};
+ghost use Rattle.plant_loader.specs.Requests.{request_in, request_words, pdu_in, target_in};
 ghost use Rattle.plant_loader.specs.Requests.{request_of, requests_of};
 
 use crate::hex::{are_hex_digits, hex_digit};
@@ -27,8 +28,7 @@ struct RequestWords<'a> {
 }
 
 fn request_words(text: &[u8]) -> Option<RequestWords<'_>>
-    ensures { option_map (λ w. request_words_from w.hold.now w.to.now w.pdu.now) result
-        ≡ request_words (text_words text.now) }
+    ensures { option_map request_in result ≡ request_words (text_words text.now) }
 {
     let (hold, rest) = next_word(text)?;
     let (to, rest) = next_word(rest)?;
@@ -111,7 +111,7 @@ pub fn requests_of(
     texts: &[&str],
 ) -> Result<List<HostAsk>, LoadEnd>
     requires { length texts.now ≤ REQUEST_LIMIT }
-    ensures { Gives (λ asks. asks) result (requests_of node host (map (λ t. t.now) texts.now)) }
+    ensures { Gives (λ asks. asks) result (requests_of node host (texts_in texts.now)) }
 {
     let mut asks = List::new(alloc);
     let mut number = 0;

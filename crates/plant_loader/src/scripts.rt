@@ -3,16 +3,17 @@ ghost use Rattle.std.specs.Prelude.{◌≡◌, ◌≤◌, ◌<◌, [], true, len
 ghost use Rattle.std.specs.List.{list_all};
 ghost use Rattle.cell_text.specs.Words.{text_words};
 ghost use Rattle.traffic_cop.specs.Exchange.{input_total};
+ghost use Rattle.plant_loader.specs.Given.{texts_in};
 ghost use Rattle.plant_loader.specs.InOrder.{each_of};
 ghost use Rattle.plant_loader.specs.Refusals.{Gives, Makes};
-ghost use Rattle.plant_loader.specs.Drops.{hex_word, row_spelled, script_row, rows_of, or_zeros};
+ghost use Rattle.plant_loader.specs.Drops.{word_spelled, row_spelled, script_row, rows_of, or_zeros};
 
 use crate::hex::{are_hex_digits, hex_digit};
-use crate::refusal::{LoadEnd, script_place};
+use crate::refusal::{LoadEnd, Refusal};
 use cell_text::{has_words, next_word};
 use plant_types::{List, Module, Place, PlantFault, ScriptRow, Words};
 use std::alloc::Global;
-use traffic_cop::{fits_row, input_total};
+use traffic_cop::{fits_row, input_total, script_place};
 
 /// The most input words of a drop.
 const WORD_LIMIT: usize = 64;
@@ -20,26 +21,26 @@ const WORD_LIMIT: usize = 64;
 /// The most script rows of a drop.
 pub const SCRIPT_LIMIT: usize = 10_000;
 
-fn hex_word(place: Place, word: &[u8]) -> Result<u16, LoadEnd>
-    ensures { Gives (λ n. n) result (hex_word place word.now) }
+fn word_spelled(place: Place, word: &[u8]) -> Result<u16, Refusal>
+    ensures { result ≡ word_spelled place word.now }
 {
     if !are_hex_digits(word) {
-        return Err(LoadEnd::Refused(PlantFault::BadScript, place));
+        return Err((PlantFault::BadScript, place));
     }
     let &[first, second, third, fourth] = word else {
-        return Err(LoadEnd::Refused(PlantFault::BadScript, place));
+        return Err((PlantFault::BadScript, place));
     };
     let high = hex_digit(first) * 16 + hex_digit(second);
     Ok((high * 16 + hex_digit(third)) * 16 + hex_digit(fourth))
 }
 
 fn hex_words(alloc: Global, place: Place, text: &[u8]) -> Result<Vec<u16>, LoadEnd>
-    ensures { Gives (λ words. words.items) result (each_of (hex_word place) (text_words text.now)) }
+    ensures { Gives (λ words. words.items) result (each_of (word_spelled place) (text_words text.now)) }
 {
     let mut words = Vec::new(alloc);
     let mut rest = text;
     while let Some((word, behind)) = next_word(rest) {
-        let value = hex_word(place, word)?;
+        let value = word_spelled(place, word)?;
         if words.push(value).is_err() {
             return Err(LoadEnd::NoMemory);
         }
@@ -88,7 +89,7 @@ pub fn rows_of(
     requires words { input_total modules.now ≤ 64 }
     requires few { length texts.now ≤ SCRIPT_LIMIT }
     ensures { Gives (λ rows. rows) result
-        (rows_of controller modules.now drop (map (λ t. t.now) texts.now)) }
+        (rows_of controller modules.now drop (texts_in texts.now)) }
 {
     let mut rows = List::new(alloc);
     let mut number = 0;

@@ -2,13 +2,14 @@
 ghost use Rattle.std.specs.Prelude.{◌≡◌, ◌≤◌, ◌==◌, codes, length, map, IfOk};
 ghost use Rattle.std.specs.List.{list_any};
 ghost use Rattle.toml.specs.View.{table_view};
+ghost use Rattle.plant_loader.specs.Given.{tables_in};
 ghost use Rattle.plant_loader.specs.Refusals.{Gives};
 ghost use Rattle.plant_loader.specs.Stations.{read_arrays, AreFew, arrays_at, parts_of};
 ghost use Rattle.plant_loader.specs.Stations.{has_controller, controller_behind, controllers_of};
 
-use crate::controller::{PANEL_LIMIT, panel_of, sizes_at};
+use crate::controller::{PANEL_LIMIT, owner_at, panel_of};
 use crate::drops::{DROP_LIMIT, drops_of};
-use crate::keys::{address_at, keys_pass, tables_at, texts_at};
+use crate::keys::{Keys, NODE_REQUIRED, keys_pass, tables_at, texts_at};
 use crate::orders::{ORDER_LIMIT, orders_of};
 use crate::owner::Owner;
 use crate::pieces::segments_of;
@@ -33,9 +34,6 @@ const CONTROLLER_KEYS: [&str; 9] = [
     "segment",
     "orders",
 ];
-
-/// The one that it must have.
-const CONTROLLER_REQUIRED: [&str; 1] = ["node"];
 
 /// The arrays of a controller's table: the texts of its panel and of its orders, and the tables of
 /// its drops and of its segments.
@@ -65,15 +63,9 @@ fn arrays_at<'a>(alloc: Global, place: Place, table: &'a Table) -> Result<Arrays
 }
 
 #[tactic(auto, unfolding(crate::specs::Stations::parts_of))]
-fn parts_of(
-    alloc: Global,
-    node: u8,
-    owner: Owner,
-    arrays: &Arrays,
-) -> Result<ControllerPlan, LoadEnd>
+fn parts_of(alloc: Global, owner: Owner, arrays: &Arrays) -> Result<ControllerPlan, LoadEnd>
     requires { AreFew arrays.now }
-    ensures { Gives (λ plan. plan) result (parts_of node owner
-        (read_arrays arrays.now)) }
+    ensures { Gives (λ plan. plan) result (parts_of owner (read_arrays arrays.now)) }
 {
     let drops = drops_of(alloc, owner, arrays.drops.as_slice())?;
     let segments = segments_of(alloc, owner, arrays.segments.as_slice())?;
@@ -86,7 +78,7 @@ fn parts_of(
     )?;
     let panel = panel_of(alloc, owner, arrays.panel.as_slice())?;
     Ok(ControllerPlan {
-        node,
+        node: owner.node,
         coils: owner.sizes.coils,
         inputs: owner.sizes.inputs,
         input_registers: owner.sizes.input_registers,
@@ -116,14 +108,17 @@ fn controller_behind(
         (controller_behind earlier.now (position, table_view table.now)) }
 {
     let place = Place::controller(position);
-    keys_pass(place, &CONTROLLER_KEYS, &CONTROLLER_REQUIRED, table)?;
-    let node = address_at(place, table)?;
-    let sizes = sizes_at(place, table)?;
+    let keys = Keys {
+        known: &CONTROLLER_KEYS,
+        required: &NODE_REQUIRED,
+    };
+    keys_pass(place, &keys, table)?;
+    let owner = owner_at(position, table)?;
     let arrays = arrays_at(alloc, place, table)?;
-    if has_controller(earlier, node) {
+    if has_controller(earlier, owner.node) {
         return Err(LoadEnd::Refused(PlantFault::BadNode, place));
     }
-    parts_of(alloc, node, Owner { position, sizes }, &arrays)
+    parts_of(alloc, owner, &arrays)
 }
 
 /// The controllers of a plant by their tables, in file order.
@@ -131,7 +126,7 @@ fn controller_behind(
 pub fn controllers_of(alloc: Global, tables: &[&Table]) -> Result<Vec<ControllerPlan>, LoadEnd>
     requires { length tables.now ≤ CONTROLLER_LIMIT }
     ensures { Gives (λ plans. plans.items) result
-        (controllers_of (map (λ t. table_view t.now) tables.now)) }
+        (controllers_of (tables_in tables.now)) }
 {
     let mut plans = Vec::new(alloc);
     let mut position = 0;

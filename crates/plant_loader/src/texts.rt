@@ -1,10 +1,11 @@
 //! The texts of the networks of a segment.
 ghost use Rattle.std.specs.Prelude.{◌≡◌, ◌≤◌, length, map, IfOk};
 ghost use Rattle.toml.specs.View.{table_view};
+ghost use Rattle.plant_loader.specs.Given.{texts_in};
 ghost use Rattle.plant_loader.specs.Refusals.{Gives};
 ghost use Rattle.plant_loader.specs.Texts.{network_texts};
 
-use crate::keys::{keys_pass, texts_at};
+use crate::keys::{Keys, keys_pass, texts_at};
 use crate::program::NETWORK_LIMIT;
 use crate::refusal::LoadEnd;
 use plant_types::Place;
@@ -22,11 +23,15 @@ pub fn network_texts<'a>(
     number: u32,
     table: &'a Table,
 ) -> Result<Vec<&'a str>, LoadEnd>
-    ensures read { Gives (λ texts. map (λ t. t.now) texts.items) result
+    ensures read { Gives (λ texts. texts_in texts.items) result
         (network_texts controller number (table_view table.now)) }
     ensures few { IfOk result (λ texts. length texts.items ≤ NETWORK_LIMIT) }
 {
     let place = Place::segment(controller, number);
-    keys_pass(place, &SEGMENT_KEYS, &SEGMENT_KEYS, table)?;
+    let keys = Keys {
+        known: &SEGMENT_KEYS,
+        required: &SEGMENT_KEYS,
+    };
+    keys_pass(place, &keys, table)?;
     texts_at(alloc, place, NETWORK_LIMIT, "networks", table)
 }

@@ -16,14 +16,14 @@ use Rattle.plant_types.specs.declared.reference.RefKind.{RefKind}
 use Rattle.plant_types.specs.declared.reference.RefKind.TheVariants.{Coil, Input, InputRegister}
 use Rattle.plant_types.specs.declared.reference.RefKind.TheVariants.{Register}
 use Rattle.plant_types.specs.Reference.{ref_cmp, rank_of}
-use Rattle.plant_types.specs.MapRam.{kind_at, ref_again}
+use Rattle.plant_types.specs.MapRam.{kind_of_rank, ref_again}
 use Rattle.plant_types.specs.Sizes.{zeros}
 
 -- references that compare alike are one
 pub exact_refs : CmpEqualImpliesEq ref_cmp
 exact_refs a b h =
     sym (ref_again a)
-    ∙ ap (λ (p : ℕ × ℕ). record { kind = kind_at p.0; number = p.1 })
+    ∙ ap (λ (p : ℕ × ℕ). record { kind = kind_of_rank p.0; number = p.1 })
     (exact_pairs nat_cmp nat_cmp exact_unsigned exact_unsigned (rank_of a.kind, a.number) (rank_of b.kind, b.number) h)
     ∙ ref_again b
 

@@ -30,8 +30,8 @@ has_room sizes element = list_all (λ named. has_run sizes named.at named.count)
 abbrev pub have_room : Sizes → List Named → Bool
 have_room sizes names = list_all (λ named. has_run sizes named.at named.count) names
 
--- So it is with what an operand names in its slot, where the length operand is this. This
--- project's own.
+-- What an operand names in its slot stands in a map of these sizes, where the length operand is
+-- this. This project's own.
 abbrev pub has_room_at : Sizes → ℕ → Slot × Operand → Bool
 has_room_at sizes length at = have_room sizes (named_at length at.0 at.1)
 

@@ -6,6 +6,7 @@ use Rattle.plant_types.specs.declared.fault.PlantFault.TheVariants as faults
 use Rattle.plant_types.specs.declared.fault.Part.{Part}
 use Rattle.plant_types.specs.declared.fault.Part.TheVariants as parts
 use Rattle.plant_types.specs.declared.fault.Place.{Place}
+use Rattle.plant_types.specs.declared.fault.Behind.{Behind}
 
 -- The number of a fault. This project's own.
 abbrev pub fault_number : PlantFault → ℕ
@@ -43,24 +44,28 @@ fault_name faults.TooLarge = codes "TooLarge"
 abbrev pub fault_text : PlantFault → List ℕ
 fault_text fault = decimal (fault_number fault) ++ codes " " ++ fault_name fault
 
+-- The names and numbers behind a controller's, on the way to a place. This project's own.
+abbrev pub numbers_behind : Part → ℕ → ℕ → ℕ → List ℕ
+numbers_behind parts.Drop j k m = codes " drop " ++ decimal j
+numbers_behind parts.Module j k m = codes " drop " ++ decimal j ++ codes " module " ++ decimal k
+numbers_behind parts.Script j k m = codes " drop " ++ decimal j ++ codes " script " ++ decimal k
+numbers_behind parts.Segment j k m = codes " segment " ++ decimal j
+numbers_behind parts.Cell j k m =
+    codes " segment " ++ decimal j ++ codes " network " ++ decimal k ++ codes " cell " ++ decimal m
+numbers_behind parts.Order j k m = codes " order " ++ decimal j
+numbers_behind parts.Panel j k m = codes " panel " ++ decimal j
+numbers_behind part j k m = []
+
+abbrev pub behind_text : Behind → List ℕ
+behind_text behind = numbers_behind behind.part behind.second behind.third behind.fourth
+
 -- A place as the names and numbers on the way to it. This project's own.
-abbrev pub text_of : Part → ℕ → ℕ → ℕ → ℕ → List ℕ
-text_of parts.Plant i j k m = codes "plant"
-text_of parts.Net i j k m = codes "net"
-text_of parts.Controller i j k m = codes "controller " ++ decimal i
-text_of parts.Drop i j k m = codes "controller " ++ decimal i ++ codes " drop " ++ decimal j
-text_of parts.Module i j k m =
-    codes "controller " ++ decimal i ++ codes " drop " ++ decimal j ++ codes " module " ++ decimal k
-text_of parts.Script i j k m =
-    codes "controller " ++ decimal i ++ codes " drop " ++ decimal j ++ codes " script " ++ decimal k
-text_of parts.Segment i j k m = codes "controller " ++ decimal i ++ codes " segment " ++ decimal j
-text_of parts.Cell i j k m =
-    (codes "controller " ++ decimal i ++ codes " segment " ++ decimal j)
-    ++ (codes " network " ++ decimal k ++ codes " cell " ++ decimal m)
-text_of parts.Order i j k m = codes "controller " ++ decimal i ++ codes " order " ++ decimal j
-text_of parts.Panel i j k m = codes "controller " ++ decimal i ++ codes " panel " ++ decimal j
-text_of parts.Host i j k m = codes "host " ++ decimal i
-text_of parts.HostRequest i j k m = codes "host " ++ decimal i ++ codes " request " ++ decimal j
+abbrev pub way_text : Part → ℕ → ℕ → ℕ → ℕ → List ℕ
+way_text parts.Plant i j k m = codes "plant"
+way_text parts.Net i j k m = codes "net"
+way_text parts.Host i j k m = codes "host " ++ decimal i
+way_text parts.HostRequest i j k m = codes "host " ++ decimal i ++ codes " request " ++ decimal j
+way_text part i j k m = codes "controller " ++ decimal i ++ numbers_behind part j k m
 
 -- The number at an index of a place, 0 where there is none. This project's own.
 abbrev pub place_number : Place → ℕ → ℕ
@@ -68,7 +73,7 @@ place_number place index = slice_index_or place.at index 0
 
 abbrev pub place_text : Place → List ℕ
 place_text place =
-    text_of place.part (place_number place 0) (place_number place 1) (place_number place 2)
+    way_text place.part (place_number place 0) (place_number place 1) (place_number place 2)
     (place_number place 3)
 
 -- The table of a controller, one of its segments, a piece of a network of a segment, an order row

@@ -1,3 +1,4 @@
+pub mod Numerals
 pub mod Reference
 pub mod Words
 pub mod Store

@@ -12,28 +12,29 @@ use Rattle.plant_types.specs.Sizes.{zeros}
 use Rattle.plant_types.specs.Store.{Contents}
 
 -- The kind at a place in the order of the kinds. This project's own.
-abbrev pub kind_at : ℕ → RefKind
-kind_at zero = Coil
-kind_at (suc zero) = Input
-kind_at (suc (suc zero)) = InputRegister
-kind_at (suc (suc (suc n))) = Register
+abbrev pub kind_of_rank : ℕ → RefKind
+kind_of_rank zero = Coil
+kind_of_rank (suc zero) = Input
+kind_of_rank (suc (suc zero)) = InputRegister
+kind_of_rank (suc (suc (suc n))) = Register
 
 -- A kind stands at its own place.
-pub kind_again : (kind : RefKind) → kind_at (rank_of kind) ≡ kind
+pub kind_again : (kind : RefKind) → kind_of_rank (rank_of kind) ≡ kind
 kind_again Coil = refl
 kind_again Input = refl
 kind_again InputRegister = refl
 kind_again Register = refl
 
 -- A reference is its place among the kinds and its number.
-pub ref_again : (at : Ref) → record { kind = kind_at (rank_of at.kind); number = at.number } ≡ at
+pub ref_again : (at : Ref)
+    → record { kind = kind_of_rank (rank_of at.kind); number = at.number } ≡ at
 ref_again at i = record { kind = kind_again at.kind i; number = at.number }
 
 -- References as pairs of numbers. This project's own.
 abbrev pub coded_ref : Coded Ref
 coded_ref =
     code_by (ℕ × ℕ) (coded× coded_ℕ coded_ℕ) (λ r. (rank_of r.kind, r.number))
-    (λ p. record { kind = kind_at p.0; number = p.1 }) ref_again
+    (λ p. record { kind = kind_of_rank p.0; number = p.1 }) ref_again
 
 -- Contents as lists of numbers. This project's own.
 abbrev pub coded_contents : Coded Contents

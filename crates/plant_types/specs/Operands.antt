@@ -163,7 +163,7 @@ HasPast m element =
 abbrev pub have_kinds : List Named → Bool
 have_kinds names = list_all (λ named. accepts named.kind named.at.kind) names
 
--- So it is with what an operand names in its slot, where the length operand is this. This
--- project's own table of operands.
+-- What an operand names in its slot is of a kind that the slot takes, where the length operand is
+-- this. This project's own table of operands.
 abbrev pub has_kinds_at : ℕ → Slot × Operand → Bool
 has_kinds_at length at = have_kinds (named_at length at.0 at.1)

@@ -68,7 +68,7 @@ site_cell_tests site earlier cell =
     cell_tests site.sizes earlier cell
     ++ standing_tests (standing_of site.is_last (before ++ earlier) cell.element)
 
--- The same at its place.
+-- The tests of a cell, each with the place of the cell.
 abbrev pub placed_cell_tests : Site → List Cell → Cell → List (Test (PlantFault × Place))
 placed_cell_tests site earlier cell =
     placed (piece_place site (length earlier + 1)) (site_cell_tests site earlier cell)

@@ -43,6 +43,10 @@ abbrev pub is_holding : RefKind → Bool
 is_holding Register = true
 is_holding _ = false
 
+-- The coil of a number. Modicon Ladder Logic Block Library User Guide.
+abbrev pub coil_at : ℕ → Ref
+coil_at number = record { kind = Coil; number = number }
+
 -- By kind, and then by number. This project's own.
 abbrev pub ref_cmp : Ref → Ref → Ordering
 ref_cmp a b = ordering_then (nat_cmp (rank_of a.kind) (rank_of b.kind)) (nat_cmp a.number b.number)

@@ -13,6 +13,15 @@ use Rattle.plant_types.specs.Store.{Contents, Keeps, part_at}
 abbrev pub Sizes : Type 0
 Sizes = declared.Sizes
 
+-- The sizes of a map, kind by kind. This project's own.
+abbrev pub sizes_from : ℕ → ℕ → ℕ → ℕ → Sizes
+sizes_from coils inputs input_registers registers = record {
+  coils = coils;
+  inputs = inputs;
+  input_registers = input_registers;
+  registers = registers;
+}
+
 -- How many of a kind there are. This project's own.
 abbrev pub count_of : Sizes → RefKind → ℕ
 count_of sizes Coil = sizes.coils
@@ -29,7 +38,7 @@ abbrev pub has_run : Sizes → Ref → ℕ → Bool
 has_run sizes at count =
     nat_le 1 at.number && nat_le (at.number + count) (count_of sizes at.kind + 1)
 
--- The same with no registers. This project's own.
+-- The sizes of a map that has these discretes and no registers. This project's own.
 abbrev pub discretes_of : Sizes → Sizes
 discretes_of sizes = record sizes { input_registers = 0; registers = 0 }
 

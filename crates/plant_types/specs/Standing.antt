@@ -62,6 +62,14 @@ claims (claim.Coil coil) element = drives coil element
 abbrev pub is_claimed : List Cell → Claim → Bool
 is_claimed cells one = list_any (λ cell. claims one cell.element) cells
 
+-- One of the cells of these networks, or of these segments, has it. This project's own.
+abbrev pub is_claimed_in_networks : List Network → Claim → Bool
+is_claimed_in_networks networks one = list_any (λ network. is_claimed network.cells one) networks
+
+abbrev pub is_claimed_in_segments : List Segment → Claim → Bool
+is_claimed_in_segments segments one =
+    list_any (λ segment. is_claimed_in_networks segment.networks one) segments
+
 -- An element is a message on Modbus Plus. Modbus Plus Network Planning and Installation Guide.
 abbrev pub is_message : Element → Bool
 is_message (Mstr control area length) = true

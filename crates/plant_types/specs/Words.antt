@@ -12,6 +12,11 @@ most_block_words = 100
 abbrev pub statistics_words : ℕ
 statistics_words = 20
 
+-- The most words of global data that go with a token. Modbus Plus Network Planning and Installation
+-- Guide.
+abbrev pub global_limit : ℕ
+global_limit = 32
+
 -- A PDU has 1 to 253 bytes. This project's own bounds.
 abbrev pub IsPduLength : List ℕ → Type 0
 IsPduLength bytes = (1 ≤ length bytes) × (length bytes ≤ most_pdu_bytes)

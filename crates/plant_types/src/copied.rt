@@ -155,6 +155,17 @@ impl<T: Copied + Drop> Copied for List<T> {
     }
 }
 
+/// Two lists, where memory suffices for both.
+fn both_copied<A: Copied + Drop, B: Copied + Drop>(
+    alloc: Global,
+    one: &List<A>,
+    other: &List<B>,
+) -> Result<(List<A>, List<B>), AllocError>
+    ensures { IfOk result (λ both. both ≡ (one.now, other.now)) }
+{
+    Ok((one.copied(alloc)?, other.copied(alloc)?))
+}
+
 impl Copied for Words {
     fn copied(&self, alloc: Global) -> Result<Self, AllocError> {
         Words::of(alloc, self.words())
@@ -243,16 +254,18 @@ impl Copied for NetPlan {
 
 impl Copied for ControllerPlan {
     fn copied(&self, alloc: Global) -> Result<Self, AllocError> {
+        let (panel, orders) = both_copied(alloc, &self.panel, &self.orders)?;
+        let (drops, segments) = both_copied(alloc, &self.drops, &self.segments)?;
         Ok(ControllerPlan {
             node: self.node,
             coils: self.coils,
             inputs: self.inputs,
             input_registers: self.input_registers,
             registers: self.registers,
-            panel: self.panel.copied(alloc)?,
-            orders: self.orders.copied(alloc)?,
-            drops: self.drops.copied(alloc)?,
-            segments: self.segments.copied(alloc)?,
+            panel,
+            orders,
+            drops,
+            segments,
         })
     }
 }

@@ -2,6 +2,12 @@
 use crate::list::List;
 use crate::words::Words;
 
+/// The most modules of a drop.
+pub const MODULE_LIMIT: usize = 16;
+
+/// The most rows of a script.
+pub const SCRIPT_LIMIT: usize = 10_000;
+
 /// What a module carries. Its forms are this project's own.
 #[derive(Clone, Copy, Debug, PartialEq, Eq)]
 pub enum ModuleKind {

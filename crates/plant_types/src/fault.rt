@@ -2,7 +2,7 @@
 ghost use Rattle.std.specs.Prelude.{◌≡◌, Some};
 ghost use Rattle.plant_types.specs.Fault.{fault_number, fault_name, fault_text, place_text};
 ghost use Rattle.plant_types.specs.Fault.{controller_place, segment_place, cell_place, order_place};
-ghost use Rattle.plant_types.specs.Fault.{panel_place, at_place};
+ghost use Rattle.plant_types.specs.Fault.{panel_place, at_place, behind_text};
 
 use std::fmt;
 
@@ -183,6 +183,39 @@ impl Place {
     }
 }
 
+/// The numbers behind a controller's, by the names of a part.
+#[derive(Clone, Copy)]
+struct Behind {
+    part: Part,
+    second: u32,
+    third: u32,
+    fourth: u32,
+}
+
+/// As in ` segment 1 network 1 cell 4`.
+impl fmt::Display for Behind {
+    ghost output = { λ behind. Some (behind_text behind) };
+
+    fn fmt<W: fmt::Write>(&self, f: &mut fmt::Formatter<W>) -> fmt::Result {
+        let Behind {
+            part,
+            second,
+            third,
+            fourth,
+        } = self;
+        match part {
+            Part::Drop => write!(f, " drop {second}"),
+            Part::Module => write!(f, " drop {second} module {third}"),
+            Part::Script => write!(f, " drop {second} script {third}"),
+            Part::Segment => write!(f, " segment {second}"),
+            Part::Cell => write!(f, " segment {second} network {third} cell {fourth}"),
+            Part::Order => write!(f, " order {second}"),
+            Part::Panel => write!(f, " panel {second}"),
+            _ => Ok(()),
+        }
+    }
+}
+
 /// As in `controller 1 segment 1 network 1 cell 4`.
 impl fmt::Display for Place {
     ghost output = { λ place. Some (place_text place) };
@@ -192,19 +225,17 @@ impl fmt::Display for Place {
         match self.part {
             Part::Plant => write!(f, "plant"),
             Part::Net => write!(f, "net"),
-            Part::Controller => write!(f, "controller {first}"),
-            Part::Drop => write!(f, "controller {first} drop {second}"),
-            Part::Module => write!(f, "controller {first} drop {second} module {third}"),
-            Part::Script => write!(f, "controller {first} drop {second} script {third}"),
-            Part::Segment => write!(f, "controller {first} segment {second}"),
-            Part::Cell => {
-                write!(f, "controller {first} segment {second}")?;
-                write!(f, " network {third} cell {fourth}")
-            }
-            Part::Order => write!(f, "controller {first} order {second}"),
-            Part::Panel => write!(f, "controller {first} panel {second}"),
             Part::Host => write!(f, "host {first}"),
             Part::HostRequest => write!(f, "host {first} request {second}"),
+            part => {
+                let behind = Behind {
+                    part,
+                    second,
+                    third,
+                    fourth,
+                };
+                write!(f, "controller {first}{behind}")
+            }
         }
     }
 }

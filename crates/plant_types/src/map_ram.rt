@@ -4,7 +4,7 @@ ghost use Rattle.std.specs.BTreeMap as tree;
 ghost use Rattle.std.specs.FinMap as map;
 ghost use Rattle.plant_types.specs.Discretes.{DiscretesAreOn};
 ghost use Rattle.plant_types.specs.MapRam.{AddsZeros};
-ghost use Rattle.plant_types.specs.Sizes.{cleared, StartsCleared, DiscretesFollow};
+ghost use Rattle.plant_types.specs.Sizes.{cleared, sizes_from, StartsCleared, DiscretesFollow};
 ghost use Rattle.plant_types.specs.Store.{Keeps, part_at};
 
 use crate::reference::{Ref, RefKind};
@@ -51,13 +51,8 @@ impl MapRam {
         input_registers: u16,
         registers: u16,
     ) -> Result<MapRam, AllocError>
-        ensures { IfOk result (λ ram. ram ≡ cleared
-            (record {
-              coils = coils;
-              inputs = inputs;
-              input_registers = input_registers;
-              registers = registers;
-            })) }
+        ensures { IfOk result (λ ram.
+            ram ≡ cleared (sizes_from coils inputs input_registers registers)) }
     {
         let mut values = BTreeMap::new(alloc);
         add_zeros(&mut values, RefKind::Register, registers)?;

@@ -55,10 +55,19 @@ pub struct HostPlan {
 }
 
 /// The highest address of a node.
-pub(crate) const NODE_LIMIT: u8 = 64;
+pub const NODE_LIMIT: u8 = 64;
+
+/// The addresses from 0 on: each node's is below this.
+pub const ADDRESSES: u8 = 65;
+
+/// The paths of a node by the network.
+pub const NETWORK_PATHS: [u8; 4] = [1, 2, 3, 4];
+
+/// The paths of a node, with path 0 of its own calls.
+pub const PATH_PLACES: usize = 5;
 
 /// The most requests of a host.
-const REQUEST_LIMIT: usize = 1000;
+pub const REQUEST_LIMIT: usize = 1000;
 
 fn is_node(node: u8) -> bool
     ensures only { result ≡ true → IsNode node }

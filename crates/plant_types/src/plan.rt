@@ -5,6 +5,9 @@ use crate::net::{HostPlan, NetPlan};
 use crate::network::Segment;
 use crate::reference::Ref;
 
+/// The most scans of a run. This project's own.
+pub const MOST_SCANS: u32 = 2000;
+
 /// A row of a controller's order of solve: what one step of its scan reads, solves and writes.
 /// Its form is this project's own.
 #[derive(Clone, Copy, Debug, PartialEq, Eq)]

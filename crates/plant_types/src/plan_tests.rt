@@ -21,7 +21,7 @@ use crate::standing::{Earlier, is_label};
 use std::marker::Model;
 
 /// The most references of a kind.
-const REFERENCE_LIMIT: u16 = 9984;
+pub const REFERENCE_LIMIT: u16 = 9984;
 
 /// The most segments of a controller.
 pub const SEGMENT_LIMIT: usize = 32;

@@ -18,6 +18,27 @@ impl NodePower {
         bottom: false,
     };
 
+    /// The top node alone.
+    pub const TOP: NodePower = NodePower {
+        top: true,
+        middle: false,
+        bottom: false,
+    };
+
+    /// The middle node alone.
+    pub const MIDDLE: NodePower = NodePower {
+        top: false,
+        middle: true,
+        bottom: false,
+    };
+
+    /// The bottom node alone.
+    pub const BOTTOM: NodePower = NodePower {
+        top: false,
+        middle: false,
+        bottom: true,
+    };
+
     /// Bit 0 is the top node, bit 1 the second, bit 2 the third; higher bits tell nothing.
     pub fn of_bits(bits: u8) -> NodePower
         ensures { result ≡ nodes_of bits }

@@ -1,6 +1,5 @@
 //! How a cell stands among all cells of its controller.
 ghost use Rattle.std.specs.Prelude.{◌≡◌, ◌-◌, nat_lt};
-ghost use Rattle.std.specs.List.{list_any};
 ghost use Rattle.plant_types.specs.Network.{driven_by};
 ghost use Rattle.plant_types.specs.Checks.{is_same};
 ghost use Rattle.plant_types.specs.Reference.{rank_of};
@@ -8,8 +7,9 @@ ghost use Rattle.plant_types.specs.FirstFault.{first_failed, is_label};
 ghost use Rattle.plant_types.specs.Standing.{cells_of_networks, cells_of_segments, cells_before};
 ghost use Rattle.plant_types.specs.Standing.{drives, coils_in, is_driven, is_label_of};
 ghost use Rattle.plant_types.specs.Standing.{repeats_label, is_message, message_count};
-ghost use Rattle.plant_types.specs.Standing.{message_limit, claims, is_claimed, standing_of};
-ghost use Rattle.plant_types.specs.Standing.{standing_tests};
+ghost use Rattle.plant_types.specs.Standing.{message_limit, claims, is_claimed};
+ghost use Rattle.plant_types.specs.Standing.{is_claimed_in_networks, is_claimed_in_segments};
+ghost use Rattle.plant_types.specs.Standing.{standing_of, standing_tests};
 
 use crate::element::Element;
 use crate::fault::PlantFault;
@@ -129,7 +129,7 @@ impl Claim {
     }
 
     fn is_in_networks(self, networks: &[Network]) -> bool
-        ensures { result ≡ list_any (λ network. is_claimed network.cells self) networks.now }
+        ensures { result ≡ is_claimed_in_networks networks.now self }
     {
         networks
             .iter()
@@ -137,8 +137,7 @@ impl Claim {
     }
 
     fn is_in_segments(self, segments: &[Segment]) -> bool
-        ensures { result ≡ list_any (λ segment.
-            list_any (λ network. is_claimed network.cells self) segment.networks) segments.now }
+        ensures { result ≡ is_claimed_in_segments segments.now self }
     {
         segments
             .iter()

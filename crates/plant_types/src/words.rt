@@ -38,7 +38,7 @@ impl Words {
 }
 
 /// The most bytes of a PDU.
-const PDU_LIMIT: usize = 253;
+pub const PDU_LIMIT: usize = 253;
 
 /// A protocol data unit: the function code and its data, 1 to 253 bytes
 /// (*Modicon Modbus Protocol Reference Guide*; the bounds are this project's own).
@@ -89,7 +89,13 @@ impl Pdu {
 }
 
 /// The most words of a `Block`.
-const BLOCK_LIMIT: usize = 100;
+pub const BLOCK_LIMIT: usize = 100;
+
+/// The words of the statistics of a station.
+pub const STATISTICS_WORDS: u16 = 20;
+
+/// The most words of global data that go with a token.
+pub const GLOBAL_LIMIT: u16 = 32;
 
 /// At most 100 words in a fixed array. This project's own.
 #[derive(Drop)]

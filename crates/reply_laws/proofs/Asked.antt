@@ -26,10 +26,10 @@ use Rattle.modbus_pdu.proofs.ReadWrites.{read_write_there}
 use Rattle.modbus_pdu.proofs.Registers.{registers_there}
 use Rattle.modbus_pdu.proofs.Requests.{with_code}
 use Rattle.ring_core.specs.Statistics.{clear_statistics, get_statistics}
-use Rattle.tied_lists.specs.Result.{counts, echoes, exchanges_registers, fits_plainly}
-use Rattle.tied_lists.specs.Result.{function_in, is_echoed, or_good, reads, reads_discretes}
-use Rattle.tied_lists.specs.Result.{reads_registers, result_of, tells_bits, told_bytes, writes_coil}
-use Rattle.tied_lists.specs.Result.{writes_coils, writes_registers}
+use Rattle.reply_laws.specs.Result.{counts, echoes, exchanges_registers, fits_plainly}
+use Rattle.reply_laws.specs.Result.{function_in, is_echoed, or_good, reads, reads_discretes}
+use Rattle.reply_laws.specs.Result.{reads_registers, result_of, tells_bits, told_bytes, writes_coil}
+use Rattle.reply_laws.specs.Result.{writes_coils, writes_registers}
 use Rattle.reply_laws.specs.Results.{UnaskedGiveCodes}
 use Rattle.reply_laws.proofs.Tests.{bytes-are, code-told, exceptions}
 use Rattle.reply_laws.proofs.Told.{told-plain}

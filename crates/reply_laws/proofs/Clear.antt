@@ -9,7 +9,7 @@ use Rattle.modbus_pdu.specs.Bytes.{bytes_for, spare_count}
 use Rattle.modbus_pdu.specs.Steps.{IsClear}
 use Rattle.modbus_pdu.proofs.Bytes.{IsBytes}
 use Rattle.modbus_pdu.proofs.Packing.{unpacked-at}
-use Rattle.tied_lists.specs.Result.{has_clear_spare}
+use Rattle.reply_laws.specs.Result.{has_clear_spare}
 
 half-on : (b k : ℕ) → b / 2 ^ k / 2 ≡ b / 2 ^ suc k
 half-on b k = div-div-eq-div-mul b (2 ^ k) 2 ∙ ap (λ (n : ℕ). b / n) (sym (pow-suc 2 k))

@@ -25,8 +25,8 @@ use Rattle.modbus_pdu.proofs.Packing.{length-packed}
 use Rattle.modbus_pdu.proofs.Registers.{counted_is}
 use Rattle.modbus_pdu.proofs.Replies.{Behind, bits_found, bits_unclear, stats_found, words_found}
 use Rattle.ring_core.specs.Statistics.{clear_statistics, get_statistics}
-use Rattle.tied_lists.specs.Result.{function_in, good, has_clear_spare, tells_bits, tells_bytes}
-use Rattle.tied_lists.specs.Result.{tells_statistics, told_bytes}
+use Rattle.reply_laws.specs.Result.{function_in, good, has_clear_spare, tells_bits, tells_bytes}
+use Rattle.reply_laws.specs.Result.{tells_statistics, told_bytes}
 use Rattle.reply_laws.specs.Results.{result_by}
 use Rattle.reply_laws.proofs.Clear.{clear-spare, spare-clear}
 use Rattle.reply_laws.proofs.Tests.{behind-tells, fits-drop, good-words, tells-behind}

@@ -12,7 +12,7 @@ use Rattle.modbus_pdu.specs.Bytes.{words_in}
 use Rattle.modbus_pdu.specs.Spelling.{exception_code}
 use Rattle.modbus_pdu.proofs.Bytes.{IsBytes, length-words_bytes, words_again}
 use Rattle.modbus_pdu.proofs.Replies.{Behind}
-use Rattle.tied_lists.specs.Result.{exception_told, function_in, good, tells_bytes}
+use Rattle.reply_laws.specs.Result.{exception_told, function_in, good, tells_bytes}
 use Rattle.reply_laws.specs.Results.{AreBytes, result_with}
 
 -- A reply is an exception reply of a function, or tells no code of it.

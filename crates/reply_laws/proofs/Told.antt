@@ -23,9 +23,9 @@ use Rattle.modbus_pdu.proofs.Matching.{write_coils_reply, write_registers_reply,
 use Rattle.modbus_pdu.proofs.Matching.{read_write_reply}
 use Rattle.modbus_pdu.proofs.Packing.{length-packed}
 use Rattle.ring_core.specs.Statistics.{get_statistics}
-use Rattle.tied_lists.specs.Result.{counts, exchanges_registers, fits_plainly, is_echoed}
-use Rattle.tied_lists.specs.Result.{reads_discretes, reads_registers, tells_bits, tells_bytes}
-use Rattle.tied_lists.specs.Result.{tells_statistics, told_bytes, writes_coils, writes_registers}
+use Rattle.reply_laws.specs.Result.{counts, exchanges_registers, fits_plainly, is_echoed}
+use Rattle.reply_laws.specs.Result.{reads_discretes, reads_registers, tells_bits, tells_bytes}
+use Rattle.reply_laws.specs.Result.{tells_statistics, told_bytes, writes_coils, writes_registers}
 use Rattle.reply_laws.proofs.Sorts.{Comes, bits-come, clear-comes, same-comes, stats-come}
 use Rattle.reply_laws.proofs.Sorts.{words-come, written-comes}
 

@@ -11,7 +11,8 @@ use Rattle.modbus_pdu.specs.declared.request.Request.{Request}
 use Rattle.modbus_pdu.specs.declared.request.Request.TheVariants as requests
 use Rattle.modbus_pdu.proofs.Bytes.{IsBytes}
 use Rattle.modbus_pdu.proofs.Matching.{IsExceptionOf, exception_found, normal_found}
-use Rattle.tied_lists.specs.Result.{exception_told, function_in, good, or_good, result_of, told_bytes}
+use Rattle.reply_laws.specs.Result.{exception_told, function_in, good, or_good, result_of}
+use Rattle.reply_laws.specs.Result.{told_bytes}
 use Rattle.reply_laws.specs.Results.{AnswersGiveTheirResult, OthersGiveNone, no_result}
 use Rattle.reply_laws.specs.Results.{result_by}
 use Rattle.reply_laws.proofs.Sorts.{Comes, to_none, to_reply}

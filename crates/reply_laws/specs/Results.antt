@@ -10,7 +10,7 @@ use Rattle.modbus_pdu.specs.Decoding.{IsSpelledReply, HasNoReply, IsUnspelled}
 use Rattle.modbus_pdu.specs.declared.request.Request.{Request}
 use Rattle.modbus_pdu.specs.declared.reply.Reply.{Reply}
 use Rattle.modbus_pdu.specs.declared.reply.Reply.TheVariants as replies
-use Rattle.tied_lists.specs.Result.{function_in, result_of}
+use Rattle.reply_laws.specs.Result.{function_in, result_of}
 
 -- Each number is a byte, as those of a PDU are.
 abbrev pub AreBytes : List ℕ → Type 0

@@ -5,7 +5,7 @@ use Rattle.std.proofs.Common.{◌∙◌, subst, inl, inr, ◌⊎◌, ⊎_elim, e
 use Rattle.std.proofs.lemmas.Bool.{cases_eq, ne_eqb}
 use Rattle.std.proofs.lemmas.List.{length-set, length-replicate, get_or-set_same, get_or-set_other}
 use Rattle.global_data.specs.Book.{Book, GlobalIs, place_at, put_at, passed_at, with_put}
-use Rattle.global_data.specs.Book.{with_passed, no_words, book_places, with_members, new_book}
+use Rattle.global_data.specs.Book.{with_passed, no_words, book_places, with_places, new_book}
 use Rattle.ring_core.specs.Words.{NetPlan, RingEntry, Post, Send, Take, Local, GiveUp, Pass, Leave}
 use Rattle.ring_core.specs.Words.{GetStats, ClearStats, PutGlobal, GetGlobal, RemoteGet}
 use Rattle.ring_core.specs.Words.{RemoteClear, CallId, MstrResult}
@@ -189,18 +189,18 @@ new_step b m new low = record {
   says = place-set (λ n o. Says o [] []) b m (Some no_words) (omega (arith, low, new.size)) (λ n no'. new.says n) (refl, refl);
 }
 
-all_new : (b : Book) (ms : List ℕ) → All (λ m. m < addresses) ms → IsNew b → IsNew (with_members b ms)
+all_new : (b : Book) (ms : List ℕ) → All (λ m. m < addresses) ms → IsNew b → IsNew (with_places b ms)
 all_new b [] all new = new
 all_new b (m ∷ ms) all new = all_new (set b m (Some no_words)) ms (low-tail m ms all) (new_step b m new (low-head m ms all))
 
 -- who has a place keeps it
-kept_place : (b : Book) (ms : List ℕ) (n : ℕ) → All (λ m. m < addresses) ms → IsNew b → place_at b n ≢ None → place_at (with_members b ms) n ≢ None
+kept_place : (b : Book) (ms : List ℕ) (n : ℕ) → All (λ m. m < addresses) ms → IsNew b → place_at b n ≢ None → place_at (with_places b ms) n ≢ None
 kept_place b [] n all new there = there
 kept_place b (m ∷ ms) n all new there = kept_place (set b m (Some no_words)) ms n (low-tail m ms all) (new_step b m new (low-head m ms all))
     (place-set (λ k o. place_at b k ≢ None → o ≢ None) b m (Some no_words) (omega (arith, low-head m ms all, new.size)) (λ k no' was. was)
     (λ was e. absurd (cc)) n there)
 
-got_place : (b : Book) (ms : List ℕ) (n : ℕ) → All (λ m. m < addresses) ms → IsNew b → Contains ms n → place_at (with_members b ms) n ≢ None
+got_place : (b : Book) (ms : List ℕ) (n : ℕ) → All (λ m. m < addresses) ms → IsNew b → Contains ms n → place_at (with_places b ms) n ≢ None
 got_place b [] n all new member = absurd (omega (arith, member.1))
 got_place b (m ∷ ms) n all new (zero, low, is) =
     let there : place_at (set b m (Some no_words)) m ≢ None = λ q. none_some
@@ -211,7 +211,7 @@ got_place b (m ∷ ms) n all new (suc k, low, is) = got_place (set b m (Some no_
     (new_step b m new (low-head m ms all)) (k, omega (arith, low), is)
 
 -- who has a place had it or is a member
-only_place : (b : Book) (ms : List ℕ) (n : ℕ) → All (λ m. m < addresses) ms → IsNew b → place_at (with_members b ms) n ≢ None
+only_place : (b : Book) (ms : List ℕ) (n : ℕ) → All (λ m. m < addresses) ms → IsNew b → place_at (with_places b ms) n ≢ None
     → (place_at b n ≢ None) ⊎ Contains ms n
 only_place b [] n all new there = inl there
 only_place b (m ∷ ms) n all new there =

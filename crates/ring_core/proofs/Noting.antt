@@ -12,7 +12,7 @@ use Rattle.ring_core.specs.Legal.{IsMember}
 use Rattle.ring_core.specs.Kept.{stats_at, noted_at, noted_all, joined_stats, opening_stats}
 use Rattle.ring_core.specs.Kept.{stats_after}
 
-length-noted : (stats : List StatsIs) (notes : List Note) → length (noted_all stats notes) ≡ length stats
+pub length-noted : (stats : List StatsIs) (notes : List Note) → length (noted_all stats notes) ≡ length stats
 length-noted stats [] = refl
 length-noted stats (note ∷ notes) = length-noted (noted_at stats note) notes ∙ length-set stats note.node _
 

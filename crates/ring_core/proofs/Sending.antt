@@ -9,9 +9,9 @@ use Rattle.ring_core.specs.Machine.{NodeIs, RingIs, ring_node, part_of, fresh, f
 use Rattle.ring_core.specs.Machine.{arrival, arrived, heard_by, sent_head, sent_one}
 use Rattle.ring_core.specs.Refusals.{turn_no, empty_no, or_no}
 use Rattle.ring_core.specs.Scratch.{counts, heard_event, arrival_notes, sent_notes, send_notes}
-use Rattle.ring_core.specs.Scratch.{notes_of}
+use Rattle.ring_core.specs.Scratch.{ring_notes}
 use Rattle.ring_core.specs.Legal.{IsMember, IsFirst, IsHeard}
-use Rattle.ring_core.specs.Kept.{IsKept, RingLog, ring_of, noted_at, noted_all}
+use Rattle.ring_core.specs.Kept.{IsRingKept, RingLog, ring_of, noted_at, noted_all}
 use Rattle.ring_core.proofs.Runs.{noted_two}
 use Rattle.ring_core.proofs.Keeping.{kept-call, opened, within}
 
@@ -29,7 +29,7 @@ is-heard net r (g ∷ gs) f h first heard = heard
 
 -- the same for a call, whose first frame is said of the value
 told-send : (w v : RingLog) (r : RingIs) (s : List StatsIs) (b : Book) (n : ℕ) (f : Frame) (h : Heard) (fate : Fate) (fall : Option Fell)
-    → w ≡ v → IsKept w.net w.history r s b → IsFirst (ring_node (ring_of v) n).outbox f
+    → w ≡ v → IsRingKept w.net w.history r s b → IsFirst (ring_node (ring_of v) n).outbox f
     → fate ≡ fate_at w.net.fates r.sent → fall ≡ arrival r.nodes fate f → h ≡ heard_of fate fall
     → IsHeard v.net (ring_of v) (ring_node (ring_of v) n).outbox h
 told-send w v r s b n f h fate fall is k first fate_is fall_is h_is =
@@ -55,11 +55,11 @@ length-arrived nodes f (Some fall) = length-set nodes f.to _
 
 pub kept-send : (w v : RingLog) (g : List RingEntry) (r : RingIs) (s s1 s2 : List StatsIs) (b : Book) (n : ℕ) (f : Frame) (h : Heard)
     (there : Bool) (fate : Fate) (fall : Option Fell) (ns : List NodeIs) (p q : NodeIs)
-    → w ≡ v → IsKept w.net w.history r s b → IsMember v.net n → turn_no (ring_of v) n ≡ None → IsFirst (ring_node (ring_of v) n).outbox f
+    → w ≡ v → IsRingKept w.net w.history r s b → IsMember v.net n → turn_no (ring_of v) n ≡ None → IsFirst (ring_node (ring_of v) n).outbox f
     → fate ≡ fate_at w.net.fates r.sent → there ≡ (ring_node r f.to).here → fall ≡ arrival r.nodes fate f → h ≡ heard_of fate fall → ns ≡ arrived r.nodes f fall
     → p ≡ get_or ns n p → q ≡ heard_by p f.kind f.id there h
     → s1 ≡ noted_all s (arrival_notes f.to fall) → s2 ≡ noted_at s1 (counts n (heard_event h)) → g ≡ w.history ++ Send n h ∷ []
-    → IsKept w.net g (record { holder = r.holder; sent = r.sent + 1; nodes = set ns n q }) s2 b
+    → IsRingKept w.net g (record { holder = r.holder; sent = r.sent + 1; nodes = set ns n q }) s2 b
 kept-send w v g r s s1 s2 b n f h there fate fall ns p q is k member turn first fate_is there_is fall_is h_is ns_is p_is q_is s1_is s2_is grows =
     let same = opened w v r s b is k in
     let fate' = fate_at w.net.fates r.sent in
@@ -77,7 +77,7 @@ kept-send w v g r s s1 s2 b n f h there fate fall ns p q is k member turn first 
     λ i. record { holder = r.holder; sent = r.sent + 1; nodes = set (nodes i) n (node i) } in
     let noted : s2 ≡ noted_all s (arrival_notes f.to fall ++ counts n (heard_event h) ∷ []) = s2_is
     ∙ (ap (λ (l : List StatsIs). noted_at l (counts n (heard_event h))) s1_is ∙ noted_two s (arrival_notes f.to fall) (counts n (heard_event h))) in
-    let notes : s2 ≡ noted_all s (notes_of w.net r (Send n h)) = noted
+    let notes : s2 ≡ noted_all s (ring_notes w.net r (Send n h)) = noted
     ∙ ((λ i. noted_all s (arrival_notes f.to (fell i) ++ counts n (heard_event (heard i)) ∷ [])) ∙ ap (noted_all s) (sym t.notes)) in
     let lets : or_no (turn_no (ring_of v) n) (empty_no (ring_node (ring_of v) n).outbox) ≡ None =
     subst (λ (x : RingIs). or_no (turn_no x n) (empty_no (ring_node x n).outbox) ≡ None) (sym same) t.lets in

@@ -14,7 +14,7 @@ use Rattle.ring_core.specs.Machine.{asked, took, after_pass, aged, aged_await, g
 use Rattle.ring_core.specs.Machine.{is_head, with_frame, heard_by, sent_off, failed, arrived}
 use Rattle.ring_core.specs.Machine.{arrival, sent_head, heard_of, fate_at, addresses, opening}
 use Rattle.ring_core.specs.Machine.{with_members, after, silence_word, busy_word}
-use Rattle.ring_core.specs.Kept.{IsSound, IsSoundRing}
+use Rattle.ring_core.specs.Kept.{IsSoundNode, IsSoundRing}
 
 -- what holds at each place of a list, past its end too, after a write
 pub each-set : {X : Type 0} (P : X → Type 0) (xs : List X) (d : X) (m : ℕ) (x : X) → ((n : ℕ) → P (get_or xs n d)) → P x → (n : ℕ) → P (get_or (set xs m x) n d)
@@ -33,7 +33,7 @@ each-map P Q f (y ∷ ys) d step it all (suc n) = each-map P Q f ys d step it (�
 abbrev WaitsAtMost : ℕ → Path → Type 0
 WaitsAtMost k p = passes_of p.awaits ≤ k
 
-later : (k : ℕ) (c : NodeIs) → IsSound k c → IsSound (k + 1) c
+later : (k : ℕ) (c : NodeIs) → IsSoundNode k c → IsSoundNode (k + 1) c
 later k c s = record {
   tries = s.tries;
   passes = omega (arith, s.passes);
@@ -45,7 +45,7 @@ later k c s = record {
 }
 
 -- new paths
-repathed : (k : ℕ) (c : NodeIs) (path : ℕ) (new : Path) → IsSound k c → passes_of new.awaits ≤ k → IsSound k (record c { paths = set c.paths path new })
+repathed : (k : ℕ) (c : NodeIs) (path : ℕ) (new : Path) → IsSoundNode k c → passes_of new.awaits ≤ k → IsSoundNode k (record c { paths = set c.paths path new })
 repathed k c path new s low = record {
   tries = s.tries;
   passes = s.passes;
@@ -57,17 +57,17 @@ repathed k c path new s low = record {
 }
 
 -- other boxes and tries
-reboxed : (k : ℕ) (c : NodeIs) (outbox inbox : List Frame) (tries : ℕ) → IsSound k c → tries ≤ 2
-    → IsSound k (record c { outbox = outbox; inbox = inbox; tries = tries })
+reboxed : (k : ℕ) (c : NodeIs) (outbox inbox : List Frame) (tries : ℕ) → IsSoundNode k c → tries ≤ 2
+    → IsSoundNode k (record c { outbox = outbox; inbox = inbox; tries = tries })
 reboxed k c outbox inbox tries s low = record { tries = low; passes = s.passes; done_run = s.done_run; paths = s.paths; accepted = s.accepted; waits = s.waits }
 
-posted-sound : (k : ℕ) (c : NodeIs) (f : Frame) (kind : FrameKind) → IsSound k c
-    → IsSound k (record c { outbox = c.outbox ++ f ∷ []; paths = asked c kind f.id f.to })
+posted-sound : (k : ℕ) (c : NodeIs) (f : Frame) (kind : FrameKind) → IsSoundNode k c
+    → IsSoundNode k (record c { outbox = c.outbox ++ f ∷ []; paths = asked c kind f.id f.to })
 posted-sound k c f Request s = repathed k (record c { outbox = c.outbox ++ f ∷ [] }) f.id.path _
     (reboxed k c (c.outbox ++ f ∷ []) c.inbox c.tries s s.tries) (omega arith)
 posted-sound k c f Reply s = reboxed k c (c.outbox ++ f ∷ []) c.inbox c.tries s s.tries
 
-took-sound : (k : ℕ) (c : NodeIs) (kind : FrameKind) (id : CallId) → IsSound k c → IsSound k (took c kind id)
+took-sound : (k : ℕ) (c : NodeIs) (kind : FrameKind) (id : CallId) → IsSoundNode k c → IsSoundNode k (took c kind id)
 took-sound k c Request id s = reboxed k c c.outbox (drop 1 c.inbox) c.tries s s.tries
 took-sound k c Reply id s = repathed k (record c { inbox = drop 1 c.inbox }) id.path _ (reboxed k c c.outbox (drop 1 c.inbox) c.tries s s.tries) (omega arith)
 
@@ -75,7 +75,7 @@ few_tries : (head : Bool) (tries : ℕ) → tries ≤ 2 → cond head 0 tries �
 few_tries true tries low = omega arith
 few_tries false tries low = low
 
-gave_up-sound : (k : ℕ) (c : NodeIs) (id : CallId) → IsSound k c → IsSound k (gave_up c id)
+gave_up-sound : (k : ℕ) (c : NodeIs) (id : CallId) → IsSoundNode k c → IsSoundNode k (gave_up c id)
 gave_up-sound k c id s =
     let outbox = filter (λ f. not (asks_for id f)) c.outbox in
     let tries = cond (is_head id c.outbox) 0 c.tries in
@@ -92,7 +92,7 @@ run-low : (k run : ℕ) (done : Bool) → run ≤ k → cond done (run + 1) 0 �
 run-low k run true h = omega arith
 run-low k run false h = omega arith
 
-passed-sound : (k : ℕ) (c : NodeIs) (done : Bool) → IsSound k c → IsSound (k + 1) (after_pass c done)
+passed-sound : (k : ℕ) (c : NodeIs) (done : Bool) → IsSoundNode k c → IsSoundNode (k + 1) (after_pass c done)
 passed-sound k c done s = record {
   tries = s.tries;
   passes = omega (arith, s.passes);
@@ -103,10 +103,10 @@ passed-sound k c done s = record {
       each-map (WaitsAtMost k) (WaitsAtMost (k + 1)) aged c.paths no_path (λ p h. aged-waits k p.awaits h) (omega arith) s.waits;
 }
 
-gone-sound : (k : ℕ) (c : NodeIs) → IsSound k c → IsSound k (gone c)
+gone-sound : (k : ℕ) (c : NodeIs) → IsSoundNode k c → IsSoundNode k (gone c)
 gone-sound k c s = record { tries = s.tries; passes = s.passes; done_run = s.done_run; paths = s.paths; accepted = s.accepted; waits = s.waits }
 
-received-sound : (k : ℕ) (c : NodeIs) (fall : Fell) (f : Frame) → IsSound k c → IsSound k (with_frame c fall f)
+received-sound : (k : ℕ) (c : NodeIs) (fall : Fell) (f : Frame) → IsSoundNode k c → IsSoundNode k (with_frame c fall f)
 received-sound k c AcceptedRequest f s = record {
   tries = s.tries;
   passes = s.passes;
@@ -122,31 +122,31 @@ received-sound k c AcceptedReply f s = repathed k (record c { inbox = c.inbox ++
     (reboxed k c c.outbox (c.inbox ++ f ∷ []) c.tries s s.tries) (omega arith)
 received-sound k c DroppedReply f s = s
 
-failed-sound : (k : ℕ) (c : NodeIs) (kind : FrameKind) (id : CallId) (word : ℕ) → IsSound k c → IsSound k (sent_off c (failed c kind id word))
+failed-sound : (k : ℕ) (c : NodeIs) (kind : FrameKind) (id : CallId) (word : ℕ) → IsSoundNode k c → IsSoundNode k (sent_off c (failed c kind id word))
 failed-sound k c Request id word s = repathed k (record c { outbox = drop 1 c.outbox; tries = 0 }) id.path _
     (reboxed k c (drop 1 c.outbox) c.inbox 0 s (omega arith)) (omega arith)
 failed-sound k c Reply id word s = reboxed k c (drop 1 c.outbox) c.inbox 0 s (omega arith)
 
-heard-sound : (k : ℕ) (c : NodeIs) (kind : FrameKind) (id : CallId) (there : Bool) (h : Heard) → IsSound k c → IsSound k (heard_by c kind id there h)
+heard-sound : (k : ℕ) (c : NodeIs) (kind : FrameKind) (id : CallId) (there : Bool) (h : Heard) → IsSoundNode k c → IsSoundNode k (heard_by c kind id there h)
 heard-sound k c kind id there Acked s = reboxed k c (drop 1 c.outbox) c.inbox 0 s (omega arith)
 heard-sound k c kind id there Busy s = failed-sound k c kind id busy_word s
 heard-sound k c kind id there Silent s =
-    cond_both (nat_le 2 c.tries) _ _ (IsSound k) (λ _. failed-sound k c kind id (silence_word there) s)
+    cond_both (nat_le 2 c.tries) _ _ (IsSoundNode k) (λ _. failed-sound k c kind id (silence_word there) s)
     (λ few. reboxed k c c.outbox c.inbox (c.tries + 1) s (omega (arith, leb-false 2 c.tries few)))
 
 record AreSound (k : ℕ) (nodes : List NodeIs) : Type 0 where
   pub size : length nodes ≡ addresses
-  pub each : (n : ℕ) → IsSound k (part_of nodes n)
+  pub each : (n : ℕ) → IsSoundNode k (part_of nodes n)
 
 arrived-sound : (k : ℕ) (nodes : List NodeIs) (f : Frame) (fall : Option Fell) → AreSound k nodes → AreSound k (arrived nodes f fall)
 arrived-sound k nodes f None s = s
 arrived-sound k nodes f (Some fall) s = record {
   size = length-set nodes f.to _
       ∙ s.size;
-  each = each-set (IsSound k) nodes (fresh false) f.to _ s.each (received-sound k (part_of nodes f.to) fall f (s.each f.to));
+  each = each-set (IsSoundNode k) nodes (fresh false) f.to _ s.each (received-sound k (part_of nodes f.to) fall f (s.each f.to));
 }
 
-all-later : (k : ℕ) (nodes : List NodeIs) → ((n : ℕ) → IsSound k (part_of nodes n)) → (n : ℕ) → IsSound (k + 1) (part_of nodes n)
+all-later : (k : ℕ) (nodes : List NodeIs) → ((n : ℕ) → IsSoundNode k (part_of nodes n)) → (n : ℕ) → IsSoundNode (k + 1) (part_of nodes n)
 all-later k nodes all n = later k (part_of nodes n) (all n)
 
 sent-sound : (net : NetPlan) (k : ℕ) (r : RingIs) (n : ℕ) (box : List Frame) → IsSoundRing k r → IsSoundRing (k + 1) (sent_head net r n box)
@@ -160,17 +160,17 @@ sent-sound net k r n (f ∷ fs) s =
       sent = omega (arith, s.sent);
       size = length-set nodes n _
           ∙ a.size;
-      each = all-later k _ (each-set (IsSound k) nodes (fresh false) n _ a.each
+      each = all-later k _ (each-set (IsSoundNode k) nodes (fresh false) n _ a.each
           (heard-sound k (part_of nodes n) f.kind f.id (ring_node r f.to).here (heard_of fate fall) (a.each n)));
     }
 
 -- one node's part is written
-put-sound : (k : ℕ) (r : RingIs) (n : ℕ) (c : NodeIs) → IsSoundRing k r → IsSound k c → IsSoundRing (k + 1) (record r { nodes = set r.nodes n c })
+put-sound : (k : ℕ) (r : RingIs) (n : ℕ) (c : NodeIs) → IsSoundRing k r → IsSoundNode k c → IsSoundRing (k + 1) (record r { nodes = set r.nodes n c })
 put-sound k r n c s it = record {
   sent = omega (arith, s.sent);
   size = length-set r.nodes n c
       ∙ s.size;
-  each = all-later k (set r.nodes n c) (each-set (IsSound k) r.nodes (fresh false) n c s.each it);
+  each = all-later k (set r.nodes n c) (each-set (IsSoundNode k) r.nodes (fresh false) n c s.each it);
 }
 
 pub after-sound : (net : NetPlan) (k : ℕ) (r : RingIs) (e : RingEntry) → IsSoundRing k r → IsSoundRing (k + 1) (after net r e)
@@ -183,13 +183,13 @@ after-sound net k r (Pass n done words) s = record {
   sent = omega (arith, s.sent);
   size = length-set r.nodes n _
       ∙ s.size;
-  each = each-set (IsSound (k + 1)) r.nodes (fresh false) n _ (all-later k r.nodes s.each) (passed-sound k (ring_node r n) done (s.each n));
+  each = each-set (IsSoundNode (k + 1)) r.nodes (fresh false) n _ (all-later k r.nodes s.each) (passed-sound k (ring_node r n) done (s.each n));
 }
 after-sound net k r (Leave n cause) s = record {
   sent = omega (arith, s.sent);
   size = length-set r.nodes n _
       ∙ s.size;
-  each = all-later k _ (each-set (IsSound k) r.nodes (fresh false) n _ s.each (gone-sound k (ring_node r n) (s.each n)));
+  each = all-later k _ (each-set (IsSoundNode k) r.nodes (fresh false) n _ s.each (gone-sound k (ring_node r n) (s.each n)));
 }
 
 each-replicate : {X : Type 0} (P : X → Type 0) (n : ℕ) (x : X) → P x → (m : ℕ) → P (get_or (replicate n x) m x)
@@ -197,7 +197,7 @@ each-replicate P zero x it m = it
 each-replicate P (suc n) x it zero = it
 each-replicate P (suc n) x it (suc m) = each-replicate P n x it m
 
-fresh-sound : (here : Bool) → IsSound 0 (fresh here)
+fresh-sound : (here : Bool) → IsSoundNode 0 (fresh here)
 fresh-sound here = record {
   tries = omega arith;
   passes = omega arith;
@@ -211,10 +211,10 @@ fresh-sound here = record {
 joined-sound : (nodes : List NodeIs) (ms : List ℕ) → AreSound 0 nodes → AreSound 0 (with_members nodes ms)
 joined-sound nodes [] s = s
 joined-sound nodes (m ∷ ms) s = joined-sound (set nodes m (fresh true)) ms
-    (record { size = length-set nodes m _ ∙ s.size; each = each-set (IsSound 0) nodes (fresh false) m _ s.each (fresh-sound true) })
+    (record { size = length-set nodes m _ ∙ s.size; each = each-set (IsSoundNode 0) nodes (fresh false) m _ s.each (fresh-sound true) })
 
 pub opening-sound : (net : NetPlan) → IsSoundRing 0 (opening net)
 opening-sound net =
     let s = joined-sound (replicate addresses (fresh false)) net.members
-    (record { size = length-replicate addresses (fresh false); each = each-replicate (IsSound 0) addresses (fresh false) (fresh-sound false) }) in
+    (record { size = length-replicate addresses (fresh false); each = each-replicate (IsSoundNode 0) addresses (fresh false) (fresh-sound false) }) in
     record { sent = omega arith; size = s.size; each = s.each }

@@ -11,10 +11,11 @@ use Rattle.ring_core.specs.Words.{Acked, Silent, Busy, RingNo, NotMember, NotHol
 use Rattle.ring_core.specs.Machine.{NodeIs, RingIs, part_of, ring_node, fresh, after, opening}
 use Rattle.ring_core.specs.Machine.{ring_after, posted, gave_up, fate_reaches, arrival, arrived}
 use Rattle.ring_core.specs.Machine.{fell, with_frame, heard_by, heard_of, fate_at, sent_head}
-use Rattle.ring_core.specs.Machine.{sent_off, failed, silence_word}
+use Rattle.ring_core.specs.Machine.{sent_off, failed, silence_word, is_here}
 use Rattle.ring_core.specs.Refusals.{turn_no, free_no, or_no, least_done, least_of, or_zero}
 use Rattle.ring_core.specs.Legal.{IsTimelyEntry}
-use Rattle.ring_core.specs.Stability.{Stays, HolderStays, LeftStays, IsLeave, MemberStays}
+use Rattle.ring_core.specs.Stability.{Stays, HolderStays, LeftStays, IsLeave, MemberStays, BoxesStay}
+use Rattle.ring_core.specs.Stability.{HoldersKeep, OutsidersKeep}
 use Rattle.ring_core.proofs.Runs.{after_all-push}
 
 first_none : (a b : Option RingNo) → or_no a b ≡ None → a ≡ None
@@ -177,3 +178,27 @@ member-stays net past (e ∷ es) n there none =
     ∙ step-member net (ring_after net past) n e there none.0 in
     let more = member-stays net (past ++ e ∷ []) es n one none.1 in
     ap (λ (l : List RingEntry). (ring_node (ring_after net l) n).here) (sym (append_assoc past (e ∷ []) es)) ∙ more
+
+-- equal parts have equal boxes
+boxes-stay : (c d : NodeIs) → d ≡ c → BoxesStay c d
+boxes-stay c d e = record {
+  outbox = ap (λ (x : NodeIs). x.outbox) e;
+  tries = ap (λ (x : NodeIs). x.tries) e;
+  inbox = ap (λ (x : NodeIs). x.inbox) e;
+  paths = ap (λ (x : NodeIs). x.paths) e;
+  accepted = ap (λ (x : NodeIs). x.accepted) e;
+}
+
+pub holders-keep : HoldersKeep
+holders-keep net past more n run there h none =
+    let s = holder-stays net past more n run h none in
+    record {
+      holder = s.holder;
+      here = ap is_here s.part;
+      boxes = boxes-stay (ring_node (ring_after net past) n) (ring_node (ring_after net (past ++ more)) n) s.part;
+      quiet = s.quiet;
+    }
+
+pub outsiders-keep : OutsidersKeep
+outsiders-keep net past more n out_before out_after none =
+    boxes-stay (ring_node (ring_after net past) n) (ring_node (ring_after net (past ++ more)) n) (left-stays net past more n out_before none)

@@ -1,11 +1,13 @@
 -- What a contract sees of a ring, and what its fields keep. This project's own.
 use Rattle.std.specs.Prelude.{◌+◌, ◌-◌, ◌≡◌, ◌≢◌, ℕ, ◌<◌, ◌≤◌, List, [], ◌∷◌, ◌++◌, length, get_or}
 use Rattle.std.specs.Prelude.{set, replicate, All, Option, Some, None, Result, MatchResult, ◌⊎◌}
+use Rattle.std.specs.Prelude.{Bool, MatchOption}
 use Rattle.ring_core.specs.Words.{NetPlan, RingEntry, Local, Pass, RingNo, NoMemory, LocalOp}
-use Rattle.ring_core.specs.Words.{PutGlobal}
+use Rattle.ring_core.specs.Words.{PutGlobal, Take, Frame, Heard, LeaveCause}
 use Rattle.ring_core.specs.Machine.{NodeIs, RingIs, ring_after, opening, addresses, path_places}
 use Rattle.ring_core.specs.Machine.{sources, ring_node, path_of, passes_of}
-use Rattle.ring_core.specs.Legal.{IsLegal, IsMember}
+use Rattle.ring_core.specs.Refusals.{leave_no}
+use Rattle.ring_core.specs.Legal.{IsLegal, IsMember, IsFirst, IsHeard}
 use Rattle.ring_core.specs.Scratch.{Note, all_notes, words_put, heard_words}
 use Rattle.station_stats.specs.Counts.{StatsIs, cleared, noted}
 use Rattle.global_data.specs.Book.{Book, GlobalIs, place_at, with_put, with_passed}
@@ -27,11 +29,30 @@ with_entry v e = record { net = v.net; history = v.history ++ e ∷ []; spare = 
 abbrev pub with_spare_entry : RingLog → RingEntry → RingLog
 with_spare_entry v e = record { net = v.net; history = v.history ++ e ∷ []; spare = v.spare - 1 }
 
--- A call is refused exactly where this says, and for want of memory only where nothing else
--- refuses it.
+-- A call is refused exactly where this says. NoMemory comes only where nothing else refuses it.
 abbrev pub RefusedAs : {T : Type 0} → Result T RingNo → Option RingNo → Type 0
 RefusedAs r why = MatchResult r (λ _. why ≡ None)
     (λ refused. (why ≡ Some refused) ⊎ ((refused ≡ NoMemory) × (why ≡ None)))
+
+-- A Leave, which takes no memory, is refused for its reason alone, and then nothing changes.
+abbrev pub StayedFor : RingLog → ℕ → LeaveCause → RingLog → RingNo → Type 0
+StayedFor old n cause new why =
+    (leave_no old.net (ring_of old) n cause ≡ Some why) × (new ≡ old)
+
+-- A node takes the first frame of its inbox, and that is noted; none where there is none, and then
+-- nothing is noted.
+abbrev pub IsTaken : ℕ → RingLog → RingLog → Option Frame → Type 0
+IsTaken n old new taken = MatchOption taken
+    (((ring_node (ring_of old) n).inbox ≡ []) × (new ≡ old))
+    (λ f. IsFirst (ring_node (ring_of old) n).inbox f × (new ≡ with_entry old (Take n f)))
+
+-- What a node is told of the first frame of its outbox.
+abbrev pub IsToldOf : RingLog → ℕ → Heard → Type 0
+IsToldOf v n heard = IsHeard v.net (ring_of v) (ring_node (ring_of v) n).outbox heard
+
+-- A node has passed the token with the words that it put.
+abbrev pub passed_on : RingLog → ℕ → Bool → RingLog
+passed_on v n done = with_entry v (Pass n done (words_put n v.history))
 
 -- Counters of all stations that run along.
 abbrev pub stats_at : List StatsIs → ℕ → StatsIs
@@ -77,7 +98,7 @@ book_step book (Pass n done words) = with_passed book n
 book_step book _ = book
 
 -- Sizes and bounds of a node's part after so many entries.
-pub record IsSound (k : ℕ) (c : NodeIs) : Type 0 where
+pub record IsSoundNode (k : ℕ) (c : NodeIs) : Type 0 where
   pub tries : c.tries ≤ 2
   pub passes : c.passes ≤ k
   pub done_run : c.done_run ≤ k
@@ -88,10 +109,10 @@ pub record IsSound (k : ℕ) (c : NodeIs) : Type 0 where
 pub record IsSoundRing (k : ℕ) (r : RingIs) : Type 0 where
   pub sent : r.sent ≤ k
   pub size : length r.nodes ≡ addresses
-  pub each : (n : ℕ) → IsSound k (ring_node r n)
+  pub each : (n : ℕ) → IsSoundNode k (ring_node r n)
 
 -- The fields are the ring, the counters and the book that a legal history leads to.
-pub record IsKept (net : NetPlan) (history : List RingEntry) (ring : RingIs)
+pub record IsRingKept (net : NetPlan) (history : List RingEntry) (ring : RingIs)
     (stats : List StatsIs) (book : Book) : Type 0 where
   pub members : All (λ m. m < addresses) net.members
   pub fates : 0 < length net.fates
@@ -101,8 +122,8 @@ pub record IsKept (net : NetPlan) (history : List RingEntry) (ring : RingIs)
   pub counters : stats ≡ stats_after net history
   pub said : IsBook net history book
 
--- The same, with room for the spare.
-pub record IsWhole (net : NetPlan) (history : List RingEntry) (ring : RingIs)
+-- A ring is kept so, with room for its spare.
+pub record IsWholeRing (net : NetPlan) (history : List RingEntry) (ring : RingIs)
     (stats : List StatsIs) (book : Book) (spare capacity : ℕ) : Type 0 where
-  pub kept : IsKept net history ring stats book
+  pub kept : IsRingKept net history ring stats book
   pub room : length history + spare ≤ capacity

@@ -1,10 +1,11 @@
 -- Legal histories of the ring. This project's own.
 use Rattle.std.specs.Prelude.{◌≡◌, ◌≢◌, ℕ, ◌<◌, ◌≤◌, List, [], ◌∷◌, ◌++◌, length, None, Contains}
+use Rattle.plant_types.specs.Words.{global_limit}
 use Rattle.ring_core.specs.Words.{CallId, FrameKind, Request, Reply, Frame, LocalOp, PutGlobal}
 use Rattle.ring_core.specs.Words.{Heard, NetPlan, RingEntry, Post, Send, Take, Local, GiveUp, Pass}
 use Rattle.ring_core.specs.Words.{Leave}
 use Rattle.ring_core.specs.Machine.{NodeIs, RingIs, ring_node, path_of, fate_at, arrival, heard_of}
-use Rattle.ring_core.specs.Machine.{ring_after}
+use Rattle.ring_core.specs.Machine.{ring_after, took}
 use Rattle.ring_core.specs.Refusals.{turn_no, free_no, post_no, send_no, pass_no, leave_no}
 use Rattle.ring_core.specs.Refusals.{give_up_no, word_of}
 use Rattle.ring_core.specs.Scratch.{words_put, local_result}
@@ -29,13 +30,17 @@ IsNextNumber c Reply id = Unit {0}
 
 -- Condition of a Local: at most 32 words are put.
 abbrev pub HasRoom : LocalOp → Type 0
-HasRoom (PutGlobal words) = length words ≤ 32
+HasRoom (PutGlobal words) = length words ≤ global_limit
 HasRoom _ = Unit {0}
 
 -- The first frame of a box.
 abbrev pub IsFirst : List Frame → Frame → Type 0
 IsFirst [] f = ⊥
 IsFirst (g ∷ gs) f = g ≡ f
+
+-- The first frame of a node's inbox was taken.
+abbrev pub TookFirst : NodeIs → NodeIs → Frame → Type 0
+TookFirst old new f = IsFirst old.inbox f × (new ≡ took old f.kind f.id)
 
 -- What is told of the first frame.
 abbrev pub IsHeard : NetPlan → RingIs → List Frame → Heard → Type 0

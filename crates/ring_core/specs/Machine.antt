@@ -44,6 +44,14 @@ sources = 325
 abbrev pub source_of : CallId → ℕ
 source_of id = path_places * id.node + id.path
 
+-- The greatest number that was accepted of a source, by how numbers are kept; 0 for none.
+abbrev pub accepted_of : List ℕ → CallId → ℕ
+accepted_of accepted id = get_or accepted (source_of id) 0
+
+-- A source's number becomes the greatest that was accepted of it.
+abbrev pub accepting : List ℕ → CallId → List ℕ
+accepting accepted id = set accepted (source_of id) id.seq
+
 abbrev pub no_path : Path
 no_path = record { awaits = Nothing; posted = 0 }
 
@@ -66,6 +74,10 @@ part_of nodes n = get_or nodes n (fresh false)
 abbrev pub ring_node : RingIs → ℕ → NodeIs
 ring_node r n = part_of r.nodes n
 
+-- A node is a member now.
+abbrev pub is_here : NodeIs → Bool
+is_here c = c.here
+
 -- A path of a node.
 abbrev pub path_of : NodeIs → ℕ → Path
 path_of c path = get_or c.paths path no_path
@@ -81,9 +93,12 @@ awaited_number (Arrived seq) = seq
 awaited_number (Failed seq word) = seq
 
 -- A path awaits something else.
+abbrev pub paths_awaiting : List Path → ℕ → Await → List Path
+paths_awaiting paths path awaits =
+    set paths path (record { awaits = awaits; posted = (get_or paths path no_path).posted })
+
 abbrev pub awaiting : NodeIs → ℕ → Await → List Path
-awaiting c path awaits =
-    set c.paths path (record { awaits = awaits; posted = (path_of c path).posted })
+awaiting c path awaits = paths_awaiting c.paths path awaits
 
 -- Post: the frame goes last in the outbox, and a Request's path is out.
 abbrev pub asked : NodeIs → FrameKind → CallId → ℕ → List Path
@@ -153,7 +168,7 @@ gone c = record c { here = false; inbox = [] }
 -- The least member from a place on; 0 where there is none.
 abbrev pub least_from : List NodeIs → ℕ → ℕ
 least_from [] at = 0
-least_from (c ∷ cs) at = if c.here then at else least_from cs (at + 1)
+least_from (c ∷ cs) at = if is_here c then at else least_from cs (at + 1)
 
 abbrev pub or_else : ℕ → ℕ → ℕ
 or_else zero b = b
@@ -177,13 +192,17 @@ told D heard = heard
 told L heard = Silent
 told A heard = Silent
 
--- A frame arrives where its target is a member and the letter lets it through.
+-- The target of a frame hears it where it is a member.
+abbrev pub hears : List NodeIs → ℕ → Bool
+hears nodes to = is_here (part_of nodes to)
+
+-- A frame arrives where its target hears it and the letter lets it through.
 abbrev pub arrives : List NodeIs → Fate → ℕ → Bool
-arrives nodes fate to = if (part_of nodes to).here then fate_reaches fate else false
+arrives nodes fate to = if hears nodes to then fate_reaches fate else false
 
 -- A number that was accepted of its source already, or a lower one.
 abbrev pub is_repeat : NodeIs → CallId → Bool
-is_repeat c id = nat_le id.seq (get_or c.accepted (source_of id) 0)
+is_repeat c id = nat_le id.seq (accepted_of c.accepted id)
 
 -- Four Requests are in the inbox.
 abbrev pub is_full : NodeIs → Bool
@@ -207,7 +226,7 @@ fell c Reply id =
 abbrev pub with_frame : NodeIs → Fell → Frame → NodeIs
 with_frame c AcceptedRequest f = record c {
   inbox = c.inbox ++ f ∷ [];
-  accepted = set c.accepted (source_of f.id) f.id.seq;
+  accepted = accepting c.accepted f.id;
 }
 with_frame c RepeatedRequest f = c
 with_frame c CrowdedOut f = c
@@ -238,7 +257,7 @@ abbrev pub arrived : List NodeIs → Frame → Option Fell → List NodeIs
 arrived nodes f None = nodes
 arrived nodes f (Some fall) = set nodes f.to (with_frame (part_of nodes f.to) fall f)
 
--- What the sender makes of what it was told: the third Silent of a frame is the last.
+-- What a sender changes by what it was told: the third Silent of a frame is the last.
 abbrev pub failed : NodeIs → FrameKind → CallId → ℕ → List Path
 failed c Request id word = awaiting c id.path (Failed id.seq word)
 failed c Reply id word = c.paths
@@ -265,7 +284,7 @@ heard_by c kind id there Silent =
 abbrev pub sent_with : RingIs → ℕ → Frame → Fate → Option Fell → RingIs
 sent_with r n f fate fall =
     let nodes = arrived r.nodes f fall in
-    let there = (ring_node r f.to).here in
+    let there = hears r.nodes f.to in
     record {
       holder = r.holder;
       sent = r.sent + 1;

@@ -8,10 +8,10 @@ use Rattle.ring_core.specs.Words.{Post, Send, Take, Local, GiveUp, Pass, Leave, 
 use Rattle.ring_core.specs.Words.{AcceptedRequest, RepeatedRequest, CrowdedOut, AcceptedReply}
 use Rattle.ring_core.specs.Words.{DroppedReply}
 use Rattle.ring_core.specs.Machine.{NodeIs, RingIs, ring_node, fate_at, arrival, heard_of, after}
-use Rattle.ring_core.specs.Machine.{opening, ring_after}
+use Rattle.ring_core.specs.Machine.{opening, ring_after, is_here}
 use Rattle.station_stats.specs.declared.event.StatEvent.{StatEvent}
 use Rattle.station_stats.specs.declared.event.StatEvent.TheVariants as stat
-use Rattle.station_stats.specs.Counts.{StatNote, since_clear, counts_of, words_of}
+use Rattle.station_stats.specs.Counts.{StatNote, since_clear, counts_of, stats_words}
 use Rattle.station_stats.specs.Counts.StatNote.{Counted, Cleared}
 
 -- The words that a node put last.
@@ -100,21 +100,24 @@ local_note n id ClearStats = Cleared
 local_note n id RemoteClear = Cleared
 local_note n id _ = Counted (owner_event (id.node == n))
 
-abbrev pub notes_of : NetPlan → RingIs → RingEntry → List Note
-notes_of net r (Post n f) = counts n (post_event f.kind) ∷ []
-notes_of net r (Send n heard) = send_notes net r n (ring_node r n).outbox
-notes_of net r (Take n f) = counts n (take_event f.kind) ∷ []
-notes_of net r (Local n id op result) = record { node = n; what = local_note n id op } ∷ []
-notes_of net r (GiveUp id word) = counts id.node stat.GiveUp ∷ []
-notes_of net r (Pass n done words) = counts n stat.Pass ∷ []
-notes_of net r (Leave n cause) = []
+abbrev pub local_counts : ℕ → CallId → LocalOp → Note
+local_counts n id op = record { node = n; what = local_note n id op }
+
+abbrev pub ring_notes : NetPlan → RingIs → RingEntry → List Note
+ring_notes net r (Post n f) = counts n (post_event f.kind) ∷ []
+ring_notes net r (Send n heard) = send_notes net r n (ring_node r n).outbox
+ring_notes net r (Take n f) = counts n (take_event f.kind) ∷ []
+ring_notes net r (Local n id op result) = local_counts n id op ∷ []
+ring_notes net r (GiveUp id word) = counts id.node stat.GiveUp ∷ []
+ring_notes net r (Pass n done words) = counts n stat.Pass ∷ []
+ring_notes net r (Leave n cause) = []
 
 -- All that was to be counted in a list of entries.
 abbrev pub all_notes : NetPlan → RingIs → List RingEntry → List Note
 all_notes net r [] = []
-all_notes net r (e ∷ es) = notes_of net r e ++ all_notes net (after net r e) es
+all_notes net r (e ∷ es) = ring_notes net r e ++ all_notes net (after net r e) es
 
--- Those of one station.
+-- Of these notes those that one station counts.
 abbrev pub notes_at : ℕ → List Note → List StatNote
 notes_at n [] = []
 notes_at n (note ∷ notes) =
@@ -126,9 +129,6 @@ station_counts net history n =
     counts_of (since_clear [] (notes_at n (all_notes net (opening net) history)))
 
 -- How many members there are.
-abbrev pub is_here : NodeIs → Bool
-is_here c = c.here
-
 abbrev pub count_members : List NodeIs → ℕ
 count_members nodes = count_by is_here nodes
 
@@ -137,7 +137,7 @@ members_now r = count_members r.nodes
 
 -- The twenty statistics words of a station.
 abbrev pub statistics : NetPlan → List RingEntry → ℕ → List ℕ
-statistics net history n = words_of
+statistics net history n = stats_words
     (record { node = n; counts = station_counts net history n })
     (members_now (ring_after net history))
     (length (heard_words n history))

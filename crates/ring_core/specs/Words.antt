@@ -28,6 +28,7 @@ pub use Rattle.ring_core.specs.declared.refusal.RingNo.TheVariants.{PathTaken, N
 pub use Rattle.ring_core.specs.declared.path.Await.{Await}
 pub use Rattle.ring_core.specs.declared.path.Await.TheVariants.{Nothing, Out, Arrived, Failed}
 pub use Rattle.ring_core.specs.declared.path.Path.{Path}
+pub use Rattle.ring_core.specs.declared.path.LeaveDue.{LeaveDue}
 pub use Rattle.ring_core.specs.declared.arrival.Fell.{Fell}
 pub use Rattle.ring_core.specs.declared.arrival.Fell.TheVariants.{AcceptedRequest, RepeatedRequest}
 pub use Rattle.ring_core.specs.declared.arrival.Fell.TheVariants.{CrowdedOut, AcceptedReply}

@@ -8,7 +8,7 @@ use crate::frame::FrameKind;
 use plant_types::Fate;
 use station_stats::StatEvent;
 
-// What a target makes of a frame that arrives.
+// What becomes of a frame that arrives at its target.
 #[derive(Clone, Copy, Drop)]
 pub(crate) enum Fell {
     AcceptedRequest,

@@ -4,10 +4,7 @@ ghost use Rattle.ring_core.specs.Machine.{addresses};
 ghost use Rattle.ring_core.specs.Legal.{IsPath, IsFrom};
 
 use crate::frame::{Frame, FrameKind};
-use plant_types::NetPlan;
-
-// Addresses are below this.
-const ADDRESSES: u8 = 65;
+use plant_types::{ADDRESSES, NetPlan};
 
 fn are_low(members: &[u8]) -> bool
     ensures only { result ≡ true → All (λ m. m < addresses) members.now }

@@ -1,11 +1,11 @@
 //! The counters of all stations.
-ghost use Rattle.std.specs.Prelude.{◌≡◌, ◌==◌, ◌≢◌, ◌<◌, length, ◌∷◌, [], None};
-ghost use Rattle.ring_core.specs.Scratch.{counts, arrival_notes, local_note, owner_event};
+ghost use Rattle.std.specs.Prelude.{◌≡◌, ◌==◌, ◌≢◌, ◌<◌, length, ◌∷◌, [], None, IfSome};
+ghost use Rattle.ring_core.specs.Scratch.{counts, arrival_notes, local_counts, owner_event};
 ghost use Rattle.ring_core.specs.Kept.{stats_at, noted_at, noted_all, book_put};
 ghost use Rattle.ring_core.specs.Legal.{HasRoom};
 ghost use Rattle.global_data.specs.Book.{place_at};
 ghost use Rattle.station_stats.specs.Counts.StatNote.{Cleared};
-ghost use Rattle.station_stats.specs.Counts.{words_of};
+ghost use Rattle.station_stats.specs.Counts.{stats_words};
 
 use crate::arrival::{Fell, arrival_event};
 use crate::entry::LocalOp;
@@ -15,26 +15,23 @@ use station_stats::{StatEvent, Stats};
 
 // A station counts an event.
 pub(crate) fn count(stats: &mut Vec<Stats>, node: u8, event: StatEvent)
+    requires { node < length stats.old.items }
     ensures { stats.new.items ≡ noted_at stats.old.items (counts node event) }
 {
-    let at = node as usize;
-    if at < stats.len() {
-        stats[at].note(event);
-    }
+    stats[node as usize].note(event);
 }
 
 // A station counts from zero on.
 pub(crate) fn clear(stats: &mut Vec<Stats>, node: u8)
+    requires { node < length stats.old.items }
     ensures { stats.new.items ≡ noted_at stats.old.items (record { node = node; what = Cleared }) }
 {
-    let at = node as usize;
-    if at < stats.len() {
-        stats[at].clear();
-    }
+    stats[node as usize].clear();
 }
 
-// The target of a frame counts what became of it.
+// The target of a frame, a station where the frame came to it, counts what became of it.
 pub(crate) fn count_arrival(stats: &mut Vec<Stats>, to: u8, fell: Option<Fell>)
+    requires { IfSome fell (λ _. to < length stats.old.items) }
     ensures { stats.new.items ≡ noted_all stats.old.items (arrival_notes to fell) }
 {
     if let Some(fell) = fell {
@@ -56,8 +53,8 @@ fn owner_event(own: bool) -> StatEvent
 
 // A station counts a Local, or a clear clears.
 pub(crate) fn count_local(stats: &mut Vec<Stats>, node: u8, id: CallId, op: &LocalOp)
-    ensures { stats.new.items ≡
-        noted_at stats.old.items (record { node = node; what = local_note node id op.now }) }
+    requires { node < length stats.old.items }
+    ensures { stats.new.items ≡ noted_at stats.old.items (local_counts node id op.now) }
 {
     match op {
         LocalOp::ClearStats | LocalOp::RemoteClear => clear(stats, node),
@@ -68,7 +65,7 @@ pub(crate) fn count_local(stats: &mut Vec<Stats>, node: u8, id: CallId, op: &Loc
 // The statistics words of a station.
 pub(crate) fn station_words(stats: &[Stats], node: u8, members: u16, passed: u16) -> [u16; 20]
     requires { node < length stats.now }
-    ensures { result ≡ words_of (stats_at stats.now node) members passed }
+    ensures { result ≡ stats_words (stats_at stats.now node) members passed }
 {
     stats[node as usize].words(members, passed)
 }

@@ -21,10 +21,7 @@ mod stats_request;
 pub use conditions::{is_from, is_net, is_path};
 pub use entry::{Heard, LeaveCause, LocalOp, RingEntry};
 pub use frame::{Frame, FrameKind};
-pub use laws::{holder_stays, left_stays, member_stays};
+pub use laws::{holder_stays, holders_keep, left_stays, member_stays, outsiders_keep};
 pub use refusal::RingNo;
 pub use ring::Ring;
 pub use stats_request::{CLEAR_STATISTICS, GET_STATISTICS, is_stats};
-
-#[cfg(test)]
-mod tests;

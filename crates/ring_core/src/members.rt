@@ -1,9 +1,10 @@
 //! What is read of all nodes: who is a member, and who comes next.
-ghost use Rattle.std.specs.Prelude.{◌≡◌, ◌≤◌, ◌+◌, length, drop, get_or, IfSome, IfErr, OnOk, None};
+ghost use Rattle.std.specs.Prelude.{◌≡◌, ◌<◌, ◌≤◌, ◌+◌, false, length, drop, get_or, IfSome, IfErr, OnOk, None};
 ghost use Rattle.std.specs.Prelude.{Some};
 ghost use Rattle.ring_core.specs.Machine.{least_from, successor, part_of, arrival, arrived, fresh};
-ghost use Rattle.ring_core.specs.Refusals.{least_done, least_of};
-ghost use Rattle.ring_core.specs.Scratch.{is_here, count_members};
+ghost use Rattle.ring_core.specs.Machine.{is_here, hears};
+ghost use Rattle.ring_core.specs.Refusals.{least_done, least_of, least_over, WantsMemory};
+ghost use Rattle.ring_core.specs.Scratch.{count_members};
 
 use crate::arrival::{Fell, fate_reaches};
 use crate::frame::Frame;
@@ -37,10 +38,12 @@ pub(crate) fn successor(nodes: &[Node], node: u8) -> u8
     }
 }
 
-pub(crate) fn is_here(nodes: &[Node], node: u8) -> bool
-    ensures { result ≡ (part_of nodes.now node).here }
+// Whether the target of a frame hears it: it is a member. Nobody has an address beyond the nodes.
+pub(crate) fn hears(nodes: &[Node], to: u8) -> bool
+    ensures target { result ≡ hears nodes.now to }
+    ensures beyond { length nodes.now ≤ to → result ≡ false }
 {
-    let at = node as usize;
+    let at = to as usize;
     at < nodes.len() && nodes[at].is_here()
 }
 
@@ -77,9 +80,10 @@ fn lower(number: u64, other: Option<u64>) -> u64
     }
 }
 
-// What becomes of a frame; None where it does not arrive.
+// What becomes of a frame; None where it does not arrive, as where its target is none of the nodes.
 pub(crate) fn arrival(nodes: &[Node], fate: Fate, frame: &Frame) -> Option<Fell>
-    ensures { result ≡ arrival nodes.now fate frame.now }
+    ensures fell { result ≡ arrival nodes.now fate frame.now }
+    ensures there { IfSome result (λ _. frame.now.to < length nodes.now) }
 {
     let at = frame.to as usize;
     if at >= nodes.len() || !nodes[at].is_here() || !fate_reaches(fate) {
@@ -88,18 +92,14 @@ pub(crate) fn arrival(nodes: &[Node], fate: Fate, frame: &Frame) -> Option<Fell>
     Some(nodes[at].fell(frame.kind, frame.id))
 }
 
-// A frame comes to its target, if it arrives.
+// A frame comes to its target, one of the nodes, if it arrives.
 pub(crate) fn settle(nodes: &mut Vec<Node>, frame: Frame, fell: Option<Fell>) -> Result<(), RingNo>
+    requires { IfSome fell (λ _. frame.to < length nodes.old.items) }
     ensures ok { OnOk result (nodes.new.items ≡ arrived nodes.old.items frame fell) }
-    ensures err { IfErr result
-        (λ why. (why ≡ RingNo.NoMemory) × (nodes.new.items ≡ nodes.old.items)) }
+    ensures err { IfErr result (WantsMemory nodes.old.items nodes.new.items) }
 {
     let Some(fell) = fell else {
         return Ok(());
     };
-    let at = frame.to as usize;
-    if at >= nodes.len() {
-        return Ok(());
-    }
-    nodes[at].receive(fell, frame)
+    nodes[frame.to as usize].receive(fell, frame)
 }

@@ -1,22 +1,24 @@
 //! A node's part of the ring.
-ghost use Rattle.std.specs.Prelude.{◌≡◌, ◌<◌, ◌+◌, ◌^◌, ℕ, List, [], ◌∷◌, ◌++◌, length, get_or};
+ghost use Rattle.std.specs.Prelude.{◌≡◌, ◌<◌, ◌≤◌, ◌+◌, ◌^◌, ℕ, List, [], ◌∷◌, ◌++◌, length, get_or};
 ghost use Rattle.std.specs.Prelude.{set, drop, filter, not, true, false, OnOk, OnErr, IfOk, IfSome};
 ghost use Rattle.std.specs.Prelude.{IfErr, None, MatchOption, All};
 ghost use Rattle.ring_core.specs.Machine.{NodeIs, posted, took, after_pass, gone, fresh, path_of};
 ghost use Rattle.ring_core.specs.Machine.{no_path, awaited_number, CanAge, is_repeat, is_full};
 ghost use Rattle.ring_core.specs.Machine.{waits_for, fell, with_frame, heard_by, sent_off, failed};
 ghost use Rattle.ring_core.specs.Machine.{gave_up, is_head, silence_word, source_of};
-ghost use Rattle.ring_core.specs.Refusals.{path_no, boxes_no, empty_no};
-ghost use Rattle.ring_core.specs.Legal.{IsFirst, IsNextNumber};
+ghost use Rattle.ring_core.specs.Machine.{accepted_of, accepting, paths_awaiting};
+ghost use Rattle.ring_core.specs.Refusals.{path_no, boxes_no, cause_boxes_no, empty_no};
+ghost use Rattle.ring_core.specs.Refusals.{WantsMemory};
+ghost use Rattle.ring_core.specs.Legal.{IsFirst, IsNextNumber, TookFirst};
 ghost use Rattle.ring_core.specs.Words.{asks_for};
 
 use crate::arrival::Fell;
-use crate::entry::Heard;
+use crate::entry::{Heard, LeaveCause};
 use crate::frame::{Frame, FrameKind};
 use crate::path::{Await, Path, no_path};
 use crate::refusal::RingNo;
 use mstr_block::CallId;
-use plant_types::Copied;
+use plant_types::{Copied, PATH_PLACES};
 use std::alloc::{AllocError, Global};
 use std::collections::VecDeque;
 use std::marker::Model;
@@ -26,9 +28,6 @@ const LAST_TRY: u8 = 2;
 
 // The most Requests in an inbox.
 const INBOX_LIMIT: usize = 4;
-
-// Paths 1 to 4, and 0 for calls of the own station.
-const PATH_PLACES: usize = 5;
 
 // The paths of all addresses, 0 to 64.
 const SOURCES: usize = 325;
@@ -87,14 +86,38 @@ fn asked_path(seq: u32, to: u8) -> Path
     }
 }
 
-// A path awaits something else, if it is there.
+// A path awaits something else. Where there is no such path nothing changes.
 fn set_await(paths: &mut Vec<Path>, path: u8, awaits: Await)
-    ensures { paths.new.items ≡ set paths.old.items path
-        (record { awaits = awaits; posted = (get_or paths.old.items path no_path).posted }) }
+    ensures paths { paths.new.items ≡ paths_awaiting paths.old.items path awaits }
+    ensures beyond { length paths.old.items ≤ path → paths.new.items ≡ paths.old.items }
 {
     let path = path as usize;
     if path < paths.len() {
         paths[path].awaits = awaits;
+    }
+}
+
+// The greatest number that was accepted of a Request's source. Of one that has no place it is 0.
+fn accepted_of(accepted: &[u32], id: CallId) -> u32
+    ensures accepted { result ≡ accepted_of accepted.now id }
+    ensures beyond { length accepted.now ≤ source_of id → result ≡ 0 }
+{
+    match accepted.get(source_of(id)) {
+        Some(seq) => *seq,
+        None => 0,
+    }
+}
+
+// A Request's number becomes the greatest that was accepted of its source. Of one that has no place
+// nothing is kept.
+fn accept(accepted: &mut Vec<u32>, id: CallId)
+    ensures accepted { accepted.new.items ≡ accepting accepted.old.items id }
+    ensures beyond { length accepted.old.items ≤ source_of id →
+        accepted.new.items ≡ accepted.old.items }
+{
+    let source = source_of(id);
+    if source < accepted.len() {
+        accepted[source] = id.seq;
     }
 }
 
@@ -145,7 +168,8 @@ impl Node {
 
     /// What a path awaits; nothing where there is no such path.
     pub fn awaits(&self, path: u8) -> Await
-        ensures { result ≡ (path_of self.now path).awaits }
+        ensures path { result ≡ (path_of self.now path).awaits }
+        ensures beyond { length self.now.paths ≤ path → result ≡ Await.Nothing }
     {
         let path = path as usize;
         if path < self.paths.len() {
@@ -155,9 +179,10 @@ impl Node {
         }
     }
 
-    // The greatest number that was posted on a path.
+    // The greatest number that was posted on a path; 0 where there is no such path.
     fn posted(&self, path: u8) -> u32
-        ensures { result ≡ (path_of self.now path).posted }
+        ensures path { result ≡ (path_of self.now path).posted }
+        ensures beyond { length self.now.paths ≤ path → result ≡ 0 }
     {
         let path = path as usize;
         if path < self.paths.len() {
@@ -203,11 +228,20 @@ impl Node {
         None
     }
 
+    /// Why a node with a cause to leave has to empty a box first, if so.
+    pub fn cause_boxes_no(&self, cause: LeaveCause) -> Option<RingNo>
+        ensures { result ≡ cause_boxes_no cause self.now }
+    {
+        match cause {
+            LeaveCause::Ended | LeaveCause::Spent => self.boxes_no(),
+        }
+    }
+
     /// Puts a frame last in the outbox.
     pub fn post(&mut self, frame: Frame) -> Result<(), RingNo>
         requires path { frame.kind ≡ FrameKind.Request → frame.id.path < length self.old.paths }
         ensures ok { OnOk result (self.new ≡ posted self.old frame) }
-        ensures err { IfErr result (λ why. (why ≡ RingNo.NoMemory) × (self.new ≡ self.old)) }
+        ensures err { IfErr result (WantsMemory self.old self.new) }
     {
         let kind = frame.kind;
         let id = frame.id;
@@ -235,8 +269,7 @@ impl Node {
     /// The first frame leaves the inbox.
     pub fn take(&mut self) -> Option<Frame>
         ensures none { result ≡ None → (self.old.inbox ≡ []) × (self.new ≡ self.old) }
-        ensures some { IfSome result (λ frame. IsFirst self.old.inbox frame ×
-            (self.new ≡ took self.old frame.kind frame.id)) }
+        ensures some { IfSome result (TookFirst self.old self.new) }
     {
         let frame = self.inbox.pop_front()?;
         if let FrameKind::Reply = frame.kind {
@@ -260,10 +293,7 @@ impl Node {
     fn is_repeat(&self, id: CallId) -> bool
         ensures { result ≡ is_repeat self.now id }
     {
-        let greatest = match self.accepted.get(source_of(id)) {
-            Some(seq) => *seq,
-            None => 0,
-        };
+        let greatest = accepted_of(&self.accepted, id);
         id.seq <= greatest
     }
 
@@ -282,7 +312,7 @@ impl Node {
         }
     }
 
-    /// What it makes of a frame that arrives.
+    /// What becomes of a frame that arrives.
     pub fn fell(&self, kind: FrameKind, id: CallId) -> Fell
         ensures { result ≡ fell self.now kind id }
     {
@@ -309,22 +339,19 @@ impl Node {
 
     fn accept_request(&mut self, frame: Frame) -> Result<(), RingNo>
         ensures ok { OnOk result (self.new ≡ with_frame self.old Fell.AcceptedRequest frame) }
-        ensures err { IfErr result (λ why. (why ≡ RingNo.NoMemory) × (self.new ≡ self.old)) }
+        ensures err { IfErr result (WantsMemory self.old self.new) }
     {
         let id = frame.id;
         if self.inbox.push_back(frame).is_err() {
             return Err(RingNo::NoMemory);
         }
-        let source = source_of(id);
-        if source < self.accepted.len() {
-            self.accepted[source] = id.seq;
-        }
+        accept(&mut self.accepted, id);
         Ok(())
     }
 
     fn accept_reply(&mut self, frame: Frame) -> Result<(), RingNo>
         ensures ok { OnOk result (self.new ≡ with_frame self.old Fell.AcceptedReply frame) }
-        ensures err { IfErr result (λ why. (why ≡ RingNo.NoMemory) × (self.new ≡ self.old)) }
+        ensures err { IfErr result (WantsMemory self.old self.new) }
     {
         let id = frame.id;
         if self.inbox.push_back(frame).is_err() {
@@ -337,7 +364,7 @@ impl Node {
     /// A frame arrives.
     pub fn receive(&mut self, fell: Fell, frame: Frame) -> Result<(), RingNo>
         ensures ok { OnOk result (self.new ≡ with_frame self.old fell frame) }
-        ensures err { IfErr result (λ why. (why ≡ RingNo.NoMemory) × (self.new ≡ self.old)) }
+        ensures err { IfErr result (WantsMemory self.old self.new) }
     {
         match fell {
             Fell::AcceptedRequest => self.accept_request(frame),

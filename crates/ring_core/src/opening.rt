@@ -4,11 +4,9 @@ ghost use Rattle.ring_core.specs.Machine.{addresses, opening_nodes};
 ghost use Rattle.ring_core.specs.Kept.{opening_stats};
 
 use crate::node::Node;
+use plant_types::ADDRESSES;
 use station_stats::Stats;
 use std::alloc::{AllocError, Global};
-
-// A place for each address, 0 to 64.
-const ADDRESSES: usize = 65;
 
 pub(crate) fn opening_nodes(alloc: Global, members: &[u8]) -> Result<Vec<Node>, AllocError>
     requires { All (λ m. m < addresses) members.now }
@@ -16,7 +14,7 @@ pub(crate) fn opening_nodes(alloc: Global, members: &[u8]) -> Result<Vec<Node>, 
     ensures size { IfOk result (λ nodes. length nodes.items ≡ addresses) }
 {
     let mut nodes = Vec::new(alloc);
-    for _ in 0..ADDRESSES {
+    for _ in 0..ADDRESSES as usize {
         nodes.push(Node::new(alloc, false)?)?;
     }
     for member in members {
@@ -30,7 +28,7 @@ pub(crate) fn opening_stats(alloc: Global, members: &[u8]) -> Result<Vec<Stats>,
     ensures { IfOk result (λ stats. stats.items ≡ opening_stats members.now) }
 {
     let mut stats = Vec::new(alloc);
-    for _ in 0..ADDRESSES {
+    for _ in 0..ADDRESSES as usize {
         stats.push(Stats::new(0))?;
     }
     for member in members {

@@ -60,6 +60,13 @@ impl Await {
     }
 }
 
+// For how long a node has had its cause to leave, and for how long it needs it.
+#[derive(Clone, Copy, Drop)]
+pub(crate) struct LeaveDue {
+    pub held: u64,
+    pub needed: u32,
+}
+
 // A path that awaits another number.
 fn other_no(out: u32, seq: u32) -> Option<RingNo>
     ensures { result ≡ other_no out seq }

@@ -7,11 +7,13 @@ ghost use Rattle.ring_core.specs.Machine.{RingIs, addresses, ring_node, path_of,
 ghost use Rattle.ring_core.specs.Machine.{successor};
 ghost use Rattle.ring_core.specs.Refusals.{turn_no, free_no, post_no, send_no, pass_no, leave_no};
 ghost use Rattle.ring_core.specs.Refusals.{give_up_no, word_of, quiet_for, cause_held, needed_of};
+ghost use Rattle.ring_core.specs.Refusals.{leave_due, cause_boxes_no, WantsMemory};
 ghost use Rattle.ring_core.specs.Scratch.{words_put, local_result, statistics, global_answer};
 ghost use Rattle.ring_core.specs.Scratch.{heard_words};
 ghost use Rattle.ring_core.specs.Legal.{IsMember, IsPath, IsFrom, IsNextNumber, HasRoom, IsFirst};
-ghost use Rattle.ring_core.specs.Legal.{IsHeard, IsLegal};
+ghost use Rattle.ring_core.specs.Legal.{IsLegal};
 ghost use Rattle.ring_core.specs.Kept.{RingLog, ring_of, with_entry, with_spare_entry, RefusedAs};
+ghost use Rattle.ring_core.specs.Kept.{IsTaken, IsToldOf, passed_on, StayedFor};
 
 use crate::arrival::{fate_at, heard_event, heard_of, post_event, take_event};
 use crate::counting::{count, count_arrival, count_local, put_global, station_words};
@@ -19,10 +21,10 @@ use crate::entry::{Heard, LeaveCause, LocalOp, RingEntry};
 use crate::frame::{Frame, FrameKind};
 use crate::global::global_answer;
 use crate::history::{make_room, note};
-use crate::members::{arrival, is_here, least_done, least_from, members_now, settle, successor};
+use crate::members::{arrival, hears, least_done, least_from, members_now, settle, successor};
 use crate::node::{Node, silence_word};
 use crate::opening::{opening_nodes, opening_stats};
-use crate::path::{Await, due_no};
+use crate::path::{Await, LeaveDue, due_no};
 use crate::refusal::RingNo;
 use global_data::GlobalBook;
 use mstr_block::{CallId, MstrResult};
@@ -49,13 +51,13 @@ pub struct Ring {
 
 impl Model for Ring {
     ghost use Rattle.std.specs.Prelude.{vec_capacity};
-    ghost use Rattle.ring_core.specs.Kept.{RingLog, IsWhole};
+    ghost use Rattle.ring_core.specs.Kept.{RingLog, IsWholeRing};
 
     ghost Value = { RingLog };
 
     ghost view = { λ r. record { net = r.plan; history = r.history.items; spare = r.spare } };
 
-    ghost invariant = { λ r. IsWhole r.plan r.history.items
+    ghost invariant = { λ r. IsWholeRing r.plan r.history.items
         (record { holder = r.holder; sent = r.sent; nodes = r.nodes.items })
         r.stats.items r.book r.spare (vec_capacity r.history) };
 }
@@ -136,10 +138,11 @@ impl Ring {
         self.nodes[node as usize].is_next(kind, id)
     }
 
-    /// Keeps memory for at least so many entries.
+    /// Keeps memory for at least so many entries. Where it is kept already nothing is asked for.
     pub fn reserve(&mut self, n: u32) -> Result<(), AllocError>
         ensures ok { OnOk result (self.new ≡ record self.old { spare = max self.old.spare n }) }
         ensures err { OnErr result (self.new ≡ self.old) }
+        ensures kept { OnErr result (self.old.spare < n) }
     {
         if n > self.spare {
             self.history.try_reserve(n as usize)?;
@@ -209,10 +212,7 @@ impl Ring {
     /// nothing is noted.
     pub fn take(&mut self, node: u8) -> Result<Option<Frame>, RingNo>
         requires { IsMember self.old.net node }
-        ensures ok { IfOk result (λ took. MatchOption took
-            (((ring_node (ring_of self.old) node).inbox ≡ []) × (self.new ≡ self.old))
-            (λ frame. IsFirst (ring_node (ring_of self.old) node).inbox frame ×
-            (self.new ≡ with_entry self.old (RingEntry.Take node frame)))) }
+        ensures ok { IfOk result (IsTaken node self.old self.new) }
         ensures err { OnErr result (self.new ≡ self.old) }
         ensures answer { RefusedAs result (turn_no (ring_of self.old) node) }
     {
@@ -237,8 +237,7 @@ impl Ring {
     /// Transmits the first frame of the node's outbox, and says what the node was told of it.
     pub fn send(&mut self, node: u8) -> Result<Heard, RingNo>
         requires { IsMember self.old.net node }
-        ensures heard { IfOk result (IsHeard self.old.net (ring_of self.old)
-            (ring_node (ring_of self.old) node).outbox) }
+        ensures heard { IfOk result (IsToldOf self.old node) }
         ensures ok { IfOk result
             (λ heard. self.new ≡ with_entry self.old (RingEntry.Send node heard)) }
         ensures err { OnErr result (self.new ≡ self.old) }
@@ -257,18 +256,17 @@ impl Ring {
         requires member { IsMember self.old.net node }
         requires turn { turn_no (ring_of self.old) node ≡ None }
         requires head { IsFirst (ring_node (ring_of self.old) node).outbox frame }
-        ensures heard { IfOk result (IsHeard self.old.net (ring_of self.old)
-            (ring_node (ring_of self.old) node).outbox) }
+        ensures heard { IfOk result (IsToldOf self.old node) }
         ensures ok { IfOk result
             (λ heard. self.new ≡ with_entry self.old (RingEntry.Send node heard)) }
-        ensures err { IfErr result (λ why. (why ≡ RingNo.NoMemory) × (self.new ≡ self.old)) }
+        ensures err { IfErr result (WantsMemory self.old self.new) }
     {
         make_room(&mut self.history, self.spare)?;
         let kind = frame.kind;
         let id = frame.id;
         let to = frame.to;
         let fate = fate_at(self.plan.fates.as_slice(), self.sent);
-        let there = is_here(&self.nodes, to);
+        let there = hears(&self.nodes, to);
         let fell = arrival(&self.nodes, fate, &frame);
         let heard = heard_of(fate, fell);
         settle(&mut self.nodes, frame, fell)?;
@@ -382,7 +380,7 @@ impl Ring {
         let part = &self.nodes[id.node as usize];
         match part.awaits(id.path) {
             Await::Failed { word, .. } => word,
-            Await::Out { to, .. } => silence_word(part.is_here() && is_here(&self.nodes, to)),
+            Await::Out { to, .. } => silence_word(part.is_here() && hears(&self.nodes, to)),
             _ => silence_word(false),
         }
     }
@@ -433,8 +431,7 @@ impl Ring {
     /// Passes the token, with the node's global words, to its successor.
     pub fn pass(&mut self, node: u8, done: bool) -> Result<(), RingNo>
         requires { IsMember self.old.net node }
-        ensures ok { OnOk result (self.new ≡
-            with_entry self.old (RingEntry.Pass node done (words_put node self.old.history))) }
+        ensures ok { OnOk result (self.new ≡ passed_on self.old node done) }
         ensures err { OnErr result (self.new ≡ self.old) }
         ensures answer { RefusedAs result (pass_no (ring_of self.old) node) }
     {
@@ -453,14 +450,20 @@ impl Ring {
         Ok(())
     }
 
-    // For how long a node has had its cause to leave.
-    fn held(&self, node: u8, cause: LeaveCause) -> u64
+    // For how long a node has had its cause to leave, and for how long it needs it.
+    fn leave_due(&self, node: u8, cause: LeaveCause) -> LeaveDue
         requires { IsMember self.now.net node }
-        ensures { result ≡ cause_held (ring_of self.now) node cause }
+        ensures { result ≡ leave_due self.now.net (ring_of self.now) node cause }
     {
         match cause {
-            LeaveCause::Ended => self.quiet(node),
-            LeaveCause::Spent => self.nodes[node as usize].passes(),
+            LeaveCause::Ended => LeaveDue {
+                held: self.quiet(node),
+                needed: self.plan.rounds,
+            },
+            LeaveCause::Spent => LeaveDue {
+                held: self.nodes[node as usize].passes(),
+                needed: self.plan.holds,
+            },
         }
     }
 
@@ -468,26 +471,25 @@ impl Ring {
         requires { IsMember self.now.net node }
         ensures { result ≡ leave_no self.now.net (ring_of self.now) node cause }
     {
-        if let Some(why) = self.pass_no(node) {
+        if let Some(why) = self.turn_no(node) {
             return Some(why);
         }
-        let needed = match cause {
-            LeaveCause::Ended => self.plan.rounds,
-            LeaveCause::Spent => self.plan.holds,
-        };
-        due_no(self.held(node, cause), needed)
+        if let Some(why) = self.nodes[node as usize].cause_boxes_no(cause) {
+            return Some(why);
+        }
+        let due = self.leave_due(node, cause);
+        due_no(due.held, due.needed)
     }
 
     /// The node leaves the ring, and its successor holds the token. Takes one of the spare, and no
-    /// memory.
+    /// memory: it is never refused for want of it.
     pub fn leave(&mut self, node: u8, cause: LeaveCause) -> Result<(), RingNo>
         requires member { IsMember self.old.net node }
         requires spare { 1 ≤ self.old.spare }
         ensures ok { OnOk result
             (self.new ≡ with_spare_entry self.old (RingEntry.Leave node cause)) }
-        ensures err { IfErr result (λ why.
-            (leave_no self.old.net (ring_of self.old) node cause ≡ Some why)
-            × (self.new ≡ self.old)) }
+        ensures err { IfErr result (StayedFor self.old node cause self.new) }
+        ensures memory { IfErr result (λ why. why ≢ RingNo.NoMemory) }
         ensures left { OnOk result (leave_no self.old.net (ring_of self.old) node cause ≡ None) }
     {
         if let Some(why) = self.leave_no(node, cause) {

@@ -60,7 +60,7 @@ AnswersWhatItTook history = (k : ℕ) (f : Frame) → Contains history (Post k f
     f.kind ≡ Reply → TookCall history k f.id
 
 -- Where a Reply comes from: the caller's Request went to a node, which took it and posted this.
-pub record Answered (history : List RingEntry) (n : ℕ) (reply : Frame) : Type 0 where
+pub record AnsweredBy (history : List RingEntry) (n : ℕ) (reply : Frame) : Type 0 where
   pub by : ℕ
   pub other : by ≢ n
   pub posted : Contains history (Post by reply)
@@ -76,7 +76,7 @@ pub record Answered (history : List RingEntry) (n : ℕ) (reply : Frame) : Type 
 abbrev pub ReplyByTaker : Type 0
 ReplyByTaker = (net : NetPlan) (history : List RingEntry) (n : ℕ) (f : Frame) →
     IsRingHistory net history → AnswersWhatItTook history →
-    Accepted net history n f → f.kind ≡ Reply → (f.id.node ≡ n) × Answered history n f
+    Accepted net history n f → f.kind ≡ Reply → (f.id.node ≡ n) × AnsweredBy history n f
 
 -- What a node asked: its own Request of this call.
 pub record HasAsked (history : List RingEntry) (n : ℕ) (id : CallId) : Type 0 where

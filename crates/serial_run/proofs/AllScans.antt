@@ -14,7 +14,7 @@ use Rattle.ring_core.specs.declared.entry.RingEntry.{RingEntry}
 use Rattle.ring_core.specs.Legal.{IsLegal as IsLegalRing}
 use Rattle.controller_core.specs.declared.fixed.Fixed.{Fixed}
 use Rattle.controller_core.specs.Controller.{has_ended, left_of}
-use Rattle.comm_port.specs.JointLaws.{fixed_of}
+use Rattle.joint_history.specs.JointLaws.{fixed_of}
 use Rattle.serial_run.specs.declared.stations.ControllerStation.{ControllerStation}
 use Rattle.serial_run.specs.declared.stations.Stations.{Stations}
 use Rattle.serial_run.specs.Serial.{log_with_scan, scanned, with_scan}

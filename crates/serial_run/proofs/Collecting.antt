@@ -24,7 +24,7 @@ use Rattle.comm_port.specs.HoldTurn.{Collects, CollectsIf, HoldsTurn, IsEnded, I
 use Rattle.comm_port.specs.HoldTurn.{EndedAs, MadeAs, VisitsEnd, finish_of}
 use Rattle.comm_port.specs.Order.{IsFinish}
 use Rattle.comm_port.specs.Parts.{InOrder}
-use Rattle.comm_port.specs.Reading.{controller_at, has_started_at, is_ours}
+use Rattle.joint_history.specs.Reading.{controller_at, has_started_at, is_ours}
 
 each-both : (xs ys : List Entry) → AllByRecursion IsFinish xs → AllByRecursion IsFinish ys → AllByRecursion IsFinish (xs ++ ys)
 each-both [] ys a b = b

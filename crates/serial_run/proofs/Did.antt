@@ -15,8 +15,8 @@ use Rattle.ring_core.specs.Kept.{ring_of}
 use Rattle.controller_core.specs.declared.fixed.Fixed.{Fixed}
 use Rattle.controller_core.specs.declared.entry.Entry.{Entry}
 use Rattle.controller_core.specs.Controller.{ControllerIs, due_step, has_started, made, stepped}
-use Rattle.comm_port.specs.JointLaws.{fixed_of}
-use Rattle.comm_port.specs.Reading.{controller_at, has_started_at}
+use Rattle.joint_history.specs.JointLaws.{fixed_of}
+use Rattle.joint_history.specs.Reading.{controller_at, has_started_at}
 use Rattle.comm_port.specs.Worker.{Standing, WorkerIs}
 use Rattle.comm_port.specs.HostTurns.{HoldsHostTurn, HostTies}
 use Rattle.comm_port.specs.HoldTurn.{HoldsTurn, VisitsEnd}

@@ -14,8 +14,8 @@ use Rattle.controller_core.specs.declared.fixed.Fixed.{Fixed}
 use Rattle.controller_core.specs.Controller.{ControllerIs, first_of, has_ended, has_started}
 use Rattle.controller_core.specs.Controller.{is_none, left_of}
 use Rattle.controller_core.specs.Controller.{state_of}
-use Rattle.comm_port.specs.JointLaws.{fixed_of}
-use Rattle.comm_port.specs.Reading.{has_ended_at, has_started_at}
+use Rattle.joint_history.specs.JointLaws.{fixed_of}
+use Rattle.joint_history.specs.Reading.{has_ended_at, has_started_at}
 use Rattle.comm_port.specs.Worker.{IsMemberWorker}
 use Rattle.turn_laws.specs.KeepsOn.{HasFinished, HostHasFinished, HostKeepsOn, HostStandsTied}
 use Rattle.turn_laws.specs.KeepsOn.{KeepsOn}

@@ -25,7 +25,7 @@ use Rattle.tied_lists.specs.Own.{is_of, own, Adds, Grew}
 use Rattle.tied_lists.proofs.Growth.{grew-ours}
 use Rattle.tied_lists.proofs.Turns.{legal-parts, own-joined}
 use Rattle.tied_lists.proofs.Boxes.{count-push}
-use Rattle.comm_port.specs.Complete.{is_pass}
+use Rattle.joint_history.specs.Complete.{is_pass}
 use Rattle.mstr_block.specs.declared.call.CallId.{CallId}
 use Rattle.comm_port.specs.HoldTurn.{HoldsTurn, IsGivenUp, VisitsEnd}
 use Rattle.comm_port.specs.Parts.{InOrder}
@@ -36,7 +36,7 @@ use Rattle.comm_port.specs.Leaving.{cause_due, is_due, last_entry}
 use Rattle.comm_port.specs.Order.{IsGivingUp}
 use Rattle.comm_port.specs.HostTurns.{GivenUp, give_up_of, HoldsHostTurn}
 use Rattle.tied_lists.proofs.Growth.{adds_none}
-use Rattle.comm_port.specs.Reading.{is_ours}
+use Rattle.joint_history.specs.Reading.{is_ours}
 use Rattle.serial_run.specs.Held.{turns_of}
 use Rattle.serial_run.proofs.Grown.{Further, further-both, further-grew, further-adds}
 use Rattle.serial_run.proofs.Rings.{passes-counted, count-more}

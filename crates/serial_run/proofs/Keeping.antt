@@ -10,7 +10,7 @@ use Rattle.ring_core.specs.declared.entry.RingEntry.{RingEntry}
 use Rattle.ring_core.specs.Kept.{RingLog}
 use Rattle.controller_core.specs.declared.fixed.Fixed.{Fixed}
 use Rattle.controller_core.specs.Controller.{ControllerIs, IsLegal}
-use Rattle.comm_port.specs.JointLaws.{fixed_of}
+use Rattle.joint_history.specs.JointLaws.{fixed_of}
 use Rattle.comm_port.specs.Worker.{IsMemberWorker, Standing, WorkerIs}
 use Rattle.comm_port.specs.HostTurns.{HostWorkerIs, after_turn}
 use Rattle.comm_port.specs.Leaving.{IsHere}

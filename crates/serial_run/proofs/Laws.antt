@@ -11,11 +11,13 @@ use Rattle.host_port.specs.Legal.{IsHostHistory}
 use Rattle.tied_lists.specs.Own.{own}
 use Rattle.tied_lists.specs.Items.{AController, AHost}
 use Rattle.tied_lists.specs.Tied.{Tied}
-use Rattle.comm_port.specs.declared.joint.Joint.{Joint}
-use Rattle.comm_port.specs.JointLaws.{IsJoint, IsLegalJoint, IsLegalLog, IsLegalHostLog}
-use Rattle.comm_port.specs.JointLaws.{IsTiedController}
-use Rattle.comm_port.specs.JointLaws.{IsTiedHost}
-use Rattle.comm_port.specs.Reading.{items_of, host_items_of}
+use Rattle.joint_history.specs.declared.joint.Joint.{Joint}
+use Rattle.joint_history.specs.JointLaws.{IsJoint, IsLegalJoint, IsLegalLog, IsLegalHostLog}
+use Rattle.joint_history.specs.JointLaws.{IsTiedController}
+use Rattle.joint_history.specs.JointLaws.{IsTiedHost}
+use Rattle.joint_history.specs.Reading.{items_of, host_items_of}
+use Rattle.entry_causes.specs.InTime.{InTime, HostInTime}
+use Rattle.entry_causes.specs.Joint.{IsControllerInTime, IsHostInTime, StationsAreInTime}
 use Rattle.serial_run.specs.declared.order.Turn.{Turn}
 use Rattle.serial_run.specs.declared.stations.Stations.{Stations}
 use Rattle.serial_run.specs.Turns.{MakesTurn, MakesTurns}
@@ -53,6 +55,15 @@ stand-joint plant scans run all = record {
       (st.worker_node ∙ sym st.node) st.standing.tied);
   hosts = zip-all (StandsHost plant run.ring.history) (IsTiedHost run.ring.history) host_log_of plant.hosts run.hosts.items all.hosts
       (λ plan s st. subst (λ (n : ℕ). Tied AHost (host_items_of s.host.history) (own n run.ring.history)) (sym st.node) st.ties.tied);
+}
+
+pub stand-in-time : (plant : Plant) (scans : ℕ) (run : Stations) → StandAll plant scans run → StationsAreInTime (joint_of run)
+stand-in-time plant scans run all = record {
+  controllers = zip-all (StandsController plant scans run.ring.history) (IsControllerInTime run.ring.history) log_of plant.controllers
+      run.controllers.items all.controllers
+      (λ plan s st. subst (λ (n : ℕ). InTime s.controller.history (own n run.ring.history)) (sym st.node) st.keeps.timely.timely);
+  hosts = zip-all (StandsHost plant run.ring.history) (IsHostInTime run.ring.history) host_log_of plant.hosts run.hosts.items all.hosts
+      (λ plan s st. subst (λ (n : ℕ). HostInTime s.host.history (own n run.ring.history)) (sym st.node) st.keeps.timely.timely);
 }
 
 -- turns one after another, and one more

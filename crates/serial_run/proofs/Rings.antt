@@ -22,7 +22,7 @@ use Rattle.ring_core.proofs.Sound.{after-sound, opening-sound}
 use Rattle.ring_core.proofs.Stability.{left-stays, member-stays}
 use Rattle.tied_lists.specs.Own.{own}
 use Rattle.tied_lists.proofs.Turns.{next-ring, none-by}
-use Rattle.comm_port.specs.Complete.{is_pass}
+use Rattle.joint_history.specs.Complete.{is_pass}
 use Rattle.turn_laws.proofs.Holders.{seen-set, seen-sent}
 
 -- a write of another node

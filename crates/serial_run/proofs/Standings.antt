@@ -2,7 +2,7 @@
 use Rattle.std.proofs.Common.{◌++◌, ◌≡◌, ◌≢◌, ℕ, List, [], ◌∷◌, filter, refl}
 use Rattle.std.proofs.Common.{sym, subst, ◌∙◌}
 use Rattle.std.specs.Prelude.{count_by, min}
-use Rattle.comm_port.specs.Complete.{is_pass}
+use Rattle.joint_history.specs.Complete.{is_pass}
 use Rattle.plant_types.specs.declared.net.NetPlan.{NetPlan}
 use Rattle.plant_types.specs.declared.net.HostPlan.{HostPlan}
 use Rattle.plant_types.specs.declared.plan.ControllerPlan.{ControllerPlan}
@@ -16,7 +16,7 @@ use Rattle.controller_core.specs.Controller.{ControllerIs, AreOf, WentOn}
 use Rattle.tied_lists.specs.Own.{is_of}
 use Rattle.tied_lists.specs.Items.{AHost}
 use Rattle.tied_lists.specs.Tied.{Tied}
-use Rattle.comm_port.specs.Reading.{is_ours, host_items_of}
+use Rattle.joint_history.specs.Reading.{is_ours, host_items_of}
 use Rattle.comm_port.specs.Worker.{Standing, WorkerIs}
 use Rattle.comm_port.specs.HostTurns.{HostTies, PathsAgree}
 use Rattle.comm_port.proofs.Standings.{standing-others, standing-scans}
@@ -27,7 +27,7 @@ use Rattle.turn_laws.specs.KeepsOn.{HostKeepsOn, KeepsOn}
 use Rattle.turn_laws.proofs.Others.{others, scans as scans-keep}
 use Rattle.turn_laws.proofs.HostOthers.{host-others}
 use Rattle.controller_core.specs.Controller.{IsLegal}
-use Rattle.comm_port.specs.JointLaws.{fixed_of}
+use Rattle.joint_history.specs.JointLaws.{fixed_of}
 use Rattle.serial_run.proofs.Distinct.{low-members}
 use Rattle.serial_run.specs.declared.stations.ControllerStation.{ControllerStation}
 use Rattle.serial_run.specs.declared.stations.HostStation.{HostStation}

@@ -11,7 +11,7 @@ use Rattle.ring_core.specs.Legal.{IsMember}
 use Rattle.controller_core.specs.Controller.{ControllerIs, IsLegal}
 use Rattle.tied_lists.specs.Items.{AHost, no_items}
 use Rattle.tied_lists.specs.Tied.{Tied}
-use Rattle.comm_port.specs.JointLaws.{fixed_of}
+use Rattle.joint_history.specs.JointLaws.{fixed_of}
 use Rattle.comm_port.specs.Worker.{WorkerIs}
 use Rattle.comm_port.specs.HostTurns.{HostWorkerIs, PathsAgree}
 use Rattle.host_port.specs.Host.{HostIs}

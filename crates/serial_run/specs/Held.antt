@@ -8,7 +8,7 @@ use Rattle.ring_core.specs.Kept.{RingLog}
 use Rattle.ring_core.specs.Legal.{IsLegal as IsLegalRing}
 use Rattle.controller_core.specs.Controller.{IsLegal, has_started}
 use Rattle.tied_lists.specs.Own.{own}
-use Rattle.comm_port.specs.Complete.{is_pass}
+use Rattle.joint_history.specs.Complete.{is_pass}
 use Rattle.comm_port.specs.HoldTurn.{HoldsTurn, VisitsEnd}
 use Rattle.comm_port.specs.HostTurns.{CountsPasses, HoldsHostTurn, HostTies}
 use Rattle.comm_port.specs.Worker.{Standing}
@@ -26,28 +26,28 @@ abbrev pub StandsBeside : ControllerStation → RingLog → Type 0
 StandsBeside station ring = Standing station.worker (ram_side station.controller)
     station.controller.history (ring_side ring.net) ring.history
 
--- And a host's.
+-- A host's station beside the ring alone.
 pub record HostStandsBeside (station : HostStation) (ring : RingLog) : Type 0 where
   pub ties : HostTies station.worker.node station.host (ring_side ring.net) ring.history
   pub counts : CountsPasses station.worker ring.history
 
--- Its node holds the token.
+-- The node of a station holds the token.
 abbrev pub HasToken : ℕ → RingLog → Type 0
 HasToken node ring = Holds ring.net ring.history node
 
--- It knows whether its node has left.
+-- A station knows whether its node has left.
 abbrev pub KnowsLeft : ControllerStation → RingLog → Type 0
 KnowsLeft station ring =
     station.left ≡ has_left ring.net ring.history station.worker.node
 
--- What its lists keep from turn to turn.
+-- What the lists of a controller's station keep from turn to turn.
 pub record KeepsBeside (station : ControllerStation) (ring : RingLog) : Type 0 where
   pub member : IsMemberWorker ring.net station.worker.node
   pub legal : IsLegal station.controller.fixed station.controller.history
   pub keeps : KeepsOn station.controller.fixed ring.net station.worker.node
       station.controller.history ring.history station.left
 
--- And a host's.
+-- What the lists of a host's station keep from turn to turn.
 abbrev pub HostKeepsBeside : HostStation → RingLog → Type 0
 HostKeepsBeside station ring =
     HostKeepsOn station.host.plan ring.net station.host.history ring.history station.left
@@ -59,14 +59,14 @@ HasCollected station = station.left ≡ true → has_started station.controller 
 abbrev pub AreCollected : Stations → Type 0
 AreCollected run = All HasCollected run.controllers.items
 
--- Those that had collected all calls still have.
+-- Stations that had collected all calls still have.
 abbrev pub StaysCollected : ControllerStation → ControllerStation → Type 0
 StaysCollected old new = HasCollected old → HasCollected new
 
 abbrev pub StayCollected : Stations → Stations → Type 0
 StayCollected old new = AllZip StaysCollected old.controllers.items new.controllers.items
 
--- And the station of a node has.
+-- The station of a node has collected all calls, and the others that had still have.
 pub record CollectsFor (node : ℕ) (old new : ControllerStation) : Type 0 where
   pub stays : StaysCollected old new
   pub visited : old.node ≡ node → HasCollected new
@@ -132,7 +132,7 @@ abbrev pub turns_of : NetPlan → List RingEntry → ℕ → Bool → ℕ
 turns_of net ring node left =
     if left then 0 else (net.holds - count_by is_pass (own node ring)) + 1
 
--- And how many all nodes have.
+-- How many hold turns all nodes have before them at most.
 abbrev pub turns_left : Stations → ℕ
 turns_left run =
     sum_by (λ (station : ControllerStation).
@@ -146,7 +146,7 @@ stations_here run =
     count_by (λ (station : ControllerStation). not station.left) run.controllers.items
     + count_by (λ (station : HostStation). not station.left) run.hosts.items
 
--- A hold turn leaves less, where anybody is there to make it.
+-- A hold turn leaves fewer hold turns to be made, where there is a station to make it.
 pub record Lessens (old new : Stations) : Type 0 where
   pub no_more : turns_left new ≤ turns_left old
   pub less : stations_here old ≢ 0 → turns_left new < turns_left old

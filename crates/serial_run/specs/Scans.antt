@@ -6,7 +6,7 @@ use Rattle.controller_core.specs.Controller.{ControllerIs, has_ended, left_of, s
 use Rattle.serial_run.specs.declared.stations.ControllerStation.{ControllerStation}
 use Rattle.serial_run.specs.declared.stations.Stations.{Stations}
 
--- Whole scans are left of what is due: so many, from one on.
+-- A controller stands between two scans: whole scans are left of what is due, from one on.
 pub record IsBetweenScans (v : ControllerIs) : Type 0 where
   pub next : ℕ
   pub many : ℕ
@@ -16,7 +16,7 @@ abbrev pub AreBetweenScans : Stations → Type 0
 AreBetweenScans run =
     All (λ (station : ControllerStation). IsBetweenScans station.controller) run.controllers.items
 
--- As many steps are left to a controller as before, and it has stopped if it had.
+-- A controller has as many steps left as before, and it has stopped if it had.
 pub record KeepsScan (v w : ControllerIs) : Type 0 where
   pub fixed : w.fixed ≡ v.fixed
   pub left : left_of w.fixed w.history ≡ left_of v.fixed v.history

@@ -10,10 +10,10 @@ use Rattle.controller_core.specs.declared.fixed.Fixed.{Fixed}
 use Rattle.controller_core.specs.declared.entry.Entry.{Entry}
 use Rattle.controller_core.specs.Replay.{replay}
 use Rattle.controller_core.specs.Run.{entries_from}
-use Rattle.comm_port.specs.declared.joint.ControllerLog.{ControllerLog}
-use Rattle.comm_port.specs.declared.joint.Joint.{Joint}
-use Rattle.comm_port.specs.JointLaws.{fixed_of}
-use Rattle.comm_port.specs.Reading.{has_ended_at}
+use Rattle.joint_history.specs.declared.joint.ControllerLog.{ControllerLog}
+use Rattle.joint_history.specs.declared.joint.Joint.{Joint}
+use Rattle.joint_history.specs.JointLaws.{fixed_of}
+use Rattle.joint_history.specs.Reading.{has_ended_at}
 use Rattle.serial_run.specs.declared.order.Turn.{Turn}
 use Rattle.serial_run.specs.declared.order.Turn.TheVariants.{Hold, Visit}
 use Rattle.serial_run.specs.Turns.{has_left, nothing_made, MakesTurns}
@@ -66,7 +66,7 @@ abbrev pub IsChain : (Joint → Joint → Type 0) → Joint → List Joint → J
 IsChain came old [] new = new ≡ old
 IsChain came old (next ∷ rest) new = came old next × IsChain came next rest new
 
--- So many rounds.
+-- A number of rounds, one after another.
 pub record MakesRounds (plant : Plant) (scans count : ℕ) (old new : Joint) : Type 0 where
   pub behind_each : List Joint
   pub many : length behind_each ≡ count

@@ -13,11 +13,10 @@ use Rattle.ring_core.specs.Legal.{IsLegal as IsLegalRing}
 use Rattle.controller_core.specs.declared.entry.Entry.{Entry}
 use Rattle.controller_core.specs.declared.entry.Maker.TheVariants.{Scan}
 use Rattle.controller_core.specs.Controller.{ControllerIs, IsLegal, WentOn}
-use Rattle.controller_core.specs.Machine.{CanRun}
-use Rattle.comm_port.specs.declared.joint.ControllerLog.{ControllerLog}
-use Rattle.comm_port.specs.declared.joint.HostLog.{HostLog}
-use Rattle.comm_port.specs.declared.joint.Joint.{Joint}
-use Rattle.comm_port.specs.JointLaws.{fixed_of}
+use Rattle.joint_history.specs.declared.joint.ControllerLog.{ControllerLog}
+use Rattle.joint_history.specs.declared.joint.HostLog.{HostLog}
+use Rattle.joint_history.specs.declared.joint.Joint.{Joint}
+use Rattle.joint_history.specs.JointLaws.{fixed_of}
 use Rattle.comm_port.specs.Sides.{RamSideIs, RingSideIs}
 use Rattle.comm_port.specs.Worker.{Standing}
 use Rattle.comm_port.specs.HostTurns.{CountsPasses, HostTies}
@@ -27,11 +26,6 @@ use Rattle.serial_run.specs.declared.stations.Stations.{Stations}
 use Rattle.serial_run.specs.Turns.{has_left, nothing_made}
 use Rattle.serial_run.specs.Scans.{AreBetweenScans}
 use Rattle.turn_laws.specs.KeepsOn.{HostKeepsOn, KeepsOn}
-
--- A plant that can be run: its parts fit each other, and so does each controller's program.
-pub record CanRunPlant (plant : Plant) : Type 0 where
-  pub sound : IsPlant plant
-  pub controllers : All CanRun plant.controllers
 
 -- The log of a station.
 abbrev pub log_of : ControllerStation → ControllerLog
@@ -69,7 +63,7 @@ pub record StandsController (plant : Plant) (scans : ℕ) (ring : List RingEntry
   pub keeps : KeepsOn (fixed_of plant scans plan) plant.net plan.node station.controller.history
       ring station.left
 
--- And a host's.
+-- A host's station stands between its turns.
 pub record StandsHost (plant : Plant) (ring : List RingEntry) (plan : HostPlan)
     (station : HostStation) : Type 0 where
   pub node : station.node ≡ plan.node
@@ -81,7 +75,7 @@ pub record StandsHost (plant : Plant) (ring : List RingEntry) (plan : HostPlan)
   pub left : station.left ≡ has_left plant.net ring plan.node
   pub keeps : HostKeepsOn plan plant.net station.host.history ring station.left
 
--- All of them do, those of the plant in its order.
+-- All stations stand between their turns, those of the plant in its order.
 pub record StandAll (plant : Plant) (scans : ℕ) (run : Stations) : Type 0 where
   pub sound : IsPlant plant
   pub net : run.ring.net ≡ plant.net
@@ -90,7 +84,7 @@ pub record StandAll (plant : Plant) (scans : ℕ) (run : Stations) : Type 0 wher
       run.controllers.items
   pub hosts : AllZip (StandsHost plant run.ring.history) plant.hosts run.hosts.items
 
--- They are the stations of some plant.
+-- The stations are those of some plant.
 pub record Stand (run : Stations) : Type 0 where
   pub plant : Plant
   pub scans : ℕ
@@ -102,13 +96,13 @@ pub record Did (Made : Plant → ℕ → Joint → Joint → Type 0) (old new : 
   pub made : (plant : Plant) (scans : ℕ) → StandAll plant scans old
       → Made plant scans (joint_of old) (joint_of new)
 
--- The same, for plants with so many rotations.
+-- What some turns did to the joint history of stations, for plants with so many rotations.
 abbrev pub DidWith : ℕ → (Plant → ℕ → Joint → Joint → Type 0) → Stations → Stations → Type 0
 DidWith rotations Made old new = Did
     (λ plant scans before behind. plant.net.rotations ≡ rotations → Made plant scans before behind)
     old new
 
--- At the start nothing was made.
+-- A station at the start of a run, before anything was made.
 pub record StartsController (plant : Plant) (scans : ℕ) (plan : ControllerPlan)
     (station : ControllerStation) : Type 0 where
   pub stands : StandsController plant scans [] plan station

@@ -1,4 +1,4 @@
--- What a turn of a station makes of a joint history. This project's own.
+-- How a turn of a station changes a joint history. This project's own.
 use Rattle.std.specs.Prelude.{◌≡◌, ℕ, ◌==◌, Bool, true, false, ◌&&◌, not, List, [], ◌∷◌, map, set}
 use Rattle.std.specs.Prelude.{Option, Some, None}
 use Rattle.std.specs.List.{position, slice_get}
@@ -12,11 +12,11 @@ use Rattle.controller_core.specs.declared.fixed.Fixed.{Fixed}
 use Rattle.controller_core.specs.declared.entry.Entry.{Entry}
 use Rattle.controller_core.specs.Controller.{stepped}
 use Rattle.host_port.specs.declared.entry.HostEntry.{HostEntry}
-use Rattle.comm_port.specs.declared.joint.ControllerLog.{ControllerLog}
-use Rattle.comm_port.specs.declared.joint.HostLog.{HostLog}
-use Rattle.comm_port.specs.declared.joint.Joint.{Joint}
-use Rattle.comm_port.specs.JointLaws.{fixed_of}
-use Rattle.comm_port.specs.Reading.{controller_at, has_started_at}
+use Rattle.joint_history.specs.declared.joint.ControllerLog.{ControllerLog}
+use Rattle.joint_history.specs.declared.joint.HostLog.{HostLog}
+use Rattle.joint_history.specs.declared.joint.Joint.{Joint}
+use Rattle.joint_history.specs.JointLaws.{fixed_of}
+use Rattle.joint_history.specs.Reading.{controller_at, has_started_at}
 use Rattle.comm_port.specs.HoldTurn.{HoldsTurn, VisitsEnd}
 use Rattle.comm_port.specs.HostTurns.{HoldsHostTurn}
 use Rattle.serial_run.specs.declared.order.Turn.{Turn}
@@ -50,7 +50,7 @@ pub record IsControllerAt (plant : Plant) (joint : Joint) (at : ℕ) (plan : Con
   pub plan_is : slice_get plant.controllers at ≡ Some plan
   pub log_is : slice_get joint.controllers at ≡ Some log
 
--- And a host.
+-- The host at a place has this plan and this list.
 pub record IsHostAt (plant : Plant) (joint : Joint) (at : ℕ) (plan : HostPlan) (log : HostLog)
     : Type 0 where
   pub plan_is : slice_get plant.hosts at ≡ Some plan
@@ -95,7 +95,7 @@ pub record HoldsAt (plant : Plant) (scans at : ℕ) (old new : Joint) : Type 0 w
       entries old.ring ring left
   pub made : new ≡ record (with_list at log entries old) { ring = ring }
 
--- And a host.
+-- The host at a place makes its hold turn: its own list and the ring's go on.
 pub record HostHoldsAt (plant : Plant) (at : ℕ) (old new : Joint) : Type 0 where
   pub plan : HostPlan
   pub log : HostLog
@@ -132,7 +132,7 @@ pub record VisitsAt (plant : Plant) (scans at : ℕ) (plan : ControllerPlan) (lo
       entries old.ring ring
   pub made : new ≡ record (with_list at log entries old) { ring = ring }
 
--- It does where that is due, and else nothing.
+-- The controller at a place makes its visit where that is due, and else nothing.
 abbrev pub VisitsWhere : Bool → Plant → ℕ → ℕ → ControllerPlan → ControllerLog → Joint → Joint
     → Type 0
 VisitsWhere true plant scans at plan log old new = VisitsAt plant scans at plan log old new
@@ -150,7 +150,7 @@ abbrev pub MakesVisit : Plant → ℕ → Option ℕ → Joint → Joint → Typ
 MakesVisit plant scans None old new = new ≡ old
 MakesVisit plant scans (Some at) old new = VisitsIfDue plant scans at old new
 
--- A turn: what it makes of one joint history is another.
+-- A turn leads from one joint history to the next.
 abbrev pub MakesTurn : Plant → ℕ → Turn → Joint → Joint → Type 0
 MakesTurn plant scans (Step node) old new =
     MakesStep plant scans (controller_place plant node) old new

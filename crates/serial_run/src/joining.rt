@@ -3,7 +3,7 @@ ghost use Rattle.std.specs.Prelude.{◌≡◌, IfOk, map};
 ghost use Rattle.serial_run.specs.Stations.{joint_of, host_log_of, log_of};
 
 use crate::stations::{ControllerStation, HostStation, Stations};
-use comm_port::{ControllerLog, HostLog, Joint};
+use joint_history::{ControllerLog, HostLog, Joint};
 use plant_types::List;
 use std::alloc::{AllocError, Global};
 

@@ -7,8 +7,6 @@ mod runs;
 mod scanning;
 mod serial;
 mod stations;
-#[cfg(test)]
-mod tests;
 mod turning;
 
 pub use order::Turn;

@@ -4,12 +4,14 @@ ghost use Rattle.std.specs.List.{position};
 ghost use Rattle.controller_core.specs.Machine.{CanRun};
 ghost use Rattle.plant_types.specs.Plans.{IsHostPlan};
 ghost use Rattle.ring_core.specs.Legal.{IsMember};
-ghost use Rattle.serial_run.specs.Stations.{CanRunPlant, Starts, StartsController};
+ghost use Rattle.joint_history.specs.Runnable.{CanRunPlant};
+ghost use Rattle.serial_run.specs.Stations.{Starts, StartsController};
 ghost use Rattle.serial_run.specs.Stations.{StartsHost, StartControllers, StartHosts};
 
-use comm_port::{CommWorker, ControllerLog, HostLog, HostWorker, Joint};
+use comm_port::{CommWorker, HostWorker};
 use controller_core::Controller;
 use host_port::Host;
+use joint_history::{ControllerLog, HostLog, Joint};
 use plant_types::{ControllerPlan, HostPlan, List, Plant};
 use ring_core::Ring;
 use std::alloc::{AllocError, Global};

@@ -16,7 +16,7 @@ use ring_core::Ring;
 use std::alloc::AllocError;
 use turn_laws::{host_turns_keep_on, turns_keep_on, visits_keep_on};
 
-/// Has the memory of a scan, if it hasn't yet.
+/// Reserves the memory of a scan, if that was not done yet.
 pub(crate) fn reserve(controller: &mut Controller) -> Result<(), AllocError>
     ensures { OnOk result (controller.new ≡ record controller.old { reserved = true }) }
 {

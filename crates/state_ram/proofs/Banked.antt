@@ -15,7 +15,7 @@ use Rattle.plant_types.specs.declared.reference.RefKind.TheVariants.{Coil, Input
 use Rattle.plant_types.specs.declared.reference.RefKind.TheVariants.{Register}
 use Rattle.plant_types.specs.declared.reference.Ref.{Ref}
 use Rattle.plant_types.specs.Reference.{ref_from, rank_of, is_discrete}
-use Rattle.plant_types.specs.MapRam.{kind_at, kind_again}
+use Rattle.plant_types.specs.MapRam.{kind_of_rank, kind_again}
 use Rattle.plant_types.specs.Sizes.{has_reference, cleared, count_of}
 use Rattle.plant_types.specs.Store.{Contents, Keeps, part_at, word_at, words_from, with_words}
 use Rattle.plant_types.proofs.Contents.{exact_refs, refs_total}
@@ -347,7 +347,7 @@ group_bits w m at is d place first =
     ∙ on_again (word_bit word j)))
 
 same_kind : (k kind : RefKind) → rank_of k ≡ rank_of kind → k ≡ kind
-same_kind k kind e = sym (kind_again k) ∙ ap kind_at e ∙ kind_again kind
+same_kind k kind e = sym (kind_again k) ∙ ap kind_of_rank e ∙ kind_again kind
 
 -- whether a reference is one of sixteen
 in_run : (at q : Ref) (P : Type 0) → ((j : ℕ) → j < 16 → q ≡ ref_from at j → P) → (((i : ℕ) → i < 16 → ref_from at i ≢ q) → P) → P

@@ -18,7 +18,7 @@ all_zeros sizes =
     ++ (zeros Input sizes.inputs
     ++ (zeros InputRegister sizes.input_registers ++ zeros Register sizes.registers))
 
--- The same, each with the number that it is given. This project's own.
+-- All references of these sizes, each with the number that it is given. This project's own.
 unfoldable pub filled : Sizes → (Ref → ℕ) → Contents
 filled sizes number = from_entries (map (λ e. (e.0, number e.0)) (all_zeros sizes))
 
@@ -36,7 +36,7 @@ words_of_kind words Input = words.inputs
 words_of_kind words InputRegister = words.input_registers
 words_of_kind words Register = words.registers
 
--- The same with other words of a kind. This project's own.
+-- These words with the words of one kind replaced. This project's own.
 abbrev pub with_words_of_kind : Words → RefKind → List ℕ → Words
 with_words_of_kind words Coil other = record words { coils = other }
 with_words_of_kind words Input other = record words { inputs = other }
@@ -50,15 +50,6 @@ packed_sizes words = record {
   inputs = 16 * length words.inputs;
   input_registers = length words.input_registers;
   registers = length words.registers;
-}
-
--- The sizes of a map. This project's own.
-abbrev pub sizes_from : ℕ → ℕ → ℕ → ℕ → Sizes
-sizes_from coils inputs input_registers registers = record {
-  coils = coils;
-  inputs = inputs;
-  input_registers = input_registers;
-  registers = registers;
 }
 
 -- The bit at a place of many words, as 0 or 1. This project's own.
@@ -80,7 +71,8 @@ packed_number words at = number_in at.kind (words_of_kind words at.kind) (at.num
 abbrev pub group_of : Words → Ref → ℕ
 group_of words at = slice_index_or (words_of_kind words at.kind) ((at.number - 1) / 16) 0
 
--- The same words with that one changed. This project's own.
+-- These words with the word of sixteen discretes that holds one of them replaced. This project's
+-- own.
 abbrev pub with_group : Words → Ref → ℕ → Words
 with_group words at word =
     with_words_of_kind words at.kind (slice_set (words_of_kind words at.kind) ((at.number - 1) /

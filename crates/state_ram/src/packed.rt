@@ -2,8 +2,7 @@
 ghost use Rattle.std.specs.Prelude.{◌≡◌, ◌%◌, true, IfOk};
 ghost use Rattle.std.specs.FinMap as map;
 ghost use Rattle.plant_types.specs.Reference.{is_discrete};
-ghost use Rattle.plant_types.specs.Sizes.{cleared};
-ghost use Rattle.state_ram.specs.Packed.{sizes_from};
+ghost use Rattle.plant_types.specs.Sizes.{cleared, sizes_from};
 ghost use Rattle.plant_types.specs.Store.{Keeps, part_at};
 ghost use Rattle.plant_types.specs.Discretes.{word_bits, bits_from, with_bits};
 

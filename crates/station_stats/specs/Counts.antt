@@ -81,8 +81,8 @@ running stats [] = stats
 running stats (note ∷ notes) = running (noted stats note) notes
 
 -- The statistics words: own address, members now, the counts, heard words of this node, two zeros.
-abbrev pub words_of : StatsIs → ℕ → ℕ → List ℕ
-words_of stats members passed =
+abbrev pub stats_words : StatsIs → ℕ → ℕ → List ℕ
+stats_words stats members passed =
     stats.node ∷ members ∷ stats.counts ++ passed ∷ 0 ∷ 0 ∷ []
 
 -- Counters that run along are the counts from scratch since the last clear.

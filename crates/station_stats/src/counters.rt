@@ -1,6 +1,6 @@
 //! Counters that run along.
 ghost use Rattle.std.specs.Prelude.{◌≡◌};
-ghost use Rattle.station_stats.specs.Counts.{cleared, counted, words_of};
+ghost use Rattle.station_stats.specs.Counts.{cleared, counted, stats_words};
 
 use crate::event::StatEvent;
 use std::marker::Model;
@@ -50,7 +50,7 @@ impl Stats {
     /// The twenty statistics words. `members` is how many are members now, and `passed` the number
     /// of words that this station passed with its token last.
     pub fn words(&self, members: u16, passed: u16) -> [u16; 20]
-        ensures { result ≡ words_of self.now members passed }
+        ensures { result ≡ stats_words self.now members passed }
     {
         let mut words = [0; 20];
         words[0] = self.node as u16;

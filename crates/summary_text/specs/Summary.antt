@@ -11,10 +11,10 @@ use Rattle.mstr_block.specs.declared.call.MstrResult.TheVariants as results
 use Rattle.controller_core.specs.declared.entry.Entry.{Entry}
 use Rattle.controller_core.specs.declared.entry.Entry.TheVariants as entries
 use Rattle.controller_core.specs.Replay.{replay}
-use Rattle.comm_port.specs.declared.joint.ControllerLog.{ControllerLog}
-use Rattle.comm_port.specs.declared.joint.Joint.{Joint}
-use Rattle.comm_port.specs.Complete.{is_pass}
-use Rattle.comm_port.specs.JointLaws.{fixed_of}
+use Rattle.joint_history.specs.declared.joint.ControllerLog.{ControllerLog}
+use Rattle.joint_history.specs.declared.joint.Joint.{Joint}
+use Rattle.joint_history.specs.Complete.{is_pass}
+use Rattle.joint_history.specs.JointLaws.{fixed_of}
 use Rattle.panel_text.specs.Panel.{logged, most_scans}
 use Rattle.summary_text.specs.declared.counts.Counted.{Counted}
 use Rattle.summary_text.specs.declared.counts.Counted.TheVariants.{Solves, Peers, Good, Bad}

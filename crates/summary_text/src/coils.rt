@@ -6,12 +6,12 @@ ghost use Rattle.plant_types.specs.Store.{is_on};
 ghost use Rattle.controller_core.specs.Controller.{IsLegal, store_of};
 ghost use Rattle.controller_core.specs.Following.{MayFollow};
 ghost use Rattle.controller_core.specs.Machine.{IsRunnable};
-ghost use Rattle.comm_port.specs.JointLaws.{fixed_of};
+ghost use Rattle.joint_history.specs.JointLaws.{fixed_of};
 ghost use Rattle.panel_text.specs.Panel.{CanShow, HasMade, most_scans};
 ghost use Rattle.summary_text.specs.Summary.{coil_at, coils_of, coils_on};
 
-use comm_port::ControllerLog;
 use controller_core::{Controller, Entry, fronts_are_legal};
+use joint_history::ControllerLog;
 use plant_types::{ControllerPlan, Plant, Ref, RefKind};
 use std::alloc::{AllocError, Global};
 

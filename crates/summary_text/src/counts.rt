@@ -1,11 +1,11 @@
 //! How many entries of a sort there are.
 ghost use Rattle.std.specs.Prelude.{◌≡◌};
 ghost use Rattle.std.specs.List.{count_by};
-ghost use Rattle.comm_port.specs.Complete.{is_pass};
+ghost use Rattle.joint_history.specs.Complete.{is_pass};
 ghost use Rattle.summary_text.specs.Summary.{entries_that, is_bad, is_counted, is_good};
 
-use comm_port::ControllerLog;
 use controller_core::Entry;
+use joint_history::ControllerLog;
 use mstr_block::MstrResult;
 use ring_core::RingEntry;
 

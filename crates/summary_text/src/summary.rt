@@ -1,13 +1,13 @@
 //! The text of the summary.
 ghost use Rattle.std.specs.Prelude.{◌≡◌, ◌++◌, IfOk, OnOk, map, string_bytes};
 ghost use Rattle.std.specs.List.{flat_map};
-ghost use Rattle.comm_port.specs.JointLaws.{IsLegalJoint};
+ghost use Rattle.joint_history.specs.JointLaws.{IsLegalJoint};
 ghost use Rattle.panel_text.specs.Panel.{CanRunAll, most_scans};
 ghost use Rattle.summary_text.specs.Summary.{count_line, summary};
 
 use crate::coils::coils_of_all;
 use crate::counts::{Counted, entries_that, passes_in};
-use comm_port::Joint;
+use joint_history::Joint;
 use plant_types::Plant;
 use std::alloc::{AllocError, Global};
 use std::fmt::Write;

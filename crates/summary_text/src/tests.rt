@@ -1,7 +1,7 @@
 // What is counted of lists that are made by hand.
 use crate::counts::{Counted, entries_that, passes_in};
-use comm_port::ControllerLog;
 use controller_core::Entry;
+use joint_history::ControllerLog;
 use mstr_block::{CallId, MstrResult};
 use plant_types::{Block, List, Words};
 use ring_core::RingEntry;

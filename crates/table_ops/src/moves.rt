@@ -1,22 +1,19 @@
 //! R>T, T>R, T>T and BLKM.
-ghost use Rattle.std.specs.Prelude.{◌≡◌, ◌≤◌, ◌<◌, ◌+◌, ◌^◌, false, ◌||◌, nat_le, if◌then◌else◌};
-ghost use Rattle.std.specs.FinMap.{insert};
+ghost use Rattle.std.specs.Prelude.{◌≡◌, ◌≤◌, ◌<◌, ◌+◌, ◌^◌};
 ghost use Rattle.plant_types.specs.Reference.{ref_from};
 ghost use Rattle.plant_types.specs.declared.element.Element.{Element};
 ghost use Rattle.plant_types.specs.declared.element.MoveOp.{MoveOp};
-ghost use Rattle.plant_types.specs.Effect.{Does};
+ghost use Rattle.plant_types.specs.Effect.{Acts};
 ghost use Rattle.plant_types.specs.Operands.{HasOperands};
-ghost use Rattle.plant_types.specs.Power.{nodes_of, bits_of};
+ghost use Rattle.plant_types.specs.Power.{bits_of};
 ghost use Rattle.plant_types.specs.Slots.{table_limit};
 ghost use Rattle.plant_types.specs.Store.{HasRegisters, Keeps, word_at};
-ghost use Rattle.table_ops.specs.Tables.{moved, behind, start_place, goes_on, next_place};
+ghost use Rattle.table_ops.specs.Tables.{moved, table_behind, start_place, move_outputs};
+ghost use Rattle.table_ops.specs.Tables.{with_next_place};
 ghost use Rattle.table_ops.specs.Tables.{reg_to_table_effect, table_to_reg_effect};
 ghost use Rattle.table_ops.specs.Tables.{table_to_table_effect, block_move_effect};
 
-use plant_types::{NodePower, Ref, RefStore, load_words, ref_after, store_words};
-
-/// Room for the longest table.
-const TABLE_LIMIT: usize = 255;
+use plant_types::{NodePower, Ref, RefStore, TABLE_LIMIT, load_words, ref_after, store_words};
 
 /// Copies registers; all are read before any is stored.
 pub(crate) fn move_words<R: RefStore>(ram: &mut R, source: Ref, target: Ref, count: u16)
@@ -26,7 +23,7 @@ pub(crate) fn move_words<R: RefStore>(ram: &mut R, source: Ref, target: Ref, cou
     ensures stored { R.contents ram.new ≡ moved (R.contents ram.old) source target count }
     ensures keeps { Keeps (R.contents ram.old) (R.contents ram.new) }
 {
-    let mut words = [0; TABLE_LIMIT];
+    let mut words = [0; TABLE_LIMIT as usize];
     let run = &mut words[..usize::from(count)];
     load_words(ram, source, run);
     store_words(ram, target, run);
@@ -46,7 +43,7 @@ pub(crate) fn move_word<R: RefStore>(ram: &mut R, source: Ref, target: Ref)
 /// The register at a place of the table behind a pointer.
 pub(crate) fn register_behind(pointer: Ref, place: u16) -> Ref
     requires { pointer.number + 1 + place < 2 ^ 16 }
-    ensures { result ≡ ref_from (behind pointer) place }
+    ensures { result ≡ ref_from (table_behind pointer) place }
 {
     ref_after(ref_after(pointer, 1), place)
 }
@@ -62,14 +59,9 @@ fn place_at_start<R: RefStore>(nodes: NodePower, pointer: Ref, ram: &R) -> u16
 /// Stores the pointer of a move that began at a place, and answers the outputs.
 fn end_move<R: RefStore>(nodes: NodePower, pointer: Ref, length: u16, place: u16, ram: &mut R) -> u8
     requires { HasRegisters (R.contents ram.old) pointer 1 }
-    ensures outputs { result ≡ bits_of (record {
-      top = nodes.top;
-      middle = nat_le length (next_place nodes length place);
-      bottom = false;
-    }) }
-    ensures stored { R.contents ram.new ≡ (if goes_on nodes length place || nodes.bottom
-        then insert (R.contents ram.old) pointer (next_place nodes length place)
-        else R.contents ram.old) }
+    ensures outputs { result ≡ bits_of (move_outputs nodes length place) }
+    ensures stored { R.contents ram.new ≡
+        with_next_place nodes pointer length place (R.contents ram.old) }
     ensures keeps { Keeps (R.contents ram.old) (R.contents ram.new) }
 {
     let goes_on = nodes.top && place < length;
@@ -96,7 +88,7 @@ fn end_move<R: RefStore>(nodes: NodePower, pointer: Ref, length: u16, place: u16
 /// end.
 pub fn reg_to_table<R: RefStore>(top: Ref, mid: Ref, length: u16, inputs: u8, ram: &mut R) -> u8
     requires { HasOperands (R.contents ram.old) (Element.Move MoveOp.RegToTable top mid length) }
-    ensures { Does (reg_to_table_effect top mid length (nodes_of inputs)) result
+    ensures { Acts (reg_to_table_effect top mid length) inputs result
         (R.contents ram.old) (R.contents ram.new) }
 {
     let nodes = NodePower::of_bits(inputs);
@@ -112,7 +104,7 @@ pub fn reg_to_table<R: RefStore>(top: Ref, mid: Ref, length: u16, inputs: u8, ra
 /// Inputs and outputs are those of `reg_to_table`.
 pub fn table_to_reg<R: RefStore>(top: Ref, mid: Ref, length: u16, inputs: u8, ram: &mut R) -> u8
     requires { HasOperands (R.contents ram.old) (Element.Move MoveOp.TableToReg top mid length) }
-    ensures { Does (table_to_reg_effect top mid length (nodes_of inputs)) result
+    ensures { Acts (table_to_reg_effect top mid length) inputs result
         (R.contents ram.old) (R.contents ram.new) }
 {
     let nodes = NodePower::of_bits(inputs);
@@ -128,7 +120,7 @@ pub fn table_to_reg<R: RefStore>(top: Ref, mid: Ref, length: u16, inputs: u8, ra
 /// Inputs and outputs are those of `reg_to_table`.
 pub fn table_to_table<R: RefStore>(top: Ref, mid: Ref, length: u16, inputs: u8, ram: &mut R) -> u8
     requires { HasOperands (R.contents ram.old) (Element.Move MoveOp.TableToTable top mid length) }
-    ensures { Does (table_to_table_effect top mid length (nodes_of inputs)) result
+    ensures { Acts (table_to_table_effect top mid length) inputs result
         (R.contents ram.old) (R.contents ram.new) }
 {
     let nodes = NodePower::of_bits(inputs);
@@ -144,7 +136,7 @@ pub fn table_to_table<R: RefStore>(top: Ref, mid: Ref, length: u16, inputs: u8, 
 /// Input: the top node moves. Output: the top node passes power on.
 pub fn block_move<R: RefStore>(top: Ref, mid: Ref, length: u16, inputs: u8, ram: &mut R) -> u8
     requires { HasOperands (R.contents ram.old) (Element.Move MoveOp.Copy top mid length) }
-    ensures { Does (block_move_effect top mid length (nodes_of inputs)) result
+    ensures { Acts (block_move_effect top mid length) inputs result
         (R.contents ram.old) (R.contents ram.new) }
 {
     let power = NodePower::of_bits(inputs).top;

@@ -3,9 +3,9 @@
 ghost use Rattle.std.specs.Prelude.{◌≡◌};
 ghost use Rattle.plant_types.specs.declared.element.Element.{Element};
 ghost use Rattle.plant_types.specs.declared.element.MoveOp.{MoveOp};
-ghost use Rattle.plant_types.specs.Effect.{Does};
+ghost use Rattle.plant_types.specs.Effect.{Acts};
 ghost use Rattle.plant_types.specs.Operands.{HasOperands};
-ghost use Rattle.plant_types.specs.Power.{nodes_of, bits_of};
+ghost use Rattle.plant_types.specs.Power.{bits_of};
 ghost use Rattle.table_ops.specs.Tables.{queue_outputs, first_in_effect, first_out_effect};
 
 use crate::moves::{move_word, move_words};
@@ -31,7 +31,7 @@ fn queue_bits(nodes: NodePower, length: u16, count: u16) -> u8
 /// one that it is empty.
 pub fn first_in<R: RefStore>(top: Ref, mid: Ref, length: u16, inputs: u8, ram: &mut R) -> u8
     requires { HasOperands (R.contents ram.old) (Element.Move MoveOp.FirstIn top mid length) }
-    ensures { Does (first_in_effect top mid length (nodes_of inputs)) result
+    ensures { Acts (first_in_effect top mid length) inputs result
         (R.contents ram.old) (R.contents ram.new) }
 {
     let nodes = NodePower::of_bits(inputs);
@@ -54,7 +54,7 @@ pub fn first_in<R: RefStore>(top: Ref, mid: Ref, length: u16, inputs: u8, ram: &
 /// `first_in`.
 pub fn first_out<R: RefStore>(top: Ref, mid: Ref, length: u16, inputs: u8, ram: &mut R) -> u8
     requires { HasOperands (R.contents ram.old) (Element.Move MoveOp.FirstOut top mid length) }
-    ensures { Does (first_out_effect top mid length (nodes_of inputs)) result
+    ensures { Acts (first_out_effect top mid length) inputs result
         (R.contents ram.old) (R.contents ram.new) }
 {
     let nodes = NodePower::of_bits(inputs);

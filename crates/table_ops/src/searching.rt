@@ -2,9 +2,8 @@
 ghost use Rattle.std.specs.Prelude.{◌≡◌, ◌<◌, IfSome};
 ghost use Rattle.plant_types.specs.declared.element.Element.{Element};
 ghost use Rattle.plant_types.specs.declared.element.MoveOp.{MoveOp};
-ghost use Rattle.plant_types.specs.Effect.{Does};
+ghost use Rattle.plant_types.specs.Effect.{Acts};
 ghost use Rattle.plant_types.specs.Operands.{HasOperands};
-ghost use Rattle.plant_types.specs.Power.{nodes_of};
 ghost use Rattle.plant_types.specs.Store.{HasRegisters, words_from};
 ghost use Rattle.table_ops.specs.Tables.{first_place, search_effect};
 
@@ -33,7 +32,7 @@ fn place_of<R: RefStore>(value: u16, table: Ref, start: u16, length: u16, ram: &
 /// Outputs: the top node passes power on, the middle one says that the number was found.
 pub fn search<R: RefStore>(top: Ref, mid: Ref, length: u16, inputs: u8, ram: &mut R) -> u8
     requires { HasOperands (R.contents ram.old) (Element.Move MoveOp.Search top mid length) }
-    ensures { Does (search_effect top mid length (nodes_of inputs)) result
+    ensures { Acts (search_effect top mid length) inputs result
         (R.contents ram.old) (R.contents ram.new) }
 {
     let nodes = NodePower::of_bits(inputs);

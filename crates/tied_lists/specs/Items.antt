@@ -1,6 +1,6 @@
 -- What the laws read: calls asked for, requests answered and calls ended, of a station's list and
 -- of its node's list on the ring. This project's own.
-use Rattle.std.specs.Prelude.{ℕ, ◌==◌, ◌||◌, Bool, true, false, if◌then◌else◌, List, [], ◌∷◌, ◌++◌}
+use Rattle.std.specs.Prelude.{ℕ, ◌==◌, if◌then◌else◌, List, [], ◌∷◌, ◌++◌}
 use Rattle.std.specs.Prelude.{map, filter_map, Option, Some, None}
 use Rattle.std.specs.List.{cons_option}
 use Rattle.modbus_pdu.specs.Spelling.{reply_bytes}
@@ -10,7 +10,7 @@ use Rattle.tied_lists.specs.Words.{CallId, MstrResult, Good, Bad, FrameKind, Req
 use Rattle.tied_lists.specs.Words.{LocalOp, RemoteGet, RemoteClear, RingEntry, Post, Take, Local}
 use Rattle.tied_lists.specs.Words.{GiveUp}
 use Rattle.ring_core.specs.Statistics.{get_statistics, clear_statistics, is_stats}
-use Rattle.tied_lists.specs.Result.{result_of}
+use Rattle.reply_laws.specs.Result.{result_of}
 
 -- A request that a station asks another for.
 pub record Asked : Type 0 where

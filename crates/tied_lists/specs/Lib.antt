@@ -1,6 +1,5 @@
 pub mod Words
 pub mod Own
-pub mod Result
 pub mod Items
 pub mod Tied
 pub mod Waits

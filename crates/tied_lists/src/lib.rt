@@ -1,6 +1,2 @@
-//! The laws that tie what a station noted to what its node did on the ring.
+//! The laws that tie what a station noted to what its node did on the ring: definitions alone.
 #![tactic(auto)]
-
-mod result;
-
-pub use result::result_of;

@@ -15,8 +15,8 @@ is_edge inputs edge = inputs.top && not edge
 
 -- The accumulator of an up counter after a solve: 0 while the lower input is off, else the count so
 -- far, at most the preset, and one more at an edge below the preset.
-abbrev pub count_up : ℕ → NodePower → Bool → ℕ → ℕ
-count_up preset inputs edge count =
+abbrev pub counted_up : ℕ → NodePower → Bool → ℕ → ℕ
+counted_up preset inputs edge count =
     let held = min count preset in
     if inputs.middle
     then (if is_edge inputs edge && nat_lt held preset then held + 1 else held)
@@ -24,8 +24,8 @@ count_up preset inputs edge count =
 
 -- The accumulator of a down counter after a solve: the preset while the lower input is off, else
 -- the count so far, at most the preset, and one less at an edge above 0.
-abbrev pub count_down : ℕ → NodePower → Bool → ℕ → ℕ
-count_down preset inputs edge count =
+abbrev pub counted_down : ℕ → NodePower → Bool → ℕ → ℕ
+counted_down preset inputs edge count =
     let held = min count preset in
     if inputs.middle
     then (if is_edge inputs edge && nat_lt 0 held then held - 1 else held)
@@ -36,13 +36,13 @@ abbrev pub run_down : ℕ → NodePower
 run_down count = record { top = count == 0; middle = nat_lt 0 count; bottom = false }
 
 -- What an up counter does when it is solved; its edge bit becomes its upper input.
-unfoldable pub up_count_effect : ℕ → Ref → NodePower → Bool → Contents → Effect
-up_count_effect preset acc inputs edge m =
-    let count = count_up preset inputs edge (word_at m acc) in
+unfoldable pub up_count_effect : ℕ → Ref → Bool → NodePower → Contents → Effect
+up_count_effect preset acc edge inputs m =
+    let count = counted_up preset inputs edge (word_at m acc) in
     record { outputs = reached preset count; stored = insert m acc count }
 
 -- What a down counter does when it is solved; its edge bit becomes its upper input.
-unfoldable pub down_count_effect : ℕ → Ref → NodePower → Bool → Contents → Effect
-down_count_effect preset acc inputs edge m =
-    let count = count_down preset inputs edge (word_at m acc) in
+unfoldable pub down_count_effect : ℕ → Ref → Bool → NodePower → Contents → Effect
+down_count_effect preset acc edge inputs m =
+    let count = counted_down preset inputs edge (word_at m acc) in
     record { outputs = run_down count; stored = insert m acc count }

@@ -33,12 +33,11 @@ abbrev pub reached : ℕ → ℕ → NodePower
 reached preset value = record {
   top = value == preset;
   middle = nat_lt value preset;
-  bottom =
-      false;
+  bottom = false;
 }
 
 -- What a timer does when it is solved.
-unfoldable pub timer_effect : TimeBase → ℕ → Ref → NodePower → Clock → Contents → Effect
-timer_effect unit preset acc inputs clock m =
+unfoldable pub timer_effect : TimeBase → ℕ → Ref → Clock → NodePower → Contents → Effect
+timer_effect unit preset acc clock inputs m =
     let time = time_after unit preset inputs clock (word_at m acc) in
     record { outputs = reached preset time; stored = insert m acc time }

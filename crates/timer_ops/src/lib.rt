@@ -6,7 +6,7 @@
 #![tactic(auto)]
 
 ghost use Rattle.std.specs.Prelude.{◌≡◌, ◌+◌, ◌<◌, min};
-ghost use Rattle.plant_types.specs.Effect.{Does};
+ghost use Rattle.plant_types.specs.Effect.{Acts};
 ghost use Rattle.plant_types.specs.Power.{nodes_of};
 ghost use Rattle.plant_types.specs.Store.{HasRegisters};
 ghost use Rattle.timer_ops.specs.Timer.{ticks_in, units_passed, timer_effect};
@@ -68,7 +68,7 @@ pub fn timer<R: RefStore>(
     ram: &mut R,
 ) -> u8
     requires { HasRegisters (R.contents ram.old) acc 1 }
-    ensures { Does (timer_effect unit preset acc (nodes_of inputs) clock) result
+    ensures { Acts (timer_effect unit preset acc clock) inputs result
         (R.contents ram.old) (R.contents ram.new) }
 {
     let inputs = NodePower::of_bits(inputs);
@@ -105,7 +105,7 @@ fn rises(inputs: NodePower, edge: &mut bool) -> bool
 #[tactic(auto, unfolding(crate::specs::Counter::up_count_effect))]
 pub fn up_count<R: RefStore>(preset: u16, acc: Ref, inputs: u8, edge: &mut bool, ram: &mut R) -> u8
     requires { HasRegisters (R.contents ram.old) acc 1 }
-    ensures does { Does (up_count_effect preset acc (nodes_of inputs) edge.old) result
+    ensures does { Acts (up_count_effect preset acc edge.old) inputs result
         (R.contents ram.old) (R.contents ram.new) }
     ensures edge { edge.new ≡ (nodes_of inputs).top }
 {
@@ -141,7 +141,7 @@ pub fn down_count<R: RefStore>(
     ram: &mut R,
 ) -> u8
     requires { HasRegisters (R.contents ram.old) acc 1 }
-    ensures does { Does (down_count_effect preset acc (nodes_of inputs) edge.old) result
+    ensures does { Acts (down_count_effect preset acc edge.old) inputs result
         (R.contents ram.old) (R.contents ram.new) }
     ensures edge { edge.new ≡ (nodes_of inputs).top }
 {

@@ -16,11 +16,11 @@ use Rattle.plant_types.specs.declared.drops.Module.{Module}
 use Rattle.plant_types.specs.Reference.{ref_from}
 use Rattle.plant_types.specs.Power.{bit_of}
 use Rattle.plant_types.specs.Store.{Contents, Keeps, with_words}
-use Rattle.plant_types.specs.Discretes.{bit_words, word_bits}
+use Rattle.plant_types.specs.Discretes.{bit_words, word_bits, number_of_bits}
 use Rattle.plant_types.proofs.DiscretesLemmas.{length-bits_high_first, length-bit_words}
 use Rattle.plant_types.proofs.DiscretesLemmas.{get_or-bits_high_first}
 use Rattle.plant_types.proofs.RunLemmas.{HasRegisters-kept, with_words-push}
-use Rattle.traffic_cop.specs.Exchange.{HasGroup, HasModuleBy, HasModules, module_at, number_of_bits}
+use Rattle.traffic_cop.specs.Exchange.{HasGroup, HasModuleBy, HasModules, module_at}
 use Rattle.traffic_cop.specs.Exchange.{input_count, output_count, input_total, output_total}
 use Rattle.traffic_cop.specs.Exchange.{put_words, put_all, given, output_words}
 

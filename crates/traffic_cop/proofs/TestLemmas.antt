@@ -21,7 +21,7 @@ use Rattle.plant_types.proofs.SizesLemmas.{contains_key-cleared}
 use Rattle.plant_types.specs.FirstFault.{first_failed}
 use Rattle.traffic_cop.specs.Exchange.{kind_of, input_total, output_total, HasModule, HasModules}
 use Rattle.traffic_cop.specs.Exchange.{FitsRow, IsDrop}
-use Rattle.traffic_cop.specs.Drops.{drop_named, IsReady}
+use Rattle.traffic_cop.specs.Drops.{drop_named, CanExchange}
 use Rattle.traffic_cop.specs.Tests.{fault_in, references_by, is_regular, has_references}
 use Rattle.traffic_cop.specs.Tests.{module_fault, held_of, fits_row, IsTested}
 
@@ -120,7 +120,7 @@ find P (d ∷ drops) number all h = found-step P d drops number (d.number == num
 pub record Ready (sizes : Sizes) (drops : List IoDrop) (number : ℕ) : Type 0 where
   pub from : 1 ≤ number
   pub to : number ≤ 32
-  pub ready : IsReady drops number (cleared sizes)
+  pub ready : CanExchange drops number (cleared sizes)
 
 -- drops that passed their tests are ready, where they are named
 pub tested-ready : (sizes : Sizes) (drops : List IoDrop) (number : ℕ) → AreSizes sizes → AllByRecursion (IsTested sizes) drops

@@ -7,7 +7,7 @@ use Rattle.plant_types.specs.declared.drops.IoDrop.{IoDrop}
 use Rattle.plant_types.specs.Store.{Contents}
 use Rattle.traffic_cop.specs.declared.cop.Health.{Health}
 use Rattle.traffic_cop.specs.declared.cop.Health.TheVariants as healths
-use Rattle.traffic_cop.specs.Exchange.{exchanged, output_words, row_at, HasModules, IsDrop}
+use Rattle.traffic_cop.specs.Exchange.{after_exchange, output_words, row_at, HasModules, IsDrop}
 
 -- The first drop of a number. This project's own.
 unfoldable pub drop_named : List IoDrop → ℕ → Option IoDrop
@@ -20,7 +20,7 @@ IsNamed drops number = is_some (drop_named drops number) ≡ true
 
 -- A drop is there, of as many words as its rows have, and a store has the references of its
 -- modules. This project's own.
-pub record IsReady (drops : List IoDrop) (number : ℕ) (m : Contents) : Type 0 where
+pub record CanExchange (drops : List IoDrop) (number : ℕ) (m : Contents) : Type 0 where
   pub found : IoDrop
   pub named : drop_named drops number ≡ Some found
   pub fits : IsDrop found
@@ -41,7 +41,7 @@ health_at drops number k = health_in (drop_named drops number) k
 
 abbrev pub exchanged_in : Option IoDrop → ℕ → Contents → Contents
 exchanged_in None k m = m
-exchanged_in (Some drop) k m = exchanged drop k m
+exchanged_in (Some drop) k m = after_exchange drop k m
 
 -- The contents after the k-th input exchange of a drop. This project's own.
 abbrev pub input_after : List IoDrop → ℕ → ℕ → Contents → Contents

@@ -1,6 +1,6 @@
 -- What the field gives a drop at an exchange, and what a drop gives the field.
-use Rattle.std.specs.Prelude.{◌≡◌, ◌≤◌, ◌<◌, ℕ, ◌+◌, ◌*◌, ◌-◌, Bool, true, min, List, [], ◌∷◌}
-use Rattle.std.specs.Prelude.{length, take, drop, replicate, fold, Option, Some, None, slice_get}
+use Rattle.std.specs.Prelude.{◌≡◌, ◌≤◌, ◌<◌, ℕ, ◌+◌, ◌-◌, true, min, List, [], ◌∷◌}
+use Rattle.std.specs.Prelude.{length, take, drop, replicate, Option, Some, None, slice_get}
 use Rattle.std.specs.Prelude.{slice_index}
 use Rattle.std.specs.List.{flat_map, sum_by, AllByRecursion}
 use Rattle.std.specs.FinMap.{contains_key}
@@ -15,13 +15,8 @@ use Rattle.plant_types.specs.declared.drops.ScriptRow.{ScriptRow}
 use Rattle.plant_types.specs.declared.drops.ScriptRow.TheVariants.{Silent, Row}
 use Rattle.plant_types.specs.declared.drops.IoDrop.{IoDrop}
 use Rattle.plant_types.specs.Reference.{ref_from, is_discrete, most_references}
-use Rattle.plant_types.specs.Power.{bit_of}
 use Rattle.plant_types.specs.Store.{Contents, HasRegisters, words_from, with_words}
-use Rattle.plant_types.specs.Discretes.{bits_from, with_bits, word_bits}
-
--- The number that has these bits, the highest first. This project's own.
-abbrev pub number_of_bits : List Bool → ℕ
-number_of_bits bits = fold (λ n on. 2 * n + bit_of on) 0 bits
+use Rattle.plant_types.specs.Discretes.{bits_from, with_bits, word_bits, number_of_bits}
 
 -- The kind of reference that a module carries: inputs, coils, input registers, holding
 -- registers. This project's own.
@@ -71,8 +66,8 @@ put_by _ at words m = m
 unfoldable pub put_words : Module → List ℕ → Contents → Contents
 put_words io_module words m = put_by io_module.kind (module_at io_module) words m
 
--- The same for the modules of a drop in their order, each taking its words from the front. This
--- project's own.
+-- The contents after words of the field came to the modules of a drop, in their order, each taking
+-- its words from the front. This project's own.
 unfoldable pub put_all : List Module → List ℕ → Contents → Contents
 put_all [] words m = m
 put_all (io_module ∷ modules) words m =
@@ -126,8 +121,8 @@ exchanged_by (Some Silent) modules m = m
 exchanged_by (Some (Row words)) modules m = put_all modules words m
 
 -- The contents after the exchange of that number, counted from 1, of a drop. This project's own.
-abbrev pub exchanged : IoDrop → ℕ → Contents → Contents
-exchanged drop k m = exchanged_by (row_at drop.script k) drop.modules m
+abbrev pub after_exchange : IoDrop → ℕ → Contents → Contents
+after_exchange drop k m = exchanged_by (row_at drop.script k) drop.modules m
 
 -- A row has a word for each input word. This project's own.
 abbrev pub FitsRow : List Module → ScriptRow → Type 0

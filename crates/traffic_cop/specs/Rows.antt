@@ -6,7 +6,7 @@ use Rattle.plant_types.specs.declared.plan.ControllerPlan.{ControllerPlan}
 use Rattle.plant_types.specs.Checks.{sizes_of}
 use Rattle.plant_types.specs.Sizes.{cleared}
 use Rattle.plant_types.specs.Store.{Contents, HasDiscrete}
-use Rattle.traffic_cop.specs.Drops.{IsReady}
+use Rattle.traffic_cop.specs.Drops.{CanExchange}
 
 -- A control is a discrete of the store; a row may have none.
 abbrev pub HasControl : Contents → Option Ref → Type 0
@@ -17,7 +17,7 @@ HasControl m (Some at) = HasDiscrete m at
 pub record HasDrop (plan : ControllerPlan) (number : ℕ) : Type 0 where
   pub from : 1 ≤ number
   pub to : number ≤ 32
-  pub ready : IsReady plan.drops number (cleared (sizes_of plan))
+  pub ready : CanExchange plan.drops number (cleared (sizes_of plan))
 
 abbrev pub NamesDrop : ControllerPlan → Option ℕ → Type 0
 NamesDrop plan None = Unit {0}

@@ -5,52 +5,18 @@ ghost use Rattle.traffic_cop.specs.Drops.{drop_named};
 ghost use Rattle.traffic_cop.specs.Exchange.{input_total};
 ghost use Rattle.traffic_cop.specs.Tests.{module_tests, held_of};
 ghost use Rattle.plant_types.specs.PlanTests.{placed};
-ghost use Rattle.traffic_cop.specs.DropTests.{drop_place, module_place, script_place, number_tests};
+ghost use Rattle.traffic_cop.specs.DropTests.{drop_place, number_tests};
 ghost use Rattle.traffic_cop.specs.DropTests.{placed_module_tests, placed_row_tests, word_tests};
 ghost use Rattle.traffic_cop.specs.DropTests.{part_tests, drop_tests, cop_tests};
 ghost use Rattle.traffic_cop.specs.DropTests.{CheckedDropsAreReady};
 
 use crate::cop::Cop;
+use crate::places::{drop_place, module_place, script_place};
 use crate::testing::{fits_row, has_few_words, module_fault};
 use plant_types::{
-    ControllerPlan, IoDrop, Module, ModuleKind, Part, Place, PlantFault, ScriptRow, Sizes,
+    ControllerPlan, DROP_LIMIT, IoDrop, MODULE_LIMIT, Module, ModuleKind, Place, PlantFault,
+    SCRIPT_LIMIT, ScriptRow, Sizes,
 };
-
-/// The highest number of a drop.
-const DROP_LIMIT: u8 = 32;
-
-/// The most modules of a drop.
-const MODULE_LIMIT: usize = 16;
-
-/// The most rows of a script.
-const SCRIPT_LIMIT: usize = 10_000;
-
-fn drop_place(drop: u32) -> Place
-    ensures { result ≡ drop_place 1 drop }
-{
-    Place {
-        part: Part::Drop,
-        at: [1, drop, 0, 0],
-    }
-}
-
-fn module_place(drop: u32, io_module: u32) -> Place
-    ensures { result ≡ module_place 1 drop io_module }
-{
-    Place {
-        part: Part::Module,
-        at: [1, drop, io_module, 0],
-    }
-}
-
-fn script_place(drop: u32, row: u32) -> Place
-    ensures { result ≡ script_place 1 drop row }
-{
-    Place {
-        part: Part::Script,
-        at: [1, drop, row, 0],
-    }
-}
 
 /// Whether one of these drops has this number.
 #[tactic(auto, unfolding(crate::specs::Drops::drop_named))]
@@ -68,7 +34,7 @@ fn is_named(drops: &[IoDrop], number: u8) -> bool
 fn check_numbers(earlier: &[IoDrop], drop: &IoDrop) -> Result<(), PlantFault>
     ensures { result ≡ first_failed (number_tests earlier.now drop.now) }
 {
-    if drop.number < 1 || DROP_LIMIT < drop.number {
+    if drop.number < 1 || DROP_LIMIT < usize::from(drop.number) {
         return Err(PlantFault::BadValue);
     }
     if drop.modules.as_slice().len() > MODULE_LIMIT || drop.script.as_slice().len() > SCRIPT_LIMIT {
@@ -110,7 +76,7 @@ fn check_module(
     requires { length earlier.now < MODULE_LIMIT }
     ensures { result ≡ first_failed (placed_module_tests sizes drop earlier.now io_module) }
 {
-    let place = module_place(drop, earlier.len() as u32 + 1);
+    let place = module_place(1, drop, earlier.len() as u32 + 1);
     place.locate(test_module(held_of(sizes, io_module), io_module))
 }
 
@@ -139,7 +105,7 @@ fn check_row(
     }
     Err((
         PlantFault::BadScript,
-        script_place(drop, earlier.len() as u32 + 1),
+        script_place(1, drop, earlier.len() as u32 + 1),
     ))
 }
 
@@ -160,7 +126,7 @@ fn check_words(drop: u32, modules: &[Module]) -> Result<(), (PlantFault, Place)>
     if has_few_words(modules) {
         Ok(())
     } else {
-        Err((PlantFault::TooLarge, drop_place(drop)))
+        Err((PlantFault::TooLarge, drop_place(1, drop)))
     }
 }
 
@@ -180,7 +146,7 @@ fn check_drop(sizes: Sizes, earlier: &[IoDrop], drop: &IoDrop) -> Result<(), (Pl
     ensures { result ≡ first_failed (drop_tests sizes earlier.now drop.now) }
 {
     let position = earlier.len() as u32 + 1;
-    drop_place(position).locate(check_numbers(earlier, drop))?;
+    drop_place(1, position).locate(check_numbers(earlier, drop))?;
     check_parts(sizes, position, drop)
 }
 

@@ -2,7 +2,7 @@
 ghost use Rattle.std.specs.Prelude.{◌≡◌, ◌≤◌, ◌-◌, Some, min, IfOk};
 ghost use Rattle.plant_types.specs.Store.{Keeps};
 ghost use Rattle.traffic_cop.specs.Drops.{drop_named, health_at, input_after, outputs_of, IsNamed};
-ghost use Rattle.traffic_cop.specs.Drops.{IsReady};
+ghost use Rattle.traffic_cop.specs.Drops.{CanExchange};
 
 use crate::modules::{input_total, put_all, take_all};
 use crate::testing::WORD_LIMIT;
@@ -68,7 +68,7 @@ impl Cop {
     /// The exchange of that number, counted from 1, of a drop that is there: its input modules take
     /// the words of its script row, or of the last one. Takes no memory.
     pub fn input<R: RefStore>(&self, drop: u8, k: u32, ram: &mut R) -> Health
-        requires ready { IsReady self.now drop (R.contents ram.old) }
+        requires ready { CanExchange self.now drop (R.contents ram.old) }
         requires exchange { 1 ≤ k }
         ensures health { result ≡ health_at self.now drop k }
         ensures stored { R.contents ram.new ≡ input_after self.now drop k (R.contents ram.old) }
@@ -90,7 +90,7 @@ impl Cop {
 
     /// The output words of a drop that is there, in the order of its modules. Takes no memory.
     pub fn output<R: RefStore>(&self, drop: u8, ram: &R) -> Block
-        requires { IsReady self.now drop (R.contents ram.now) }
+        requires { CanExchange self.now drop (R.contents ram.now) }
         ensures { result ≡ outputs_of self.now drop (R.contents ram.now) }
     {
         let mut words = [0; WORD_LIMIT];

@@ -1,9 +1,9 @@
 //! The words of modules: what the field gives them, and what they give the field.
 ghost use Rattle.std.specs.Prelude.{◌≡◌, ◌-◌, ◌≤◌, ◌<◌, ◌==◌, length, take};
 ghost use Rattle.std.specs.Int.{bit_at};
-ghost use Rattle.plant_types.specs.Discretes.{bits_from, with_bits, word_bits};
+ghost use Rattle.plant_types.specs.Discretes.{bits_from, with_bits, word_bits, number_of_bits};
 ghost use Rattle.plant_types.specs.Store.{Keeps};
-ghost use Rattle.traffic_cop.specs.Exchange.{number_of_bits, module_at, input_count, output_count};
+ghost use Rattle.traffic_cop.specs.Exchange.{module_at, input_count, output_count};
 ghost use Rattle.traffic_cop.specs.Exchange.{given, put_words, put_all, HasGroup, HasModule};
 ghost use Rattle.traffic_cop.specs.Exchange.{HasModules};
 ghost use Rattle.traffic_cop.specs.Exchange.{input_total, output_total, output_words};

@@ -22,9 +22,9 @@ use Rattle.controller_core.specs.Event.{scan_steps}
 use Rattle.controller_core.specs.Replay.{replay}
 use Rattle.controller_core.specs.Scans.{all_due}
 use Rattle.tied_lists.proofs.Boxes.{count-cons}
-use Rattle.comm_port.specs.Complete.{is_end}
-use Rattle.comm_port.specs.Reading.{has_ended_at}
-use Rattle.comm_port.proofs.Collected.{CallLaws}
+use Rattle.joint_history.specs.Complete.{is_end}
+use Rattle.joint_history.specs.Reading.{has_ended_at}
+use Rattle.joint_history.proofs.Collected.{CallLaws}
 use Rattle.turn_laws.specs.Laws.{ControllersComplete}
 use Rattle.turn_laws.proofs.Rests.{each-ended}
 use Rattle.turn_laws.proofs.Turns.{none-open}

@@ -24,8 +24,8 @@ use Rattle.host_port.proofs.Unanswered.{ended_answer, ended_ask, ended_served, r
 use Rattle.host_port.proofs.Unanswered.{requests_ask, requests_served, unanswered_served}
 use Rattle.tied_lists.specs.Items.{Called, Ended, Items, kind_in, net_ask}
 use Rattle.tied_lists.proofs.Boxes.{count-push}
-use Rattle.comm_port.specs.Complete.{EndsEachCall}
-use Rattle.comm_port.specs.Reading.{host_item_next, host_items_after, host_items_of, outcome_of}
+use Rattle.joint_history.specs.Complete.{EndsEachCall}
+use Rattle.joint_history.specs.Reading.{host_item_next, host_items_after, host_items_of, outcome_of}
 use Rattle.comm_port.proofs.HostLists.{items_with}
 use Rattle.turn_laws.proofs.Passes.{nil-cons}
 use Rattle.turn_laws.proofs.Rests.{ends_of, none-counted, over, same-equal, same-refl, some-counted}

@@ -6,11 +6,12 @@ use Rattle.ring_core.specs.Machine.{NodeIs}
 use Rattle.ring_core.proofs.Stability.{left-stays}
 use Rattle.tied_lists.specs.Own.{own}
 use Rattle.tied_lists.proofs.Turns.{none-by, own-found}
-use Rattle.comm_port.specs.Complete.{AsksAllBeforeDone, AsksInItsHolds, HostIsComplete}
-use Rattle.comm_port.specs.Complete.{IsCompleteHostLog, IsCompleteLog, NodeIsComplete}
-use Rattle.comm_port.specs.Complete.{RepliesBeforePasses, StaysDone}
-use Rattle.comm_port.specs.JointLaws.{fixed_of}
-use Rattle.comm_port.specs.Reading.{host_items_of}
+use Rattle.joint_history.specs.Complete.{AsksAllBeforeDone, AsksInItsHolds, HostIsComplete}
+use Rattle.joint_history.specs.Complete.{IsCompleteHostLog, IsCompleteLog, NodeIsComplete}
+use Rattle.joint_history.specs.Complete.{RepliesBeforePasses, StaysDone}
+use Rattle.joint_history.specs.JointLaws.{fixed_of}
+use Rattle.joint_history.specs.Reading.{host_items_of}
+use Rattle.time_laws.proofs.HostTurn.{host-others-in-time, host-starts-in-time}
 use Rattle.turn_laws.specs.KeepsOn.{HasFinished, HostHasFinished, SaidDone}
 use Rattle.turn_laws.specs.Laws.{ControllersComplete, HostOthersKeepOn, HostStartsKeep}
 use Rattle.turn_laws.specs.Laws.{HostsComplete, RunsComplete}
@@ -34,6 +35,7 @@ host-starts plan net ring none = record {
   holds = subst (AsksInItsHolds plan) (sym none) (no-holds plan);
   asked = subst (AsksAllBeforeDone plan) (sym none) (no-asked plan);
   gone = λ is_so. absurd (let no' : false ≡ true = is_so in cc);
+  timely = host-starts-in-time plan.node ring none;
 }
 
 pub host-others : HostOthersKeepOn
@@ -52,6 +54,7 @@ host-others plan net list ring more left none k =
             left = ap (λ (c : NodeIs). c.here) (left-stays net ring more n g.left (none-by n more none)) ∙ g.left;
             answered = g.answered;
           };
+      timely = host-others-in-time n list ring more none k.timely;
     }
 
 pub host-complete : HostsComplete

@@ -19,12 +19,15 @@ use Rattle.tied_lists.specs.Items.{AHost, asked_by, ended_by, net_ask, taken_by}
 use Rattle.tied_lists.specs.Own.{own}
 use Rattle.tied_lists.specs.Tied.{Tied}
 use Rattle.tied_lists.specs.Waits.{IsOnRing}
-use Rattle.comm_port.specs.Complete.{AsksAllBeforeDone, AsksInItsHolds, IsOfDone, is_pass}
-use Rattle.comm_port.specs.Complete.{RepliesBeforePasses, StaysDone}
+use Rattle.joint_history.specs.Complete.{AsksAllBeforeDone, AsksInItsHolds, IsOfDone, is_pass}
+use Rattle.joint_history.specs.Complete.{RepliesBeforePasses, StaysDone}
 use Rattle.comm_port.specs.Leaving.{last_entry}
-use Rattle.comm_port.specs.Reading.{host_items_of}
+use Rattle.joint_history.specs.Reading.{host_items_of}
 use Rattle.comm_port.specs.HostTurns.{HoldsHostTurn, hold_of, host_at, host_cause}
+use Rattle.time_laws.specs.InTime.{HostStaysInTime}
+use Rattle.time_laws.proofs.Legal.{legal-host}
 use Rattle.turn_laws.specs.KeepsOn.{HostKeepsOn, HostStandsTied, SaidDone}
+use Rattle.turn_laws.specs.Laws.{HostTurnsKeepOn}
 use Rattle.turn_laws.proofs.Passes.{IsNoPass, asked-join, cancel-none, due-length, each-join}
 use Rattle.turn_laws.proofs.Passes.{each-of-done, ended-join, replies-more, replies-push, said-more}
 use Rattle.turn_laws.proofs.Passes.{no-pass, said-push, same-count, stays-more, stays-push}
@@ -123,7 +126,8 @@ module _ (plan : HostPlan) where
 
   module _ (alone : Bool) (net : NetPlan) (budget left : Bool) (list new_list : List HostEntry) (ring new_ring : List RingEntry)
       (t : HoldsHostTurn alone net plan.node plan budget list new_list ring new_ring left) (old : HostStandsTied plan net list ring)
-      (new : HostStandsTied plan net new_list new_ring) (k : HostKeepsOn plan net list ring false) where
+      (new : HostStandsTied plan net new_list new_ring) (k : HostKeepsOn plan net list ring false)
+      (timely : HostStaysInTime plan.node new_list new_ring) where
     abbrev n : ℕ
     n = plan.node
 
@@ -205,6 +209,7 @@ module _ (plan : HostPlan) where
                 (t.ends.handed.gone why is) (sym (t.ends.gives_up is_so).grew.after_is);
             answered = t.ends.answered is';
           };
+          timely = timely;
         }
 
     -- a Pass
@@ -240,11 +245,17 @@ module _ (plan : HostPlan) where
           holds = subst (λ l. AsksInItsHolds plan (own n l)) (sym (t.ends.ends_there not-left).0) handed-holds;
           asked = kept.asked;
           gone = λ is_so. clash is_so not-left;
+          timely = timely;
         }
 
-    pub host-turn-keeps : HostKeepsOn plan net new_list new_ring left
+    host-turn-keeps : HostKeepsOn plan net new_list new_ring left
     host-turn-keeps = at cause refl
       where
         at : (c : Option LeaveCause) → cause ≡ c → HostKeepsOn plan net new_list new_ring left
         at None is = passes is
         at (Some why) is = leaves why is
+
+pub host-turns-keep : HostTurnsKeepOn
+host-turns-keep alone net plan budget left list new_list ring new_ring t old new k =
+    host-turn-keeps plan alone net budget left list new_list ring new_ring t old new k
+    (legal-host alone net plan.node plan budget left list new_list ring new_ring old.on t k.timely)

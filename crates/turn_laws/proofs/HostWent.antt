@@ -28,7 +28,7 @@ use Rattle.tied_lists.specs.Items.{asked_by, asked_in, asked_of}
 use Rattle.tied_lists.specs.Own.{is_of, own, Grew}
 use Rattle.tied_lists.proofs.Boxes.{count-cons}
 use Rattle.tied_lists.proofs.Growth.{grew-ours}
-use Rattle.comm_port.specs.Complete.{AsksAllBeforeDone, AsksInItsHolds, is_pass}
+use Rattle.joint_history.specs.Complete.{AsksAllBeforeDone, AsksInItsHolds, is_pass}
 use Rattle.comm_port.specs.HostTurns.{AsksAllDue, EachSends, GivenUp, GivesUpDue, HoldsHostTurn}
 use Rattle.comm_port.specs.HostTurns.{IsSendingStep, hold_of, host_cause, went_on}
 use Rattle.comm_port.specs.Leaving.{last_entry}
@@ -37,7 +37,8 @@ use Rattle.host_port.specs.Host.{host_is_done}
 use Rattle.mstr_block.specs.Table.{network_paths}
 use Rattle.comm_port.specs.HostTurns.{SendsOut, ServesFrame, ServesInbox, ServesKind, ServesRequest}
 use Rattle.comm_port.specs.HostTurns.{ask_of, bad_answer_of, bad_answer_to, give_up_of}
-use Rattle.comm_port.specs.HostTurns.{host_at, inbox_of, notes_of, notes_of_kind, notes_of_request}
+use Rattle.comm_port.specs.Giving.{inbox_of}
+use Rattle.comm_port.specs.HostTurns.{host_at, notes_of, notes_of_kind, notes_of_request}
 use Rattle.turn_laws.proofs.Passes.{IsInner, IsNoPass, Stands, asked-join, each-join, earlier, last}
 use Rattle.turn_laws.proofs.Passes.{no-pass, stands-in}
 
@@ -209,7 +210,7 @@ all-notes (f ∷ fs) = each-join IsNoRequest (notes_of f) (flat_map notes_of fs)
 pub host-serves : (plan : HostPlan) (hold : ℕ) (alone : Bool) (net : NetPlan) (n : ℕ) (a b : List HostEntry) (x y : List RingEntry)
     → ServesInbox alone net n a b x y → HostWent plan n hold a b x y
 host-serves plan hold alone net n a b x y s =
-    let frames = inbox_of net x n in
+    let frames = inbox_of net n x in
     let q = parts-quiet n frames s.all.parts s.all.serves in
     quiet-part plan n hold alone (flat_map notes_of frames) (flat_map (λ part. part) s.all.parts) a b x y s.all.notes s.all.grew (all-notes frames)
     q.passes q.asks

@@ -1,14 +1,17 @@
 -- What comes between turns keeps what a controller's lists keep.
-use Rattle.std.proofs.Common.{◌≡◌, true, false, [], ◌∷◌, ◌++◌, sym, ap}
+use Rattle.std.proofs.Common.{◌≡◌, true, false, List, [], ◌∷◌, ◌++◌, refl, sym, ap}
 use Rattle.std.proofs.Common.{subst, ◌∙◌, append-nil}
 use Rattle.ring_core.specs.Machine.{NodeIs}
 use Rattle.ring_core.proofs.Stability.{left-stays}
+use Rattle.controller_core.specs.declared.entry.Entry.{Entry}
 use Rattle.tied_lists.specs.Waits.{waiting}
 use Rattle.tied_lists.proofs.Turns.{none-by, own-found}
-use Rattle.comm_port.specs.Complete.{RepliesBeforePasses, StaysDone}
+use Rattle.joint_history.specs.Complete.{RepliesBeforePasses, StaysDone}
 use Rattle.comm_port.specs.Waiting.{id_of}
 use Rattle.std.specs.List.{filter_map}
-use Rattle.comm_port.specs.Parts.{four_paths}
+use Rattle.mstr_block.specs.Table.{network_paths}
+use Rattle.time_laws.specs.InTime.{StaysInTime}
+use Rattle.time_laws.proofs.Turn.{others-in-time, starts-in-time}
 use Rattle.turn_laws.specs.KeepsOn.{DidAtHome, IsDone, SaidDone}
 use Rattle.turn_laws.specs.Laws.{OthersKeepOn, ScansKeepOn, StartsKeep}
 use Rattle.turn_laws.proofs.Passes.{nil-cons, none-said}
@@ -31,6 +34,7 @@ starts fixed net n ring none = record {
   said = λ s. absurd (none-said (subst SaidDone none s));
   at_home = λ id op out. let no' : Rattle.std.specs.Prelude.None ≡ Rattle.std.specs.Prelude.Some _ = out.made in cc;
   gone = λ is_so. absurd (let no' : false ≡ true = is_so in cc);
+  timely = starts-in-time n ring none;
 }
 
 -- events of the scan
@@ -45,6 +49,7 @@ scans fixed net n entries more ring left legal none k = record {
       subst (IsDone fixed) (sym same) done;
   at_home = subst DidAtHome (sym (items-grew entries more [] none)) k.at_home;
   gone = k.gone;
+  timely = subst (StaysInTime n (entries ++ more)) (append-nil ring) (others-in-time n entries more ring [] none refl k.timely);
 }
 
 -- entries of other nodes
@@ -60,6 +65,7 @@ others fixed net n entries ring more left none k =
           let g = k.gone is_so in
           record {
             left = ap (λ (c : NodeIs). c.here) (left-stays net ring more n g.left (none-by n more none)) ∙ g.left;
-            idle = (λ i. filter_map (λ path. id_of (waiting path (same i))) four_paths) ∙ g.idle;
+            idle = (λ i. filter_map (λ path. id_of (waiting path (same i))) network_paths) ∙ g.idle;
           };
+      timely = subst (λ (l : List Entry). StaysInTime n l (ring ++ more)) (append-nil entries) (others-in-time n entries [] ring more refl none k.timely);
     }

@@ -18,7 +18,7 @@ use Rattle.tied_lists.specs.Items.{Asked, Station, Taken, asked_of, asked_in, as
 use Rattle.tied_lists.specs.Items.{ended_of, ended_by, ended_at_home, replied_by, replied_of}
 use Rattle.tied_lists.specs.Items.{taken_by, taken_of, due_replies, Plain}
 use Rattle.tied_lists.specs.Items.{ForStats, rest_of, LocalCall, Came}
-use Rattle.comm_port.specs.Complete.{RepliesBeforePasses, StaysDone, IsOfDone, is_pass}
+use Rattle.joint_history.specs.Complete.{RepliesBeforePasses, StaysDone, IsOfDone, is_pass}
 use Rattle.turn_laws.specs.KeepsOn.{SaidDone}
 
 -- ---- lists

@@ -21,10 +21,10 @@ use Rattle.controller_core.specs.declared.entry.Entry.TheVariants.{Begin, Solve,
 use Rattle.controller_core.specs.declared.entry.Entry.TheVariants.{Finish}
 use Rattle.tied_lists.specs.Items.{replied_by, taken_by}
 use Rattle.tied_lists.specs.Own.{own}
-use Rattle.comm_port.specs.declared.joint.ControllerLog.{ControllerLog}
-use Rattle.comm_port.specs.Complete.{EndsEachCall, IsComplete, RepliesBeforePasses, StaysDone}
-use Rattle.comm_port.specs.Complete.{NodeIsComplete, is_pass}
-use Rattle.comm_port.specs.Reading.{items_of}
+use Rattle.joint_history.specs.declared.joint.ControllerLog.{ControllerLog}
+use Rattle.joint_history.specs.Complete.{EndsEachCall, IsComplete, RepliesBeforePasses, StaysDone}
+use Rattle.joint_history.specs.Complete.{NodeIsComplete, is_pass}
+use Rattle.joint_history.specs.Reading.{items_of}
 use Rattle.turn_laws.specs.KeepsOn.{SaidDone}
 use Rattle.turn_laws.proofs.Passes.{none-said, replies-push, said-push, stays-push}
 use Rattle.turn_laws.proofs.Others.{no-replies, no-stays}

@@ -22,11 +22,11 @@ use Rattle.controller_core.proofs.NextEntry.{due_of, ended_stays, fits_last, fro
 use Rattle.tied_lists.specs.Calls.{IsOut, NoEnd}
 use Rattle.tied_lists.specs.Items.{Called, Came, Ended, Items, Kind, kind_in, kind_of_sort}
 use Rattle.tied_lists.proofs.Boxes.{count-cons, count-push}
-use Rattle.comm_port.specs.Complete.{EndsEachCall}
-use Rattle.comm_port.specs.Reading.{controller_at, has_ended_at, is_ours, item_next}
-use Rattle.comm_port.specs.Reading.{items_of}
-use Rattle.comm_port.proofs.Collected.{CallLaws, history-follows}
-use Rattle.comm_port.proofs.Items.{items-one}
+use Rattle.joint_history.specs.Complete.{EndsEachCall}
+use Rattle.joint_history.specs.Reading.{controller_at, has_ended_at, is_ours, item_next}
+use Rattle.joint_history.specs.Reading.{items_of}
+use Rattle.joint_history.proofs.Collected.{CallLaws, history-follows}
+use Rattle.joint_history.proofs.Items.{items-one}
 use Rattle.turn_laws.specs.KeepsOn.{IsDone}
 
 clash : {C : Type 0} {b : Bool} → b ≡ true → b ≡ false → C

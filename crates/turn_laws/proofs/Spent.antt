@@ -14,7 +14,7 @@ use Rattle.ring_core.specs.Legal.{IsLawful, IsMember, IsRun}
 use Rattle.ring_core.specs.Machine.{ring_after}
 use Rattle.tied_lists.specs.Own.{own}
 use Rattle.comm_port.specs.Leaving.{is_due, last_entry}
-use Rattle.comm_port.specs.Reading.{has_ended_at, has_started_at}
+use Rattle.joint_history.specs.Reading.{has_ended_at, has_started_at}
 use Rattle.comm_port.specs.Parts.{InOrder}
 use Rattle.comm_port.specs.HoldTurn.{IsGivenUp}
 use Rattle.mstr_block.specs.Table.{network_paths}

@@ -19,7 +19,7 @@ use Rattle.tied_lists.specs.Tied.{Tied}
 use Rattle.tied_lists.specs.Waits.{IsOnRing, waiting}
 use Rattle.tied_lists.proofs.Turns.{own-found}
 use Rattle.comm_port.specs.Sides.{RamSideIs, RingSideIs}
-use Rattle.comm_port.specs.Reading.{host_items_of, is_ours, items_of}
+use Rattle.joint_history.specs.Reading.{host_items_of, is_ours, items_of}
 use Rattle.comm_port.specs.Worker.{IsMemberWorker, Standing, WorkerIs}
 use Rattle.comm_port.specs.HostTurns.{HostTies}
 use Rattle.turn_laws.specs.KeepsOn.{HostStandsTied, StandsTied}
@@ -28,6 +28,7 @@ use Rattle.turn_laws.proofs.Went.{items-grew}
 pub stands-of : {P Q : Type 0} (w : WorkerIs) (ram : RamSideIs P) (known : List Entry) (side : RingSideIs Q) (ring : List RingEntry)
     → IsMemberWorker side.net w.node → IsLegal ram.fixed known → Standing w ram known side ring → StandsTied ram.fixed side.net w.node known ring
 stands-of w ram known side ring member legal s = record {
+  node = s.node;
   legal = legal;
   on = record { members = member.members; legal = s.legal; member = member.member };
   tied = s.tied;
@@ -47,9 +48,10 @@ first-fits : (fixed : Fixed) → EachFits fixed (start fixed.plan) []
 unfolding EachFits
 first-fits fixed = tt
 
-pub stands-start : (fixed : Fixed) (net : NetPlan) (n : ℕ) (ring : List RingEntry) → IsOnRing net ring n → own n ring ≡ []
+pub stands-start : (fixed : Fixed) (net : NetPlan) (n : ℕ) (ring : List RingEntry) → fixed.plan.node ≡ n → IsOnRing net ring n → own n ring ≡ []
     → StandsTied fixed net n [] ring
-stands-start fixed net n ring on none = record {
+stands-start fixed net n ring node on none = record {
+  node = node;
   legal = record { each = first-fits fixed; due = (all_due fixed, refl) };
   on = on;
   tied = subst (Tied AController no_items) (sym none) (record { asks = refl; peers = refl; port = refl; replies = refl; ends = refl });
@@ -62,6 +64,7 @@ pub stands-scans : (fixed : Fixed) (net : NetPlan) (n : ℕ) (entries more : Lis
 stands-scans fixed net n entries more ring legal none s =
     let same : items_of (entries ++ more) ≡ items_of entries = items-grew entries more [] none in
     record {
+      node = s.node;
       legal = legal;
       on = s.on;
       tied = subst (λ a. Tied AController a (own n ring)) (sym same) s.tied;
@@ -73,6 +76,7 @@ pub stands-others : (fixed : Fixed) (net : NetPlan) (n : ℕ) (entries : List En
 stands-others fixed net n entries ring more legal none s =
     let same = own-found n ring more none in
     record {
+      node = s.node;
       legal = s.legal;
       on = record { members = s.on.members; legal = legal; member = s.on.member };
       tied = subst (Tied AController (items_of entries)) (sym same) s.tied;

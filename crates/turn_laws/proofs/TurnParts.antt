@@ -13,7 +13,7 @@ use Rattle.controller_core.proofs.NextEntry.{front_legal}
 use Rattle.tied_lists.specs.Own.{is_of, own}
 use Rattle.tied_lists.proofs.Growth.{grew-ours}
 use Rattle.comm_port.specs.Leaving.{cause_due, last_entry}
-use Rattle.comm_port.specs.Reading.{has_ended_at}
+use Rattle.joint_history.specs.Reading.{has_ended_at}
 use Rattle.comm_port.specs.HoldTurn.{HoldsTurn}
 use Rattle.turn_laws.proofs.Rests.{ended-alone}
 use Rattle.turn_laws.proofs.Went.{Went, went-ask, went-calls, went-gives, went-sends}

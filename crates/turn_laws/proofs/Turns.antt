@@ -29,13 +29,15 @@ use Rattle.tied_lists.specs.Waits.{HasLeft, waiting}
 use Rattle.tied_lists.proofs.Growth.{grew-ours}
 use Rattle.tied_lists.proofs.Histories.{legal-follows}
 use Rattle.tied_lists.proofs.Paths.{waiting-push}
-use Rattle.comm_port.specs.Complete.{IsOfDone, RepliesBeforePasses, StaysDone}
+use Rattle.joint_history.specs.Complete.{IsOfDone, RepliesBeforePasses, StaysDone}
 use Rattle.comm_port.specs.Leaving.{cause_due, last_entry}
-use Rattle.comm_port.specs.Reading.{has_ended_at, has_started_at, is_ours, items_of}
+use Rattle.joint_history.specs.Reading.{has_ended_at, has_started_at, is_ours, items_of}
 use Rattle.comm_port.specs.Waiting.{id_of}
-use Rattle.comm_port.proofs.Collected.{CallLaws}
-use Rattle.comm_port.specs.Parts.{calls_waiting, four_paths}
+use Rattle.joint_history.proofs.Collected.{CallLaws}
+use Rattle.comm_port.specs.Parts.{calls_waiting}
+use Rattle.mstr_block.specs.Table.{network_paths}
 use Rattle.comm_port.specs.HoldTurn.{HoldsTurn, IsGivenUp, VisitsEnd}
+use Rattle.time_laws.specs.InTime.{StaysInTime}
 use Rattle.turn_laws.specs.KeepsOn.{DidAtHome, IsDone, KeepsOn, SaidDone, StandsTied}
 use Rattle.turn_laws.proofs.Passes.{IsNoPass, asked-join, cancel-none, due-length, each-join}
 use Rattle.turn_laws.proofs.Passes.{each-of-done, ended-join, replies-more, replies-push, said-more}
@@ -57,7 +59,7 @@ some-none is = absurd cc
 -- ---- calls that wait
 
 none-listed : (n : ℕ) (ring : List RingEntry) → ((path : ℕ) → waiting path (own n ring) ≡ None) → calls_waiting n ring ≡ []
-none-listed n ring none = λ i. filter_map (λ path. id_of (none path i)) four_paths
+none-listed n ring none = λ i. filter_map (λ path. id_of (none path i)) network_paths
 
 -- what a list of picked ones without any says of each
 none-picked : {X Y : Type 0} (pick : X → Option Y) (x : X) (xs : List X) → filter_map pick (x ∷ xs) ≡ [] → (pick x ≡ None) × (filter_map pick xs ≡ [])
@@ -234,7 +236,7 @@ module _ (laws : CallLaws) (fixed : Fixed) where
   module _ (alone_ram alone_ring : Bool) (net : NetPlan) (n : ℕ) (budget left : Bool) (known new_known : List Entry)
       (ring new_ring : List RingEntry) (t : HoldsTurn alone_ram alone_ring fixed net n budget known new_known ring new_ring left)
       (old : StandsTied fixed net n known ring) (new : StandsTied fixed net n new_known new_ring)
-      (k : KeepsOn fixed net n known ring false) where
+      (k : KeepsOn fixed net n known ring false) (timely : StaysInTime n new_known new_ring) where
     abbrev went : Went n known t.given_known ring t.given_ring
     went = parts.went fixed alone_ram alone_ring net n budget left known new_known ring new_ring t
 
@@ -282,7 +284,7 @@ module _ (laws : CallLaws) (fixed : Fixed) where
 
     -- a Leave
     leave-quiet : (why : LeaveCause) → cause ≡ Some why → IsNoPass e
-    leave-quiet why is = ap (λ c. Rattle.comm_port.specs.Complete.is_pass (last_entry n t.ends.done (words_put n t.given_ring) c)) is
+    leave-quiet why is = ap (λ c. Rattle.joint_history.specs.Complete.is_pass (last_entry n t.ends.done (words_put n t.given_ring) c)) is
 
     leaves : (why : LeaveCause) → cause ≡ Some why → KeepsOn fixed net n new_known new_ring left
     leaves why is =
@@ -304,6 +306,7 @@ module _ (laws : CallLaws) (fixed : Fixed) where
                 t.ends.gives_up.node.after_is new.on) (t.ends.handed.gone why is) (sym t.ends.gives_up.node.after_is);
             idle = t.ends.none_waits is_so;
           };
+          timely = timely;
         }
 
     -- a Pass
@@ -315,7 +318,7 @@ module _ (laws : CallLaws) (fixed : Fixed) where
         (subst (λ l. Tied AController (items_of l) (own n ring ++ (went.done ++ Pass n t.ends.done words ∷ []))) new-is
         (subst (Tied AController (items_of new_known)) own-pass new.tied))
         (no-pass went.done went.quiet) says is-done (kept-of net n known ring false k))) in
-        record { replied = kept.replied; stays = kept.stays; said = kept.said; at_home = home; gone = λ is_so. clash is_so not-left }
+        record { replied = kept.replied; stays = kept.stays; said = kept.said; at_home = home; gone = λ is_so. clash is_so not-left; timely = timely }
       where
         not-left : left ≡ false
         not-left = t.ends.left_is ∙ ap is_some is
@@ -363,7 +366,7 @@ module _ (laws : CallLaws) (fixed : Fixed) where
             (subst (λ l. has_started_at fixed l ≡ false) (sym asks-all.known_is) all.rest.collected)
             (none-listed n t.given_ring (λ path. sym (waits-as path)
             ∙ none-waits fixed net n new_known new_ring new
-            (ended-none (items_of new_known) (subst (λ l. Rattle.comm_port.specs.Complete.EndsEachCall (items_of l)) (sym new-is) last.rest.finished)) path))
+            (ended-none (items_of new_known) (subst (λ l. Rattle.joint_history.specs.Complete.EndsEachCall (items_of l)) (sym new-is) last.rest.finished)) path))
 
         is-done : t.ends.done ≡ true → IsDone fixed (known ++ to-new)
         is-done is_so = subst (IsDone fixed) new-is (record {
@@ -379,7 +382,7 @@ module _ (laws : CallLaws) (fixed : Fixed) where
             still = parts.still fixed alone_ram alone_ring net n budget left known new_known ring new_ring t ended none-due.2 new.legal
 
             idle : calls_waiting n new_ring ≡ []
-            idle = (λ i. filter_map (λ path. id_of (waits-as path i)) four_paths) ∙ t.ends.asked.idle is_so
+            idle = (λ i. filter_map (λ path. id_of (waits-as path i)) network_paths) ∙ t.ends.asked.idle is_so
 
     pub turn-keeps : KeepsOn fixed net n new_known new_ring left
     turn-keeps = at cause refl
@@ -392,8 +395,9 @@ module _ (laws : CallLaws) (fixed : Fixed) where
 
   pub visit-keeps : (alone_ram alone_ring : Bool) (net : NetPlan) (n : ℕ) (known new_known : List Entry) (ring new_ring : List RingEntry)
       → VisitsEnd alone_ram alone_ring fixed net n known new_known ring new_ring → StandsTied fixed net n known ring
-      → StandsTied fixed net n new_known new_ring → KeepsOn fixed net n known ring true → KeepsOn fixed net n new_known new_ring true
-  visit-keeps alone_ram alone_ring net n known new_known ring new_ring v old new k =
+      → StandsTied fixed net n new_known new_ring → KeepsOn fixed net n known ring true → StaysInTime n new_known new_ring
+      → KeepsOn fixed net n new_known new_ring true
+  visit-keeps alone_ram alone_ring net n known new_known ring new_ring v old new k timely =
       let w = went-visit n alone_ram alone_ring fixed known new_known ring new_ring v.calls in
       let kept : Kept new_known (own n new_ring) =
       subst (λ l. Kept l (own n new_ring)) (sym w.known_is) (subst (Kept (known ++ w.more)) (sym w.own_is)
@@ -410,4 +414,5 @@ module _ (laws : CallLaws) (fixed : Fixed) where
           left = left-more net n ring p.more (subst (λ l. Rattle.tied_lists.specs.Waits.IsOnRing net l n) p.after_is new.on) (k.gone refl).left (sym p.after_is);
           idle = v.as_before ∙ (k.gone refl).idle;
         };
+        timely = timely;
       }

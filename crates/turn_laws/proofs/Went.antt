@@ -30,8 +30,8 @@ use Rattle.tied_lists.specs.Items.{kind_of_sort, no_items, with_calls}
 use Rattle.tied_lists.specs.Own.{is_of, own, Grew, WentOn}
 use Rattle.tied_lists.proofs.Asked.{kind-more}
 use Rattle.tied_lists.proofs.Growth.{grew-ours}
-use Rattle.comm_port.specs.Reading.{called_of, has_started_at, is_ours, item_next, items_after}
-use Rattle.comm_port.specs.Reading.{items_of, sort_of}
+use Rattle.joint_history.specs.Reading.{called_of, has_started_at, is_ours, item_next, items_after}
+use Rattle.joint_history.specs.Reading.{items_of, sort_of}
 use Rattle.comm_port.specs.Parts.{InOrder, PartOf}
 use Rattle.comm_port.specs.HoldTurn.{Collects, CollectsIf, IsEnded, IsGivenUp, IsMade}
 use Rattle.comm_port.specs.HoldTurn.{IsNextSending}

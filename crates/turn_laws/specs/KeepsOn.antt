@@ -25,12 +25,13 @@ use Rattle.tied_lists.specs.Tied.{Tied}
 use Rattle.tied_lists.specs.Calls.{IsOut, IsOutAs}
 use Rattle.tied_lists.specs.Waits.{HasLeft, IsOnRing, waiting}
 use Rattle.comm_port.specs.Parts.{calls_waiting}
-use Rattle.comm_port.specs.declared.joint.ControllerLog.{ControllerLog}
-use Rattle.comm_port.specs.declared.joint.HostLog.{HostLog}
-use Rattle.comm_port.specs.JointLaws.{fixed_of}
-use Rattle.comm_port.specs.Reading.{items_of, host_items_of, has_ended_at, has_started_at}
-use Rattle.comm_port.specs.Complete.{EndsEachCall, StandsIn, RepliesBeforePasses, StaysDone}
-use Rattle.comm_port.specs.Complete.{AsksInItsHolds, AsksAllBeforeDone}
+use Rattle.joint_history.specs.declared.joint.ControllerLog.{ControllerLog}
+use Rattle.joint_history.specs.declared.joint.HostLog.{HostLog}
+use Rattle.joint_history.specs.JointLaws.{fixed_of}
+use Rattle.joint_history.specs.Reading.{items_of, host_items_of, has_ended_at, has_started_at}
+use Rattle.joint_history.specs.Complete.{EndsEachCall, StandsIn, RepliesBeforePasses, StaysDone}
+use Rattle.joint_history.specs.Complete.{AsksInItsHolds, AsksAllBeforeDone}
+use Rattle.time_laws.specs.InTime.{StaysInTime, HostStaysInTime}
 
 -- ---- Controllers.
 
@@ -38,6 +39,7 @@ use Rattle.comm_port.specs.Complete.{AsksInItsHolds, AsksAllBeforeDone}
 -- that a path waits for is of a call that was made and has not ended.
 pub record StandsTied (fixed : Fixed) (net : NetPlan) (n : ℕ) (entries : List Entry)
     (ring : List RingEntry) : Type 0 where
+  pub node : fixed.plan.node ≡ n
   pub legal : IsLegal fixed entries
   pub on : IsOnRing net ring n
   pub tied : Tied AController (items_of entries) (own n ring)
@@ -69,7 +71,8 @@ pub record IsGone (net : NetPlan) (n : ℕ) (ring : List RingEntry) : Type 0 whe
   pub idle : calls_waiting n ring ≡ []
 
 -- What a complete run says of a node's Passes holds so far; once a Pass said done the controller
--- is; each operation at home that was collected has ended; and a node that left is gone.
+-- is; each operation at home that was collected has ended; a node that left is gone; and nothing
+-- came before its cause.
 pub record KeepsOn (fixed : Fixed) (net : NetPlan) (n : ℕ) (entries : List Entry)
     (ring : List RingEntry) (left : Bool) : Type 0 where
   pub replied : RepliesBeforePasses (own n ring)
@@ -77,10 +80,11 @@ pub record KeepsOn (fixed : Fixed) (net : NetPlan) (n : ℕ) (entries : List Ent
   pub said : SaidDone (own n ring) → IsDone fixed entries
   pub at_home : DidAtHome (items_of entries)
   pub gone : left ≡ true → IsGone net n ring
+  pub timely : StaysInTime n entries ring
 
 -- ---- Hosts.
 
--- The same of a host and its node.
+-- A host and its node between two turns: both lists are legal and tied.
 pub record HostStandsTied (plan : HostPlan) (net : NetPlan) (history : List HostEntry)
     (ring : List RingEntry) : Type 0 where
   pub legal : IsHostHistory plan history
@@ -94,7 +98,7 @@ pub record HostIsGone (plan : HostPlan) (net : NetPlan) (history : List HostEntr
   pub answered : unanswered_in history ≡ []
 
 -- What a complete run says of a host's Passes and Requests holds so far; once a Pass said done the
--- host is done; and a host whose node left is gone.
+-- host is done; a host whose node left is gone; and nothing came before its cause.
 pub record HostKeepsOn (plan : HostPlan) (net : NetPlan) (history : List HostEntry)
     (ring : List RingEntry) (left : Bool) : Type 0 where
   pub replied : RepliesBeforePasses (own plan.node ring)
@@ -104,6 +108,7 @@ pub record HostKeepsOn (plan : HostPlan) (net : NetPlan) (history : List HostEnt
   pub holds : AsksInItsHolds plan (own plan.node ring)
   pub asked : AsksAllBeforeDone plan (own plan.node ring)
   pub gone : left ≡ true → HostIsGone plan net history ring
+  pub timely : HostStaysInTime plan.node history ring
 
 -- ---- Workers without a budget.
 
@@ -116,7 +121,7 @@ abbrev pub leaves_spent : RingEntry → Bool
 leaves_spent (Leave n cause) = is_spent cause
 leaves_spent _ = false
 
--- No node left so.
+-- No node left because its Passes were spent.
 abbrev pub NoneSpent : List RingEntry → Type 0
 NoneSpent list = All (λ (entry : RingEntry). leaves_spent entry ≡ false) list
 

@@ -1,4 +1,4 @@
--- What turns, visits and scans keep, and what it comes to in the end. This project's own.
+-- What turns, visits and scans keep, and what follows at the end of a run. This project's own.
 use Rattle.std.specs.Prelude.{◌≡◌, ℕ, Bool, true, false, List, [], ◌++◌, filter}
 use Rattle.std.specs.List.{AllZip}
 use Rattle.plant_types.specs.declared.net.NetPlan.{NetPlan}
@@ -15,17 +15,17 @@ use Rattle.comm_port.specs.HoldTurn.{HoldsTurn, VisitsEnd}
 use Rattle.comm_port.specs.HostTurns.{HoldsHostTurn}
 use Rattle.turn_laws.specs.KeepsOn.{StandsTied, KeepsOn, HostStandsTied, HostKeepsOn}
 use Rattle.turn_laws.specs.KeepsOn.{HasFinished, HostHasFinished, NoneSpent}
-use Rattle.comm_port.specs.declared.joint.Joint.{Joint}
-use Rattle.comm_port.specs.Complete.{ControllerIsComplete, HostIsComplete, NodeIsComplete}
-use Rattle.comm_port.specs.Complete.{IsComplete}
-use Rattle.comm_port.specs.Reading.{is_ours, has_ended_at, has_started_at, host_items_of}
+use Rattle.joint_history.specs.declared.joint.Joint.{Joint}
+use Rattle.joint_history.specs.Complete.{ControllerIsComplete, HostIsComplete, NodeIsComplete}
+use Rattle.joint_history.specs.Complete.{IsComplete}
+use Rattle.joint_history.specs.Reading.{is_ours, has_ended_at, has_started_at, host_items_of}
 
--- A controller that has no entry yet, on a ring whose node has none.
+-- A controller that has no entry yet, on a ring whose node has none, has all that turns keep.
 abbrev pub StartsKeep : Type 0
 StartsKeep = (fixed : Fixed) (net : NetPlan) (n : ℕ) (ring : List RingEntry) → own n ring ≡ []
     → KeepsOn fixed net n [] ring false
 
--- A hold of the token.
+-- A hold of the token by a controller keeps it.
 abbrev pub TurnsKeepOn : Type 0
 TurnsKeepOn =
     (alone_ram alone_ring : Bool) (fixed : Fixed) (net : NetPlan) (n : ℕ) (budget left : Bool)
@@ -34,7 +34,7 @@ TurnsKeepOn =
     → StandsTied fixed net n known ring → StandsTied fixed net n new_known new_ring
     → KeepsOn fixed net n known ring false → KeepsOn fixed net n new_known new_ring left
 
--- A visit of a controller whose node has left.
+-- A visit of a controller whose node has left keeps it.
 abbrev pub VisitsKeepOn : Type 0
 VisitsKeepOn =
     (alone_ram alone_ring : Bool) (fixed : Fixed) (net : NetPlan) (n : ℕ)
@@ -43,13 +43,14 @@ VisitsKeepOn =
     → StandsTied fixed net n known ring → StandsTied fixed net n new_known new_ring
     → KeepsOn fixed net n known ring true → KeepsOn fixed net n new_known new_ring true
 
--- Events of the scan, and entries of other nodes.
+-- Events of the scan keep it, and so do entries of other nodes.
 abbrev pub ScansKeepOn : Type 0
 ScansKeepOn =
     (fixed : Fixed) (net : NetPlan) (n : ℕ) (entries more : List Entry) (ring : List RingEntry)
     (left : Bool) → IsLegal fixed (entries ++ more) → filter is_ours more ≡ []
     → KeepsOn fixed net n entries ring left → KeepsOn fixed net n (entries ++ more) ring left
 
+-- Entries of other nodes keep what a controller's list and its node's own list keep.
 abbrev pub OthersKeepOn : Type 0
 OthersKeepOn =
     (fixed : Fixed) (net : NetPlan) (n : ℕ) (entries : List Entry) (ring more : List RingEntry)
@@ -65,11 +66,13 @@ ControllersComplete =
     → has_ended_at fixed entries ≡ true → has_started_at fixed entries ≡ false
     → ControllerIsComplete fixed entries × NodeIsComplete net ring n
 
--- A host that has no entry yet, a hold of the token, and entries of other nodes.
+-- A host that has no entry yet has all that turns keep; a hold of the token keeps it, and so do
+-- entries of other nodes.
 abbrev pub HostStartsKeep : Type 0
 HostStartsKeep = (plan : HostPlan) (net : NetPlan) (ring : List RingEntry)
     → own plan.node ring ≡ [] → HostKeepsOn plan net [] ring false
 
+-- A hold of the token by a host keeps it.
 abbrev pub HostTurnsKeepOn : Type 0
 HostTurnsKeepOn =
     (alone : Bool) (net : NetPlan) (plan : HostPlan) (budget left : Bool)
@@ -78,6 +81,7 @@ HostTurnsKeepOn =
     → HostStandsTied plan net list ring → HostStandsTied plan net new_list new_ring
     → HostKeepsOn plan net list ring false → HostKeepsOn plan net new_list new_ring left
 
+-- Entries of other nodes keep what a host's list and its node's own list keep.
 abbrev pub HostOthersKeepOn : Type 0
 HostOthersKeepOn =
     (plan : HostPlan) (net : NetPlan) (list : List HostEntry) (ring more : List RingEntry)
@@ -109,7 +113,7 @@ LeavesWhenEnded =
     → IsLegal fixed new_known
     → (has_ended_at fixed new_known ≡ true) × (has_started_at fixed new_known ≡ false)
 
--- And no node leaves because its Passes are spent: not in a hold of the token, nor in a visit.
+-- In the holds and visits of a worker without a budget no node leaves because its Passes are spent.
 abbrev pub TurnsSpendNothing : Type 0
 TurnsSpendNothing =
     (alone_ram alone_ring : Bool) (fixed : Fixed) (net : NetPlan) (n : ℕ) (left : Bool)
@@ -131,7 +135,7 @@ VisitsSpendNothing =
     → VisitsEnd alone_ram alone_ring fixed net n known new_known ring new_ring
     → NoneSpent (own n ring) → NoneSpent (own n new_ring)
 
--- So nobody did, where none of the plant's nodes did.
+-- No node left because its Passes were spent, where none of the plant's nodes did.
 abbrev pub NobodySpends : Type 0
 NobodySpends = (net : NetPlan) (ring : List RingEntry) → IsLegalRing net ring
     → ((n : ℕ) → IsMember net n → NoneSpent (own n ring)) → NoneSpent ring

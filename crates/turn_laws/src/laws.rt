@@ -7,8 +7,9 @@ ghost use Rattle.turn_laws.specs.Laws.{HostTurnsSpendNothing, VisitsSpendNothing
 
 use ladder_solver::segments_keep_calls;
 use mstr_block::{calls_are_taken_in_order, finishes_end_one_call, stays_table};
+use time_laws::turns_stay_in_time;
 
-/// A controller and its node begin so.
+/// A controller without entries, and its node, have all that turns keep.
 pub fn starts_keep()
     ensures { StartsKeep }
 {}
@@ -17,28 +18,30 @@ pub fn starts_keep()
 pub fn turns_keep_on()
     ensures { TurnsKeepOn }
 {
+    turns_stay_in_time();
     segments_keep_calls();
     calls_are_taken_in_order();
     finishes_end_one_call();
     stays_table();
 }
 
-/// So does a visit of a controller whose node has left.
+/// A visit of a controller whose node has left keeps it too.
 pub fn visits_keep_on()
     ensures { VisitsKeepOn }
 {
+    turns_stay_in_time();
     segments_keep_calls();
     calls_are_taken_in_order();
     finishes_end_one_call();
     stays_table();
 }
 
-/// So do events of the scan: none comes once a Pass said done.
+/// Events of the scan keep it too: none comes once a Pass said done.
 pub fn scans_keep_on()
     ensures { ScansKeepOn }
 {}
 
-/// So do entries of other nodes.
+/// Entries of other nodes keep it too.
 pub fn others_keep_on()
     ensures { OthersKeepOn }
 {}
@@ -54,7 +57,7 @@ pub fn controllers_complete()
     stays_table();
 }
 
-/// A host and its node begin so.
+/// A host without entries, and its node, have all that turns keep.
 pub fn host_starts_keep()
     ensures { HostStartsKeep }
 {}
@@ -64,7 +67,7 @@ pub fn host_turns_keep_on()
     ensures { HostTurnsKeepOn }
 {}
 
-/// So do entries of other nodes.
+/// Entries of other nodes keep it too.
 pub fn host_others_keep_on()
     ensures { HostOthersKeepOn }
 {}

@@ -1,5 +1,5 @@
 use Rattle.std.proofs.Common.{◌≡◌, ◌<◌, ◌^◌, take}
-use Rattle.cell_text.specs.Numbers.{value_of}
+use Rattle.plant_types.specs.Numerals.{value_of}
 use Rattle.cell_text.proofs.numbers.value_of.Given as goal
 
 abbrev pub invariant-loop-digit : goal.invariant-loop-digit

@@ -10,7 +10,7 @@ pub returns-clause-kept : goal.returns-clause-kept
 returns-clause-kept g c =
     let o = c.in_ok-outcome.ensures in
     kept-local _ c.args.node _ _ c.args.id c.args.op _ (own-moved _ g.R.RingSide.alone c.args.node _ (Local c.args.node c.args.id
-    c.args.op c.in_ok-outcome.outcome) _ refl c.requires.turn o.legal o.went)
+    c.args.op c.in_ok-outcome.outcome) _ refl c.requires.turn o.stands.legal o.went)
 
 pub returns-in_err-outcome-clause-stands : goal.returns-in_err-outcome-clause-stands
 returns-in_err-outcome-clause-stands g c =

@@ -4,9 +4,9 @@ use Rattle.tied_lists.proofs.Growth.{grew-one}
 use Rattle.std.proofs.Common.{refl}
 use Rattle.controller_core.specs.declared.entry.Entry.TheVariants.{Finish}
 use Rattle.ring_core.specs.declared.entry.RingEntry.TheVariants.{Local}
-use Rattle.tied_lists.proofs.Growth.{adds-went, adds-grew}
-use Rattle.comm_port.specs.Reading.{is_ours}
-use Rattle.comm_port.specs.Order.{IsCalling, IsFinish}
+use Rattle.tied_lists.proofs.Growth.{adds-grew}
+use Rattle.joint_history.specs.Reading.{is_ours}
+use Rattle.comm_port.specs.Order.{IsCalling}
 use Rattle.std.proofs.Common.{◌≡◌, ◌<◌, ◌+◌, sym, ap, ◌∙◌, subst, List, ◌∷◌, [], set, Option}
 use Rattle.std.proofs.Common.{Some}
 use Rattle.ring_core.specs.Machine.{ring_node, ring_after, path_of}
@@ -15,8 +15,8 @@ use Rattle.ring_core.specs.declared.entry.LocalOp.{LocalOp}
 use Rattle.ring_core.specs.declared.entry.RingEntry.TheVariants.{Post}
 use Rattle.tied_lists.specs.Own.{is_of, Grew}
 use Rattle.tied_lists.specs.Items.{LocalCall}
-use Rattle.comm_port.specs.Reading.{sort_of, called_of}
-use Rattle.comm_port.specs.Making.{request_frame, Does, Owing, calls_from}
+use Rattle.joint_history.specs.Reading.{sort_of, called_of}
+use Rattle.comm_port.specs.Making.{request_frame, DoesAtHome, Owing, calls_from}
 use Rattle.ring_core.specs.declared.path.Await.TheVariants.{Nothing}
 use Rattle.comm_port.proofs.GivesUp.{waits-nothing}
 use Rattle.comm_port.proofs.Made.{owing-next, may-post, may-do, posted-lead, done-lead}
@@ -56,7 +56,7 @@ returns-in_ok-post_call-in-Net-clause-owing g c =
     (g.M.RamSide.known c.args.ram.now) (g.R.RingSide.side c.post_call.new.ring) (g.R.RingSide.known c.post_call.new.ring) w)
     (sym waits)
     (posted-lead g.R.RingSide.alone n (called_of call) _ c.in-Net.to c.in-Net.pdu _ _ _ _ _ _ c.args.waiting.now p.same (ap
-    sort_of c.in-Net.is) p.legal p.kept grew o)
+    sort_of c.in-Net.is) p.stands.legal p.kept grew o)
 
 pub returns-in_ok-do_call-in-Local-clause-owing : goal.returns-in_ok-do_call-in-Local-clause-owing
 returns-in_ok-do_call-in-Local-clause-owing g c =
@@ -64,11 +64,11 @@ returns-in_ok-do_call-in-Local-clause-owing g c =
     let n = c.args.node in
     let d = c.in_ok-do_call-in-Local.ensures in
     let o = owing-next n c.args.calls.now c.args.at call _ _ _ _ c.args.waiting.now c.requires.within c.index-calls-at.is c.requires.owing in
-    let did = subst (λ (op : LocalOp). Does g.M.RamSide.alone g.R.RingSide.alone n call.id op (g.M.RamSide.known c.args.ram.now)
+    let did = subst (λ (op : LocalOp). DoesAtHome g.M.RamSide.alone g.R.RingSide.alone n call.id op (g.M.RamSide.known c.args.ram.now)
     (g.M.RamSide.known c.do_call.new.ram) (g.R.RingSide.known c.args.ring.now) (g.R.RingSide.known c.do_call.new.ring))
     c.in_ok-copied-in-Local.ensures d.did in
     done-lead g.M.RamSide.alone g.R.RingSide.alone n (called_of call) _ c.in-Local.op _ _ _ _ _ _ _ _ c.args.waiting.now
-    d.ram_same d.ring_same (ap sort_of c.in-Local.is) d.legal d.kept did o
+    d.ram_same d.ring_same (ap sort_of c.in-Local.is) d.stands.node.legal d.kept did o
 
 pub returns-in_ok-post_call-in-Net-clause-ring_adds : goal.returns-in_ok-post_call-in-Net-clause-ring_adds
 returns-in_ok-post_call-in-Net-clause-ring_adds g c =
@@ -87,11 +87,6 @@ returns-in_ok-do_call-in-Local-clause-ring_adds g c =
     let did = c.in_ok-do_call-in-Local.ensures.did in
     let o = owing-next n c.args.calls.now c.args.at call _ _ _ _ c.args.waiting.now c.requires.within c.index-calls-at.is c.requires.owing in
     adds-grew g.R.RingSide.alone (is_of n) (IsCalling n) _ (Local n call.id c.in_ok-copied-in-Local.field-0 did.outcome ∷ []) _ (o.fresh.0.own, tt) did.grew
-
-pub returns-in_ok-do_call-in-Local-clause-ram_adds : goal.returns-in_ok-do_call-in-Local-clause-ram_adds
-returns-in_ok-do_call-in-Local-clause-ram_adds g c =
-    let did = c.in_ok-do_call-in-Local.ensures.did in
-    adds-went g.M.RamSide.alone is_ours IsFinish _ (Finish c.index-calls-at.result.id did.outcome ∷ []) _ (tt, tt) refl did.went
 
 pub returns-in_ok-post_call-in-Net-clause-made : goal.returns-in_ok-post_call-in-Net-clause-made
 returns-in_ok-post_call-in-Net-clause-made g c =
@@ -113,7 +108,7 @@ returns-in_ok-do_call-in-Local-clause-made g c =
     let n = c.args.node in
     let call = c.index-calls-at.result in
     let d = c.in_ok-do_call-in-Local.ensures in
-    let did = subst (λ (op : LocalOp). Does g.M.RamSide.alone g.R.RingSide.alone n call.id op (g.M.RamSide.known c.args.ram.now)
+    let did = subst (λ (op : LocalOp). DoesAtHome g.M.RamSide.alone g.R.RingSide.alone n call.id op (g.M.RamSide.known c.args.ram.now)
     (g.M.RamSide.known c.do_call.new.ram) (g.R.RingSide.known c.args.ring.now) (g.R.RingSide.known c.do_call.new.ring))
     c.in_ok-copied-in-Local.ensures d.did in
     record {

@@ -3,13 +3,11 @@ use Rattle.comm_port.proofs.Parts.{part-none}
 use Rattle.comm_port.proofs.Collecting.{due-next, collects-none, collects-all}
 use Rattle.std.proofs.Common.{◌∷◌, ◌∙◌}
 use Rattle.comm_port.proofs.RingTurns.{kept-both, kept-same}
-use Rattle.controller_core.specs.declared.entry.Entry.{Entry}
-use Rattle.controller_core.specs.declared.entry.Entry.TheVariants.{Begin, Input, Solve, Output, End}
-use Rattle.controller_core.specs.declared.entry.Entry.TheVariants.{Collect, Peer, Finish}
+use Rattle.controller_core.specs.declared.entry.Entry.TheVariants.{Collect}
 use Rattle.tied_lists.specs.Own.{is_of}
-use Rattle.tied_lists.proofs.Growth.{adds_none, adds-both, adds-went, adds-weaker}
-use Rattle.comm_port.specs.Reading.{is_ours}
-use Rattle.comm_port.specs.Order.{IsCalling, IsFinish, IsMaking}
+use Rattle.tied_lists.proofs.Growth.{adds_none, adds-both}
+use Rattle.joint_history.specs.Reading.{is_ours}
+use Rattle.comm_port.specs.Order.{IsCalling}
 use Rattle.std.proofs.Common.{[], refl, sym, subst, List}
 use Rattle.controller_core.specs.declared.call.Call.{Call}
 use Rattle.comm_port.specs.Making.{Owing, calls_from}
@@ -34,35 +32,14 @@ loop-at-init g c =
           (collected-lead g.M.RamSide.alone c.args.node c.in_ok-calls.calls _ _ _ _ _ _ c.args.waiting.now o.same o.went o.fresh t);
       kept = kept-none (g.R.RingSide.side c.args.ring.now) _ c.args.node c.requires.turning.own_turn;
       ring_adds = adds_none g.R.RingSide.alone (is_of c.args.node) (IsCalling c.args.node) _;
-      ram_adds = adds_none g.M.RamSide.alone is_ours IsFinish _;
       made = part-none g.M.RamSide.alone g.R.RingSide.alone is_ours c.args.node _ _ _ (refl, refl);
       ram_same = refl;
       ring_same = refl;
       stands = both-stay g.M.RamSide.alone g.R.RingSide.alone _ _ c.args.node _ _ c.requires.turning.own_turn.on.legal;
     }
 
-makes : (e : Entry) → IsFinish e → IsMaking e
-makes Begin k = k
-makes (Input row) k = k
-makes (Solve row) k = k
-makes (Output row words) k = k
-makes End k = k
-makes (Collect calls) k = tt
-makes (Peer id request reply) k = k
-makes (Finish id result) k = tt
-
 pub returns-then-not-has_started-clause-ring_adds : goal.returns-then-not-has_started-clause-ring_adds
 returns-then-not-has_started-clause-ring_adds g c = adds_none g.R.RingSide.alone (is_of c.args.node) (IsCalling c.args.node) _
-
-pub returns-then-not-has_started-clause-ram_adds : goal.returns-then-not-has_started-clause-ram_adds
-returns-then-not-has_started-clause-ram_adds g c = adds-went g.M.RamSide.alone is_ours IsMaking _ [] _ tt refl c.if-not-has_started.ensures.went
-
-pub returns-clause-ram_adds : goal.returns-clause-ram_adds
-returns-clause-ram_adds g c =
-    adds-both g.M.RamSide.alone is_ours IsMaking _ _ _ (adds-went g.M.RamSide.alone is_ours IsMaking _ [] _ tt refl c.if-not-has_started.ensures.went)
-    (adds-both g.M.RamSide.alone is_ours IsMaking _ _ _ (adds-went g.M.RamSide.alone is_ours IsMaking _ (Collect
-    c.in_ok-calls.calls ∷ []) _ (tt, tt) refl c.in_ok-calls.ensures.went)
-    (adds-weaker g.M.RamSide.alone is_ours IsFinish IsMaking _ _ makes c.loop-at.invariant.ram_adds))
 
 pub loop-at-preserved : goal.loop-at-preserved
 loop-at-preserved g c =
@@ -73,7 +50,6 @@ loop-at-preserved g c =
       owing = e.owing;
       kept = kept-both (g.R.RingSide.side c.args.ring.now).net n _ _ _ i.kept (kept-same _ _ n _ _ (sym i.ring_same) e.kept);
       ring_adds = adds-both g.R.RingSide.alone (is_of n) (IsCalling n) _ _ _ i.ring_adds e.ring_adds;
-      ram_adds = adds-both g.M.RamSide.alone is_ours IsFinish _ _ _ i.ram_adds e.ram_adds;
       made = due-next (IsMade n) g.M.RamSide.alone g.R.RingSide.alone n _ c.loop-at.at _ _ _ _ _ _ c.loop-at-test.true i.made e.made;
       ram_same = e.ram_same ∙ i.ram_same;
       ring_same = e.ring_same ∙ i.ring_same;

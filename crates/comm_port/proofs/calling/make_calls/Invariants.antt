@@ -2,8 +2,8 @@ use Rattle.std.proofs.Common.{take}
 use Rattle.comm_port.specs.HoldTurn.{IsMade}
 use Rattle.comm_port.specs.Parts.{InOrder, PartOf}
 use Rattle.tied_lists.specs.Own.{is_of, Adds}
-use Rattle.comm_port.specs.Reading.{is_ours}
-use Rattle.comm_port.specs.Order.{IsCalling, IsFinish}
+use Rattle.joint_history.specs.Reading.{is_ours}
+use Rattle.comm_port.specs.Order.{IsCalling}
 use Rattle.std.proofs.Common.{◌≡◌}
 use Rattle.comm_port.specs.Turns.{KeepsInbox}
 use Rattle.comm_port.specs.Making.{Owing, calls_from}
@@ -16,7 +16,6 @@ invariant-loop-at g l = record {
       (g.R.RingSide.known l.ring) l.waiting;
   kept : KeepsInbox (g.R.RingSide.side l.initial.ring).net l.node (g.R.RingSide.known l.initial.ring) (g.R.RingSide.known l.ring);
   ring_adds : Adds g.R.RingSide.alone (is_of l.node) (IsCalling l.node) (g.R.RingSide.known l.initial.ring) (g.R.RingSide.known l.ring);
-  ram_adds : Adds g.M.RamSide.alone is_ours IsFinish (g.M.RamSide.known l.initial.ram) (g.M.RamSide.known l.ram);
   made : PartOf g.M.RamSide.alone g.R.RingSide.alone is_ours l.node (InOrder (IsMade l.node) (take l.at l.calls))
       (g.M.RamSide.known l.initial.ram) (g.M.RamSide.known l.ram) (g.R.RingSide.known l.initial.ring) (g.R.RingSide.known l.ring);
   ram_same : g.M.RamSide.side l.ram ≡ g.M.RamSide.side l.initial.ram;

@@ -10,7 +10,7 @@ pub returns-clause-kept : goal.returns-clause-kept
 returns-clause-kept g c =
     let o = c.in_ok-post_frame.ensures in
     kept-post _ c.args.node _ _ c.args.frame (own-moved _ g.R.RingSide.alone c.args.node _ (Post c.args.node c.args.frame) _ refl
-    c.requires.turn o.legal o.went)
+    c.requires.turn o.stands.legal o.went)
 
 pub post_frame-requires-clause-free : goal.post_frame-requires-clause-free
 post_frame-requires-clause-free g c = free-path-no (part_at (g.R.RingSide.side c.args.ring.now).net c.args.node (g.R.RingSide.known c.args.ring.now)) c.args.frame.kind c.args.frame.id.path c.requires.free

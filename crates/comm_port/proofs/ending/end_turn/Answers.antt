@@ -12,10 +12,11 @@ use Rattle.tied_lists.proofs.Growth.{adds-both, adds-weaker}
 use Rattle.comm_port.specs.Giving.{due_calls}
 use Rattle.comm_port.specs.HoldTurn.{IsGivenUp}
 use Rattle.comm_port.specs.Leaving.{HandedOn}
-use Rattle.comm_port.specs.Parts.{InOrder, PartOf, four_paths, calls_waiting}
+use Rattle.comm_port.specs.Parts.{InOrder, PartOf, calls_waiting}
+use Rattle.mstr_block.specs.Table.{network_paths}
 use Rattle.comm_port.specs.Sides.{RingSideIs, RamSideIs}
 use Rattle.comm_port.specs.Turns.{Turning}
-use Rattle.comm_port.specs.Reading.{is_ours}
+use Rattle.joint_history.specs.Reading.{is_ours}
 use Rattle.comm_port.specs.Order.{IsGivingUp}
 use Rattle.comm_port.proofs.Parts.{net-as, part-none}
 use Rattle.comm_port.proofs.Leaves.{asks-so, due-waits, none-left, waiting-handed, handed-ends}
@@ -38,7 +39,7 @@ give_up_where-requires g c =
     let n = c.args.node in
     let t = asked-lead g.M.RamSide.alone n (g.M.RamSide.side c.args.ram.now).fixed c.is_done-done.result _ _ _ _ _ _
     c.args.waiting.now c.is_done-done.ensures.same c.is_done-done.ensures.asked c.requires.turning in
-    let r = handed-lead g.R.RingSide.alone n c.is_done-done.result _ _ _ _ _ _ _ _ c.args.waiting.now o.same o.legal o.handed t in
+    let r = handed-lead g.R.RingSide.alone n c.is_done-done.result _ _ _ _ _ _ _ _ c.args.waiting.now o.same o.stands.legal o.handed t in
     let why = some-of _ (sym o.left ∙ c.if-left.true) in
     record {
       turning = left-lead n _ _ _ _ c.args.waiting.now (left-at (g.R.RingSide.side c.args.ring.now) (g.R.RingSide.side
@@ -51,7 +52,7 @@ returns-clause-rested g c =
     let n = c.args.node in
     let t = asked-lead g.M.RamSide.alone n (g.M.RamSide.side c.args.ram.now).fixed c.is_done-done.result _ _ _ _ _ _
     c.args.waiting.now c.is_done-done.ensures.same c.is_done-done.ensures.asked c.requires.turning in
-    handed-lead g.R.RingSide.alone n c.is_done-done.result _ _ _ _ _ _ _ _ c.args.waiting.now o.same o.legal o.handed t
+    handed-lead g.R.RingSide.alone n c.is_done-done.result _ _ _ _ _ _ _ _ c.args.waiting.now o.same o.stands.legal o.handed t
 
 pub returns-clause-ends : goal.returns-clause-ends
 returns-clause-ends g c =
@@ -73,10 +74,10 @@ returns-clause-ends g c =
 left-part : {P Q : Type 0} (alone alone' : Bool) (n : ℕ) (done : Bool) (words : List ℕ) (cause : Option LeaveCause) (ram : RamSideIs P) (known known' : List
     Entry) (side side' : RingSideIs Q) (ring0 ring ring' : List RingEntry) (w : List (Option Frame)) → side' ≡ side → HandedOn alone' side.net n done words cause ring0
     ring → HasLeft side'.net ring n → Turning n [] ram known side' ring w
-    → PartOf alone alone' is_ours n (InOrder IsGivenUp (due_calls side'.net n ring four_paths)) known known' ring ring'
+    → PartOf alone alone' is_ours n (InOrder IsGivenUp (due_calls side'.net n ring network_paths)) known known' ring ring'
     → PartOf alone alone' is_ours n (InOrder IsGivenUp (calls_waiting n ring0)) known known' ring ring'
 left-part alone alone' n done words cause ram known known' side side' ring0 ring ring' w same h gone t p =
-    let is : due_calls side'.net n ring four_paths ≡ calls_waiting n ring0 = due-waits n [] ram known side' ring w gone t
+    let is : due_calls side'.net n ring network_paths ≡ calls_waiting n ring0 = due-waits n [] ram known side' ring w gone t
     ∙ waiting-handed alone' side.net n done words cause ring0 ring h in
     subst (λ (l : List CallId). PartOf alone alone' is_ours n (InOrder IsGivenUp l) known known' ring ring') is p
 
@@ -87,7 +88,7 @@ returns-then-left-clause-ends g c =
     let n = c.args.node in
     let t0 = asked-lead g.M.RamSide.alone n (g.M.RamSide.side c.args.ram.now).fixed c.is_done-done.result _ _ _ _ _ _
     c.args.waiting.now c.is_done-done.ensures.same c.is_done-done.ensures.asked c.requires.turning in
-    let r = handed-lead g.R.RingSide.alone n c.is_done-done.result _ _ _ _ _ _ _ _ c.args.waiting.now o.same o.legal o.handed t0 in
+    let r = handed-lead g.R.RingSide.alone n c.is_done-done.result _ _ _ _ _ _ _ _ c.args.waiting.now o.same o.stands.legal o.handed t0 in
     let why = some-of _ (sym o.left ∙ c.if-left.true) in
     let gone = left-at (g.R.RingSide.side c.args.ring.now) (g.R.RingSide.side c.hand_on.new.ring) (g.R.RingSide.known c.hand_on.new.ring)
     n o.same (o.handed.gone why.0 why.1) in
@@ -110,7 +111,7 @@ pub returns-clause-rest : goal.returns-clause-rest
 returns-clause-rest g c =
     let o = c.in_ok-left.ensures in
     let n = c.args.node in
-    rest-through g.R.RingSide.alone _ n _ _ c.requires.turning.own_turn.on o.legal (handed-ends g.R.RingSide.alone _ n _ _ _ _ _ o.handed) c.requires.rest
+    rest-through g.R.RingSide.alone _ n _ _ c.requires.turning.own_turn.on o.stands.legal (handed-ends g.R.RingSide.alone _ n _ _ _ _ _ o.handed) c.requires.rest
 
 pub returns-then-left-clause-rest : goal.returns-then-left-clause-rest
 returns-then-left-clause-rest g c =

@@ -6,9 +6,8 @@ use Rattle.mstr_block.specs.declared.call.MstrResult.TheVariants.{Bad}
 use Rattle.controller_core.specs.declared.entry.Entry.TheVariants.{Finish}
 use Rattle.ring_core.specs.declared.entry.RingEntry.TheVariants.{GiveUp}
 use Rattle.tied_lists.specs.Own.{is_of, Grew, Adds}
-use Rattle.tied_lists.proofs.Growth.{adds_none, adds-went, adds-grew}
-use Rattle.comm_port.specs.Reading.{is_ours}
-use Rattle.comm_port.specs.Order.{IsGivingUp, IsFinish}
+use Rattle.tied_lists.proofs.Growth.{adds_none, adds-grew}
+use Rattle.comm_port.specs.Order.{IsGivingUp}
 use Rattle.std.proofs.Common.{ℕ, sym, ◌∙◌, subst, List, [], Option}
 use Rattle.ring_core.specs.declared.frame.Frame.{Frame}
 use Rattle.tied_lists.specs.Items.{NetCall}
@@ -26,7 +25,7 @@ returns-in_default-2-clause-turning g c =
     let k = waits-at n c.args.path id _ _ _ _ c.args.waiting.now (sym c.id_on.ensures ∙ c.in-Some.is) c.requires.turning in
     let gave = subst (λ (w : Option ℕ). GaveUp g.R.RingSide.alone (g.R.RingSide.side c.args.ring.now).net id (g.R.RingSide.known
     c.args.ring.now) (g.R.RingSide.known c.give_up_on.new.ring) w) c.in_default-2.is o.given in
-    not-given g.R.RingSide.alone n c.args.path id _ _ _ _ _ _ c.args.waiting.now o.same o.legal k gave c.requires.turning
+    not-given g.R.RingSide.alone n c.args.path id _ _ _ _ _ _ c.args.waiting.now o.same o.stands.legal k gave c.requires.turning
 
 pub finish-requires : goal.finish-requires
 finish-requires g c =
@@ -46,7 +45,7 @@ returns-clause-turning g c =
     subst (λ (w : List (Option Frame)). Turning n [] (g.M.RamSide.side c.finish.new.self) (g.M.RamSide.known c.finish.new.self)
     (g.R.RingSide.side c.give_up_on.new.ring) (g.R.RingSide.known c.give_up_on.new.ring) w) (sym c.end.ensures.new)
     (given-lead g.M.RamSide.alone g.R.RingSide.alone n c.args.path id word _ _ _ _ _ _ _ _ c.args.waiting.now f.same o.same
-    o.legal k gave f.went c.requires.turning)
+    o.stands.legal k gave f.went c.requires.turning)
 
 pub returns-in_default-2-clause-kept : goal.returns-in_default-2-clause-kept
 returns-in_default-2-clause-kept g c =
@@ -65,9 +64,6 @@ returns-clause-kept g c =
 pub returns-in_default-clause-ring_adds : goal.returns-in_default-clause-ring_adds
 returns-in_default-clause-ring_adds g c = adds_none g.R.RingSide.alone (is_of c.args.node) IsGivingUp _
 
-pub returns-in_default-clause-ram_adds : goal.returns-in_default-clause-ram_adds
-returns-in_default-clause-ram_adds g c = adds_none g.M.RamSide.alone is_ours IsFinish _
-
 pub returns-in_default-2-clause-ring_adds : goal.returns-in_default-2-clause-ring_adds
 returns-in_default-2-clause-ring_adds g c =
     let o = c.in_ok-word.ensures in
@@ -77,9 +73,6 @@ returns-in_default-2-clause-ring_adds g c =
     c.args.ring.now) (g.R.RingSide.known c.give_up_on.new.ring) w) c.in_default-2.is o.given in
     subst (λ (m : ℕ). Adds g.R.RingSide.alone (is_of m) IsGivingUp (g.R.RingSide.known c.args.ring.now) (g.R.RingSide.known
     c.give_up_on.new.ring)) k.own_is (adds-grew g.R.RingSide.alone (is_of id.node) IsGivingUp _ [] _ tt gave.grew)
-
-pub returns-in_default-2-clause-ram_adds : goal.returns-in_default-2-clause-ram_adds
-returns-in_default-2-clause-ram_adds g c = adds_none g.M.RamSide.alone is_ours IsFinish _
 
 pub returns-clause-ring_adds : goal.returns-clause-ring_adds
 returns-clause-ring_adds g c =
@@ -91,10 +84,6 @@ returns-clause-ring_adds g c =
     subst (λ (m : ℕ). Adds g.R.RingSide.alone (is_of m) IsGivingUp (g.R.RingSide.known c.args.ring.now) (g.R.RingSide.known
     c.give_up_on.new.ring)) k.own_is (adds-grew g.R.RingSide.alone (is_of id.node) IsGivingUp _ (GiveUp id c.in-Some-2.word ∷
     []) _ (tt, tt) gave.grew)
-
-pub returns-clause-ram_adds : goal.returns-clause-ram_adds
-returns-clause-ram_adds g c = adds-went g.M.RamSide.alone is_ours IsFinish _ (Finish c.in-Some.id (Bad c.in-Some-2.word) ∷ []) _
-    (tt, tt) refl c.in_ok-finish.ensures.went
 
 pub returns-in_default-clause-given : goal.returns-in_default-clause-given
 returns-in_default-clause-given g c =

@@ -11,8 +11,8 @@ use Rattle.comm_port.proofs.GivesUp.{where-none, where-skip, where-more, given-s
 use Rattle.std.proofs.Common.{sym, ◌∙◌}
 use Rattle.tied_lists.specs.Own.{is_of}
 use Rattle.tied_lists.proofs.Growth.{adds-both}
-use Rattle.comm_port.specs.Reading.{is_ours}
-use Rattle.comm_port.specs.Order.{IsGivingUp, IsFinish}
+use Rattle.joint_history.specs.Reading.{is_ours}
+use Rattle.comm_port.specs.Order.{IsGivingUp}
 use Rattle.comm_port.proofs.RingTurns.{kept-both, kept-same}
 use Rattle.comm_port.proofs.Given.{less-both}
 use Rattle.comm_port.proofs.Stands.{both-stay, both-on}
@@ -33,7 +33,6 @@ loop-path-preserved g c =
       less = less-both side (g.R.RingSide.side c.loop-path.ring) n (g.R.RingSide.known c.args.ring.now) (g.R.RingSide.known
           c.loop-path.ring) (g.R.RingSide.known c.give_up_path.new.ring) i.ring_same i.less e.less;
       ring_adds = adds-both g.R.RingSide.alone (is_of n) IsGivingUp _ _ _ i.ring_adds e.ring_adds;
-      ram_adds = adds-both g.M.RamSide.alone is_ours IsFinish _ _ _ i.ram_adds e.ram_adds;
       given = given-more g.M.RamSide.alone g.R.RingSide.alone side.net n _ c.loop-path.path _ _ _ _ _ _ c.loop-path.auto.path c.loop-path-test.true c.if-not-chosen-path.false i.part i.given
           (net-as (λ (m : NetPlan). PartOf g.M.RamSide.alone g.R.RingSide.alone is_ours n (InOrder IsGivenUp
           (due_calls m n (g.R.RingSide.known c.loop-path.ring) (c.loop-path.path ∷ []))) (g.M.RamSide.known c.loop-path.ram)
@@ -53,7 +52,6 @@ loop-path-init g c = record {
   kept = kept-none (g.R.RingSide.side c.args.ring.now) _ c.args.node c.requires.turning.own_turn;
   less = omega arith;
   ring_adds = adds_none g.R.RingSide.alone (is_of c.args.node) IsGivingUp _;
-  ram_adds = adds_none g.M.RamSide.alone is_ours IsFinish _;
   given = part-none g.M.RamSide.alone g.R.RingSide.alone is_ours c.args.node _ _ _ (refl, refl);
   part = where-none (g.R.RingSide.side c.args.ring.now).net c.args.node c.args.chosen.now (g.R.RingSide.known c.args.ring.now);
   ram_same = refl;
@@ -71,7 +69,6 @@ loop-path-preserved-then-not-chosen-path g c =
       kept = i.kept;
       less = i.less;
       ring_adds = i.ring_adds;
-      ram_adds = i.ram_adds;
       given = given-skip g.M.RamSide.alone g.R.RingSide.alone net n c.args.chosen.now c.loop-path.path _ _ _ _ c.loop-path.auto.path
           c.loop-path-test.true c.if-not-chosen-path.true i.given;
       part = where-skip net n c.args.chosen.now c.loop-path.path _ _ c.if-not-chosen-path.true i.part;

@@ -2,8 +2,8 @@ use Rattle.comm_port.specs.Giving.{due_calls, chosen_below, GivesWhere}
 use Rattle.comm_port.specs.HoldTurn.{IsGivenUp}
 use Rattle.comm_port.specs.Parts.{InOrder, PartOf}
 use Rattle.tied_lists.specs.Own.{is_of, Adds}
-use Rattle.comm_port.specs.Reading.{is_ours}
-use Rattle.comm_port.specs.Order.{IsGivingUp, IsFinish}
+use Rattle.joint_history.specs.Reading.{is_ours}
+use Rattle.comm_port.specs.Order.{IsGivingUp}
 use Rattle.std.proofs.Common.{◌≡◌, ◌≤◌, []}
 use Rattle.comm_port.specs.Turns.{KeepsInbox, Turning}
 use Rattle.comm_port.specs.Sending.{sends_left}
@@ -17,7 +17,6 @@ invariant-loop-path g l = record {
   less : sends_left (g.R.RingSide.side l.initial.ring).net (g.R.RingSide.known l.ring) l.node ≤ sends_left (g.R.RingSide.side
       l.initial.ring).net (g.R.RingSide.known l.initial.ring) l.node;
   ring_adds : Adds g.R.RingSide.alone (is_of l.node) IsGivingUp (g.R.RingSide.known l.initial.ring) (g.R.RingSide.known l.ring);
-  ram_adds : Adds g.M.RamSide.alone is_ours IsFinish (g.M.RamSide.known l.initial.ram) (g.M.RamSide.known l.ram);
   given : PartOf g.M.RamSide.alone g.R.RingSide.alone is_ours l.node (InOrder IsGivenUp (due_calls (g.R.RingSide.side
       l.initial.ring).net l.node (g.R.RingSide.known l.initial.ring) (chosen_below l.chosen l.path))) (g.M.RamSide.known
       l.initial.ram) (g.M.RamSide.known l.ram) (g.R.RingSide.known l.initial.ring) (g.R.RingSide.known l.ring);

@@ -6,24 +6,19 @@ use Rattle.tied_lists.specs.Waits.{Holds}
 use Rattle.plant_types.specs.declared.net.NetPlan.{NetPlan}
 use Rattle.std.proofs.Common.{refl}
 use Rattle.tied_lists.specs.Waits.{IsOnRing}
-use Rattle.tied_lists.proofs.Growth.{adds_none}
 use Rattle.comm_port.specs.Giving.{GivesWhere}
 use Rattle.comm_port.specs.Sending.{SentNext, AllSent}
 use Rattle.comm_port.proofs.Made.{kept-none}
 use Rattle.comm_port.proofs.Parts.{net-as, part-none, part-both, each-none, each-both}
 use Rattle.comm_port.proofs.SendsAll.{Finished, has-sent, may-go-on, may-again, send-each}
 use Rattle.comm_port.proofs.SendsAll.{given-each, finished-both, send-part, given-part, sent-all}
-use Rattle.std.proofs.Common.{◌≡◌, sym, ◌∙◌, subst, List, [], ◌∷◌}
+use Rattle.std.proofs.Common.{◌≡◌, sym, ◌∙◌, subst, List, []}
 use Rattle.ring_core.specs.declared.entry.Heard.{Heard}
-use Rattle.ring_core.specs.declared.entry.RingEntry.TheVariants.{Send}
-use Rattle.tied_lists.specs.Own.{is_of}
-use Rattle.tied_lists.proofs.Growth.{adds-both, adds-grew, adds-weaker}
-use Rattle.comm_port.specs.Reading.{is_ours}
-use Rattle.comm_port.specs.Order.{IsSending, IsGivingUp, IsFinish}
+use Rattle.joint_history.specs.Reading.{is_ours}
 use Rattle.comm_port.specs.Sending.{SentOrAll}
 use Rattle.comm_port.proofs.RingTurns.{kept-both, kept-same}
 use Rattle.comm_port.proofs.Served.{holds-kept}
-use Rattle.comm_port.proofs.Given.{sent-lead, stays-lead, holds-at, sending-too}
+use Rattle.comm_port.proofs.Given.{sent-lead, stays-lead, holds-at}
 use Rattle.comm_port.proofs.Stands.{both-stay, both-on, both-ring}
 use Rattle.comm_port.proofs.giving.send_all.Goals as goal
 
@@ -40,8 +35,6 @@ loop-heard-init g c = record {
   turning = c.requires.turning;
   holds = c.requires.holds;
   kept = kept-none (g.R.RingSide.side c.args.ring.now) _ c.args.node c.requires.turning.own_turn;
-  ring_adds = adds_none g.R.RingSide.alone (is_of c.args.node) IsSending _;
-  ram_adds = adds_none g.M.RamSide.alone is_ours IsFinish _;
   wait = c.requires.wait;
   may = c.requires.may;
   finished = part-none g.M.RamSide.alone g.R.RingSide.alone is_ours c.args.node Finished _ _ refl;
@@ -57,7 +50,7 @@ give_up_where-requires g c =
     let n = c.args.node in
     let sent = subst (SentOrAll g.R.RingSide.alone (g.R.RingSide.side c.loop-heard.ring).net n (g.R.RingSide.known
     c.loop-heard.ring) (g.R.RingSide.known c.send_next.new.ring)) c.in-Some.is o.sent in
-    record { turning = sent-lead g.R.RingSide.alone n c.in-Some.heard _ _ _ _ _ _ c.loop-heard.waiting o.same o.legal sent c.loop-heard.invariant.turning }
+    record { turning = sent-lead g.R.RingSide.alone n c.in-Some.heard _ _ _ _ _ _ c.loop-heard.waiting o.same o.stands.legal sent c.loop-heard.invariant.turning }
 
 pub loop-heard-preserved-then-eq : goal.loop-heard-preserved-then-eq
 loop-heard-preserved-then-eq g c =
@@ -67,12 +60,9 @@ loop-heard-preserved-then-eq g c =
     let sent = subst (SentOrAll g.R.RingSide.alone (g.R.RingSide.side c.loop-heard.ring).net n (g.R.RingSide.known
     c.loop-heard.ring) (g.R.RingSide.known c.send_next.new.ring)) c.in-Some.is o.sent in
     record {
-      turning = sent-lead g.R.RingSide.alone n c.in-Some.heard _ _ _ _ _ _ c.loop-heard.waiting o.same o.legal sent i.turning;
+      turning = sent-lead g.R.RingSide.alone n c.in-Some.heard _ _ _ _ _ _ c.loop-heard.waiting o.same o.stands.legal sent i.turning;
       holds = holds-at _ _ _ n o.same (sent.kept.holds i.holds);
       kept = kept-both (g.R.RingSide.side c.args.ring.now).net n _ _ _ i.kept (kept-same _ _ n _ _ (sym i.ring_same) sent.kept);
-      ring_adds = adds-both g.R.RingSide.alone (is_of n) IsSending _ _ _ i.ring_adds (adds-grew g.R.RingSide.alone (is_of n)
-          IsSending _ (Send n c.in-Some.heard ∷ []) _ (tt, tt) sent.grew);
-      ram_adds = i.ram_adds;
       wait = i.wait;
       may = may-go-on g.R.RingSide.alone (g.R.RingSide.side c.args.ring.now).net n _ c.in-Some.heard _ _ (search rules) (sent-here g.R.RingSide.alone n c.in-Some.heard _ _ _ _ i.ring_same sent) i.may;
       finished = part-both g.M.RamSide.alone g.R.RingSide.alone is_ours n Finished Finished Finished _ _ _ _ _ _ finished-both i.finished
@@ -104,11 +94,6 @@ loop-heard-preserved g c =
       turning = e.turning;
       holds = holds-kept (g.R.RingSide.side c.loop-heard.ring) _ _ n _ _ o.same e.ring_same e.kept (sent.kept.holds i.holds);
       kept = kept-both (g.R.RingSide.side c.args.ring.now).net n _ _ _ first (kept-same _ _ n _ _ (sym (o.same ∙ i.ring_same)) e.kept);
-      ring_adds = adds-both g.R.RingSide.alone (is_of n) IsSending _ _ _ i.ring_adds
-          (adds-both g.R.RingSide.alone (is_of n) IsSending _ _ _ (adds-grew g.R.RingSide.alone (is_of n) IsSending _ (Send n
-          c.in-Some.heard ∷ []) _ (tt, tt) sent.grew)
-          (adds-weaker g.R.RingSide.alone (is_of n) IsGivingUp IsSending _ _ sending-too e.ring_adds));
-      ram_adds = adds-both g.M.RamSide.alone is_ours IsFinish _ _ _ i.ram_adds e.ram_adds;
       wait = i.wait;
       may = may-again (g.R.RingSide.side c.args.ring.now).net n _ _ _ i.wait gone-by given;
       finished = part-both g.M.RamSide.alone g.R.RingSide.alone is_ours n Finished Finished Finished _ _ _ _ _ _ finished-both i.finished
@@ -130,16 +115,7 @@ returns-clause-turning g c =
     let n = c.args.node in
     let sent = subst (SentOrAll g.R.RingSide.alone (g.R.RingSide.side c.loop-heard.ring).net n (g.R.RingSide.known
     c.loop-heard.ring) (g.R.RingSide.known c.send_next.new.ring)) c.in_default.is o.sent in
-    stays-lead g.R.RingSide.alone n [] _ _ _ _ _ _ c.loop-heard.waiting o.same o.legal sent.kept sent.grew c.loop-heard.invariant.turning
-
-pub returns-clause-ring_adds : goal.returns-clause-ring_adds
-returns-clause-ring_adds g c =
-    let o = c.in_ok-heard.ensures in
-    let n = c.args.node in
-    let sent = subst (SentOrAll g.R.RingSide.alone (g.R.RingSide.side c.loop-heard.ring).net n (g.R.RingSide.known
-    c.loop-heard.ring) (g.R.RingSide.known c.send_next.new.ring)) c.in_default.is o.sent in
-    adds-both g.R.RingSide.alone (is_of n) IsSending _ _ _ c.loop-heard.invariant.ring_adds (adds-grew g.R.RingSide.alone (is_of
-    n) IsSending _ [] _ tt sent.grew)
+    stays-lead g.R.RingSide.alone n [] _ _ _ _ _ _ c.loop-heard.waiting o.same o.stands.legal sent.kept sent.grew c.loop-heard.invariant.turning
 
 pub returns-clause-sent : goal.returns-clause-sent
 returns-clause-sent g c =

@@ -3,9 +3,7 @@ use Rattle.comm_port.specs.Giving.{part_at, MaySend}
 use Rattle.comm_port.specs.HoldTurn.{IsNextSending}
 use Rattle.comm_port.specs.Parts.{PartOf, EachNext}
 use Rattle.comm_port.proofs.SendsAll.{Finished}
-use Rattle.tied_lists.specs.Own.{is_of, Adds}
-use Rattle.comm_port.specs.Reading.{is_ours}
-use Rattle.comm_port.specs.Order.{IsSending, IsFinish}
+use Rattle.joint_history.specs.Reading.{is_ours}
 use Rattle.std.proofs.Common.{◌≡◌, []}
 use Rattle.tied_lists.specs.Waits.{Holds}
 use Rattle.comm_port.specs.Turns.{KeepsInbox, Turning}
@@ -18,8 +16,6 @@ invariant-loop-heard g l = record {
   turning : Turning l.node [] (g.M.RamSide.side l.ram) (g.M.RamSide.known l.ram) (g.R.RingSide.side l.ring) (g.R.RingSide.known l.ring) l.waiting;
   holds : Holds (g.R.RingSide.side l.ring).net (g.R.RingSide.known l.ring) l.node;
   kept : KeepsInbox (g.R.RingSide.side l.initial.ring).net l.node (g.R.RingSide.known l.initial.ring) (g.R.RingSide.known l.ring);
-  ring_adds : Adds g.R.RingSide.alone (is_of l.node) IsSending (g.R.RingSide.known l.initial.ring) (g.R.RingSide.known l.ring);
-  ram_adds : Adds g.M.RamSide.alone is_ours IsFinish (g.M.RamSide.known l.initial.ram) (g.M.RamSide.known l.ram);
   wait : 0 < (g.R.RingSide.side l.initial.ring).net.answer;
   may : MaySend (g.R.RingSide.side l.initial.ring).net l.node l.posted (part_at (g.R.RingSide.side l.initial.ring).net l.node (g.R.RingSide.known l.ring));
   finished : PartOf g.M.RamSide.alone g.R.RingSide.alone is_ours l.node Finished (g.M.RamSide.known l.initial.ram) (g.M.RamSide.known l.ram)

@@ -6,7 +6,7 @@ use Rattle.comm_port.proofs.host_worker.answer_port.Goals as goal
 pub returns-clause-turning : goal.returns-clause-turning
 returns-clause-turning g c =
     let o = c.in_ok-tell_statistics.ensures in
-    turning-told c.args.node c.args.request.now _ _ g.R.RingSide.alone _ _ c.requires.taking c.requires.kind c.requires.stats o.told o.legal o.kept
+    turning-told c.args.node c.args.request.now _ _ g.R.RingSide.alone _ _ c.requires.taking c.requires.kind c.requires.stats o.told o.stands.legal o.kept
 
 pub returns-clause-served : goal.returns-clause-served
 returns-clause-served g c =

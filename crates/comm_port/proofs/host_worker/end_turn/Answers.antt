@@ -20,13 +20,13 @@ pub give_up_where-requires : goal.give_up_where-requires
 give_up_where-requires g c =
     let o = c.in_ok-left.ensures in
     let gone = gone-with g.R.RingSide.alone _ c.args.node _ _ _ _ _ o.handed (sym c.if-not-left.false ∙ o.left) in
-    let ties = ties-handed g.R.RingSide.alone c.args.node _ _ _ _ _ _ _ c.requires.turning o.handed o.legal in
+    let ties = ties-handed g.R.RingSide.alone c.args.node _ _ _ _ _ _ _ c.requires.turning o.handed o.stands.legal in
     record { turning = turning-side c.args.node _ _ _ _ o.same (turning-left c.args.node _ _ _ ties gone) }
 
 pub returns-then-not-left-clause-ties : goal.returns-then-not-left-clause-ties
 returns-then-not-left-clause-ties g c =
     let o = c.in_ok-left.ensures in
-    ties-handed g.R.RingSide.alone c.args.node _ _ _ _ _ _ _ c.requires.turning o.handed o.legal
+    ties-handed g.R.RingSide.alone c.args.node _ _ _ _ _ _ _ c.requires.turning o.handed o.stands.legal
 
 pub returns-then-not-left-clause-passed : goal.returns-then-not-left-clause-passed
 returns-then-not-left-clause-passed g c =

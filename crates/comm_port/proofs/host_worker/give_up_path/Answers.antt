@@ -35,7 +35,7 @@ returns-in_default-clause-turning g c =
     let w = c.in_ok-word.ensures in
     (gave-none g.R.RingSide.alone (record { node = c.args.node; path = c.args.path; seq = c.awaits-seq.result }) _ _ _ _ _ _ _
     (looked g.R.RingSide.alone c.args.node _ _ _ _ o.legal o.went c.requires.turning) o.same w.given c.in_default.is
-    w.legal).turning
+    w.stands.legal).turning
 
 pub returns-in_default-clause-kept : goal.returns-in_default-clause-kept
 returns-in_default-clause-kept g c =
@@ -43,7 +43,7 @@ returns-in_default-clause-kept g c =
     let w = c.in_ok-word.ensures in
     (gave-none g.R.RingSide.alone (record { node = c.args.node; path = c.args.path; seq = c.awaits-seq.result }) _ _ _ _ _ _ _
     (looked g.R.RingSide.alone c.args.node _ _ _ _ o.legal o.went c.requires.turning) o.same w.given c.in_default.is
-    w.legal).kept
+    w.stands.legal).kept
 
 pub returns-in_default-clause-less : goal.returns-in_default-clause-less
 returns-in_default-clause-less g c =
@@ -51,7 +51,7 @@ returns-in_default-clause-less g c =
     let w = c.in_ok-word.ensures in
     (gave-none g.R.RingSide.alone (record { node = c.args.node; path = c.args.path; seq = c.awaits-seq.result }) _ _ _ _ _ _ _
     (looked g.R.RingSide.alone c.args.node _ _ _ _ o.legal o.went c.requires.turning) o.same w.given c.in_default.is
-    w.legal).less
+    w.stands.legal).less
 
 pub answer-requires : goal.answer-requires
 answer-requires g c =
@@ -66,7 +66,7 @@ returns-clause-turning g c =
     let l = looked g.R.RingSide.alone c.args.node _ _ _ _ o.legal o.went c.requires.turning in
     let out = awaited-out c.args.node c.args.path c.awaits-seq.result _ _ _ l.turning o.answer c.if-seq-eq0.false in
     (gave-some g.R.RingSide.alone (record { node = c.args.node; path = c.args.path; seq = c.awaits-seq.result }) _ c.in-Some.word
-    _ _ _ _ _ _ _ l o.same w.given c.in-Some.is w.legal out c.in_ok-answer.ensures.went_on).turning
+    _ _ _ _ _ _ _ l o.same w.given c.in-Some.is w.stands.legal out c.in_ok-answer.ensures.went_on).turning
 
 pub returns-clause-kept : goal.returns-clause-kept
 returns-clause-kept g c =
@@ -75,7 +75,7 @@ returns-clause-kept g c =
     let l = looked g.R.RingSide.alone c.args.node _ _ _ _ o.legal o.went c.requires.turning in
     let out = awaited-out c.args.node c.args.path c.awaits-seq.result _ _ _ l.turning o.answer c.if-seq-eq0.false in
     (gave-some g.R.RingSide.alone (record { node = c.args.node; path = c.args.path; seq = c.awaits-seq.result }) _ c.in-Some.word
-    _ _ _ _ _ _ _ l o.same w.given c.in-Some.is w.legal out c.in_ok-answer.ensures.went_on).kept
+    _ _ _ _ _ _ _ l o.same w.given c.in-Some.is w.stands.legal out c.in_ok-answer.ensures.went_on).kept
 
 pub returns-clause-less : goal.returns-clause-less
 returns-clause-less g c =
@@ -84,7 +84,7 @@ returns-clause-less g c =
     let l = looked g.R.RingSide.alone c.args.node _ _ _ _ o.legal o.went c.requires.turning in
     let out = awaited-out c.args.node c.args.path c.awaits-seq.result _ _ _ l.turning o.answer c.if-seq-eq0.false in
     (gave-some g.R.RingSide.alone (record { node = c.args.node; path = c.args.path; seq = c.awaits-seq.result }) _ c.in-Some.word
-    _ _ _ _ _ _ _ l o.same w.given c.in-Some.is w.legal out c.in_ok-answer.ensures.went_on).less
+    _ _ _ _ _ _ _ l o.same w.given c.in-Some.is w.stands.legal out c.in_ok-answer.ensures.went_on).less
 
 pub returns-then-seq-eq0-clause-left : goal.returns-then-seq-eq0-clause-left
 returns-then-seq-eq0-clause-left g c =
@@ -97,7 +97,7 @@ returns-in_default-clause-left g c =
     let w = c.in_ok-word.ensures in
     (gave-none g.R.RingSide.alone (record { node = c.args.node; path = c.args.path; seq = c.awaits-seq.result }) _ _ _ _ _ _ _
     (looked g.R.RingSide.alone c.args.node _ _ _ _ o.legal o.went c.requires.turning) o.same w.given c.in_default.is
-    w.legal).left
+    w.stands.legal).left
 
 pub returns-clause-left : goal.returns-clause-left
 returns-clause-left g c =
@@ -106,7 +106,7 @@ returns-clause-left g c =
     let l = looked g.R.RingSide.alone c.args.node _ _ _ _ o.legal o.went c.requires.turning in
     let out = awaited-out c.args.node c.args.path c.awaits-seq.result _ _ _ l.turning o.answer c.if-seq-eq0.false in
     (gave-some g.R.RingSide.alone (record { node = c.args.node; path = c.args.path; seq = c.awaits-seq.result }) _ c.in-Some.word
-    _ _ _ _ _ _ _ l o.same w.given c.in-Some.is w.legal out c.in_ok-answer.ensures.went_on).left
+    _ _ _ _ _ _ _ l o.same w.given c.in-Some.is w.stands.legal out c.in_ok-answer.ensures.went_on).left
 
 pub returns-then-seq-eq0-clause-gives_up : goal.returns-then-seq-eq0-clause-gives_up
 returns-then-seq-eq0-clause-gives_up g c =
@@ -120,7 +120,7 @@ returns-in_default-clause-gives_up g c =
     let id : CallId = record { node = c.args.node; path = c.args.path; seq = c.awaits-seq.result } in
     gives-kept g.R.RingSide.alone c.args.node c.args.path c.awaits-seq.result _ (g.R.RingSide.side c.args.ring.now) _ _ _ _ c.requires.turning o.legal o.went
     o.answer (gave-at g.R.RingSide.alone id _ _ _ _ _ None o.same c.in_default.is w.given)
-    (legal-at (g.R.RingSide.side c.args.ring.now) (g.R.RingSide.side c.awaits-seq.new.self) _ o.same w.legal)
+    (legal-at (g.R.RingSide.side c.args.ring.now) (g.R.RingSide.side c.awaits-seq.new.self) _ o.same w.stands.legal)
     (not-due-at (g.R.RingSide.side c.args.ring.now) (g.R.RingSide.side c.awaits-seq.new.self) (g.R.RingSide.known c.give_up_on.new.ring) id o.same (w.not_due c.in_default.is))
 
 pub returns-clause-gives_up : goal.returns-clause-gives_up
@@ -130,7 +130,7 @@ returns-clause-gives_up g c =
     let id : CallId = record { node = c.args.node; path = c.args.path; seq = c.awaits-seq.result } in
     gives-word g.R.RingSide.alone c.args.node c.args.path c.awaits-seq.result c.in-Some.word _ (g.R.RingSide.side c.args.ring.now) _ _ _ _ _
     c.requires.turning o.legal o.went o.answer (gave-at g.R.RingSide.alone id _ _ _ _ _ (Some c.in-Some.word) o.same c.in-Some.is w.given)
-    (legal-at (g.R.RingSide.side c.args.ring.now) (g.R.RingSide.side c.awaits-seq.new.self) _ o.same w.legal)
+    (legal-at (g.R.RingSide.side c.args.ring.now) (g.R.RingSide.side c.awaits-seq.new.self) _ o.same w.stands.legal)
     c.in_ok-answer.ensures.went_on.history
 
 pub returns-then-seq-eq0-clause-stands : goal.returns-then-seq-eq0-clause-stands

@@ -15,7 +15,7 @@ give_up_where-requires g c =
     let sent = sent-some g.R.RingSide.alone _ c.args.node c.in-Some.heard _ _ _ c.in-Some.is o.sent in
     record {
       turning = turning-side c.args.node _ _ _ _ o.same (turning-sent g.R.RingSide.alone c.args.node c.in-Some.heard _ _ _
-          _ c.requires.turning sent o.legal);
+          _ c.requires.turning sent o.stands.legal);
     }
 
 pub returns-in_default-clause-sends : goal.returns-in_default-clause-sends
@@ -31,8 +31,8 @@ returns-clause-sends g c =
     let n = c.args.node in
     let before = g.R.RingSide.side c.args.ring.now in
     let sent = sent-some g.R.RingSide.alone before.net n c.in-Some.heard _ _ _ c.in-Some.is o.sent in
-    (sent-step g.R.RingSide.alone before.net n c.in-Some.heard c.args.fresh _ _ _ _ _ _ (on-ring before _ _ n c.requires.turning.own_turn o.legal)
-    (on-ring before _ _ n c.requires.turning.own_turn (legal-at before (g.R.RingSide.side c.send_next.new.ring) _ o.same w.legal)) c.requires.holds
+    (sent-step g.R.RingSide.alone before.net n c.in-Some.heard c.args.fresh _ _ _ _ _ _ (on-ring before _ _ n c.requires.turning.own_turn o.stands.legal)
+    (on-ring before _ _ n c.requires.turning.own_turn (legal-at before (g.R.RingSide.side c.send_next.new.ring) _ o.same w.stands.node.legal)) c.requires.holds
     c.requires.new_calls sent.grew c.may_have_failed.ensures
     (gives-at g.R.RingSide.alone n _ _ _ _ _ (g.R.RingSide.side c.send_next.new.ring) before (sym o.same) w.gives_up)).sends
 
@@ -43,8 +43,8 @@ returns-clause-new_calls g c =
     let n = c.args.node in
     let before = g.R.RingSide.side c.args.ring.now in
     let sent = sent-some g.R.RingSide.alone before.net n c.in-Some.heard _ _ _ c.in-Some.is o.sent in
-    (sent-step g.R.RingSide.alone before.net n c.in-Some.heard c.args.fresh _ _ _ _ _ _ (on-ring before _ _ n c.requires.turning.own_turn o.legal)
-    (on-ring before _ _ n c.requires.turning.own_turn (legal-at before (g.R.RingSide.side c.send_next.new.ring) _ o.same w.legal)) c.requires.holds
+    (sent-step g.R.RingSide.alone before.net n c.in-Some.heard c.args.fresh _ _ _ _ _ _ (on-ring before _ _ n c.requires.turning.own_turn o.stands.legal)
+    (on-ring before _ _ n c.requires.turning.own_turn (legal-at before (g.R.RingSide.side c.send_next.new.ring) _ o.same w.stands.node.legal)) c.requires.holds
     c.requires.new_calls sent.grew c.may_have_failed.ensures
     (gives-at g.R.RingSide.alone n _ _ _ _ _ (g.R.RingSide.side c.send_next.new.ring) before (sym o.same) w.gives_up)).new_calls
 
@@ -54,7 +54,7 @@ returns-in_default-clause-new_calls g c =
     let n = c.args.node in
     let before = g.R.RingSide.side c.args.ring.now in
     let all = sent-none g.R.RingSide.alone before.net n _ _ _ c.in_default.is o.sent in
-    new-still g.R.RingSide.alone before.net n _ _ _ (on-ring before _ _ n c.requires.turning.own_turn o.legal) c.requires.turning.own_turn.free all.grew c.requires.new_calls
+    new-still g.R.RingSide.alone before.net n _ _ _ (on-ring before _ _ n c.requires.turning.own_turn o.stands.legal) c.requires.turning.own_turn.free all.grew c.requires.new_calls
 
 pub returns-in_default-clause-empty : goal.returns-in_default-clause-empty
 returns-in_default-clause-empty g c =

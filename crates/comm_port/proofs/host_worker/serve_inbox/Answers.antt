@@ -22,7 +22,7 @@ serve-requires g c =
     let o = c.in_ok-frame.ensures in
     let f = c.in-Some.frame in
     record {
-      taking = taking-now g.R.RingSide.alone c.args.node f _ _ _ _ _ o.same o.legal (took g.R.RingSide.alone c.args.node _
+      taking = taking-now g.R.RingSide.alone c.args.node f _ _ _ _ _ o.same o.stands.legal (took g.R.RingSide.alone c.args.node _
           _ _ (Some f) c.in-Some.is o.went) c.loop-frame.invariant.turning;
     }
 
@@ -36,7 +36,7 @@ loop-frame-smaller g c =
     let known = g.R.RingSide.known in
     less-kept (side c.loop-frame.ring) (side c.take_next.new.ring) (side c.serve.new.ring) c.args.node (known c.loop-frame.ring) (known
     c.take_next.new.ring) (known c.serve.new.ring) o.same c.in_ok-serve.ensures.same c.in_ok-serve.ensures.kept (take-less
-    g.R.RingSide.alone c.args.node f _ _ _ o.legal went t.own_turn)
+    g.R.RingSide.alone c.args.node f _ _ _ o.stands.legal went t.own_turn)
 
 pub loop-frame-preserved : goal.loop-frame-preserved
 loop-frame-preserved g c =
@@ -47,11 +47,11 @@ loop-frame-preserved g c =
     let s = c.in_ok-serve.ensures in
     record {
       turning = turning-side c.args.node _ _ _ _ s.same s.turning;
-      holds = holds-kept _ _ _ c.args.node _ _ o.same s.same s.kept (holds-took g.R.RingSide.alone c.args.node f _ _ _ o.legal went i.turning.own_turn i.holds);
+      holds = holds-kept _ _ _ c.args.node _ _ o.same s.same s.kept (holds-took g.R.RingSide.alone c.args.node f _ _ _ o.stands.legal went i.turning.own_turn i.holds);
       plan = s.plan ∙ i.plan;
       same = s.same ∙ (o.same ∙ i.same);
       served = so-far-at g.R.RingSide.alone c.args.node (g.R.RingSide.side c.loop-frame.ring) _ _ _ _ _ (s.same ∙ o.same)
-          (so-far-next g.R.RingSide.alone c.args.node f _ _ _ _ _ _ _ _ i.turning.own_turn i.served o.legal went
+          (so-far-next g.R.RingSide.alone c.args.node f _ _ _ _ _ _ _ _ i.turning.own_turn i.served o.stands.legal went
           (kept-same (g.R.RingSide.side c.loop-frame.ring) (g.R.RingSide.side c.take_next.new.ring) c.args.node _ _ (sym o.same) s.kept) s.served);
       stands = lists-on g.R.RingSide.alone c.args.node (g.R.RingSide.side c.args.ring.now) (g.R.RingSide.side c.loop-frame.ring) _ _ _ _ _ _ i.same i.stands
           (lists-on g.R.RingSide.alone c.args.node (g.R.RingSide.side c.loop-frame.ring) (g.R.RingSide.side c.take_next.new.ring) _ _ _ _ _ _ o.same
@@ -63,14 +63,14 @@ returns-clause-turning g c =
     let o = c.in_ok-frame.ensures in
     let i = c.loop-frame.invariant in
     let went = took g.R.RingSide.alone c.args.node _ _ _ None c.in_default.is o.went in
-    turning-side c.args.node _ _ _ _ (sym i.same) (turning-still g.R.RingSide.alone c.args.node _ _ _ _ o.legal went i.turning)
+    turning-side c.args.node _ _ _ _ (sym i.same) (turning-still g.R.RingSide.alone c.args.node _ _ _ _ o.stands.legal went i.turning)
 
 pub returns-clause-holds : goal.returns-clause-holds
 returns-clause-holds g c =
     let o = c.in_ok-frame.ensures in
     let i = c.loop-frame.invariant in
     let went = took g.R.RingSide.alone c.args.node _ _ _ None c.in_default.is o.went in
-    holds-still g.R.RingSide.alone c.args.node _ _ _ _ (sym i.same) o.legal went i.turning.own_turn i.holds
+    holds-still g.R.RingSide.alone c.args.node _ _ _ _ (sym i.same) o.stands.legal went i.turning.own_turn i.holds
 
 pub returns-clause-served : goal.returns-clause-served
 returns-clause-served g c =
@@ -78,7 +78,7 @@ returns-clause-served g c =
     let i = c.loop-frame.invariant in
     let went = took g.R.RingSide.alone c.args.node _ _ _ None c.in_default.is o.went in
     serves-at g.R.RingSide.alone c.args.node (g.R.RingSide.side c.loop-frame.ring) _ _ _ _ _ (sym i.same)
-    (so-far-end g.R.RingSide.alone c.args.node _ _ _ _ _ _ i.turning.own_turn i.served o.legal went (o.empty c.in_default.is))
+    (so-far-end g.R.RingSide.alone c.args.node _ _ _ _ _ _ i.turning.own_turn i.served o.stands.legal went (o.empty c.in_default.is))
 
 pub loop-frame-init : goal.loop-frame-init
 loop-frame-init g c = record {

@@ -82,10 +82,10 @@ end_turn-requires-clause-boxes g c =
     let gives = gives-at alone n network_paths _ _ _ _ (side c.send_all.new.ring) before (sym same3) e.gives_up in
     net-as (λ (m : NetPlan). BoxesEmpty (part_at m n given)) _ _ (sym same4)
     (boxes-empty alone before.net n _ c.args.hold all.asks _ network_paths _ _ _ _ served asked sent given
-    (record { members = t.members; legal = a.legal; member = t.member }) a.holds
-    (net-as (λ (m : NetPlan). IsLegal m asked) _ _ a.same b.legal) (net-as (λ (m : NetPlan). Holds m asked n) _ _ a.same b.holds)
-    (net-as (λ (m : NetPlan). IsLegal m sent) _ _ same2 d.legal) (net-as (λ (m : NetPlan). Holds m sent n) _ _ same2 d.holds)
-    (net-as (λ (m : NetPlan). IsLegal m given) _ _ same3 e.legal) a.served.empty all.all out gives)
+    (record { members = t.members; legal = a.stands.node.legal; member = t.member }) a.holds
+    (net-as (λ (m : NetPlan). IsLegal m asked) _ _ a.same b.stands.node.legal) (net-as (λ (m : NetPlan). Holds m asked n) _ _ a.same b.holds)
+    (net-as (λ (m : NetPlan). IsLegal m sent) _ _ same2 d.stands.node.legal) (net-as (λ (m : NetPlan). Holds m sent n) _ _ same2 d.holds)
+    (net-as (λ (m : NetPlan). IsLegal m given) _ _ same3 e.stands.node.legal) a.served.empty all.all out gives)
 
 pub returns-in_err-fresh-clause-stands : goal.returns-in_err-fresh-clause-stands
 returns-in_err-fresh-clause-stands g c =

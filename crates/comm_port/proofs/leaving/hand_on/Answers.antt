@@ -9,7 +9,7 @@ returns-clause-handed g c =
     let two = c.in_ok-ended in
     passed-on _ _ _ c.args.node c.args.done c.args.budget g.R.RingSide.alone _ _ _ _ one.spent two.ended one.ensures.same two.ensures.same
     one.ensures.due one.ensures.did c.if-spent.false
-    two.ensures.due two.ensures.did c.if-ended.false c.in_ok-pass_on.ensures.went c.requires.turn c.in_ok-pass_on.ensures.legal
+    two.ensures.due two.ensures.did c.if-ended.false c.in_ok-pass_on.ensures.went c.requires.turn c.in_ok-pass_on.ensures.stands.legal
 
 pub returns-in_err-ended-clause-stands : goal.returns-in_err-ended-clause-stands
 returns-in_err-ended-clause-stands g c =

@@ -17,7 +17,7 @@ statistics_reply-requires g c =
     let o = c.in_ok-result.ensures in
     let result = c.in_ok-result.result in
     let m = own-moved _ g.R.RingSide.alone c.args.node _ (Local c.args.node c.args.request.now.id c.operation_for-op.result
-    result) _ refl c.requires.turn o.legal o.went in
+    result) _ refl c.requires.turn o.stands.legal o.went in
     subst (λ (l : List ℕ). (length l ≡ 0) ⊎ (length l ≡ 20)) (sym c.words_told.ensures)
     (told-range (g.R.RingSide.side c.args.ring.now).net m.past c.args.node c.operation_for-op.result result _ c.operation_for-op.ensures.asked m.step.1.1)
 
@@ -25,8 +25,8 @@ pub post_reply-requires-clause-turn : goal.post_reply-requires-clause-turn
 post_reply-requires-clause-turn g c =
     let o = c.in_ok-result.ensures in
     let m = own-moved _ g.R.RingSide.alone c.args.node _ (Local c.args.node c.args.request.now.id c.operation_for-op.result
-    c.in_ok-result.result) _ refl c.requires.turn o.legal o.went in
-    turn-on _ _ _ _ c.args.node o.same c.requires.turn o.legal (kept-local _ c.args.node _ _ _ _ _ m)
+    c.in_ok-result.result) _ refl c.requires.turn o.stands.legal o.went in
+    turn-on _ _ _ _ c.args.node o.same c.requires.turn o.stands.legal (kept-local _ c.args.node _ _ _ _ _ m)
 
 pub returns-clause-told : goal.returns-clause-told
 returns-clause-told g c =
@@ -51,7 +51,7 @@ pub returns-clause-kept : goal.returns-clause-kept
 returns-clause-kept g c =
     let o = c.in_ok-result.ensures in
     let m = own-moved _ g.R.RingSide.alone c.args.node _ (Local c.args.node c.args.request.now.id c.operation_for-op.result
-    c.in_ok-result.result) _ refl c.requires.turn o.legal o.went in
+    c.in_ok-result.result) _ refl c.requires.turn o.stands.legal o.went in
     kept-both (g.R.RingSide.side c.args.ring.now).net c.args.node _ _ _ (kept-local _ c.args.node _ _ _ _ _ m)
     (kept-same _ _ c.args.node _ _ (sym o.same) c.in_ok-post_reply.ensures.kept)
 

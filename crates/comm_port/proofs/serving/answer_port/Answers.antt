@@ -1,4 +1,4 @@
-use Rattle.comm_port.specs.Reading.{is_ours}
+use Rattle.joint_history.specs.Reading.{is_ours}
 use Rattle.comm_port.proofs.Parts.{grew-none}
 use Rattle.comm_port.proofs.Serves.{port-due}
 use Rattle.std.proofs.Common.{refl, [], ◌∷◌}
@@ -15,7 +15,7 @@ pub returns-clause-turning : goal.returns-clause-turning
 returns-clause-turning g c =
     let o = c.in_ok-tell_statistics.ensures in
     port-lead g.R.RingSide.alone c.args.node c.args.request.now _ _ _ _ _ _ c.args.waiting.now
-    o.same c.requires.kind c.requires.stats o.legal o.kept o.told c.requires.taking
+    o.same c.requires.kind c.requires.stats o.stands.legal o.kept o.told c.requires.taking
 
 pub returns-clause-ring_adds : goal.returns-clause-ring_adds
 returns-clause-ring_adds g c =

@@ -4,10 +4,10 @@ use Rattle.std.proofs.Common.{refl, [], ◌∷◌}
 use Rattle.controller_core.specs.declared.entry.Entry.TheVariants.{Peer}
 use Rattle.ring_core.specs.declared.entry.RingEntry.TheVariants.{Post}
 use Rattle.tied_lists.specs.Own.{is_of}
-use Rattle.tied_lists.proofs.Growth.{adds-went, adds-grew}
-use Rattle.comm_port.specs.Reading.{is_ours}
+use Rattle.tied_lists.proofs.Growth.{adds-grew}
+use Rattle.joint_history.specs.Reading.{is_ours}
 use Rattle.comm_port.specs.Replies.{reply_frame}
-use Rattle.comm_port.specs.Order.{IsServing, IsAnswering}
+use Rattle.comm_port.specs.Order.{IsServing}
 use Rattle.comm_port.proofs.Served.{answer-lead}
 use Rattle.comm_port.proofs.Stands.{ram-went, both-ram}
 use Rattle.comm_port.proofs.serving.answer_request.Goals as goal
@@ -17,17 +17,12 @@ returns-clause-turning g c =
     let p = c.in_ok-reply.ensures in
     let o = c.in_ok-post_reply.ensures in
     answer-lead g.M.RamSide.alone g.R.RingSide.alone c.args.node c.args.request.now c.in_ok-reply.reply _ _ _ _ _ _ _ _ c.args.waiting.now
-    p.same o.same c.requires.kind c.requires.plain o.legal o.kept p.went o.grew c.requires.taking
+    p.same o.same c.requires.kind c.requires.plain o.stands.legal o.kept p.went o.grew c.requires.taking
 
 pub returns-clause-ring_adds : goal.returns-clause-ring_adds
 returns-clause-ring_adds g c =
     adds-grew g.R.RingSide.alone (is_of c.args.node) (IsServing c.args.node) _ (Post c.args.node (reply_frame
     c.args.request.now.id c.in_ok-reply.reply) ∷ []) _ (refl, tt) c.in_ok-post_reply.ensures.grew
-
-pub returns-clause-ram_adds : goal.returns-clause-ram_adds
-returns-clause-ram_adds g c =
-    adds-went g.M.RamSide.alone is_ours IsAnswering _ (Peer c.args.request.now.id c.args.request.now.pdu c.in_ok-reply.reply ∷ [])
-    _ (tt, tt) refl c.in_ok-reply.ensures.went
 
 pub returns-clause-served : goal.returns-clause-served
 returns-clause-served g c =

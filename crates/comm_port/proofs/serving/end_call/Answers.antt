@@ -3,15 +3,13 @@ use Rattle.comm_port.proofs.Parts.{grew-none}
 use Rattle.comm_port.proofs.Serves.{reply-due}
 use Rattle.tied_lists.proofs.Growth.{grew-one}
 use Rattle.std.proofs.Common.{refl}
-use Rattle.tied_lists.proofs.Growth.{adds-went}
-use Rattle.comm_port.specs.Order.{IsAnswering}
 use Rattle.std.proofs.Common.{◌≡◌, sym, ◌∙◌, subst, List, ◌∷◌, [], Option, Some, None}
 use Rattle.std.proofs.Common.{get_or}
 use Rattle.mstr_block.specs.declared.call.MstrResult.{MstrResult}
 use Rattle.ring_core.specs.declared.frame.Frame.{Frame}
 use Rattle.controller_core.specs.declared.entry.Entry.TheVariants.{Finish}
 use Rattle.tied_lists.specs.Own.{WentOn}
-use Rattle.comm_port.specs.Reading.{is_ours}
+use Rattle.joint_history.specs.Reading.{is_ours}
 use Rattle.comm_port.specs.Turns.{Turning}
 use Rattle.comm_port.proofs.Served.{end-lead, reply-out}
 use Rattle.comm_port.proofs.Stands.{ram-went}
@@ -32,10 +30,6 @@ returns-clause-turning g c =
     subst (λ (w : List (Option Frame)). Turning n [] (g.M.RamSide.side c.finish.new.self) (g.M.RamSide.known c.finish.new.self)
     (g.R.RingSide.side c.args.ring.now) (g.R.RingSide.known c.args.ring.now) w) (sym c.end.ensures.new)
     (end-lead g.M.RamSide.alone n f ask _ _ _ _ _ _ c.args.waiting.now o.same c.requires.kind slot went c.requires.taking)
-
-pub returns-clause-ram_adds : goal.returns-clause-ram_adds
-returns-clause-ram_adds g c =
-    adds-went g.M.RamSide.alone is_ours IsAnswering _ (Finish c.args.reply.now.id c.result_of.result ∷ []) _ (tt, tt) refl c.in_ok-finish.ensures.went
 
 pub returns-clause-served : goal.returns-clause-served
 returns-clause-served g c = record {

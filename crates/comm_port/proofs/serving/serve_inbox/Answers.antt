@@ -7,10 +7,10 @@ use Rattle.comm_port.proofs.Serves.{serves-more, all-served}
 use Rattle.ring_core.specs.declared.entry.RingEntry.TheVariants.{Take}
 use Rattle.std.proofs.Common.{refl}
 use Rattle.tied_lists.proofs.Growth.{adds_none, adds-both, adds-went}
-use Rattle.comm_port.specs.Reading.{is_ours}
-use Rattle.comm_port.specs.Order.{IsServing, IsAnswering}
+use Rattle.joint_history.specs.Reading.{is_ours}
+use Rattle.comm_port.specs.Order.{IsServing}
 use Rattle.comm_port.proofs.RingTurns.{mine}
-use Rattle.std.proofs.Common.{◌≡◌, ◌<◌, ℕ, sym, ap, ◌∙◌, subst, List, ◌∷◌, [], length, Option, Some}
+use Rattle.std.proofs.Common.{◌≡◌, ℕ, ◌∙◌, subst, List, ◌∷◌, [], Option, Some}
 use Rattle.std.proofs.Common.{None, Bool}
 use Rattle.ring_core.specs.declared.frame.Frame.{Frame}
 use Rattle.ring_core.specs.declared.entry.RingEntry.{RingEntry}
@@ -35,7 +35,7 @@ serve-requires g c =
     let o = c.in_ok-frame.ensures in
     let f = c.in-Some.frame in
     record {
-      taking = take-lead g.R.RingSide.alone c.args.node f _ _ _ _ _ _ c.loop-frame.waiting o.same o.legal
+      taking = take-lead g.R.RingSide.alone c.args.node f _ _ _ _ _ _ c.loop-frame.waiting o.same o.stands.legal
           (took g.R.RingSide.alone c.args.node _ _ _ (Some f) c.in-Some.is o.went) c.loop-frame.invariant.turning;
     }
 
@@ -49,7 +49,7 @@ loop-frame-smaller g c =
     let known = g.R.RingSide.known in
     less-kept (side c.loop-frame.ring) (side c.take_next.new.ring) (side c.serve.new.ring) c.args.node (known c.loop-frame.ring) (known
     c.take_next.new.ring) (known c.serve.new.ring) o.same c.in_ok-serve.ensures.ring_same c.in_ok-serve.ensures.kept (take-less
-    g.R.RingSide.alone c.args.node f _ _ _ o.legal went t.own_turn)
+    g.R.RingSide.alone c.args.node f _ _ _ o.stands.legal went t.own_turn)
 
 pub loop-frame-preserved : goal.loop-frame-preserved
 loop-frame-preserved g c =
@@ -61,14 +61,13 @@ loop-frame-preserved g c =
     record {
       turning = s.turning;
       holds = holds-kept _ _ _ c.args.node _ _ o.same s.ring_same s.kept (holds-took g.R.RingSide.alone c.args.node f _ _ _
-          o.legal went i.turning.own_turn i.holds);
+          o.stands.legal went i.turning.own_turn i.holds);
       ring_adds = adds-both g.R.RingSide.alone (is_of c.args.node) (IsServing c.args.node) _ _ _ i.ring_adds
           (adds-both g.R.RingSide.alone (is_of c.args.node) (IsServing c.args.node) _ _ _ (adds-went g.R.RingSide.alone (is_of
           c.args.node) (IsServing c.args.node) _ (Take c.args.node f ∷ []) _ (tt, tt) (mine c.args.node (Take c.args.node f)
           refl) went) s.ring_adds);
-      ram_adds = adds-both g.M.RamSide.alone is_ours IsAnswering _ _ _ i.ram_adds s.ram_adds;
       served = serves-more g.M.RamSide.alone g.R.RingSide.alone c.args.node f _ (g.R.RingSide.side c.args.ring.now) _ _ _ _ _ _ _
-          (net-as (λ (m : NetPlan). IsLegal m (g.R.RingSide.known c.take_next.new.ring)) _ _ i.ring_same o.legal) went
+          (net-as (λ (m : NetPlan). IsLegal m (g.R.RingSide.known c.take_next.new.ring)) _ _ i.ring_same o.stands.legal) went
           (turn-as _ _ (g.R.RingSide.known c.loop-frame.ring) c.args.node i.ring_same i.turning.own_turn)
           (net-as (λ (m : NetPlan). KeepsInbox m c.args.node (g.R.RingSide.known c.take_next.new.ring)
           (g.R.RingSide.known c.serve.new.ring)) _ _ (o.same ∙ i.ring_same) s.kept) i.served s.served;
@@ -82,13 +81,13 @@ loop-frame-preserved g c =
 pub returns-clause-turning : goal.returns-clause-turning
 returns-clause-turning g c =
     let o = c.in_ok-frame.ensures in
-    ring-still g.R.RingSide.alone c.args.node [] _ _ _ _ _ _ c.loop-frame.waiting o.same o.legal
+    ring-still g.R.RingSide.alone c.args.node [] _ _ _ _ _ _ c.loop-frame.waiting o.same o.stands.legal
     (took g.R.RingSide.alone c.args.node _ _ _ None c.in_default.is o.went) c.loop-frame.invariant.turning
 
 pub returns-clause-holds : goal.returns-clause-holds
 returns-clause-holds g c =
     let o = c.in_ok-frame.ensures in
-    holds-still g.R.RingSide.alone c.args.node _ _ _ _ o.same o.legal
+    holds-still g.R.RingSide.alone c.args.node _ _ _ _ o.same o.stands.legal
     (took g.R.RingSide.alone c.args.node _ _ _ None c.in_default.is o.went) c.loop-frame.invariant.turning.own_turn c.loop-frame.invariant.holds
 
 pub returns-clause-ring_adds : goal.returns-clause-ring_adds
@@ -104,7 +103,6 @@ loop-frame-init g c = record {
   holds = c.requires.holds;
   ram_same = refl;
   ring_adds = adds_none g.R.RingSide.alone (is_of c.args.node) (IsServing c.args.node) _;
-  ram_adds = adds_none g.M.RamSide.alone is_ours IsAnswering _;
   served = part-none g.M.RamSide.alone g.R.RingSide.alone is_ours c.args.node _ _ _ ([], refl, (refl, refl));
   ring_same = refl;
   stands = both-stay g.M.RamSide.alone g.R.RingSide.alone _ _ c.args.node _ _ c.requires.turning.own_turn.on.legal;
@@ -116,7 +114,7 @@ returns-clause-served g c =
     let i = c.loop-frame.invariant in
     let n = c.args.node in
     all-served g.M.RamSide.alone g.R.RingSide.alone n _ (g.R.RingSide.side c.args.ring.now) _ _ _ _ _
-    (net-as (λ (m : NetPlan). IsLegal m (g.R.RingSide.known c.take_next.new.ring)) _ _ i.ring_same o.legal)
+    (net-as (λ (m : NetPlan). IsLegal m (g.R.RingSide.known c.take_next.new.ring)) _ _ i.ring_same o.stands.legal)
     (took g.R.RingSide.alone n _ _ _ None c.in_default.is o.went)
     (turn-as _ _ (g.R.RingSide.known c.loop-frame.ring) n i.ring_same i.turning.own_turn)
     (net-as (λ (m : NetPlan). inbox_of m n (g.R.RingSide.known c.take_next.new.ring) ≡ []) _ _ i.ring_same (o.empty c.in_default.is)) i.served

@@ -1,6 +1,6 @@
 use Rattle.tied_lists.specs.Own.{is_of, Adds}
-use Rattle.comm_port.specs.Reading.{is_ours}
-use Rattle.comm_port.specs.Order.{IsServing, IsAnswering}
+use Rattle.joint_history.specs.Reading.{is_ours}
+use Rattle.comm_port.specs.Order.{IsServing}
 use Rattle.std.proofs.Common.{◌≡◌, length, []}
 use Rattle.ring_core.specs.Machine.{ring_node, ring_after}
 use Rattle.tied_lists.specs.Waits.{Holds}
@@ -17,7 +17,6 @@ invariant-loop-frame g l = record {
   holds : Holds (g.R.RingSide.side l.ring).net (g.R.RingSide.known l.ring) l.node;
   ram_same : g.M.RamSide.side l.ram ≡ g.M.RamSide.side l.initial.ram;
   ring_adds : Adds g.R.RingSide.alone (is_of l.node) (IsServing l.node) (g.R.RingSide.known l.initial.ring) (g.R.RingSide.known l.ring);
-  ram_adds : Adds g.M.RamSide.alone is_ours IsAnswering (g.M.RamSide.known l.initial.ram) (g.M.RamSide.known l.ram);
   served : PartOf g.M.RamSide.alone g.R.RingSide.alone is_ours l.node
       (ServesOn l.node (inbox_of (g.R.RingSide.side l.initial.ring).net l.node (g.R.RingSide.known l.initial.ring))
       (inbox_of (g.R.RingSide.side l.initial.ring).net l.node (g.R.RingSide.known l.ring)))

@@ -10,7 +10,7 @@ use Rattle.tied_lists.proofs.Growth.{grew-one}
 use Rattle.ring_core.specs.Machine.{gave_up}
 use Rattle.comm_port.specs.Giving.{part_at}
 use Rattle.comm_port.specs.Making.{Owing, calls_from}
-use Rattle.comm_port.specs.Reading.{is_ours}
+use Rattle.joint_history.specs.Reading.{is_ours}
 use Rattle.comm_port.specs.Waiting.{id_of}
 use Rattle.comm_port.proofs.Given.{waits-at-but, turn-at}
 use Rattle.comm_port.proofs.Sends.{gave-up}
@@ -47,12 +47,12 @@ returns-clause-owing g c =
     let k = waits-at-but _ n id.path id _ _ _ _ c.args.waiting.now (ap id_of (t.waits.waits id.path ∙ w.1) ∙ ap Some w.2) t in
     let o = c.in_ok-word.ensures in
     let f = c.in_ok-finish.ensures in
-    let gave = gave-up _ g.R.RingSide.alone id c.in_ok-word.word _ _ (turn-at _ _ n id.node k.own_is t.own_turn) o.legal o.went in
+    let gave = gave-up _ g.R.RingSide.alone id c.in_ok-word.word _ _ (turn-at _ _ n id.node k.own_is t.own_turn) o.stands.legal o.went in
     subst (λ (x : List (Option Frame)). Owing n (calls_from c.args.calls.now c.args.next) (g.M.RamSide.side c.finish.new.self)
     (g.M.RamSide.known c.finish.new.self) (g.R.RingSide.side c.give_up_now.new.ring) (g.R.RingSide.known c.give_up_now.new.ring) x)
     (sym c.end.ensures.new)
     (owing-given _ g.M.RamSide.alone g.R.RingSide.alone n id.path id c.in_ok-word.word _ _ _ _ _ _ _ _ c.args.waiting.now f.same o.same
-    o.legal k gave f.went c.requires.owing)
+    o.stands.legal k gave f.went c.requires.owing)
 
 pub returns-clause-given : goal.returns-clause-given
 returns-clause-given g c =
@@ -63,7 +63,7 @@ returns-clause-given g c =
     let k = waits-at-but _ n id.path id _ _ _ _ c.args.waiting.now (ap id_of (t.waits.waits id.path ∙ w.1) ∙ ap Some w.2) t in
     let o = c.in_ok-word.ensures in
     let word = c.in_ok-word.word in
-    let gave = gave-up _ g.R.RingSide.alone id word _ _ (turn-at _ _ n id.node k.own_is t.own_turn) o.legal o.went in
+    let gave = gave-up _ g.R.RingSide.alone id word _ _ (turn-at _ _ n id.node k.own_is t.own_turn) o.stands.legal o.went in
     record {
       noted = Finish id (Bad word) ∷ [];
       done = GiveUp id word ∷ [];
@@ -81,7 +81,7 @@ returns-clause-part g c =
     let w = c.requires.waits in
     let k = waits-at-but _ n id.path id _ _ _ _ c.args.waiting.now (ap id_of (t.waits.waits id.path ∙ w.1) ∙ ap Some w.2) t in
     let o = c.in_ok-word.ensures in
-    let gave = gave-up _ g.R.RingSide.alone id c.in_ok-word.word _ _ (turn-at _ _ n id.node k.own_is t.own_turn) o.legal o.went in
+    let gave = gave-up _ g.R.RingSide.alone id c.in_ok-word.word _ _ (turn-at _ _ n id.node k.own_is t.own_turn) o.stands.legal o.went in
     subst (λ (m : ℕ). part_at (g.R.RingSide.side c.args.ring.now).net m (g.R.RingSide.known c.give_up_now.new.ring) ≡ gave_up (part_at
     (g.R.RingSide.side c.args.ring.now).net m (g.R.RingSide.known c.args.ring.now)) id) k.own_is gave.part_is
 

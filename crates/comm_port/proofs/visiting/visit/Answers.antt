@@ -5,7 +5,7 @@ use Rattle.tied_lists.specs.Waits.{HasLeft}
 use Rattle.comm_port.specs.Giving.{IsAtRest}
 use Rattle.comm_port.specs.HoldTurn.{IsEnded}
 use Rattle.comm_port.specs.Making.{Owing, calls_from}
-use Rattle.comm_port.specs.Reading.{is_ours}
+use Rattle.joint_history.specs.Reading.{is_ours}
 use Rattle.comm_port.proofs.Collecting.{due-next, collects-none, collects-all}
 use Rattle.comm_port.proofs.Made.{ram-still, collected-lead}
 use Rattle.comm_port.proofs.Parts.{net-as, part-none}

@@ -4,7 +4,7 @@ use Rattle.comm_port.specs.Giving.{IsAtRest}
 use Rattle.comm_port.specs.HoldTurn.{IsEnded}
 use Rattle.comm_port.specs.Making.{Owing, calls_from}
 use Rattle.comm_port.specs.Parts.{InOrder, PartOf, calls_waiting}
-use Rattle.comm_port.specs.Reading.{is_ours}
+use Rattle.joint_history.specs.Reading.{is_ours}
 use Rattle.comm_port.specs.Stands.{BothStand}
 use Rattle.comm_port.proofs.visiting.visit.Given as goal
 

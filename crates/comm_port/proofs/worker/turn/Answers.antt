@@ -5,8 +5,9 @@ use Rattle.ring_core.specs.Legal.{IsLegal}
 use Rattle.tied_lists.specs.Waits.{Holds}
 use Rattle.comm_port.specs.Giving.{due_calls, part_at, IsAtRest, MaySend}
 use Rattle.comm_port.specs.HoldTurn.{inbox_of, IsMade, IsGivenUp, Collects, SendsAll, Ends}
-use Rattle.comm_port.specs.Parts.{InOrder, PartOf, four_paths}
-use Rattle.comm_port.specs.Reading.{is_ours}
+use Rattle.comm_port.specs.Parts.{InOrder, PartOf}
+use Rattle.mstr_block.specs.Table.{network_paths}
+use Rattle.joint_history.specs.Reading.{is_ours}
 use Rattle.comm_port.specs.Turns.{KeepsInbox}
 use Rattle.comm_port.proofs.Leaves.{turn-side}
 use Rattle.comm_port.proofs.Parts.{net-as, fixed-as}
@@ -103,7 +104,7 @@ returns-clause-held g c =
       given_known = known c.give_up_where.new.ram;
       given_ring = ring c.give_up_where.new.ring;
       gives_up = given-over g.M.RamSide.alone g.R.RingSide.alone net n _ _ sent _ holds (rest-sent g.M.RamSide.alone g.R.RingSide.alone net n _ _ _ _ sends)
-          (net-as (λ (m : NetPlan). PartOf g.M.RamSide.alone g.R.RingSide.alone is_ours n (InOrder IsGivenUp (due_calls m n sent four_paths)) (known
+          (net-as (λ (m : NetPlan). PartOf g.M.RamSide.alone g.R.RingSide.alone is_ours n (InOrder IsGivenUp (due_calls m n sent network_paths)) (known
           c.send_all.new.ram) (known c.give_up_where.new.ram) sent (ring c.give_up_where.new.ring)) _ _ (d.ring_same ∙ (b.ring_same ∙ a.ring_same)) e.given);
       ends = fixed-as (λ (f : Fixed). Ends g.M.RamSide.alone g.R.RingSide.alone f net n c.args.budget (known c.give_up_where.new.ram) (known
           c.end_turn.new.ram) (ring c.give_up_where.new.ring) (ring c.end_turn.new.ring) c.in_ok-left.left) _ _ (e.ram_same ∙ (d.ram_same ∙ (b.ram_same ∙

@@ -1,4 +1,4 @@
-use Rattle.comm_port.proofs.Collected.{CallLaws}
+use Rattle.joint_history.proofs.Collected.{CallLaws}
 use Rattle.effect_laws.proofs.Targets.{at-their-target}
 use Rattle.effect_laws.proofs.laws.effects_are_at_their_target.Goals as goal
 

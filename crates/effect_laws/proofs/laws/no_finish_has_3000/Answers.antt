@@ -1,4 +1,4 @@
-use Rattle.comm_port.proofs.Collected.{CallLaws}
+use Rattle.joint_history.proofs.Collected.{CallLaws}
 use Rattle.effect_laws.proofs.Words.{no-3000}
 use Rattle.effect_laws.proofs.laws.no_finish_has_3000.Goals as goal
 

@@ -1,4 +1,4 @@
-use Rattle.comm_port.proofs.Collected.{CallLaws}
+use Rattle.joint_history.proofs.Collected.{CallLaws}
 use Rattle.effect_laws.proofs.Reports.{success-once}
 use Rattle.effect_laws.proofs.laws.success_takes_effect_once.Goals as goal
 

@@ -1,4 +1,4 @@
-use Rattle.comm_port.proofs.Collected.{CallLaws}
+use Rattle.joint_history.proofs.Collected.{CallLaws}
 use Rattle.effect_laws.proofs.Once.{at-most-once}
 use Rattle.effect_laws.proofs.laws.takes_effect_at_most_once.Goals as goal
 

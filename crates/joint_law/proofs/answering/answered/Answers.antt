@@ -1,7 +1,7 @@
 use Rattle.std.proofs.Common.{[], ◌<◌, false, length, map, take, ap, ◌∙◌, arith}
 use Rattle.std.specs.List.{cons_option}
 use Rattle.std.proofs.lemmas.List.{map-append}
-use Rattle.comm_port.specs.Reading.{items_of}
+use Rattle.joint_history.specs.Reading.{items_of}
 use Rattle.joint_law.specs.Bound.{sorted_answer}
 use Rattle.joint_law.specs.Readings.{answer_in}
 use Rattle.joint_law.proofs.Lists.{answers-more, plain-step}

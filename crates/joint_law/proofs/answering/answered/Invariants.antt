@@ -1,5 +1,5 @@
 use Rattle.std.proofs.Common.{◌≡◌, false, map, take}
-use Rattle.comm_port.specs.Reading.{items_of}
+use Rattle.joint_history.specs.Reading.{items_of}
 use Rattle.joint_law.specs.Bound.{sorted_answer}
 use Rattle.joint_law.proofs.answering.answered.Given as goal
 

@@ -2,7 +2,7 @@ use Rattle.std.proofs.Common.{[], ◌∷◌, ◌<◌, length, map, take, ap, ◌
 use Rattle.std.specs.List.{filter_map}
 use Rattle.std.proofs.lemmas.List.{map-append}
 use Rattle.tied_lists.specs.Items.{net_ask}
-use Rattle.comm_port.specs.Reading.{called_of}
+use Rattle.joint_history.specs.Reading.{called_of}
 use Rattle.joint_law.proofs.Lists.{filter_map-push, joined-step, take-push}
 use Rattle.joint_law.proofs.asking.add_calls.Goals as goal
 

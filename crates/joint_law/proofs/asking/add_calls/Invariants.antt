@@ -1,7 +1,7 @@
 use Rattle.std.proofs.Common.{◌≡◌, ◌++◌, map, take}
 use Rattle.std.specs.List.{filter_map}
 use Rattle.tied_lists.specs.Items.{net_ask}
-use Rattle.comm_port.specs.Reading.{called_of}
+use Rattle.joint_history.specs.Reading.{called_of}
 use Rattle.joint_law.proofs.asking.add_calls.Given as goal
 
 abbrev pub invariant-loop-call : goal.invariant-loop-call

@@ -2,7 +2,7 @@ use Rattle.std.proofs.Common.{◌<◌, length, take, ap, ◌∙◌, arith}
 use Rattle.std.specs.List.{filter_map}
 use Rattle.std.proofs.lemmas.List.Elements.{filter_map-append}
 use Rattle.tied_lists.specs.Items.{net_ask}
-use Rattle.comm_port.specs.Reading.{items_of}
+use Rattle.joint_history.specs.Reading.{items_of}
 use Rattle.joint_law.specs.Readings.{calls_in}
 use Rattle.joint_law.proofs.Lists.{calls-more, plain-step}
 use Rattle.joint_law.proofs.asking.called.Goals as goal

@@ -2,7 +2,7 @@ use Rattle.std.proofs.Common.{[], ◌<◌, length, take, ap, ◌∙◌, arith}
 use Rattle.std.specs.List.{cons_option, filter_map}
 use Rattle.std.proofs.lemmas.List.Elements.{filter_map-append}
 use Rattle.tied_lists.specs.Items.{net_ask}
-use Rattle.comm_port.specs.Reading.{host_items_of}
+use Rattle.joint_history.specs.Reading.{host_items_of}
 use Rattle.joint_law.specs.Readings.{host_call_in}
 use Rattle.joint_law.proofs.Lists.{host-calls-more, plain-step}
 use Rattle.joint_law.proofs.asking.host_called.Goals as goal

@@ -1,7 +1,7 @@
 use Rattle.std.proofs.Common.{◌≡◌, take}
 use Rattle.std.specs.List.{filter_map}
 use Rattle.tied_lists.specs.Items.{net_ask}
-use Rattle.comm_port.specs.Reading.{host_items_of}
+use Rattle.joint_history.specs.Reading.{host_items_of}
 use Rattle.joint_law.proofs.asking.host_called.Given as goal
 
 abbrev pub invariant-loop-entry : goal.invariant-loop-entry

@@ -2,8 +2,8 @@ use Rattle.std.proofs.Common.{List, [], length, get_or, refl, subst, sym, ap, â—
 use Rattle.ring_core.specs.declared.entry.RingEntry.{RingEntry}
 use Rattle.plant_types.specs.declared.plan.ControllerPlan.{ControllerPlan}
 use Rattle.plant_types.specs.declared.net.HostPlan.{HostPlan}
-use Rattle.comm_port.specs.declared.joint.ControllerLog.{ControllerLog}
-use Rattle.comm_port.specs.declared.joint.HostLog.{HostLog}
+use Rattle.joint_history.specs.declared.joint.ControllerLog.{ControllerLog}
+use Rattle.joint_history.specs.declared.joint.HostLog.{HostLog}
 use Rattle.joint_law.specs.AllComplete.{AreControllersDone, AreHostNodesDone}
 use Rattle.joint_law.specs.Split.{picked}
 use Rattle.joint_law.proofs.AtNodes.{at-complete, controllers-done, hosts-done, split-own}

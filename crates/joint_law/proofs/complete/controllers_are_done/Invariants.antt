@@ -1,5 +1,5 @@
 use Rattle.std.proofs.Common.{◌≡◌, ℕ, ◌<◌, [], false, get_or}
-use Rattle.comm_port.specs.declared.joint.ControllerLog.{ControllerLog}
+use Rattle.joint_history.specs.declared.joint.ControllerLog.{ControllerLog}
 use Rattle.joint_law.specs.AllComplete.{IsNodeDone}
 use Rattle.joint_law.specs.Split.{picked}
 use Rattle.joint_law.proofs.complete.controllers_are_done.Given as goal

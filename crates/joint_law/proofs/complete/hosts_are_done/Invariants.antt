@@ -1,6 +1,6 @@
 use Rattle.std.proofs.Common.{◌≡◌, ℕ, ◌<◌, [], false, get_or}
 use Rattle.plant_types.specs.declared.net.HostPlan.{HostPlan}
-use Rattle.comm_port.specs.declared.joint.HostLog.{HostLog}
+use Rattle.joint_history.specs.declared.joint.HostLog.{HostLog}
 use Rattle.joint_law.specs.AllComplete.{IsHostNodeDone}
 use Rattle.joint_law.specs.Split.{picked}
 use Rattle.joint_law.proofs.complete.hosts_are_done.Given as goal

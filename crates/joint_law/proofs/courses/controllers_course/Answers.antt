@@ -3,11 +3,11 @@ use Rattle.std.proofs.Common.{arith}
 use Rattle.std.specs.Prelude.{◌↔◌, IsTrue}
 use Rattle.std.proofs.lemmas.List.{get_or_default}
 use Rattle.plant_types.specs.declared.plan.ControllerPlan.{ControllerPlan}
-use Rattle.comm_port.specs.declared.joint.ControllerLog.{ControllerLog}
+use Rattle.joint_history.specs.declared.joint.ControllerLog.{ControllerLog}
 use Rattle.controller_core.specs.declared.entry.Entry.{Entry}
 use Rattle.controller_core.specs.Controller.{IsLegal}
-use Rattle.comm_port.specs.Complete.{ControllerIsComplete}
-use Rattle.comm_port.specs.JointLaws.{fixed_of}
+use Rattle.joint_history.specs.Complete.{ControllerIsComplete}
+use Rattle.joint_history.specs.JointLaws.{fixed_of}
 use Rattle.joint_law.specs.Courses.{IsCourse}
 use Rattle.joint_law.specs.Differing.{BreaksAt}
 use Rattle.joint_law.proofs.CourseEnds.{controllers-end, done-next, each-next, controller-spot}

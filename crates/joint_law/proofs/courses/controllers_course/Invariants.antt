@@ -1,10 +1,10 @@
 use Rattle.std.proofs.Common.{◌≡◌, ℕ, ◌<◌, false, length, get_or}
 use Rattle.std.specs.Prelude.{◌↔◌, IsTrue}
 use Rattle.plant_types.specs.declared.plan.ControllerPlan.{ControllerPlan}
-use Rattle.comm_port.specs.declared.joint.ControllerLog.{ControllerLog}
+use Rattle.joint_history.specs.declared.joint.ControllerLog.{ControllerLog}
 use Rattle.controller_core.specs.Controller.{IsLegal}
-use Rattle.comm_port.specs.Complete.{ControllerIsComplete}
-use Rattle.comm_port.specs.JointLaws.{fixed_of}
+use Rattle.joint_history.specs.Complete.{ControllerIsComplete}
+use Rattle.joint_history.specs.JointLaws.{fixed_of}
 use Rattle.joint_law.proofs.courses.controllers_course.Given as goal
 
 abbrev pub invariant-loop-at : goal.invariant-loop-at

@@ -3,11 +3,11 @@ use Rattle.std.proofs.Common.{arith}
 use Rattle.std.specs.Prelude.{◌↔◌, IsTrue}
 use Rattle.std.proofs.lemmas.List.{get_or_default}
 use Rattle.plant_types.specs.declared.net.HostPlan.{HostPlan}
-use Rattle.comm_port.specs.declared.joint.HostLog.{HostLog}
+use Rattle.joint_history.specs.declared.joint.HostLog.{HostLog}
 use Rattle.host_port.specs.declared.entry.HostEntry.{HostEntry}
 use Rattle.host_port.specs.Legal.{IsHostHistory}
-use Rattle.comm_port.specs.Complete.{EndsEachCall}
-use Rattle.comm_port.specs.Reading.{host_items_of}
+use Rattle.joint_history.specs.Complete.{EndsEachCall}
+use Rattle.joint_history.specs.Reading.{host_items_of}
 use Rattle.joint_law.specs.Courses.{IsCourse}
 use Rattle.joint_law.specs.Differing.{BreaksAt}
 use Rattle.joint_law.proofs.CourseEnds.{hosts-end, done-next, each-next, host-spot, size-next}

@@ -1,10 +1,10 @@
 use Rattle.std.proofs.Common.{◌≡◌, ℕ, ◌<◌, false, length, get_or}
 use Rattle.std.specs.Prelude.{◌↔◌, IsTrue}
 use Rattle.plant_types.specs.declared.net.HostPlan.{HostPlan}
-use Rattle.comm_port.specs.declared.joint.HostLog.{HostLog}
+use Rattle.joint_history.specs.declared.joint.HostLog.{HostLog}
 use Rattle.host_port.specs.Legal.{IsHostHistory}
-use Rattle.comm_port.specs.Complete.{EndsEachCall}
-use Rattle.comm_port.specs.Reading.{host_items_of}
+use Rattle.joint_history.specs.Complete.{EndsEachCall}
+use Rattle.joint_history.specs.Reading.{host_items_of}
 use Rattle.joint_law.proofs.courses.hosts_course.Given as goal
 
 abbrev pub invariant-loop-at : goal.invariant-loop-at

@@ -1,6 +1,6 @@
 use Rattle.std.proofs.Common.{◌<◌, length, map, take, ap, ◌∙◌, arith}
 use Rattle.std.proofs.lemmas.List.{map-append}
-use Rattle.comm_port.specs.Reading.{items_of}
+use Rattle.joint_history.specs.Reading.{items_of}
 use Rattle.joint_law.specs.Ends.{id_of_call}
 use Rattle.joint_law.specs.Readings.{calls_in}
 use Rattle.joint_law.proofs.Lists.{calls-more, plain-step}

@@ -1,6 +1,6 @@
 use Rattle.std.proofs.Common.{◌∙◌}
 use Rattle.std.proofs.lemmas.Result.{IfOk-weaker}
-use Rattle.comm_port.specs.Reading.{items_of}
+use Rattle.joint_history.specs.Reading.{items_of}
 use Rattle.joint_law.proofs.EndCounts.{each-iff}
 use Rattle.joint_law.proofs.ended.ends_each_call.Goals as goal
 

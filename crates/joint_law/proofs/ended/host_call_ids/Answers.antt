@@ -1,7 +1,7 @@
 use Rattle.std.proofs.Common.{[], ◌<◌, length, map, take, ap, ◌∙◌, arith}
 use Rattle.std.specs.List.{cons_option}
 use Rattle.std.proofs.lemmas.List.{map-append}
-use Rattle.comm_port.specs.Reading.{host_items_of}
+use Rattle.joint_history.specs.Reading.{host_items_of}
 use Rattle.joint_law.specs.Ends.{id_of_call}
 use Rattle.joint_law.specs.Readings.{host_call_in}
 use Rattle.joint_law.proofs.Lists.{host-calls-more, plain-step}

@@ -1,7 +1,7 @@
 use Rattle.std.proofs.Common.{◌≡◌, take}
 use Rattle.mstr_block.specs.declared.call.CallId.{CallId}
 use Rattle.tied_lists.specs.Items.{kind_in}
-use Rattle.comm_port.specs.Reading.{host_items_of}
+use Rattle.joint_history.specs.Reading.{host_items_of}
 use Rattle.joint_law.specs.Endings.{kind_at}
 use Rattle.joint_law.proofs.ending.host_ends.Given as goal
 

@@ -1,5 +1,5 @@
 use Rattle.std.proofs.Common.{map, take}
-use Rattle.comm_port.specs.Reading.{called_of}
+use Rattle.joint_history.specs.Reading.{called_of}
 use Rattle.joint_law.specs.Endings.{NotesCalls}
 use Rattle.joint_law.proofs.ending.note_calls.Given as goal
 

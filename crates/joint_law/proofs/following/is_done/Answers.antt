@@ -2,8 +2,8 @@ use Rattle.std.proofs.Common.{◌≡◌, ◌≢◌, ◌⊎◌, inl, inr, sym, ap
 use Rattle.std.proofs.lemmas.Result.{IfOk-weaker}
 use Rattle.controller_core.specs.declared.entry.Entry.{Entry}
 use Rattle.controller_core.specs.Replay.{replay}
-use Rattle.comm_port.specs.Complete.{is_end}
-use Rattle.comm_port.specs.Reading.{has_started_at}
+use Rattle.joint_history.specs.Complete.{is_end}
+use Rattle.joint_history.specs.Reading.{has_started_at}
 use Rattle.joint_law.proofs.EndCounts.{done-iff}
 use Rattle.joint_law.proofs.following.is_done.Goals.{else-stop_code-eq0-via-then-stop_code-eq0+else-count_scans-scans}
 use Rattle.joint_law.proofs.following.is_done.Goals.{else-stop_code-eq0-via-else-stop_code-eq0}

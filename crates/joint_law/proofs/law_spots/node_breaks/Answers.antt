@@ -1,8 +1,8 @@
 use Rattle.std.proofs.Common.{List, map, subst, Option, ℕ}
 use Rattle.std.proofs.lemmas.Result.{IfOk-weaker}
 use Rattle.ring_core.specs.declared.entry.RingEntry.{RingEntry}
-use Rattle.comm_port.specs.declared.joint.ControllerLog.{ControllerLog}
-use Rattle.comm_port.specs.declared.joint.HostLog.{HostLog}
+use Rattle.joint_history.specs.declared.joint.ControllerLog.{ControllerLog}
+use Rattle.joint_history.specs.declared.joint.HostLog.{HostLog}
 use Rattle.joint_law.specs.Bound.{controller_bound, host_bound}
 use Rattle.joint_law.specs.LawEnds.{IsLogsEnd}
 use Rattle.joint_law.proofs.LawSteps.{joined-end, none-of}

@@ -1,6 +1,6 @@
 use Rattle.std.proofs.Common.{◌≡◌, take}
 use Rattle.tied_lists.specs.Items.{replies_in}
-use Rattle.comm_port.specs.Reading.{items_of}
+use Rattle.joint_history.specs.Reading.{items_of}
 use Rattle.joint_law.proofs.replying.answers.Given as goal
 
 abbrev pub invariant-loop-entry : goal.invariant-loop-entry

@@ -2,7 +2,7 @@ use Rattle.std.proofs.Common.{[], ◌<◌, length, take, ap, ◌∙◌, arith}
 use Rattle.std.specs.List.{cons_option}
 use Rattle.std.proofs.lemmas.List.{map-append}
 use Rattle.tied_lists.specs.Items.{Answered, replies_in}
-use Rattle.comm_port.specs.Reading.{host_items_of}
+use Rattle.joint_history.specs.Reading.{host_items_of}
 use Rattle.joint_law.specs.Readings.{host_answer_in}
 use Rattle.joint_law.proofs.Lists.{host-answers-more, plain-step}
 use Rattle.joint_law.proofs.replying.host_answers.Goals as goal

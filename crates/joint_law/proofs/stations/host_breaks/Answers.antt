@@ -1,5 +1,5 @@
 use Rattle.std.proofs.lemmas.Result.{IfOk-weaker}
-use Rattle.comm_port.specs.Reading.{host_items_of}
+use Rattle.joint_history.specs.Reading.{host_items_of}
 use Rattle.joint_law.specs.Split.{picked}
 use Rattle.joint_law.proofs.LawSteps.{answers-end}
 use Rattle.joint_law.proofs.stations.host_breaks.Goals as goal

@@ -1,5 +1,5 @@
 use Rattle.std.proofs.Common.{take, All}
-use Rattle.comm_port.specs.declared.joint.ControllerLog.{ControllerLog}
+use Rattle.joint_history.specs.declared.joint.ControllerLog.{ControllerLog}
 use Rattle.journal_text.specs.Journal.{IsPlainEntry}
 use Rattle.journal_text.proofs.plain.are_plain_logs.Given as goal
 

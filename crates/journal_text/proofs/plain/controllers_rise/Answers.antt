@@ -1,5 +1,5 @@
 use Rattle.std.proofs.Common.{arith}
-use Rattle.comm_port.specs.declared.joint.ControllerLog.{ControllerLog}
+use Rattle.joint_history.specs.declared.joint.ControllerLog.{ControllerLog}
 use Rattle.journal_text.proofs.Rising.{rises-more, rises-not}
 use Rattle.journal_text.proofs.plain.controllers_rise.Goals as goal
 

@@ -1,5 +1,5 @@
 use Rattle.std.proofs.Common.{ℕ, ◌+◌, ◌<◌, map, slice_index}
-use Rattle.comm_port.specs.declared.joint.ControllerLog.{ControllerLog}
+use Rattle.joint_history.specs.declared.joint.ControllerLog.{ControllerLog}
 use Rattle.journal_text.proofs.plain.controllers_rise.Given as goal
 
 abbrev pub invariant-loop-at : goal.invariant-loop-at

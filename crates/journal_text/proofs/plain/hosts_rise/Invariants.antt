@@ -1,5 +1,5 @@
 use Rattle.std.proofs.Common.{ℕ, ◌+◌, ◌<◌, map, slice_index}
-use Rattle.comm_port.specs.declared.joint.HostLog.{HostLog}
+use Rattle.joint_history.specs.declared.joint.HostLog.{HostLog}
 use Rattle.journal_text.proofs.plain.hosts_rise.Given as goal
 
 abbrev pub invariant-loop-at : goal.invariant-loop-at

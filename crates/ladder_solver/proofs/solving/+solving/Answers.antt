@@ -1,10 +1,15 @@
-use Rattle.std.proofs.Common.{rules, ◌+◌, ◌*◌, ◌<◌, ◌≤◌, length, get_or, refl, sym, ap, ◌∙◌, subst}
+use Rattle.std.proofs.Common.{rules, ◌+◌, ◌-◌, ◌*◌, ◌<◌, ◌≤◌, length, get_or, refl, sym, ap, ◌∙◌, subst}
 use Rattle.std.proofs.Common.{take, arith}
 use Rattle.std.specs.Prelude.{map, bit_or, IfSome}
 use Rattle.std.specs.List.{AllByRecursion}
 use Rattle.std.proofs.lemmas.List.{length-map, take_all}
 use Rattle.grid_compile.specs.Layout.{grid_of}
+use Rattle.plant_types.specs.declared.power.NodePower.{NodePower}
 use Rattle.ladder_solver.specs.State.{BlockPlace}
+use Rattle.ladder_solver.specs.Element.{one_node}
+use Rattle.ladder_solver.specs.Flow.{GoesOn}
+use Rattle.ladder_solver.specs.Network.{place_in}
+use Rattle.ladder_solver.specs.Rows.{flags_at}
 use Rattle.ladder_solver.specs.Edges.{HasNetworks, HasEdgeBit}
 use Rattle.ladder_solver.specs.Numbers.{networks_of, block_number}
 use Rattle.ladder_solver.specs.Segment.{setting_within}
@@ -258,7 +263,7 @@ solve_spot-solve_element-solved-requires g t c κs within = (
         (
           c.requires.can_solve.operands,
           (
-            c.requires.can_solve.past,
+            sym c.is_relay.ensures ∙ c.if-is_relay.false,
             (
               subst (λ (place : BlockPlace). HasEdgeBit c.args.scan.now.edges.counts place) (sym c.place.ensures) (record {
                 networks = c.requires.networks;
@@ -276,6 +281,17 @@ solve_spot-solve_element-solved-requires g t c κs within = (
     ),
   ),
 )
+
+pub solve_spot-returns-then-is_relay-clause-solved : goal.solve_spot-returns-then-is_relay-clause-solved
+solve_spot-returns-then-is_relay-clause-solved g t c segments same numbered =
+    let spot = c.args.spot.now in
+    let setting = setting_within c.args.at.depth segments in
+    let left = get_or c.args.live.now (spot.column - 1) 0 in
+    spot-done setting spot c.args.at.site _ _ _ _ (record { outputs = one_node c.relay_output-power.result; flow = GoesOn })
+    c.requires.can_solve.left (omega (arith, c.requires.can_solve.right)) c.requires.can_solve.first c.requires.can_solve.last
+    (c.relay_output-power.ensures.leaves setting (place_in c.args.at.site spot.column spot.row) (flags_at left spot.row) c.args.scan.now
+    (ap (λ (power : NodePower). power.top) (sym c.inputs_at-inputs.ensures)))
+    (ap (λ n. bit_or (get_or c.args.live.now spot.column 0) n) c.fed_by_one.ensures)
 
 pub solve_spot-returns-clause-solved : goal.solve_spot-returns-clause-solved
 solve_spot-returns-clause-solved g t c segments same numbered =

@@ -1,7 +1,7 @@
 use Rattle.std.proofs.Common.{◌≡◌, All, sym, ap, subst, ◌∙◌, refl}
 use Rattle.turn_gate.specs.Known.{Owns, StartsWith}
 use Rattle.controller_core.specs.Controller.{ControllerIs, IsLegal}
-use Rattle.comm_port.specs.JointLaws.{fixed_of}
+use Rattle.joint_history.specs.JointLaws.{fixed_of}
 use Rattle.live_run.specs.Cells.{controller_in, maker_number}
 use Rattle.live_run.specs.Pairs.{IsBack, ram_side}
 use Rattle.live_run.proofs.Closing.{came-to-end}
@@ -12,28 +12,39 @@ pub through_gate-zero-requires-clause-talks : goal.through_gate-zero-requires-cl
 through_gate-zero-requires-clause-talks g c κs within =
     let gate = c.in_ok-gate.gate in
     let made = c.new-3.ensures ∙ c.in_ok-controller.ensures in
-    talks-start c.args.plant.now c.args.plan.now.node c.in_ok-worker.worker (ram_side gate) gate.name.opening (g.G.RingSide.side c.args.ring.now)
-    (g.G.RingSide.known c.args.ring.now)
-    (ap (λ f. f.plan.node) c.in_ok-gate.ensures.fixed ∙ ap (λ (v : ControllerIs). v.fixed.plan.node) made)
-    (c.in_ok-gate.ensures.opening ∙ ap (λ (v : ControllerIs). v.history) made) c.requires.unused c.in_ok-worker.ensures
+    let ring = c.args.ring.now in
+    talks-start c.args.run.now.plant.now c.args.plan.now.node c.in_ok-worker.worker (ram_side gate)
+    gate.name.opening (g.G.RingSide.side ring) (g.G.RingSide.known ring)
+    (ap (λ f. f.plan.node) c.in_ok-gate.ensures.fixed
+    ∙ ap (λ (v : ControllerIs). v.fixed.plan.node) made)
+    (c.in_ok-gate.ensures.opening ∙ ap (λ (v : ControllerIs). v.history) made)
+    c.requires.unused c.in_ok-worker.ensures
 
 pub returns-clause-ended : goal.returns-clause-ended
 returns-clause-ended g c =
     let gate = c.in_ok-gate.gate in
+    let plant = c.args.run.now.plant.now in
+    let plan = c.args.plan.now in
+    let scans = c.args.run.now.scans in
     let made = c.new-3.ensures ∙ c.in_ok-controller.ensures in
-    let fixed : gate.fixed ≡ fixed_of c.args.plant.now c.args.scans c.args.plan.now =
+    let fixed : gate.fixed ≡ fixed_of plant scans plan =
     c.in_ok-gate.ensures.fixed ∙ ap (λ (v : ControllerIs). v.fixed) made in
     let t = c.through_gate-zero in
-    let inner : c.into_inner-controller.result ≡ controller_in c.close.result = c.into_inner-controller.ensures in
+    let side = g.G.RingSide.side t.new.ring in
+    let known = g.G.RingSide.known t.new.ring in
+    let p = t.result.0 in
+    let inner : c.into_inner-controller.result ≡ controller_in c.close.result =
+    c.into_inner-controller.ensures in
     let history : c.into_history.result ≡ (controller_in c.close.result).history =
     c.into_history.ensures.history ∙ ap (λ (v : ControllerIs). v.history) inner in
-    let kept : c.into_inner-controller.result.fixed ≡ fixed_of c.args.plant.now c.args.scans c.args.plan.now =
+    let kept : c.into_inner-controller.result.fixed ≡ fixed_of plant scans plan =
     ap (λ (v : ControllerIs). v.fixed) inner ∙ (c.close.ensures.fixed ∙ fixed) in
-    came-to-end c.args.plant.now c.args.scans c.args.plan.now gate t.new.worker (g.G.RingSide.side t.new.ring) (g.G.RingSide.known t.new.ring) t.result.0
-    c.into_history.result _ (c.in_ok-gate.ensures.opening ∙ ap (λ (v : ControllerIs). v.history) made) fixed t.ensures.node
-    (ap (λ s. s.net) t.ensures.side ∙ c.requires.unused.net)
-    (subst (IsBack gate t.new.worker (g.G.RingSide.side t.new.ring) (g.G.RingSide.known t.new.ring) t.result.0) c.if-not-done.false t.ensures.back)
-    (subst (λ l. All (StartsWith l) t.result.0.heard) (sym history) c.close.ensures.heard)
-    (subst (Owns maker_number t.result.0) (sym history) c.close.ensures.own)
-    (subst (λ f. IsLegal f c.into_history.result) kept (subst (IsLegal c.into_inner-controller.result.fixed) (sym c.into_history.ensures.history)
+    came-to-end plant scans plan gate t.new.worker side known p c.into_history.result _
+    (c.in_ok-gate.ensures.opening ∙ ap (λ (v : ControllerIs). v.history) made) fixed
+    t.ensures.node (ap (λ s. s.net) t.ensures.side ∙ c.requires.unused.net)
+    (subst (IsBack gate t.new.worker side known p) c.if-not-done.false t.ensures.back)
+    (subst (λ l. All (StartsWith l) p.heard) (sym history) c.close.ensures.heard)
+    (subst (Owns maker_number p) (sym history) c.close.ensures.own)
+    (subst (λ f. IsLegal f c.into_history.result) kept
+    (subst (IsLegal c.into_inner-controller.result.fixed) (sym c.into_history.ensures.history)
     c.into_history.ensures.legal)) refl

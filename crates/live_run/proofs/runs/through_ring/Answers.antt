@@ -7,8 +7,8 @@ use Rattle.plant_types.specs.declared.plan.ControllerPlan.{ControllerPlan}
 use Rattle.plant_types.specs.Plans.{controller_nodes, host_nodes}
 use Rattle.ring_core.specs.Legal.{IsMember}
 use Rattle.ring_core.specs.declared.entry.RingEntry.{RingEntry}
-use Rattle.comm_port.specs.declared.joint.ControllerLog.{ControllerLog}
-use Rattle.comm_port.specs.declared.joint.HostLog.{HostLog}
+use Rattle.joint_history.specs.declared.joint.ControllerLog.{ControllerLog}
+use Rattle.joint_history.specs.declared.joint.HostLog.{HostLog}
 use Rattle.live_run.specs.Dealing.{AreNew, GatheredInto, HasLog, IsAt, fresh_station}
 use Rattle.live_run.specs.Stations.{AreFresh, CanRunAll, CanServeAll, HasRun, HostHasRun, RanEach}
 use Rattle.live_run.proofs.Dealt.{plant-new}
@@ -20,134 +20,168 @@ use Rattle.live_run.proofs.runs.through_ring.Goals as goal
 
 pub deal-pass-requires-clause-new : goal.deal-pass-requires-clause-new
 deal-pass-requires-clause-new g c =
-    let plant = c.args.plant.now in
+    let plant = c.args.run.now.plant.now in
     let plans-are : c.as_slice-plans.result.now ≡ plant.controllers = c.as_slice-plans.ensures in
-    let none : c.args.pass.given ≡ [] = ap (λ (p : PassFacts RingEntry). p.given) c.requires.pass in
-    subst (λ l. AreNew c.args.pass.given (map (λ (plan : ControllerPlan). plan.node) l)) (sym plans-are)
-    (subst (λ l. AreNew l (controller_nodes plant)) (sym none) (plant-new plant c.requires.plant).0)
+    let none : c.args.pass.given ≡ [] =
+    ap (λ (p : PassFacts RingEntry). p.given) c.requires.pass in
+    subst (λ l. AreNew c.args.pass.given (map (λ (plan : ControllerPlan). plan.node) l))
+    (sym plans-are)
+    (subst (λ l. AreNew l (controller_nodes plant)) (sym none)
+    (plant-new plant c.requires.plant).0)
 
 pub deal-pass-requires-2-clause-new : goal.deal-pass-requires-2-clause-new
 deal-pass-requires-2-clause-new g c =
-    let plant = c.args.plant.now in
+    let plant = c.args.run.now.plant.now in
     let plans-are : c.as_slice-plans.result.now ≡ plant.controllers = c.as_slice-plans.ensures in
-    let hosts-are : c.as_slice-host_plans.result.now ≡ plant.hosts = c.as_slice-host_plans.ensures in
-    let none : c.args.pass.given ≡ [] = ap (λ (p : PassFacts RingEntry). p.given) c.requires.pass in
+    let hosts-are : c.as_slice-host_plans.result.now ≡ plant.hosts =
+    c.as_slice-host_plans.ensures in
+    let none : c.args.pass.given ≡ [] =
+    ap (λ (p : PassFacts RingEntry). p.given) c.requires.pass in
     let given : c.deal-pass.result.0.given ≡ reverse (controller_nodes plant) ++ [] =
     ap (λ (p : PassFacts RingEntry). p.given) c.deal-pass.ensures.pass
     ∙ (λ i. reverse (map (λ (plan : ControllerPlan). plan.node) (plans-are i)) ++ none i) in
-    subst (λ l. AreNew c.deal-pass.result.0.given (map (λ (plan : HostPlan). plan.node) l)) (sym hosts-are)
+    subst (λ l. AreNew c.deal-pass.result.0.given (map (λ (plan : HostPlan). plan.node) l))
+    (sym hosts-are)
     (subst (λ l. AreNew l (host_nodes plant)) (sym given) (plant-new plant c.requires.plant).1)
 
 pub run_all-requires-clause-runnable : goal.run_all-requires-clause-runnable
 run_all-requires-clause-runnable g c κs within =
-    let plant = c.args.plant.now in
+    let plant = c.args.run.now.plant.now in
     let plans-are : c.as_slice-plans.result.now ≡ plant.controllers = c.as_slice-plans.ensures in
-    let hosts-are : c.as_slice-host_plans.result.now ≡ plant.hosts = c.as_slice-host_plans.ensures in (
-      subst (λ l. CanRunAll plant c.args.scans l) (sym plans-are) c.requires.runnable.0,
-      subst (λ l. CanServeAll l) (sym hosts-are) c.requires.runnable.1,
-    )
+    subst (λ l. CanRunAll plant c.args.run.now.scans l) (sym plans-are) c.requires.runnable
+
+pub run_all-requires-clause-serving : goal.run_all-requires-clause-serving
+run_all-requires-clause-serving g c κs within =
+    let hosts-are : c.as_slice-host_plans.result.now ≡ c.args.run.now.plant.now.hosts =
+    c.as_slice-host_plans.ensures in
+    subst (λ l. CanServeAll l) (sym hosts-are) c.requires.serving
 
 pub run_all-requires-clause-fresh : goal.run_all-requires-clause-fresh
 run_all-requires-clause-fresh g c κs within =
-    let plant = c.args.plant.now in
-    let gate = c.args.gate.now in
-    let plans-are : c.as_slice-plans.result.now ≡ plant.controllers = c.as_slice-plans.ensures in
-    let hosts-are : c.as_slice-host_plans.result.now ≡ plant.hosts = c.as_slice-host_plans.ensures in
-    let first = fresh-all gate (λ (plan : ControllerPlan). plan.node) ControllerLog plant c.as_slice-plans.result.now c.requires.plant.net c.requires.net
-    c.requires.opening (subst (λ l. All (λ n. IsMember plant.net n) (map (λ (plan : ControllerPlan). plan.node) l)) (sym plans-are)
-    (controllers-members plant c.requires.plant)) in
-    let second = fresh-all gate (λ (plan : HostPlan). plan.node) HostLog plant c.as_slice-host_plans.result.now c.requires.plant.net c.requires.net
-    c.requires.opening (subst (λ l. All (λ n. IsMember plant.net n) (map (λ (plan : HostPlan). plan.node) l)) (sym hosts-are)
-    (hosts-members plant c.requires.plant)) in (
-      subst (λ l. AreFresh seat_side seat_seen plant (λ (plan : ControllerPlan). plan.node) c.as_slice-plans.result.now l)
-          (sym (c.as_mut_slice.ensures.value ∙ c.deal-pass.ensures.stations)) first,
-      subst (λ l. AreFresh seat_side seat_seen plant (λ (plan : HostPlan). plan.node) c.as_slice-host_plans.result.now l)
-          (sym (c.as_mut_slice-2.ensures.value ∙ c.deal-pass-2.ensures.stations)) second,
-    )
+    let plant = c.args.run.now.plant.now in
+    let plans = c.as_slice-plans.result.now in
+    let plans-are : plans ≡ plant.controllers = c.as_slice-plans.ensures in
+    let all = fresh-all c.args.gate.now (λ (plan : ControllerPlan). plan.node) ControllerLog plant
+    plans c.requires.plant.net c.requires.net c.requires.opening
+    (subst (λ l. All (λ n. IsMember plant.net n) (map (λ (plan : ControllerPlan). plan.node) l))
+    (sym plans-are) (controllers-members plant c.requires.plant)) in
+    subst (λ l. AreFresh seat_side seat_seen plant (λ (plan : ControllerPlan). plan.node) plans l)
+    (sym (c.as_mut_slice.ensures.value ∙ c.deal-pass.ensures.stations)) all
+
+pub run_all-requires-clause-fresh_hosts : goal.run_all-requires-clause-fresh_hosts
+run_all-requires-clause-fresh_hosts g c κs within =
+    let plant = c.args.run.now.plant.now in
+    let plans = c.as_slice-host_plans.result.now in
+    let hosts-are : plans ≡ plant.hosts = c.as_slice-host_plans.ensures in
+    let all = fresh-all c.args.gate.now (λ (plan : HostPlan). plan.node) HostLog plant
+    plans c.requires.plant.net c.requires.net c.requires.opening
+    (subst (λ l. All (λ n. IsMember plant.net n) (map (λ (plan : HostPlan). plan.node) l))
+    (sym hosts-are) (hosts-members plant c.requires.plant)) in
+    subst (λ l. AreFresh seat_side seat_seen plant (λ (plan : HostPlan). plan.node) plans l)
+    (sym (c.as_mut_slice-2.ensures.value ∙ c.deal-pass-2.ensures.stations)) all
 
 pub gather-pass-requires-clause-at : goal.gather-pass-requires-clause-at
 gather-pass-requires-clause-at g c =
-    let plant = c.args.plant.now in
+    let plant = c.args.run.now.plant.now in
     let gate = c.args.gate.now in
-    let plans-are : c.as_slice-plans.result.now ≡ plant.controllers = c.as_slice-plans.ensures in
-    let hosts-are : c.as_slice-host_plans.result.now ≡ plant.hosts = c.as_slice-host_plans.ensures in
+    let scans = c.args.run.now.scans in
+    let plans = c.as_slice-plans.result.now in
+    let plans-are : plans ≡ plant.controllers = c.as_slice-plans.ensures in
+    let dealt = c.deal-pass.result.1 in
     let old = c.as_mut_slice.result.now in
     let new = c.run_all.new.controllers in
-    let host_old = c.as_mut_slice-2.result.now in
-    let host_new = c.run_all.new.hosts in
-    let old-is : old ≡ map (λ (plan : ControllerPlan). fresh_station gate plan.node) plant.controllers =
-    c.as_mut_slice.ensures.value ∙ (c.deal-pass.ensures.stations ∙ ap (map (λ (plan : ControllerPlan). fresh_station gate plan.node)) plans-are) in
-    let host-old-is : host_old ≡ map (λ (plan : HostPlan). fresh_station gate plan.node) plant.hosts =
-    c.as_mut_slice-2.ensures.value ∙ (c.deal-pass-2.ensures.stations ∙ ap (map (λ (plan : HostPlan). fresh_station gate plan.node)) hosts-are) in
-    let ran : RanEach seat_side (HasRun seat_seen plant c.args.scans) plant.controllers old new =
-    subst (λ l. RanEach seat_side (HasRun seat_seen plant c.args.scans) l old new) plans-are c.run_all.ensures.controllers in
-    let served : RanEach seat_side (HostHasRun seat_seen plant) plant.hosts host_old host_new =
-    subst (λ l. RanEach seat_side (HostHasRun seat_seen plant) l host_old host_new) hosts-are c.run_all.ensures.hosts in
-    let whole : take c.deal-pass.result.1.len (new ++ drop (length new) c.deal-pass.result.1.items) ≡ new =
-    kept-whole c.deal-pass.result.1.items old new c.deal-pass.result.1.len c.as_mut_slice.ensures.value
-    (ran-long seat_side (HasRun seat_seen plant c.args.scans) plant.controllers old new ran) c.as_mut_slice.ensures.len in
-    let host-whole : take c.deal-pass-2.result.1.len (host_new ++ drop (length host_new) c.deal-pass-2.result.1.items) ≡ host_new =
-    kept-whole c.deal-pass-2.result.1.items host_old host_new c.deal-pass-2.result.1.len c.as_mut_slice-2.ensures.value
-    (ran-long seat_side (HostHasRun seat_seen plant) plant.hosts host_old host_new served) c.as_mut_slice-2.ensures.len in
-    subst (All (IsAt gate)) (sym whole) (controllers-at plant c.args.scans gate old new c.requires.plant old-is ran)
+    let old-is : old ≡ map (λ (plan : ControllerPlan). fresh_station gate plan.node)
+    plant.controllers =
+    c.as_mut_slice.ensures.value ∙ (c.deal-pass.ensures.stations
+    ∙ ap (map (λ (plan : ControllerPlan). fresh_station gate plan.node)) plans-are) in
+    let ran : RanEach seat_side (HasRun seat_seen plant scans) plant.controllers old new =
+    subst (λ l. RanEach seat_side (HasRun seat_seen plant scans) l old new) plans-are
+    c.run_all.ensures.controllers in
+    let whole : take dealt.len (new ++ drop (length new) dealt.items) ≡ new =
+    kept-whole dealt.items old new dealt.len c.as_mut_slice.ensures.value
+    (ran-long seat_side (HasRun seat_seen plant scans) plant.controllers old new ran)
+    c.as_mut_slice.ensures.len in
+    subst (All (IsAt gate)) (sym whole)
+    (controllers-at plant scans gate old new c.requires.plant old-is ran)
 
 pub gather-pass-requires-2-clause-at : goal.gather-pass-requires-2-clause-at
 gather-pass-requires-2-clause-at g c =
-    let plant = c.args.plant.now in
+    let plant = c.args.run.now.plant.now in
     let gate = c.args.gate.now in
-    let plans-are : c.as_slice-plans.result.now ≡ plant.controllers = c.as_slice-plans.ensures in
-    let hosts-are : c.as_slice-host_plans.result.now ≡ plant.hosts = c.as_slice-host_plans.ensures in
-    let old = c.as_mut_slice.result.now in
-    let new = c.run_all.new.controllers in
+    let host_plans = c.as_slice-host_plans.result.now in
+    let hosts-are : host_plans ≡ plant.hosts = c.as_slice-host_plans.ensures in
+    let host_dealt = c.deal-pass-2.result.1 in
     let host_old = c.as_mut_slice-2.result.now in
     let host_new = c.run_all.new.hosts in
-    let old-is : old ≡ map (λ (plan : ControllerPlan). fresh_station gate plan.node) plant.controllers =
-    c.as_mut_slice.ensures.value ∙ (c.deal-pass.ensures.stations ∙ ap (map (λ (plan : ControllerPlan). fresh_station gate plan.node)) plans-are) in
-    let host-old-is : host_old ≡ map (λ (plan : HostPlan). fresh_station gate plan.node) plant.hosts =
-    c.as_mut_slice-2.ensures.value ∙ (c.deal-pass-2.ensures.stations ∙ ap (map (λ (plan : HostPlan). fresh_station gate plan.node)) hosts-are) in
-    let ran : RanEach seat_side (HasRun seat_seen plant c.args.scans) plant.controllers old new =
-    subst (λ l. RanEach seat_side (HasRun seat_seen plant c.args.scans) l old new) plans-are c.run_all.ensures.controllers in
+    let host-old-is : host_old ≡ map (λ (plan : HostPlan). fresh_station gate plan.node)
+    plant.hosts =
+    c.as_mut_slice-2.ensures.value ∙ (c.deal-pass-2.ensures.stations
+    ∙ ap (map (λ (plan : HostPlan). fresh_station gate plan.node)) hosts-are) in
     let served : RanEach seat_side (HostHasRun seat_seen plant) plant.hosts host_old host_new =
-    subst (λ l. RanEach seat_side (HostHasRun seat_seen plant) l host_old host_new) hosts-are c.run_all.ensures.hosts in
-    let whole : take c.deal-pass.result.1.len (new ++ drop (length new) c.deal-pass.result.1.items) ≡ new =
-    kept-whole c.deal-pass.result.1.items old new c.deal-pass.result.1.len c.as_mut_slice.ensures.value
-    (ran-long seat_side (HasRun seat_seen plant c.args.scans) plant.controllers old new ran) c.as_mut_slice.ensures.len in
-    let host-whole : take c.deal-pass-2.result.1.len (host_new ++ drop (length host_new) c.deal-pass-2.result.1.items) ≡ host_new =
-    kept-whole c.deal-pass-2.result.1.items host_old host_new c.deal-pass-2.result.1.len c.as_mut_slice-2.ensures.value
-    (ran-long seat_side (HostHasRun seat_seen plant) plant.hosts host_old host_new served) c.as_mut_slice-2.ensures.len in
-    subst (All (IsAt gate)) (sym host-whole) (hosts-at plant gate host_old host_new c.requires.plant host-old-is served)
+    subst (λ l. RanEach seat_side (HostHasRun seat_seen plant) l host_old host_new) hosts-are
+    c.run_all.ensures.hosts in
+    let host-whole : take host_dealt.len (host_new ++ drop (length host_new) host_dealt.items)
+    ≡ host_new =
+    kept-whole host_dealt.items host_old host_new host_dealt.len c.as_mut_slice-2.ensures.value
+    (ran-long seat_side (HostHasRun seat_seen plant) plant.hosts host_old host_new served)
+    c.as_mut_slice-2.ensures.len in
+    subst (All (IsAt gate)) (sym host-whole)
+    (hosts-at plant gate host_old host_new c.requires.plant host-old-is served)
 
 pub returns : goal.returns
 returns g c =
-    let plant = c.args.plant.now in
+    let plant = c.args.run.now.plant.now in
     let gate = c.args.gate.now in
-    let plans-are : c.as_slice-plans.result.now ≡ plant.controllers = c.as_slice-plans.ensures in
-    let hosts-are : c.as_slice-host_plans.result.now ≡ plant.hosts = c.as_slice-host_plans.ensures in
+    let scans = c.args.run.now.scans in
+    let plans = c.as_slice-plans.result.now in
+    let plans-are : plans ≡ plant.controllers = c.as_slice-plans.ensures in
+    let dealt = c.deal-pass.result.1 in
     let old = c.as_mut_slice.result.now in
     let new = c.run_all.new.controllers in
+    let old-is : old ≡ map (λ (plan : ControllerPlan). fresh_station gate plan.node)
+    plant.controllers =
+    c.as_mut_slice.ensures.value ∙ (c.deal-pass.ensures.stations
+    ∙ ap (map (λ (plan : ControllerPlan). fresh_station gate plan.node)) plans-are) in
+    let ran : RanEach seat_side (HasRun seat_seen plant scans) plant.controllers old new =
+    subst (λ l. RanEach seat_side (HasRun seat_seen plant scans) l old new) plans-are
+    c.run_all.ensures.controllers in
+    let whole : take dealt.len (new ++ drop (length new) dealt.items) ≡ new =
+    kept-whole dealt.items old new dealt.len c.as_mut_slice.ensures.value
+    (ran-long seat_side (HasRun seat_seen plant scans) plant.controllers old new ran)
+    c.as_mut_slice.ensures.len in
+    let host_plans = c.as_slice-host_plans.result.now in
+    let hosts-are : host_plans ≡ plant.hosts = c.as_slice-host_plans.ensures in
+    let host_dealt = c.deal-pass-2.result.1 in
     let host_old = c.as_mut_slice-2.result.now in
     let host_new = c.run_all.new.hosts in
-    let old-is : old ≡ map (λ (plan : ControllerPlan). fresh_station gate plan.node) plant.controllers =
-    c.as_mut_slice.ensures.value ∙ (c.deal-pass.ensures.stations ∙ ap (map (λ (plan : ControllerPlan). fresh_station gate plan.node)) plans-are) in
-    let host-old-is : host_old ≡ map (λ (plan : HostPlan). fresh_station gate plan.node) plant.hosts =
-    c.as_mut_slice-2.ensures.value ∙ (c.deal-pass-2.ensures.stations ∙ ap (map (λ (plan : HostPlan). fresh_station gate plan.node)) hosts-are) in
-    let ran : RanEach seat_side (HasRun seat_seen plant c.args.scans) plant.controllers old new =
-    subst (λ l. RanEach seat_side (HasRun seat_seen plant c.args.scans) l old new) plans-are c.run_all.ensures.controllers in
+    let host-old-is : host_old ≡ map (λ (plan : HostPlan). fresh_station gate plan.node)
+    plant.hosts =
+    c.as_mut_slice-2.ensures.value ∙ (c.deal-pass-2.ensures.stations
+    ∙ ap (map (λ (plan : HostPlan). fresh_station gate plan.node)) hosts-are) in
     let served : RanEach seat_side (HostHasRun seat_seen plant) plant.hosts host_old host_new =
-    subst (λ l. RanEach seat_side (HostHasRun seat_seen plant) l host_old host_new) hosts-are c.run_all.ensures.hosts in
-    let whole : take c.deal-pass.result.1.len (new ++ drop (length new) c.deal-pass.result.1.items) ≡ new =
-    kept-whole c.deal-pass.result.1.items old new c.deal-pass.result.1.len c.as_mut_slice.ensures.value
-    (ran-long seat_side (HasRun seat_seen plant c.args.scans) plant.controllers old new ran) c.as_mut_slice.ensures.len in
-    let host-whole : take c.deal-pass-2.result.1.len (host_new ++ drop (length host_new) c.deal-pass-2.result.1.items) ≡ host_new =
-    kept-whole c.deal-pass-2.result.1.items host_old host_new c.deal-pass-2.result.1.len c.as_mut_slice-2.ensures.value
-    (ran-long seat_side (HostHasRun seat_seen plant) plant.hosts host_old host_new served) c.as_mut_slice-2.ensures.len in
-    through-all plant c.args.scans gate c.args.pass c.deal-pass.result.0 c.deal-pass-2.result.0 c.gather-pass.result.0 c.gather-pass-2.result.0 old new
-    host_old host_new c.gather-pass.result.1.items c.gather-pass-2.result.1.items c.gather-pass.result.2 c.gather-pass-2.result.2 c.requires.pass
+    subst (λ l. RanEach seat_side (HostHasRun seat_seen plant) l host_old host_new) hosts-are
+    c.run_all.ensures.hosts in
+    let host-whole : take host_dealt.len (host_new ++ drop (length host_new) host_dealt.items)
+    ≡ host_new =
+    kept-whole host_dealt.items host_old host_new host_dealt.len c.as_mut_slice-2.ensures.value
+    (ran-long seat_side (HostHasRun seat_seen plant) plant.hosts host_old host_new served)
+    c.as_mut_slice-2.ensures.len in
+    let first = c.gather-pass in
+    let second = c.gather-pass-2 in
+    through-all plant scans gate c.args.pass c.deal-pass.result.0 c.deal-pass-2.result.0
+    first.result.0 second.result.0 old new host_old host_new first.result.1.items
+    second.result.1.items first.result.2 second.result.2 c.requires.pass
     (c.deal-pass.ensures.pass
-    ∙ ap (λ l. record c.args.pass { given = reverse (map (λ (plan : ControllerPlan). plan.node) l) ++ c.args.pass.given }) plans-are)
+    ∙ ap (λ l. record c.args.pass {
+      given = reverse (map (λ (plan : ControllerPlan). plan.node) l) ++ c.args.pass.given;
+    }) plans-are)
     (c.deal-pass-2.ensures.pass
-    ∙ ap (λ l. record c.deal-pass.result.0 { given = reverse (map (λ (plan : HostPlan). plan.node) l) ++ c.deal-pass.result.0.given }) hosts-are)
-    old-is host-old-is ran served (subst (λ l. GatheredInto l c.deal-pass-2.result.0 c.gather-pass.result.0) whole c.gather-pass.ensures.pass)
-    (λ yes'. subst (λ l. AllZip HasLog l c.gather-pass.result.1.items) whole (c.gather-pass.ensures.logs yes'))
-    (subst (λ l. GatheredInto l c.gather-pass.result.0 c.gather-pass-2.result.0) host-whole c.gather-pass-2.ensures.pass)
-    (λ yes'. subst (λ l. AllZip HasLog l c.gather-pass-2.result.1.items) host-whole (c.gather-pass-2.ensures.logs yes'))
+    ∙ ap (λ l. record c.deal-pass.result.0 {
+      given = reverse (map (λ (plan : HostPlan). plan.node) l) ++ c.deal-pass.result.0.given;
+    }) hosts-are)
+    old-is host-old-is ran served
+    (subst (λ l. GatheredInto l c.deal-pass-2.result.0 first.result.0) whole first.ensures.pass)
+    (λ yes'. subst (λ l. AllZip HasLog l first.result.1.items) whole (first.ensures.logs yes'))
+    (subst (λ l. GatheredInto l first.result.0 second.result.0) host-whole second.ensures.pass)
+    (λ yes'. subst (λ l. AllZip HasLog l second.result.1.items) host-whole
+    (second.ensures.logs yes'))

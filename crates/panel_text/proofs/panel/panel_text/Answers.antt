@@ -1,9 +1,9 @@
 use Rattle.std.proofs.Common.{◌≡◌, List, length, subst, sym}
 use Rattle.std.specs.List.{AllByRecursion, zip}
 use Rattle.std.proofs.lemmas.Slice.Zip.{AllZip-long}
-use Rattle.comm_port.specs.declared.joint.ControllerLog.{ControllerLog}
-use Rattle.comm_port.specs.declared.joint.HostLog.{HostLog}
-use Rattle.comm_port.specs.JointLaws.{IsLegalLog}
+use Rattle.joint_history.specs.declared.joint.ControllerLog.{ControllerLog}
+use Rattle.joint_history.specs.declared.joint.HostLog.{HostLog}
+use Rattle.joint_history.specs.JointLaws.{IsLegalLog}
 use Rattle.panel_text.specs.Panel.{CanShow, IsHostLog, most_scans}
 use Rattle.panel_text.proofs.LogLemmas.{controller_logs, host_logs}
 use Rattle.panel_text.proofs.panel.panel_text.Goals as goal

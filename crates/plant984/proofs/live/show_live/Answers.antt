@@ -5,3 +5,7 @@ use Rattle.plant984.proofs.live.show_live.Goals as goal
 pub trace_text-requires-clause-joint : goal.trace_text-requires-clause-joint
 trace_text-requires-clause-joint g c =
     joint_more c.args.plant.now c.args.scans most_scans c.in_ok-joint.joint c.requires.scans.to c.in_ok-joint.ensures.legal
+
+pub journal_tells_all-requires-clause-joint : goal.journal_tells_all-requires-clause-joint
+journal_tells_all-requires-clause-joint g c =
+    joint_more c.args.plant.now c.args.scans most_scans c.in_ok-joint.joint c.requires.scans.to c.in_ok-joint.ensures.legal

@@ -1,6 +1,6 @@
 use Rattle.std.proofs.Common.{◌≡◌, ◌≤◌, drop}
 use Rattle.std.specs.Prelude.{fold, min}
-use Rattle.cell_text.specs.Numbers.{value_of}
+use Rattle.plant_types.specs.Numerals.{value_of}
 use Rattle.plant_loader.specs.Requests.{most_told}
 use Rattle.plant_loader.proofs.NumeralLemmas.{more}
 use Rattle.plant_loader.proofs.numerals.told_value.Given as goal

@@ -1,12 +1,13 @@
 use Rattle.std.proofs.Common.{◌∙◌, refl, sym, subst}
-use Rattle.comm_port.specs.JointLaws.{IsJoint, IsLegalJoint}
+use Rattle.joint_history.specs.JointLaws.{IsJoint, IsLegalJoint}
 use Rattle.effect_laws.specs.Effects.{EffectsAreRight}
+use Rattle.entry_causes.specs.Joint.{IsInOneOrder}
 use Rattle.serial_run.specs.Serial.{IsSerial, Repeats}
 use Rattle.serial_run.specs.Stations.{joint_of}
-use Rattle.comm_port.specs.Complete.{IsComplete}
+use Rattle.joint_history.specs.Complete.{IsComplete}
 use Rattle.serial_run.proofs.Collected.{nobody-left, stay-collected}
 use Rattle.serial_run.proofs.Finished.{all-finished-there, all-hosts-finished, ended-kept}
-use Rattle.serial_run.proofs.Laws.{if-ok, stand-joint, stand-legal}
+use Rattle.serial_run.proofs.Laws.{if-ok, stand-in-time, stand-joint, stand-legal}
 use Rattle.serial_run.proofs.runs.run.Goals as goal
 
 pub repeat-requires-clause-stand : goal.repeat-requires-clause-stand
@@ -59,6 +60,14 @@ returns-clause-effects c =
     let stand = c.in_ok-finish.ensures.did.stand plant c.args.scans (c.in_ok-repeat.ensures.did.stand plant c.args.scans c.in_ok-run.ensures.stand) in
     if-ok c.joint_of.result (λ joint is. subst EffectsAreRight (sym is) (c.effects_are_right.ensures plant c.args.scans (joint_of run) c.requires.plant.sound
     (stand-legal plant c.args.scans run stand) (stand-joint plant c.args.scans run stand))) c.joint_of.ensures
+
+pub returns-clause-in_time : goal.returns-clause-in_time
+returns-clause-in_time c =
+    let plant = c.args.plant.now in
+    let run = c.finish.new.self in
+    let stand = c.in_ok-finish.ensures.did.stand plant c.args.scans (c.in_ok-repeat.ensures.did.stand plant c.args.scans c.in_ok-run.ensures.stand) in
+    if-ok c.joint_of.result (λ joint is. subst IsInOneOrder (sym is) (c.joint_is_in_one_order.ensures plant c.args.scans (joint_of run) c.requires.plant.sound
+    (stand-legal plant c.args.scans run stand) (stand-in-time plant c.args.scans run stand))) c.joint_of.ensures
 
 pub returns-clause-complete : goal.returns-clause-complete
 returns-clause-complete c =

@@ -1,10 +1,11 @@
 use Rattle.std.proofs.Common.{take, sym, subst}
 use Rattle.std.proofs.lemmas.List.{take_more}
-use Rattle.comm_port.specs.JointLaws.{IsJoint, IsLegalJoint}
+use Rattle.joint_history.specs.JointLaws.{IsJoint, IsLegalJoint}
 use Rattle.effect_laws.specs.Effects.{EffectsAreRight}
+use Rattle.entry_causes.specs.Joint.{IsInOneOrder}
 use Rattle.serial_run.specs.Turns.{MakesTurns, nothing_made}
 use Rattle.serial_run.specs.Stations.{joint_of}
-use Rattle.serial_run.proofs.Laws.{if-ok, one-more-turn, stand-joint, stand-legal}
+use Rattle.serial_run.proofs.Laws.{if-ok, one-more-turn, stand-in-time, stand-joint, stand-legal}
 use Rattle.serial_run.proofs.runs.turns.Goals as goal
 
 pub loop-turn-preserved : goal.loop-turn-preserved
@@ -40,3 +41,11 @@ returns-clause-effects c =
     let stand = c.loop-turn.invariant.stand in
     if-ok c.joint_of.result (λ joint is. subst EffectsAreRight (sym is) (c.effects_are_right.ensures plant c.args.scans (joint_of run) c.requires.plant.sound
     (stand-legal plant c.args.scans run stand) (stand-joint plant c.args.scans run stand))) c.joint_of.ensures
+
+pub returns-clause-in_time : goal.returns-clause-in_time
+returns-clause-in_time c =
+    let plant = c.args.plant.now in
+    let run = c.loop-turn.run in
+    let stand = c.loop-turn.invariant.stand in
+    if-ok c.joint_of.result (λ joint is. subst IsInOneOrder (sym is) (c.joint_is_in_one_order.ensures plant c.args.scans (joint_of run) c.requires.plant.sound
+    (stand-legal plant c.args.scans run stand) (stand-in-time plant c.args.scans run stand))) c.joint_of.ensures

@@ -1,5 +1,5 @@
 use Rattle.std.proofs.Common.{true, ◌∙◌, Bool, ap, refl, subst}
-use Rattle.comm_port.specs.Reading.{has_started_at}
+use Rattle.joint_history.specs.Reading.{has_started_at}
 use Rattle.turn_laws.specs.KeepsOn.{KeepsOn}
 use Rattle.serial_run.proofs.Collecting.{turn-collects}
 use Rattle.serial_run.proofs.HeldTurns.{held-left}

@@ -1,6 +1,6 @@
 use Rattle.std.proofs.Common.{true, Bool, refl, sym, ap, subst, ◌∙◌}
 use Rattle.controller_core.specs.Controller.{has_started}
-use Rattle.comm_port.specs.Reading.{has_started_at}
+use Rattle.joint_history.specs.Reading.{has_started_at}
 use Rattle.turn_laws.specs.KeepsOn.{KeepsOn}
 use Rattle.serial_run.specs.Held.{VisitedWhere}
 use Rattle.serial_run.proofs.Collecting.{visit-collects}

@@ -5,7 +5,7 @@ use Rattle.controller_core.specs.declared.entry.Entry.{Entry}
 use Rattle.controller_core.specs.declared.fixed.Fixed.{Fixed}
 use Rattle.controller_core.specs.Controller.{ControllerIs}
 use Rattle.controller_core.specs.Replay.{replay}
-use Rattle.comm_port.specs.JointLaws.{fixed_of}
+use Rattle.joint_history.specs.JointLaws.{fixed_of}
 use Rattle.panel_text.specs.Panel.{most_scans}
 use Rattle.summary_text.specs.Summary.{coils_of}
 use Rattle.summary_text.proofs.coils.coils_at_end.Goals as goal

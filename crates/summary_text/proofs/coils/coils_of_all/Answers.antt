@@ -2,7 +2,7 @@ use Rattle.std.proofs.Common.{◌≡◌, ◌+◌, List, get_or, drop, ap, subst,
 use Rattle.std.specs.List.{AllByRecursion, sum_by, zip}
 use Rattle.std.proofs.lemmas.List.Sums.{sum_by-cons}
 use Rattle.plant_types.specs.declared.plan.ControllerPlan.{ControllerPlan}
-use Rattle.comm_port.specs.declared.joint.ControllerLog.{ControllerLog}
+use Rattle.joint_history.specs.declared.joint.ControllerLog.{ControllerLog}
 use Rattle.panel_text.specs.Panel.{CanShow}
 use Rattle.summary_text.specs.Summary.{coils_on}
 use Rattle.summary_text.proofs.Counting.{pairs_cut}

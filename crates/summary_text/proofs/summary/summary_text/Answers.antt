@@ -1,8 +1,8 @@
 use Rattle.std.proofs.Common.{List, length, subst, sym, ◌≡◌}
 use Rattle.std.specs.List.{AllByRecursion, zip}
 use Rattle.std.proofs.lemmas.Slice.Zip.{AllZip-long}
-use Rattle.comm_port.specs.declared.joint.ControllerLog.{ControllerLog}
-use Rattle.comm_port.specs.JointLaws.{IsLegalLog}
+use Rattle.joint_history.specs.declared.joint.ControllerLog.{ControllerLog}
+use Rattle.joint_history.specs.JointLaws.{IsLegalLog}
 use Rattle.panel_text.specs.Panel.{CanShow, most_scans}
 use Rattle.panel_text.proofs.LogLemmas.{controller_logs}
 use Rattle.summary_text.proofs.summary.summary_text.Goals as goal

@@ -5,10 +5,9 @@ use mir.Val.{bool_byte}
 use Rattle.std.proofs.lemmas.List.{get_or-map, take_all}
 use Rattle.plant_types.specs.Power.{bit_of}
 use Rattle.plant_types.specs.Store.{is_on, words_from}
-use Rattle.plant_types.specs.Discretes.{bits_from}
+use Rattle.plant_types.specs.Discretes.{bits_from, number_of_bits}
 use Rattle.plant_types.proofs.DiscretesLemmas.{length-bits_from}
 use Rattle.plant_types.proofs.RunLemmas.{get_or-words_from, length-words_from}
-use Rattle.traffic_cop.specs.Exchange.{number_of_bits}
 use Rattle.traffic_cop.proofs.ModuleLemmas.{number_more, twice_small}
 use Rattle.traffic_cop.proofs.modules.word_of.Goals as goal
 

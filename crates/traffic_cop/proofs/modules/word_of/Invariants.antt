@@ -1,6 +1,5 @@
 use Rattle.std.proofs.Common.{◌≡◌, ◌<◌, ◌^◌, take}
-use Rattle.plant_types.specs.Discretes.{bits_from}
-use Rattle.traffic_cop.specs.Exchange.{number_of_bits}
+use Rattle.plant_types.specs.Discretes.{bits_from, number_of_bits}
 use Rattle.traffic_cop.proofs.modules.word_of.Given as goal
 
 abbrev pub invariant-loop-place : goal.invariant-loop-place

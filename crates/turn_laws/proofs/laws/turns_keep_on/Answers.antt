@@ -1,4 +1,4 @@
-use Rattle.comm_port.proofs.Collected.{CallLaws}
+use Rattle.joint_history.proofs.Collected.{CallLaws}
 use Rattle.turn_laws.proofs.Turns.{turn-keeps}
 use Rattle.turn_laws.proofs.laws.turns_keep_on.Goals as goal
 
@@ -12,3 +12,4 @@ returns c =
     } in
     λ alone_ram alone_ring fixed net n budget left known new_known ring new_ring t old new k.
     turn-keeps laws fixed alone_ram alone_ring net n budget left known new_known ring new_ring t old new k
+    (c.turns_stay_in_time.ensures.turns alone_ram alone_ring fixed net n budget left known new_known ring new_ring old.node old.on new.legal t k.timely)

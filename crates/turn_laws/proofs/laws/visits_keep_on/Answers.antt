@@ -1,4 +1,4 @@
-use Rattle.comm_port.proofs.Collected.{CallLaws}
+use Rattle.joint_history.proofs.Collected.{CallLaws}
 use Rattle.turn_laws.proofs.Turns.{visit-keeps}
 use Rattle.turn_laws.proofs.laws.visits_keep_on.Goals as goal
 
@@ -12,3 +12,4 @@ returns c =
     } in
     λ alone_ram alone_ring fixed net n known new_known ring new_ring v old new k.
     visit-keeps laws fixed alone_ram alone_ring net n known new_known ring new_ring v old new k
+    (c.turns_stay_in_time.ensures.visits alone_ram alone_ring fixed net n known new_known ring new_ring old.node new.legal v k.timely)

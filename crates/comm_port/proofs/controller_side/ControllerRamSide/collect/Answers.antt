@@ -3,8 +3,8 @@ use Rattle.std.specs.Prelude.{IfOk, Ok, Err, Result, ◌≡◌}
 use Rattle.controller_core.specs.declared.call.Call.{Call}
 use Rattle.controller_core.specs.Controller.{ControllerIs, IsLegal, uncollected}
 use Rattle.tied_lists.specs.Calls.{AreNewCalls}
-use Rattle.comm_port.specs.Reading.{called_of, items_of}
-use Rattle.comm_port.proofs.Collected.{CallLaws, collected-new}
+use Rattle.joint_history.specs.Reading.{called_of, items_of}
+use Rattle.joint_history.proofs.Collected.{CallLaws, collected-new}
 use Rattle.comm_port.proofs.controller_side.ControllerRamSide.collect.Goals as goal
 
 fresh : {E : Type 0} (v : ControllerIs) (r : Result (List Call) E) → CallLaws → IsLegal v.fixed v.history → IfOk r (λ calls. calls ≡ uncollected v)

@@ -1,4 +1,4 @@
-use Rattle.comm_port.proofs.Collected.{CallLaws, out-is}
+use Rattle.joint_history.proofs.Collected.{CallLaws, out-is}
 use Rattle.comm_port.proofs.controller_side.ControllerRamSide.finish.Goals as goal
 
 pub finish-requires : goal.finish-requires

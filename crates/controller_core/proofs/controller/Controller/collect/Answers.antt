@@ -9,6 +9,7 @@ use Rattle.controller_core.specs.Calls.{calls_of}
 use Rattle.controller_core.proofs.Keeping.{bank_is, collect_told, kept_with, view_more}
 use Rattle.controller_core.proofs.Keeping.{went_on_told}
 use Rattle.controller_core.proofs.Lengths.{fits_room}
+use Rattle.controller_core.proofs.NoteLemmas.{noted_told}
 use Rattle.controller_core.proofs.controller.Controller.collect.Goals as goal
 
 pub invariant_of-self-2 : goal.invariant_of-self-2
@@ -30,6 +31,8 @@ invariant_of-self-2 c =
           let most = c.in_ok-try_reserve.ensures.ok in
           let plan = ap (λ (f : Fixed). length (due_after f.plan i.at)) tells.fixed in
           grind (arith, common_steps, fits, plan, most);
+      noted = noted_told i.machine.fixed c.collect.new.self.fixed i.history.items c.note.new.history.items (entries.Collect calls) i.reserved i.values.items _
+          (collect_told calls) tells.fixed h c.self.invariant.noted;
     }
 
 pub returns-clause-ok : goal.returns-clause-ok

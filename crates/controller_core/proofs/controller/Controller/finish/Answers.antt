@@ -6,6 +6,7 @@ use Rattle.controller_core.specs.declared.entry.Entry.TheVariants as entries
 use Rattle.mstr_block.specs.Table.{BlockTable, is_out}
 use Rattle.controller_core.proofs.Keeping.{bank_is, finish_told, kept_with, went_on_told}
 use Rattle.controller_core.proofs.Lengths.{fits_room}
+use Rattle.controller_core.proofs.NoteLemmas.{noted_told}
 use Rattle.controller_core.proofs.controller.Controller.finish.Goals as goal
 
 pub finish-requires-clause-out : goal.finish-requires-clause-out
@@ -30,6 +31,8 @@ invariant_of-self-2 c =
           let most = c.in_ok-try_reserve.ensures.ok in
           let plan = ap (λ (f : Fixed). length (due_after f.plan i.at)) tells.fixed in
           grind (arith, common_steps, fits, plan, most);
+      noted = noted_told i.machine.fixed c.finish.new.self.fixed i.history.items c.note.new.history.items e i.reserved i.values.items _
+          (finish_told c.args.id c.args.outcome) tells.fixed h c.self.invariant.noted;
     }
 
 pub returns-clause-went_on : goal.returns-clause-went_on

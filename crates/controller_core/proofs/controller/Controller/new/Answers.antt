@@ -4,6 +4,7 @@ use Rattle.controller_core.specs.declared.fixed.Fixed.{Fixed}
 use Rattle.controller_core.specs.Replay.{start}
 use Rattle.controller_core.specs.Machine.{IsRunnable}
 use Rattle.controller_core.proofs.Keeping.{kept_new}
+use Rattle.controller_core.proofs.NoteLemmas.{noted_start}
 use Rattle.controller_core.proofs.controller.Controller.new.Goals as goal
 
 pub new-requires : goal.new-requires
@@ -18,4 +19,5 @@ invariant_of-result c =
     record {
       kept = kept_new machine.fixed machine _ refl (told.state ∙ ap (λ (f : Fixed). start f.plan) (sym told.plan)) (search rules) told.timely told.sound;
       room = λ no. cc;
+      noted = noted_start machine.fixed _ _ _ (search rules) (search rules);
     }

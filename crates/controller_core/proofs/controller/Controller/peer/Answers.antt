@@ -7,6 +7,7 @@ use Rattle.plant_types.specs.Store.{Contents}
 use Rattle.modbus_exec.specs.Answer.{answer_of}
 use Rattle.controller_core.proofs.Keeping.{kept_with, peer_told, store_is, view_more, went_on_told}
 use Rattle.controller_core.proofs.Lengths.{fits_room}
+use Rattle.controller_core.proofs.NoteLemmas.{noted_told}
 use Rattle.controller_core.proofs.controller.Controller.peer.Goals as goal
 
 pub invariant_of-self-2 : goal.invariant_of-self-2
@@ -27,6 +28,8 @@ invariant_of-self-2 c =
           let most = c.in_ok-try_reserve.ensures.ok in
           let plan = ap (λ (f : Fixed). length (due_after f.plan i.at)) serves.fixed in
           grind (arith, common_steps, fits, plan, most);
+      noted = noted_told i.machine.fixed c.serve.new.self.fixed i.history.items c.note.new.history.items (entries.Peer id request reply) i.reserved i.values.items _
+          (peer_told id request reply) serves.fixed h c.self.invariant.noted;
     }
 
 pub returns-clause-ok : goal.returns-clause-ok

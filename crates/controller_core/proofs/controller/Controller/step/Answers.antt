@@ -11,6 +11,7 @@ use Rattle.controller_core.specs.Scans.{closes_scan}
 use Rattle.controller_core.specs.Controller.{ControllerIs}
 use Rattle.controller_core.proofs.Keeping.{can_solve, kept_made, not_done, room_step, step_made}
 use Rattle.controller_core.proofs.Keeping.{step_none, timely_enough, went_on_step}
+use Rattle.controller_core.proofs.NoteLemmas.{noted_step}
 use Rattle.controller_core.proofs.controller.Controller.step.Goals as goal
 
 pub next_due-step-requires-clause-place : goal.next_due-step-requires-clause-place
@@ -29,6 +30,25 @@ pub perform-entry-requires-clause-watch : goal.perform-entry-requires-clause-wat
 perform-entry-requires-clause-watch c =
     let i = c.self.inside in
     can_solve i.machine.fixed i.machine i.at c.next_due-step.result c.next_due-step.ensures.next (search rules) c.self.invariant.kept.watched
+
+-- what is noted has room where a step is made
+pub note_panel-requires-clause-room : goal.note_panel-requires-clause-room
+note_panel-requires-clause-room c =
+    let i = c.self.inside in
+    let does = c.perform-entry.ensures.does in
+    let kept = c.self.invariant.kept in
+    let step = c.next_due-step.result in
+    let goes : i.machine.stop ≡ 0 = search rules in
+    let lt = not_done i.machine.fixed.scans i.at i.machine.ended kept.within (sym c.if-is_done.ensures) in
+    let got = step_made i.machine.fixed i.machine c.perform-entry.new.self i.history.items i.at i.reserved step
+    c.args.self.now c.self.view_is kept goes lt c.next_due-step.ensures.next does.state in
+    let has : i.reserved ≡ true = ap (λ (v : ControllerIs). v.reserved) c.self.view_is ∙ c.requires got.2 in
+    let room = c.self.invariant.noted.room has in
+    let panel = ap (λ (f : Fixed). length f.plan.panel) does.fixed in
+    grind (arith, common_steps, room, panel)
+
+pub note_panel-requires-clause-sound : goal.note_panel-requires-clause-sound
+note_panel-requires-clause-sound c = c.perform-entry.ensures.does.sound
 
 pub note-requires : goal.note-requires
 note-requires c =
@@ -87,9 +107,13 @@ invariant_of-self c =
     let lt = not_done i.machine.fixed.scans i.at i.machine.ended kept.within (sym c.if-is_done.ensures) in
     let h : c.note.new.history.items ≡ i.history.items ++ entry_of i.machine.fixed (state_is i.machine) step ∷ [] =
     c.note.ensures.items ∙ ap (λ (x : Entry). i.history.items ++ x ∷ []) c.perform-entry.ensures.entry in
+    let new = kept_made i.machine.fixed i.machine n i.history.items c.note.new.history.items i.at c.place_after-at.result step
+    kept goes lt next c.next_due-step.ensures.step does h c.place_after-at.ensures in
     record {
-      kept = kept_made i.machine.fixed i.machine n i.history.items c.note.new.history.items i.at c.place_after-at.result step
-          kept goes lt next c.next_due-step.ensures.step does h c.place_after-at.ensures;
+      kept = new;
+      noted = noted_step i.machine.fixed (state_is i.machine) n i.history.items c.note.new.history.items step i.reserved
+          c.keeps_room-reserved.result i.values.items c.note_panel.new.values.items _ _ does.fixed h new.state c.keeps_room-reserved.ensures
+          c.note_panel.ensures.values c.note_panel.ensures.capacity c.self.invariant.noted;
       room = λ is.
           let two = room_step i.reserved i.machine.fixed.plan i.at step n.stop (sym c.keeps_room-reserved.ensures ∙ is) next in
           let before = c.self.invariant.room two.0 in

@@ -2,7 +2,7 @@ use Rattle.std.proofs.Common.{ap, ◌∙◌, refl}
 use Rattle.turn_gate.specs.Known.{PassFacts}
 use Rattle.controller_core.specs.Controller.{ControllerIs}
 use Rattle.controller_core.specs.declared.entry.Entry.{Entry}
-use Rattle.comm_port.specs.Reading.{is_ours}
+use Rattle.joint_history.specs.Reading.{is_ours}
 use Rattle.live_run.specs.Cells.{controller_in, maker_number}
 use Rattle.live_run.specs.Sides.{GatedRamIs}
 use Rattle.controller_core.specs.declared.entry.Entry.TheVariants.{Finish}

@@ -2,8 +2,11 @@ use Rattle.std.proofs.lemmas.Grind.{common_steps}
 use Rattle.std.proofs.Common.{arith, ap, sym, refl, ◌∙◌, ◌++◌, ◌∷◌, []}
 use Rattle.ring_core.specs.Words.{Local}
 use Rattle.ring_core.specs.Machine.{RingIs}
-use Rattle.ring_core.proofs.Keeping.{kept-call}
+use Rattle.ring_core.proofs.Keeping.{counted, kept-call}
 use Rattle.ring_core.proofs.ring.Ring.local.Goals as goal
+
+pub count_local-requires : goal.count_local-requires
+count_local-requires c = counted _ _ _ _ _ c.args.node c.self.view_is c.self.invariant.kept c.requires.member
 
 pub invariant_of-self-2 : goal.invariant_of-self-2
 invariant_of-self-2 c =

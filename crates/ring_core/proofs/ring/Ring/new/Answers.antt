@@ -3,7 +3,7 @@ use Rattle.std.proofs.Common.{arith, List, ◌<◌, All, length, ap, sym, ◌∙
 use Rattle.global_data.specs.Book.{new_book}
 use Rattle.ring_core.specs.Words.{NetPlan, RingEntry}
 use Rattle.ring_core.specs.Machine.{RingIs, NodeIs, addresses, least_from, opening_nodes}
-use Rattle.ring_core.specs.Kept.{IsKept, opening_stats}
+use Rattle.ring_core.specs.Kept.{IsRingKept, opening_stats}
 use Rattle.ring_core.proofs.Keeping.{kept-opening}
 use Rattle.ring_core.proofs.ring.Ring.new.Goals as goal
 
@@ -21,7 +21,7 @@ invariant_of-result c =
     (c.in_ok-stats.ensures ∙ ap opening_stats c.as_slice-2.ensures)
     (c.in_ok-book.ensures ∙ ap new_book c.as_slice-3.ensures) in
     record {
-      kept = subst (λ (h : List RingEntry). IsKept plan h r stats c.in_ok-book.book) (sym c.new-2.ensures.items) kept;
+      kept = subst (λ (h : List RingEntry). IsRingKept plan h r stats c.in_ok-book.book) (sym c.new-2.ensures.items) kept;
       room =
           grind (arith, common_steps);
     }

@@ -2,8 +2,11 @@ use Rattle.std.proofs.lemmas.Grind.{common_steps}
 use Rattle.std.proofs.Common.{arith, ap, sym, ◌∙◌, ◌++◌, ◌∷◌, [], set}
 use Rattle.ring_core.specs.Words.{Pass}
 use Rattle.ring_core.specs.Machine.{after_pass, successor, NodeIs, RingIs}
-use Rattle.ring_core.proofs.Keeping.{kept-call, part}
+use Rattle.ring_core.proofs.Keeping.{counted, kept-call, part}
 use Rattle.ring_core.proofs.ring.Ring.pass.Goals as goal
+
+pub count-requires : goal.count-requires
+count-requires c = counted _ _ _ _ _ c.args.node c.self.view_is c.self.invariant.kept c.requires
 
 pub invariant_of-self-2 : goal.invariant_of-self-2
 invariant_of-self-2 c =

@@ -5,8 +5,11 @@ use Rattle.ring_core.specs.Machine.{posted, with_node, NodeIs, RingIs}
 use Rattle.ring_core.specs.Scratch.{counts}
 use Rattle.ring_core.specs.Kept.{noted_at}
 use Rattle.station_stats.specs.declared.event.StatEvent.{StatEvent}
-use Rattle.ring_core.proofs.Keeping.{kept-call, part}
+use Rattle.ring_core.proofs.Keeping.{counted, kept-call, part}
 use Rattle.ring_core.proofs.ring.Ring.post.Goals as goal
+
+pub count-requires : goal.count-requires
+count-requires c = counted _ _ _ _ _ c.args.node c.self.view_is c.self.invariant.kept c.requires.member
 
 pub invariant_of-self-2 : goal.invariant_of-self-2
 invariant_of-self-2 c =

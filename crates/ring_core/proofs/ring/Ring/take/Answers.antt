@@ -6,8 +6,11 @@ use Rattle.ring_core.specs.Legal.{IsFirst}
 use Rattle.ring_core.specs.Scratch.{counts}
 use Rattle.ring_core.specs.Kept.{noted_at}
 use Rattle.station_stats.specs.declared.event.StatEvent.{StatEvent}
-use Rattle.ring_core.proofs.Keeping.{kept-call, part, opened}
+use Rattle.ring_core.proofs.Keeping.{counted, kept-call, part, opened}
 use Rattle.ring_core.proofs.ring.Ring.take.Goals as goal
+
+pub count-requires : goal.count-requires
+count-requires c = counted _ _ _ _ _ c.args.node c.self.view_is c.self.invariant.kept c.requires
 
 pub invariant_of-self-in-Some-take : goal.invariant_of-self-in-Some-take
 invariant_of-self-in-Some-take c =

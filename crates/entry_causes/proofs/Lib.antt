@@ -1,0 +1,5 @@
+pub mod Counts
+pub mod Stations
+pub mod Nodes
+pub mod Joint
+pub mod Worked

@@ -1,0 +1,189 @@
+-- The one table of causes: which entry of a station's list or of the ring stands behind which.
+-- A kind of entry that comes later is one row more of `notings` or `doings`. This project's own.
+use Rattle.std.specs.Prelude.{ℕ, ◌+◌, ◌≤◌, ◌==◌, Bool, true, false, List, [], ◌∷◌, ◌++◌, map}
+use Rattle.controller_core.specs.declared.call.Call.{Call}
+use Rattle.controller_core.specs.declared.call.CallKind.{CallKind}
+use Rattle.controller_core.specs.declared.call.CallKind.TheVariants as call_kinds
+use Rattle.controller_core.specs.declared.entry.Entry.{Entry}
+use Rattle.controller_core.specs.declared.entry.Entry.TheVariants as entries
+use Rattle.host_port.specs.declared.entry.HostEntry.{HostEntry}
+use Rattle.host_port.specs.declared.entry.HostEntry.TheVariants as hosts
+use Rattle.ring_core.specs.Statistics.{is_stats}
+use Rattle.ring_core.specs.declared.frame.FrameKind.{FrameKind}
+use Rattle.ring_core.specs.declared.frame.FrameKind.TheVariants.{Request, Reply}
+use Rattle.ring_core.specs.declared.entry.RingEntry.{RingEntry}
+use Rattle.ring_core.specs.declared.entry.RingEntry.TheVariants.{Post, Take, Local, GiveUp}
+use Rattle.one_order.specs.Merges.{tally}
+
+-- An entry of a station of either sort.
+pub data StationEntry : Type 0 where
+  ByController : (e : Entry) → StationEntry
+  ByHost : (e : HostEntry) → StationEntry
+
+-- ---- The rows: what each entry is.
+
+-- What a station notes: it asks another node, or its own port, answers a Request, or a call ends.
+pub data Noting : Type 0 where
+  Asks : Noting
+  AsksPort : Noting
+  Serves : Noting
+  Ends : Noting
+
+abbrev pub asking : CallKind → Noting
+asking (call_kinds.Net to pdu) = Asks
+asking (call_kinds.Local op) = AsksPort
+
+abbrev pub asking_of : Call → Noting
+asking_of call = asking call.kind
+
+abbrev pub notings : Entry → List Noting
+notings (entries.Collect calls) = map asking_of calls
+notings (entries.Peer id request reply) = Serves ∷ []
+notings (entries.Finish id result) = Ends ∷ []
+notings _ = []
+
+abbrev pub host_notings : HostEntry → List Noting
+host_notings (hosts.Ask id to pdu) = Asks ∷ []
+host_notings (hosts.Served id request reply) = Serves ∷ []
+host_notings (hosts.Answer id result) = Ends ∷ []
+
+-- What a node does on the ring: it posts a Request, does what its own station asked the port for,
+-- takes a Request for its station, or one for its port, answers that, posts a Reply, or a call is
+-- over.
+pub data Doing : Type 0 where
+  PostsRequest : Doing
+  WorksPort : Doing
+  TakesRequest : Doing
+  TakesForPort : Doing
+  AnswersAtPort : Doing
+  PostsReply : Doing
+  IsOver : Doing
+
+abbrev pub posting : FrameKind → Doing
+posting Request = PostsRequest
+posting Reply = PostsReply
+
+-- A Reply that is taken ends the wait for it.
+abbrev pub taking : FrameKind → Bool → Doing
+taking Request true = TakesForPort
+taking Request false = TakesRequest
+taking Reply stats = IsOver
+
+-- What a port does for another node is the answer to its Request.
+abbrev pub working : Bool → List Doing
+working true = WorksPort ∷ IsOver ∷ []
+working false = AnswersAtPort ∷ []
+
+abbrev pub doings : RingEntry → List Doing
+doings (Post n f) = posting f.kind ∷ []
+doings (Take n f) = taking f.kind (is_stats f.pdu) ∷ []
+doings (Local n id op result) = working (id.node == n)
+doings (GiveUp id word) = IsOver ∷ []
+doings _ = []
+
+-- ---- The counts.
+
+-- Of a station's list: calls of other nodes, calls of the own port, Requests answered, calls ended.
+pub record Noted : Type 0 where
+  pub asked : ℕ
+  pub asked_port : ℕ
+  pub served : ℕ
+  pub ended : ℕ
+
+-- Of what its node did: Requests posted, operations of the port for its own station, Requests taken
+-- for the station and for the port, those that the port answered, Replies posted in all, those to
+-- Requests for the station and for the port, the Requests without a Reply in the order in which
+-- they were taken, each with whether it is for the station, and calls over.
+pub record Done : Type 0 where
+  pub posted : ℕ
+  pub worked_port : ℕ
+  pub taken : ℕ
+  pub taken_port : ℕ
+  pub answered_port : ℕ
+  pub replies : ℕ
+  pub replied : ℕ
+  pub replied_port : ℕ
+  pub waiting : List Bool
+  pub over : ℕ
+
+abbrev pub no_notes : Noted
+no_notes = record { asked = 0; asked_port = 0; served = 0; ended = 0 }
+
+abbrev pub no_deeds : Done
+no_deeds = record {
+  posted = 0;
+  worked_port = 0;
+  taken = 0;
+  taken_port = 0;
+  answered_port = 0;
+  replies = 0;
+  replied = 0;
+  replied_port = 0;
+  waiting = [];
+  over = 0;
+}
+
+abbrev pub noted_next : Noted → Noting → Noted
+noted_next s Asks = record s { asked = s.asked + 1 }
+noted_next s AsksPort = record s { asked_port = s.asked_port + 1 }
+noted_next s Serves = record s { served = s.served + 1 }
+noted_next s Ends = record s { ended = s.ended + 1 }
+
+-- A Reply is to the Request that waits longest; to none where none waits.
+abbrev pub replies_for_station : List Bool → ℕ
+replies_for_station [] = 0
+replies_for_station (true ∷ waiting) = 1
+replies_for_station (false ∷ waiting) = 0
+
+abbrev pub replies_for_port : List Bool → ℕ
+replies_for_port [] = 0
+replies_for_port (true ∷ waiting) = 0
+replies_for_port (false ∷ waiting) = 1
+
+abbrev pub behind_first : List Bool → List Bool
+behind_first [] = []
+behind_first (first ∷ waiting) = waiting
+
+abbrev pub done_next : Done → Doing → Done
+done_next d PostsRequest = record d { posted = d.posted + 1 }
+done_next d WorksPort = record d { worked_port = d.worked_port + 1 }
+done_next d TakesRequest = record d { taken = d.taken + 1; waiting = d.waiting ++ true ∷ [] }
+done_next d TakesForPort =
+    record d { taken_port = d.taken_port + 1; waiting = d.waiting ++ false ∷ [] }
+done_next d AnswersAtPort = record d { answered_port = d.answered_port + 1 }
+done_next d PostsReply = record d {
+  replies = d.replies + 1;
+  replied = d.replied + replies_for_station d.waiting;
+  replied_port = d.replied_port + replies_for_port d.waiting;
+  waiting = behind_first d.waiting;
+}
+done_next d IsOver = record d { over = d.over + 1 }
+
+abbrev pub note_entry : Noted → Entry → Noted
+note_entry s e = tally noted_next s (notings e)
+
+abbrev pub note_host : Noted → HostEntry → Noted
+note_host s e = tally noted_next s (host_notings e)
+
+abbrev pub note : Noted → StationEntry → Noted
+note s (ByController e) = note_entry s e
+note s (ByHost e) = note_host s e
+
+abbrev pub deed : Done → RingEntry → Done
+deed d e = tally done_next d (doings e)
+
+-- ---- What waits for what.
+
+-- Nothing came before its cause: no Request was posted, and no port worked for its station, before
+-- the call was asked; no Request was answered, by the station or by the port, before it was taken;
+-- no Reply was posted before the Request that it is to was taken, and none before its answer; and
+-- no call ended before it was over.
+pub record AreCaused (s : Noted) (d : Done) : Type 0 where
+  pub posts : d.posted ≤ s.asked
+  pub port_works : d.worked_port ≤ s.asked_port
+  pub answers : s.served ≤ d.taken
+  pub port_answers : d.answered_port ≤ d.taken_port
+  pub requests : d.replies ≤ d.taken + d.taken_port
+  pub replies : d.replied ≤ s.served
+  pub port_replies : d.replied_port ≤ d.answered_port
+  pub ends : s.ended ≤ d.over

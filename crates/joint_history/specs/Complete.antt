@@ -1,0 +1,118 @@
+-- What is done where a run is over. This project's own.
+use Rattle.std.specs.Prelude.{◌≡◌, ◌≢◌, ◌⊎◌, ℕ, ◌+◌, ◌≤◌, Bool, true, false, List, ◌∷◌, ◌++◌}
+use Rattle.std.specs.Prelude.{length, Some}
+use Rattle.std.specs.List.{All, AllZip, count_by, slice_get}
+use Rattle.mstr_block.specs.Call.{is_same_call}
+use Rattle.plant_types.specs.declared.net.NetPlan.{NetPlan}
+use Rattle.plant_types.specs.declared.net.HostAsk.{HostAsk}
+use Rattle.plant_types.specs.declared.net.HostPlan.{HostPlan}
+use Rattle.plant_types.specs.declared.plan.ControllerPlan.{ControllerPlan}
+use Rattle.plant_types.specs.declared.plan.Plant.{Plant}
+use Rattle.ring_core.specs.declared.frame.FrameKind.TheVariants.{Request, Reply}
+use Rattle.ring_core.specs.declared.frame.Frame.{Frame}
+use Rattle.ring_core.specs.declared.entry.RingEntry.{RingEntry}
+use Rattle.ring_core.specs.declared.entry.RingEntry.TheVariants.{Post, Local, GiveUp, Pass}
+use Rattle.tied_lists.specs.Own.{own}
+use Rattle.tied_lists.specs.Items.{Called, Ended, Items, asked_by, replied_by, taken_by}
+use Rattle.tied_lists.specs.Waits.{HasLeft}
+use Rattle.controller_core.specs.declared.fixed.Fixed.{Fixed}
+use Rattle.controller_core.specs.declared.entry.Entry.{Entry}
+use Rattle.controller_core.specs.declared.entry.Entry.TheVariants.{End}
+use Rattle.controller_core.specs.Replay.{replay}
+use Rattle.joint_history.specs.declared.joint.ControllerLog.{ControllerLog}
+use Rattle.joint_history.specs.declared.joint.HostLog.{HostLog}
+use Rattle.joint_history.specs.declared.joint.Joint.{Joint}
+use Rattle.joint_history.specs.JointLaws.{fixed_of}
+use Rattle.joint_history.specs.Reading.{items_of, host_items_of, has_started_at}
+
+-- Each call that a station made has ended, once.
+abbrev pub EndsEachCall : Items → Type 0
+EndsEachCall items = All
+    (λ (call : Called). count_by (λ (end : Ended). is_same_call end.id call.id) items.ends ≡ 1)
+    items.calls
+
+-- The last event of a scan.
+abbrev pub is_end : Entry → Bool
+is_end End = true
+is_end _ = false
+
+-- A controller has made all its scans, or has stopped; each call that its blocks started was
+-- handed on, and has ended once.
+pub record ControllerIsComplete (fixed : Fixed) (entries : List Entry) : Type 0 where
+  pub scans : (count_by is_end entries ≡ fixed.scans) ⊎ ((replay fixed entries).stop ≢ 0)
+  pub collected : has_started_at fixed entries ≡ false
+  pub finished : EndsEachCall (items_of entries)
+
+-- An entry stands in a list, behind these and before those.
+abbrev pub StandsIn : List RingEntry → List RingEntry → RingEntry → List RingEntry → Type 0
+StandsIn list before entry after = list ≡ before ++ entry ∷ after
+
+-- A Pass.
+abbrev pub is_pass : RingEntry → Bool
+is_pass (Pass n done words) = true
+is_pass _ = false
+
+-- A host asked nothing before the hold that its plan says: it had passed the token on often
+-- enough. Its requests are posted in their order.
+abbrev pub AsksInItsHolds : HostPlan → List RingEntry → Type 0
+AsksInItsHolds plan ring = (before after : List RingEntry) (n : ℕ) (frame : Frame) (ask : HostAsk)
+    → StandsIn ring before (Post n frame) after → frame.kind ≡ Request
+    → slice_get plan.requests (length (asked_by before)) ≡ Some ask
+    → ask.hold ≤ 1 + count_by is_pass before
+
+-- A host had asked all of its requests before it said that it was done.
+abbrev pub AsksAllBeforeDone : HostPlan → List RingEntry → Type 0
+AsksAllBeforeDone plan ring = (before after : List RingEntry) (n : ℕ) (words : List ℕ)
+    → StandsIn ring before (Pass n true words) after
+    → length (asked_by before) ≡ length plan.requests
+
+-- A host, by its list and its node's entries on the ring: each of its requests was answered once.
+pub record HostIsComplete (plan : HostPlan) (items : Items) (ring : List RingEntry)
+    : Type 0 where
+  pub answered : EndsEachCall items
+  pub holds : AsksInItsHolds plan ring
+  pub asked : AsksAllBeforeDone plan ring
+
+-- Whenever a node passed the token on it had replied to all that it took.
+abbrev pub RepliesBeforePasses : List RingEntry → Type 0
+RepliesBeforePasses ring = (before after : List RingEntry) (n : ℕ) (done : Bool) (words : List ℕ)
+    → StandsIn ring before (Pass n done words) after
+    → length (replied_by before) ≡ length (taken_by before)
+
+-- A node that is done asks nothing more, gives nothing up, and goes on saying so.
+abbrev pub IsOfDone : RingEntry → Type 0
+IsOfDone (Post n frame) = frame.kind ≡ Reply
+IsOfDone (GiveUp id word) = ⊥
+IsOfDone (Local n id op result) = id.node ≢ n
+IsOfDone (Pass n done words) = done ≡ true
+IsOfDone _ = Unit {0}
+
+-- After each Pass that said done a node asks nothing more, gives nothing up, and goes on saying so.
+abbrev pub StaysDone : List RingEntry → Type 0
+StaysDone ring = (before after : List RingEntry) (n : ℕ) (words : List ℕ)
+    → StandsIn ring before (Pass n true words) after → All IsOfDone after
+
+-- A node on the ring is complete: it has left, it had replied to all before each Pass, and once it
+-- said that it was done it stayed so.
+pub record NodeIsComplete (net : NetPlan) (ring : List RingEntry) (node : ℕ) : Type 0 where
+  pub left : HasLeft net ring node
+  pub replied : RepliesBeforePasses (own node ring)
+  pub done : StaysDone (own node ring)
+
+-- The list of a controller and its node on the ring are complete.
+abbrev pub IsCompleteLog : Plant → ℕ → List RingEntry → ControllerPlan → ControllerLog → Type 0
+IsCompleteLog plant scans ring plan log =
+    ControllerIsComplete (fixed_of plant scans plan) log.entries
+    × NodeIsComplete plant.net ring log.node
+
+-- The list of a host and its node on the ring are complete.
+abbrev pub IsCompleteHostLog : Plant → List RingEntry → HostPlan → HostLog → Type 0
+IsCompleteHostLog plant ring plan log =
+    HostIsComplete plan (host_items_of log.entries) (own log.node ring)
+    × NodeIsComplete plant.net ring log.node
+
+-- A run is complete: all stations are.
+pub record IsComplete (plant : Plant) (scans : ℕ) (joint : Joint) : Type 0 where
+  pub controllers : AllZip (IsCompleteLog plant scans joint.ring) plant.controllers
+      joint.controllers
+  pub hosts : AllZip (IsCompleteHostLog plant joint.ring) plant.hosts joint.hosts

@@ -1,0 +1,58 @@
+-- What a joint history is: legal lists of a plant's stations and of its ring, which keep the laws
+-- between them. This project's own.
+use Rattle.std.specs.Prelude.{◌≡◌, ℕ, List}
+use Rattle.std.specs.List.{All, AllZip}
+use Rattle.plant_types.specs.declared.net.HostPlan.{HostPlan}
+use Rattle.plant_types.specs.declared.plan.ControllerPlan.{ControllerPlan}
+use Rattle.plant_types.specs.declared.plan.Plant.{Plant}
+use Rattle.ring_core.specs.declared.entry.RingEntry.{RingEntry}
+use Rattle.ring_core.specs.Legal.{IsLegal as IsLegalRing}
+use Rattle.tied_lists.specs.Own.{own}
+use Rattle.tied_lists.specs.Items.{AController, AHost}
+use Rattle.tied_lists.specs.Tied.{Tied}
+use Rattle.controller_core.specs.declared.fixed.Fixed.{Fixed}
+use Rattle.controller_core.specs.Controller.{IsLegal}
+use Rattle.host_port.specs.Legal.{IsHostHistory}
+use Rattle.joint_history.specs.declared.joint.ControllerLog.{ControllerLog}
+use Rattle.joint_history.specs.declared.joint.HostLog.{HostLog}
+use Rattle.joint_history.specs.declared.joint.Joint.{Joint}
+use Rattle.joint_history.specs.Reading.{items_of, host_items_of}
+
+-- A controller's list and its node's entries on the ring keep the four laws.
+abbrev pub IsTiedController : List RingEntry → ControllerLog → Type 0
+IsTiedController ring log = Tied AController (items_of log.entries) (own log.node ring)
+
+-- A host's list and its node's entries on the ring keep the four laws.
+abbrev pub IsTiedHost : List RingEntry → HostLog → Type 0
+IsTiedHost ring log = Tied AHost (host_items_of log.entries) (own log.node ring)
+
+-- All stations of a joint history keep the laws between their list and their node's entries on the
+-- ring.
+pub record IsJoint (joint : Joint) : Type 0 where
+  pub controllers : All (IsTiedController joint.ring) joint.controllers
+  pub hosts : All (IsTiedHost joint.ring) joint.hosts
+
+-- A controller's plan, with what the plant says beside it, for so many scans.
+abbrev pub fixed_of : Plant → ℕ → ControllerPlan → Fixed
+fixed_of plant scans plan = record {
+  plan = plan;
+  scan_time = plant.scan_time;
+  watchdog = plant.watchdog;
+  scans = scans;
+}
+
+-- The list of a controller is a legal one of its plan.
+abbrev pub IsLegalLog : Plant → ℕ → ControllerPlan → ControllerLog → Type 0
+IsLegalLog plant scans plan log =
+    (log.node ≡ plan.node) × IsLegal (fixed_of plant scans plan) log.entries
+
+-- The list of a host is a legal one of its plan.
+abbrev pub IsLegalHostLog : HostPlan → HostLog → Type 0
+IsLegalHostLog plan log = (log.node ≡ plan.node) × IsHostHistory plan log.entries
+
+-- The lists are those of the plant's stations, in the plant's order, and each of them is legal for
+-- so many scans, and so is the ring's.
+pub record IsLegalJoint (plant : Plant) (scans : ℕ) (joint : Joint) : Type 0 where
+  pub controllers : AllZip (IsLegalLog plant scans) plant.controllers joint.controllers
+  pub hosts : AllZip IsLegalHostLog plant.hosts joint.hosts
+  pub ring : IsLegalRing plant.net joint.ring

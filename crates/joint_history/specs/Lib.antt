@@ -1,0 +1,5 @@
+pub mod Reading
+pub mod JointLaws
+pub mod Complete
+pub mod Effects
+pub mod Runnable

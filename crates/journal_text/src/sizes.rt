@@ -1,0 +1,273 @@
+//! That a joint history has numbers and lists of its types. A call made for the prover alone.
+ghost use Rattle.std.specs.Prelude.{All};
+ghost use Rattle.journal_text.specs.Sizes.{AreWords, FitsAnswer, FitsCall, FitsEntry, FitsFrame};
+ghost use Rattle.journal_text.specs.Sizes.{FitsHostEntry, FitsHostLog, FitsJoint, FitsKind};
+ghost use Rattle.journal_text.specs.Sizes.{FitsLog, FitsOp, FitsResult, FitsRingEntry, IsBlock};
+ghost use Rattle.journal_text.specs.Sizes.{IsId, IsLong, IsPdu, IsSmall, IsWord};
+
+use controller_core::{Call, CallKind, Entry};
+use host_port::{HostEntry, HostResult};
+use joint_history::{ControllerLog, HostLog, Joint};
+use mstr_block::{CallId, MstrResult};
+use plant_types::{Block, Pdu};
+use ring_core::{Frame, LocalOp, RingEntry};
+
+fn small(number: u8)
+    ensures { IsSmall number }
+{}
+
+fn word(number: u16)
+    ensures { IsWord number }
+{}
+
+fn long(number: u32)
+    ensures { IsLong number }
+{}
+
+fn bytes(bytes: &[u8])
+    ensures { All IsSmall bytes.now }
+{}
+
+fn words(words: &[u16])
+    ensures { AreWords words.now }
+{}
+
+fn pdu(pdu: &Pdu)
+    ensures { IsPdu pdu.now }
+{
+    bytes(pdu.bytes());
+}
+
+fn block(block: &Block)
+    ensures { IsBlock block.now }
+{
+    words(block.words());
+}
+
+fn name(id: CallId)
+    ensures { IsId id }
+{
+    small(id.node);
+    small(id.path);
+    long(id.seq);
+}
+
+fn op(op: &LocalOp)
+    ensures { FitsOp op.now }
+{
+    match op {
+        LocalOp::PutGlobal(global) => words(global.words()),
+        LocalOp::GetGlobal { node, length } => {
+            small(*node);
+            word(*length);
+        }
+        LocalOp::GetStats | LocalOp::ClearStats | LocalOp::RemoteGet | LocalOp::RemoteClear => {}
+    }
+}
+
+fn outcome(outcome: &MstrResult)
+    ensures { FitsResult outcome.now }
+{
+    match outcome {
+        MstrResult::Good(told) => block(told),
+        MstrResult::Bad(told) => word(*told),
+    }
+}
+
+fn kind(kind: &CallKind)
+    ensures { FitsKind kind.now }
+{
+    match kind {
+        CallKind::Net { to, pdu: request } => {
+            small(*to);
+            pdu(request);
+        }
+        CallKind::Local(local) => op(local),
+    }
+}
+
+fn call(call: &Call)
+    ensures { FitsCall call.now }
+{
+    name(call.id);
+    kind(&call.kind);
+}
+
+fn calls(calls: &[Call])
+    ensures { All FitsCall calls.now }
+{
+    for at in 0..calls.len() {
+        call(&calls[at]);
+    }
+}
+
+fn entry(entry: &Entry)
+    ensures { FitsEntry entry.now }
+{
+    match entry {
+        Entry::Begin | Entry::End => {}
+        Entry::Input(row) | Entry::Solve(row) => word(*row),
+        Entry::Output { row, words } => {
+            word(*row);
+            block(words);
+        }
+        Entry::Collect(made) => calls(made.as_slice()),
+        Entry::Peer { id, request, reply } => {
+            name(*id);
+            pdu(request);
+            pdu(reply);
+        }
+        Entry::Finish { id, result } => {
+            name(*id);
+            outcome(result);
+        }
+    }
+}
+
+fn entries(entries: &[Entry])
+    ensures { All FitsEntry entries.now }
+{
+    for at in 0..entries.len() {
+        entry(&entries[at]);
+    }
+}
+
+fn log(log: &ControllerLog)
+    ensures { FitsLog log.now }
+{
+    small(log.node);
+    entries(log.entries.as_slice());
+}
+
+fn logs(logs: &[ControllerLog])
+    ensures { All FitsLog logs.now }
+{
+    for at in 0..logs.len() {
+        log(&logs[at]);
+    }
+}
+
+fn answer(answer: &HostResult)
+    ensures { FitsAnswer answer.now }
+{
+    match answer {
+        HostResult::Reply(reply) => pdu(reply),
+        HostResult::Bad(told) => word(*told),
+    }
+}
+
+fn host_entry(entry: &HostEntry)
+    ensures { FitsHostEntry entry.now }
+{
+    match entry {
+        HostEntry::Ask {
+            id,
+            to,
+            pdu: request,
+        } => {
+            name(*id);
+            small(*to);
+            pdu(request);
+        }
+        HostEntry::Answer { id, result } => {
+            name(*id);
+            answer(result);
+        }
+        HostEntry::Served { id, request, reply } => {
+            name(*id);
+            pdu(request);
+            pdu(reply);
+        }
+    }
+}
+
+fn host_entries(entries: &[HostEntry])
+    ensures { All FitsHostEntry entries.now }
+{
+    for at in 0..entries.len() {
+        host_entry(&entries[at]);
+    }
+}
+
+fn host_log(log: &HostLog)
+    ensures { FitsHostLog log.now }
+{
+    small(log.node);
+    host_entries(log.entries.as_slice());
+}
+
+fn host_logs(logs: &[HostLog])
+    ensures { All FitsHostLog logs.now }
+{
+    for at in 0..logs.len() {
+        host_log(&logs[at]);
+    }
+}
+
+fn frame(frame: &Frame)
+    ensures { FitsFrame frame.now }
+{
+    small(frame.to);
+    name(frame.id);
+    pdu(&frame.pdu);
+}
+
+fn ring_entry(entry: &RingEntry)
+    ensures { FitsRingEntry entry.now }
+{
+    match entry {
+        RingEntry::Post {
+            node,
+            frame: posted,
+        } => {
+            small(*node);
+            frame(posted);
+        }
+        RingEntry::Send { node, .. } | RingEntry::Leave { node, .. } => small(*node),
+        RingEntry::Take { node, frame: taken } => {
+            small(*node);
+            frame(taken);
+        }
+        RingEntry::Local {
+            node,
+            id,
+            op: local,
+            result,
+        } => {
+            small(*node);
+            name(*id);
+            op(local);
+            outcome(result);
+        }
+        RingEntry::GiveUp { id, word: told } => {
+            name(*id);
+            word(*told);
+        }
+        RingEntry::Pass {
+            node,
+            words: global,
+            ..
+        } => {
+            small(*node);
+            words(global.words());
+        }
+    }
+}
+
+fn ring_entries(entries: &[RingEntry])
+    ensures { All FitsRingEntry entries.now }
+{
+    for at in 0..entries.len() {
+        ring_entry(&entries[at]);
+    }
+}
+
+/// A joint history fits its types: no number is beyond its type, and no list too long. It is called
+/// for that clause alone; it changes nothing, and takes time in proportion to the entries.
+pub fn fits_its_types(joint: &Joint)
+    ensures { FitsJoint joint.now }
+{
+    logs(joint.controllers.as_slice());
+    host_logs(joint.hosts.as_slice());
+    ring_entries(joint.ring.as_slice());
+}

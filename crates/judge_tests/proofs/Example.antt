@@ -1,0 +1,85 @@
+-- The plant of the tests can be judged.
+use Rattle.std.proofs.Common.{ℕ, zero, suc, ◌≤◌, [], ◌∷◌, refl, arith}
+use Rattle.std.specs.List.{All}
+use Rattle.std.specs.List.Sorted.{IsStrictlyIncreasing}
+use Rattle.std.proofs.lemmas.List.Sorted.{IsPermutation-refl}
+use Rattle.plant_types.specs.FirstFault.{tests_behind}
+use Rattle.plant_types.specs.Pairs.{no_two}
+use Rattle.plant_types.specs.Plans.{IsAskOf, IsFromTo, IsHostPlan, IsNetPlan, IsNode}
+use Rattle.plant_types.specs.Plans.{PassesTests}
+use Rattle.controller_core.specs.Machine.{IsRunnable}
+use Rattle.joint_history.specs.JointLaws.{fixed_of}
+use Rattle.judge_tests.specs.Example.{controller_plan, example_plant, host_plan, net_plan}
+use Rattle.joint_law.specs.Spots.{CanBeJudged}
+
+all-one : {X : Type 0} (P : X → Type 0) (x : X) → P x → All P (x ∷ [])
+all-one P x here zero d low = here
+all-one P x here (suc k) d low = absurd (omega arith)
+
+all-two : {X : Type 0} (P : X → Type 0) (x y : X) → P x → P y → All P (x ∷ y ∷ [])
+all-two P x y a b zero d low = a
+all-two P x y a b (suc zero) d low = b
+all-two P x y a b (suc (suc k)) d low = absurd (omega arith)
+
+from-to : (least most number : ℕ) → least ≤ number → number ≤ most → IsFromTo least most number
+from-to least most number a b = record { from = a; to = b }
+
+one-rises : (n : ℕ) → IsStrictlyIncreasing (n ∷ [])
+one-rises n k low = absurd (omega arith)
+
+two-rise : IsStrictlyIncreasing (1 ∷ 2 ∷ [])
+two-rise zero low = omega arith
+two-rise (suc k) low = absurd (omega arith)
+
+net-sound : IsNetPlan net_plan
+net-sound = record {
+  first = omega arith;
+  members = all-two IsNode 1 2 (from-to 1 64 1 (omega arith) (omega arith)) (from-to 1 64 2 (omega arith) (omega arith));
+  rising = two-rise;
+  fates = from-to 1 1000 1 (omega arith) (omega arith);
+  answer = from-to 2 1000 20 (omega arith) (omega arith);
+  rotations = from-to 1 10 2 (omega arith) (omega arith);
+  rounds = from-to 1 100 1 (omega arith) (omega arith);
+  holds = from-to 1 100000 1000 (omega arith) (omega arith);
+}
+
+host-sound : IsHostPlan host_plan
+host-sound = record {
+  node = from-to 1 64 2 (omega arith) (omega arith);
+  few = omega arith;
+  requests = all-one (IsAskOf 2) _ (record {
+    hold = from-to 1 10000 1 (omega arith) (omega arith);
+    to = from-to 1 64 1 (omega arith) (omega arith);
+    other = omega arith;
+  });
+}
+
+controller-passes : PassesTests controller_plan
+unfolding tests_behind
+controller-passes = refl
+
+controller-runs : IsRunnable (fixed_of example_plant 1 controller_plan)
+unfolding no_two
+controller-runs = record {
+  plan = record { passes = refl; messages = omega arith; count = omega arith; rows = tt };
+  scan_time = omega arith;
+  watchdog = omega arith;
+  scans = omega arith;
+}
+
+pub example-judged : CanBeJudged example_plant 1
+example-judged = record {
+  sound = record {
+    scan_time = from-to 1 1000 10 (omega arith) (omega arith);
+    watchdog = from-to 1 10000 500 (omega arith) (omega arith);
+    net = net-sound;
+    count = from-to 1 16 1 (omega arith) (omega arith);
+    controllers = all-one PassesTests controller_plan controller-passes;
+    controllers_rise = one-rises 1;
+    few = omega arith;
+    hosts = all-one IsHostPlan host_plan host-sound;
+    hosts_rise = one-rises 2;
+    members = IsPermutation-refl (1 ∷ 2 ∷ []);
+  };
+  runs = all-one (λ plan. IsRunnable (fixed_of example_plant 1 plan)) controller_plan controller-runs;
+}

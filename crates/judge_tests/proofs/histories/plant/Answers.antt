@@ -1,0 +1,12 @@
+use Rattle.std.proofs.Common.{◌≡◌, sym, subst}
+use Rattle.plant_types.specs.declared.plan.Plant.{Plant}
+use Rattle.judge_tests.specs.Example.{example_plant}
+use Rattle.joint_law.specs.Spots.{CanBeJudged}
+use Rattle.judge_tests.proofs.Example.{example-judged}
+use Rattle.judge_tests.proofs.histories.plant.Goals as goal
+
+pub returns : goal.returns
+returns c =
+    let same : (◌≡◌) {A = Plant} (record { scan_time = 10; watchdog = 500; net = c.in_ok-net.field-0; controllers = c.in_ok-controllers.field-0; hosts = c.in_ok-hosts.field-0 }) example_plant =
+    λ i. record { scan_time = 10; watchdog = 500; net = c.in_ok-net.ensures i; controllers = c.in_ok-controllers.ensures i; hosts = c.in_ok-hosts.ensures i } in
+    subst (λ (p : Plant). CanBeJudged p 1) (sym same) example-judged

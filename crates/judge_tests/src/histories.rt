@@ -1,0 +1,382 @@
+//! Joint histories of a controller and of a host that asks it for a register, and what one change
+//! makes of them.
+ghost use Rattle.std.specs.Prelude.{◌≡◌, ◌∷◌, [], IfOk};
+ghost use Rattle.judge_tests.specs.Example.{controller_plan, host_plan, net_plan};
+ghost use Rattle.joint_law.specs.Spots.{CanBeJudged};
+
+use controller_core::Entry;
+use host_port::{HostEntry, HostResult};
+use joint_history::{ControllerLog, HostLog, Joint};
+use joint_law::{Spot, Verdict, judge};
+use mstr_block::CallId;
+use plant_types::{ControllerPlan, Fate, HostAsk, HostPlan, List, NetPlan, Pdu, Plant, Words};
+use ring_core::{Frame, FrameKind, Heard, LeaveCause, RingEntry};
+use std::alloc::{AllocError, Global};
+
+/// What is not as it should be.
+#[derive(Clone, Copy, PartialEq, Eq)]
+enum Change {
+    Nothing,
+    NoHost,
+    AnotherHost,
+    NoBegin,
+    AnotherReply,
+    AnotherName,
+    TwoAnswers,
+    AnotherHolder,
+    NothingHeard,
+    NoAsk,
+    NoPeer,
+    TwoPeers,
+    AnotherPost,
+    AnotherAnswer,
+    NoAnswer,
+    NoEnd,
+    NoLeave,
+}
+
+const CALL: CallId = CallId {
+    node: 2,
+    path: 1,
+    seq: 1,
+};
+
+const REQUEST: [u8; 5] = [3, 0, 0, 0, 1];
+
+const REPLY: [u8; 4] = [3, 2, 0, 0];
+
+const ANOTHER_REPLY: [u8; 4] = [3, 2, 0, 1];
+
+fn pdu_of(alloc: Global, bytes: &[u8]) -> Result<Pdu, AllocError>
+    ensures { IfOk result (λ pdu. pdu ≡ bytes.now) }
+{
+    match Pdu::of(alloc, bytes)? {
+        Some(pdu) => Ok(pdu),
+        None => Err(AllocError),
+    }
+}
+
+/// A controller of 16 registers, which solves nothing.
+fn controllers(alloc: Global) -> Result<List<ControllerPlan>, AllocError>
+    ensures { IfOk result (λ plans. plans ≡ controller_plan ∷ []) }
+{
+    let mut plans = List::new(alloc);
+    plans.push(ControllerPlan {
+        node: 1,
+        coils: 16,
+        inputs: 0,
+        input_registers: 0,
+        registers: 16,
+        panel: List::new(alloc),
+        orders: List::new(alloc),
+        drops: List::new(alloc),
+        segments: List::new(alloc),
+    })?;
+    Ok(plans)
+}
+
+/// A host that asks for its first register at once.
+fn host(alloc: Global) -> Result<HostPlan, AllocError>
+    ensures { IfOk result (λ plan. plan ≡ host_plan) }
+{
+    let mut requests = List::new(alloc);
+    let pdu = pdu_of(alloc, &REQUEST)?;
+    requests.push(HostAsk {
+        hold: 1,
+        to: 1,
+        pdu,
+    })?;
+    Ok(HostPlan { node: 2, requests })
+}
+
+fn hosts(alloc: Global) -> Result<List<HostPlan>, AllocError>
+    ensures { IfOk result (λ plans. plans ≡ host_plan ∷ []) }
+{
+    let mut plans = List::new(alloc);
+    plans.push(host(alloc)?)?;
+    Ok(plans)
+}
+
+fn net(alloc: Global) -> Result<NetPlan, AllocError>
+    ensures { IfOk result (λ net. net ≡ net_plan) }
+{
+    let mut members = List::new(alloc);
+    members.push(1)?;
+    members.push(2)?;
+    let mut fates = List::new(alloc);
+    fates.push(Fate::D)?;
+    Ok(NetPlan {
+        members,
+        fates,
+        answer: 20,
+        rotations: 2,
+        rounds: 1,
+        holds: 1000,
+    })
+}
+
+fn plant(alloc: Global) -> Result<Plant, AllocError>
+    ensures { IfOk result (λ plant. CanBeJudged plant 1) }
+{
+    Ok(Plant {
+        scan_time: 10,
+        watchdog: 500,
+        net: net(alloc)?,
+        controllers: controllers(alloc)?,
+        hosts: hosts(alloc)?,
+    })
+}
+
+fn peer(alloc: Global, change: Change) -> Result<Entry, AllocError> {
+    let reply = if change == Change::AnotherReply {
+        pdu_of(alloc, &ANOTHER_REPLY)?
+    } else {
+        pdu_of(alloc, &REPLY)?
+    };
+    Ok(Entry::Peer {
+        id: CALL,
+        request: pdu_of(alloc, &REQUEST)?,
+        reply,
+    })
+}
+
+/// A scan, and a request that is answered in it.
+fn scan(alloc: Global, change: Change) -> Result<List<Entry>, AllocError> {
+    let mut entries = List::new(alloc);
+    if change != Change::NoBegin {
+        entries.push(Entry::Begin)?;
+    }
+    if change != Change::NoPeer {
+        entries.push(peer(alloc, change)?)?;
+    }
+    if change == Change::TwoPeers {
+        entries.push(peer(alloc, change)?)?;
+    }
+    if change != Change::NoEnd {
+        entries.push(Entry::End)?;
+    }
+    Ok(entries)
+}
+
+fn answer(alloc: Global, change: Change) -> Result<HostEntry, AllocError> {
+    let pdu = match change {
+        Change::AnotherAnswer | Change::AnotherPost => pdu_of(alloc, &ANOTHER_REPLY)?,
+        _ => pdu_of(alloc, &REPLY)?,
+    };
+    Ok(HostEntry::Answer {
+        id: CALL,
+        result: HostResult::Reply(pdu),
+    })
+}
+
+/// A request, and what it came to.
+fn asking(alloc: Global, change: Change) -> Result<List<HostEntry>, AllocError> {
+    let mut entries = List::new(alloc);
+    if change == Change::NoAsk {
+        return Ok(entries);
+    }
+    let id = match change {
+        Change::AnotherName => CallId { seq: 2, ..CALL },
+        _ => CALL,
+    };
+    let pdu = pdu_of(alloc, &REQUEST)?;
+    entries.push(HostEntry::Ask { id, to: 1, pdu })?;
+    if change != Change::NoAnswer {
+        entries.push(answer(alloc, change)?)?;
+    }
+    if change == Change::TwoAnswers {
+        entries.push(answer(alloc, change)?)?;
+    }
+    Ok(entries)
+}
+
+fn request(alloc: Global) -> Result<Frame, AllocError> {
+    Ok(Frame {
+        kind: FrameKind::Request,
+        to: 1,
+        id: CALL,
+        pdu: pdu_of(alloc, &REQUEST)?,
+    })
+}
+
+fn reply(alloc: Global, change: Change) -> Result<Frame, AllocError> {
+    let pdu = if change == Change::AnotherPost {
+        pdu_of(alloc, &ANOTHER_REPLY)?
+    } else {
+        pdu_of(alloc, &REPLY)?
+    };
+    Ok(Frame {
+        kind: FrameKind::Reply,
+        to: 2,
+        id: CALL,
+        pdu,
+    })
+}
+
+fn pass(alloc: Global, node: u8, done: bool) -> Result<RingEntry, AllocError> {
+    let words = Words::of(alloc, &[])?;
+    Ok(RingEntry::Pass { node, done, words })
+}
+
+/// The first round: the host asks.
+fn push_request(
+    alloc: Global,
+    ring: &mut List<RingEntry>,
+    change: Change,
+) -> Result<(), AllocError> {
+    let first = if change == Change::AnotherHolder {
+        2
+    } else {
+        1
+    };
+    ring.push(pass(alloc, first, false)?)?;
+    let frame = request(alloc)?;
+    ring.push(RingEntry::Post { node: 2, frame })?;
+    let heard = if change == Change::NothingHeard {
+        Heard::Silent
+    } else {
+        Heard::Acked
+    };
+    ring.push(RingEntry::Send { node: 2, heard })?;
+    ring.push(pass(alloc, 2, false)?)
+}
+
+/// The second: the controller replies.
+fn push_reply(alloc: Global, ring: &mut List<RingEntry>, change: Change) -> Result<(), AllocError> {
+    let frame = request(alloc)?;
+    ring.push(RingEntry::Take { node: 1, frame })?;
+    let frame = reply(alloc, change)?;
+    ring.push(RingEntry::Post { node: 1, frame })?;
+    let heard = Heard::Acked;
+    ring.push(RingEntry::Send { node: 1, heard })?;
+    ring.push(pass(alloc, 1, true)?)
+}
+
+/// The last: the host has its reply, and both leave.
+fn push_end(alloc: Global, ring: &mut List<RingEntry>, change: Change) -> Result<(), AllocError> {
+    let frame = reply(alloc, change)?;
+    ring.push(RingEntry::Take { node: 2, frame })?;
+    ring.push(pass(alloc, 2, true)?)?;
+    let cause = LeaveCause::Ended;
+    ring.push(RingEntry::Leave { node: 1, cause })?;
+    if change == Change::NoLeave {
+        return Ok(());
+    }
+    ring.push(RingEntry::Leave { node: 2, cause })
+}
+
+fn ring(alloc: Global, change: Change) -> Result<List<RingEntry>, AllocError> {
+    let mut ring = List::new(alloc);
+    push_request(alloc, &mut ring, change)?;
+    push_reply(alloc, &mut ring, change)?;
+    push_end(alloc, &mut ring, change)?;
+    Ok(ring)
+}
+
+fn host_logs(alloc: Global, change: Change) -> Result<List<HostLog>, AllocError> {
+    let mut logs = List::new(alloc);
+    if change == Change::NoHost {
+        return Ok(logs);
+    }
+    let node = if change == Change::AnotherHost { 3 } else { 2 };
+    let entries = asking(alloc, change)?;
+    logs.push(HostLog { node, entries })?;
+    Ok(logs)
+}
+
+fn joint(alloc: Global, change: Change) -> Result<Joint, AllocError> {
+    let mut controllers = List::new(alloc);
+    let entries = scan(alloc, change)?;
+    controllers.push(ControllerLog { node: 1, entries })?;
+    let hosts = host_logs(alloc, change)?;
+    let ring = ring(alloc, change)?;
+    Ok(Joint {
+        controllers,
+        hosts,
+        ring,
+    })
+}
+
+fn judged(alloc: Global, change: Change) -> Result<Verdict, AllocError> {
+    let plant = plant(alloc)?;
+    let joint = joint(alloc, change)?;
+    judge(alloc, &plant, &joint, 1)
+}
+
+/// What each change comes to.
+const SPOTS: [(Change, Spot); 16] = [
+    (Change::NoHost, Spot::Sections),
+    (Change::AnotherHost, Spot::Sections),
+    (Change::NoBegin, Spot::Controller { node: 1, entry: 2 }),
+    (Change::AnotherReply, Spot::Controller { node: 1, entry: 2 }),
+    (Change::AnotherName, Spot::Host { node: 2, entry: 1 }),
+    (Change::TwoAnswers, Spot::Host { node: 2, entry: 3 }),
+    (Change::AnotherHolder, Spot::Ring(1)),
+    (Change::NothingHeard, Spot::Ring(3)),
+    (
+        Change::NoAsk,
+        Spot::Law {
+            law: 1,
+            node: 2,
+            place: 1,
+        },
+    ),
+    (
+        Change::NoPeer,
+        Spot::Law {
+            law: 2,
+            node: 1,
+            place: 1,
+        },
+    ),
+    (
+        Change::TwoPeers,
+        Spot::Law {
+            law: 2,
+            node: 1,
+            place: 2,
+        },
+    ),
+    (
+        Change::AnotherPost,
+        Spot::Law {
+            law: 3,
+            node: 1,
+            place: 1,
+        },
+    ),
+    (
+        Change::AnotherAnswer,
+        Spot::Law {
+            law: 4,
+            node: 2,
+            place: 1,
+        },
+    ),
+    (
+        Change::NoAnswer,
+        Spot::Law {
+            law: 4,
+            node: 2,
+            place: 1,
+        },
+    ),
+    (Change::NoEnd, Spot::Incomplete(1)),
+    (Change::NoLeave, Spot::Incomplete(2)),
+];
+
+#[test]
+fn a_whole_run_is_legal(rt: HostRuntime) -> Result<(), AllocError> {
+    let verdict = judged(rt.alloc(), Change::Nothing)?;
+    assert!(rt; verdict == Verdict::Legal);
+    Ok(())
+}
+
+#[test]
+fn each_change_has_its_spot(rt: HostRuntime) -> Result<(), AllocError> {
+    for (change, spot) in SPOTS {
+        let verdict = judged(rt.alloc(), change)?;
+        assert!(rt; verdict == Verdict::Illegal(spot));
+    }
+    Ok(())
+}

@@ -1,0 +1,5 @@
+//! Tests of the judge of joint histories.
+#![tactic(auto)]
+
+#[cfg(test)]
+mod histories;

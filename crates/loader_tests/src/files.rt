@@ -1,0 +1,560 @@
+mod networks;
+mod tables;
+
+use plant_loader::{LoadEnd, load};
+use plant_types::{
+    Cell, ControllerPlan, Element, Fate, HostAsk, HostPlan, IoDrop, Module, ModuleKind, MoveOp,
+    NetPlan, Network, OrderRow, Plant, Ref, RefKind, ScriptRow, Short,
+};
+use std::alloc::{AllocError, Global};
+use std::process::Abort;
+use std::test::Fail;
+
+// What a plant file is answered with: its fault and place, or that it is taken.
+fn answer_text(alloc: Global, read: Result<Plant, LoadEnd>) -> Result<String, AllocError> {
+    match read {
+        Ok(_) => String::from_str(alloc, "taken"),
+        Err(LoadEnd::Refused(fault, place)) => format!(in alloc; "{fault} {place}"),
+        Err(LoadEnd::NoMemory) => String::from_str(alloc, "no memory"),
+    }
+}
+
+// A part of a plant file, written in one line.
+fn unfolded(alloc: Global, part: &str) -> Result<String, AllocError> {
+    let mut text = String::new(alloc);
+    for letter in part.chars() {
+        match letter {
+            '|' => text.push_str("\n")?,
+            '@' => text.push_str("[[controller.segment]]\nnetworks = []\n")?,
+            '%' => text.push_str("[[controller.drop]]")?,
+            '(' => text.push_str("{ networks = [")?,
+            ')' => text.push_str("] }")?,
+            _ => text.push(letter)?,
+        }
+    }
+    Ok(text)
+}
+
+// Texts between a start and an end, and what each is answered with behind a head.
+struct Table {
+    start: &'static str,
+    rows: &'static str,
+    end: &'static str,
+    head: &'static str,
+}
+
+// What stands before networks: 16 coils, 16 inputs, 10 input registers and 100 registers.
+const NETWORKS: &str = "version = 1\n[[controller]]\nnode = 1\ncoils = 16\ninputs = 16\n\
+    input_registers = 10\nregisters = 100\norders = [\"1 - - -\"]\n[[controller.segment]]\n\
+    networks = [\"";
+
+const NETWORKS_END: &str = "\"]\n";
+
+// The end of a plant: its orders, with blanks wherever they may stand, and its one segment.
+const END: &str = "\norders = [\" 1\t- - - \"]\n[[controller.segment]]\nnetworks = []\n";
+
+// What stands before the keys of a controller, and before its orders.
+const CONTROLLER: &str = "version = 1\n[[controller]]\n";
+
+const START: &str = "version = 1\n[[controller]]\nnode = 1\ncoils = 16\n";
+
+const SEGMENTS: &str = "version = 1\n[[controller]]\nnode = 1\ncoils = 16\nsegment = ";
+
+const MANY_NETWORKS: &str = "version = 1\n[[controller]]\nnode = 1\nsegment = [{ networks = [";
+
+const MANY_MESSAGES: &str = "version = 1\n[[controller]]\nnode = 1\nregisters = 10\n\
+    segment = [{ networks = [";
+
+const MANY_REFERENCES: &str = "version = 1\n[[controller]]\nnode = 1\ncoils = 16\npanel = [";
+
+const MANY_CONTROLLERS: &str = "version = 1\ncontroller = [";
+
+// What stands before hosts, and before the requests of one.
+const MANY_HOSTS: &str = "version = 1\ncontroller = [{ node = 0 }]\nhost = [";
+
+const MANY_REQUESTS: &str =
+    "version = 1\ncontroller = [{ node = 1 }]\nhost = [{ node = 2, requests = [";
+
+const PDU: &str =
+    "version = 1\ncontroller = [{ node = 1 }]\nhost = [{ node = 2, requests = [\"1 1 ";
+
+// What stands before the tables of drops: 32 discretes and 20 registers of each kind.
+const DROP: &str = "version = 1\n[[controller]]\nnode = 1\ncoils = 32\ninputs = 32\n\
+    input_registers = 20\nregisters = 20\n[[controller.drop]]\n";
+
+const MODULES: &str = "version = 1\n[[controller]]\nnode = 1\ncoils = 32\ninputs = 32\n\
+    input_registers = 20\nregisters = 20\n[[controller.drop]]\nnumber = 1\nmodules = [";
+
+const WORDS_IN: &str = "version = 1\n[[controller]]\nnode = 1\ninputs = 32\n\
+    input_registers = 20\n[[controller.drop]]\nnumber = 1\n\
+    modules = [\"inw 30001 16\", \"inw 30001 16\", \"inw 30001 16\", ";
+
+const SCRIPTS: &str = "version = 1\n[[controller]]\nnode = 1\ncoils = 32\ninputs = 32\n\
+    input_registers = 20\nregisters = 20\n[[controller.drop]]\nnumber = 1\n";
+
+const TABLES: [Table; 19] = [
+    Table {
+        start: NETWORKS,
+        rows: networks::TAKEN,
+        end: NETWORKS_END,
+        head: "",
+    },
+    Table {
+        start: NETWORKS,
+        rows: networks::BAD_CELLS,
+        end: NETWORKS_END,
+        head: "6 BadCell controller 1 segment 1 network ",
+    },
+    Table {
+        start: NETWORKS,
+        rows: networks::BAD_VALUES,
+        end: NETWORKS_END,
+        head: "3 BadValue controller 1 segment 1 network ",
+    },
+    Table {
+        start: NETWORKS,
+        rows: networks::BAD_REFS,
+        end: NETWORKS_END,
+        head: "5 BadRef controller 1 segment 1 network ",
+    },
+    Table {
+        start: NETWORKS,
+        rows: networks::BAD_SHAPES,
+        end: NETWORKS_END,
+        head: "7 BadShape controller 1 segment 1 network ",
+    },
+    Table {
+        start: NETWORKS,
+        rows: networks::COILS_TWICE,
+        end: NETWORKS_END,
+        head: "8 CoilTwice controller 1 segment 1 network ",
+    },
+    Table {
+        start: "",
+        rows: tables::BAD_TABLES,
+        end: END,
+        head: "",
+    },
+    Table {
+        start: CONTROLLER,
+        rows: tables::BAD_CONTROLLERS,
+        end: END,
+        head: "",
+    },
+    Table {
+        start: "version = 1\n",
+        rows: tables::TAKEN_PLANTS,
+        end: END,
+        head: "",
+    },
+    Table {
+        start: START,
+        rows: tables::BAD_ORDERS,
+        end: "",
+        head: "",
+    },
+    Table {
+        start: START,
+        rows: tables::TAKEN_ENDS,
+        end: "",
+        head: "",
+    },
+    Table {
+        start: SEGMENTS,
+        rows: tables::BAD_SEGMENTS,
+        end: "",
+        head: "",
+    },
+    Table {
+        start: DROP,
+        rows: tables::BAD_DROPS,
+        end: "",
+        head: "",
+    },
+    Table {
+        start: MODULES,
+        rows: tables::BAD_MODULES,
+        end: "]\n",
+        head: "10 BadDrop controller 1 drop 1 module ",
+    },
+    Table {
+        start: MODULES,
+        rows: tables::LACKING_MODULES,
+        end: "]\n",
+        head: "5 BadRef controller 1 drop 1 module ",
+    },
+    Table {
+        start: WORDS_IN,
+        rows: tables::WORDS,
+        end: "]\n",
+        head: "",
+    },
+    Table {
+        start: SCRIPTS,
+        rows: tables::BAD_SCRIPTS,
+        end: "",
+        head: "11 BadScript controller 1 drop 1 script ",
+    },
+    Table {
+        start: "version = 1\n",
+        rows: tables::PLANTS,
+        end: "",
+        head: "",
+    },
+    Table {
+        start: MANY_REQUESTS,
+        rows: tables::REQUESTS,
+        end: "] }]\n",
+        head: "",
+    },
+];
+
+fn answer(alloc: Global, bytes: &[u8]) -> Result<String, AllocError> {
+    answer_text(alloc, load(alloc, bytes))
+}
+
+fn answers_row(rt: &impl Abort, alloc: Global, table: &Table, row: &str) -> Result<(), Fail> {
+    let (part, tail) = row.split_once(" => ").ok_or("an answer")?;
+    let middle = unfolded(alloc, part)?;
+    let text = format!(in alloc; "{}{middle}{}", table.start, table.end)?;
+    let want = format!(in alloc; "{}{tail}", table.head)?;
+    let answer = answer(alloc, text.as_bytes())?;
+    assert_eq!(rt; answer.as_str(), want.as_str(), "{part}");
+    Ok(())
+}
+
+fn answers_table(rt: &impl Abort, alloc: Global, table: &Table) -> Result<(), Fail> {
+    for row in table.rows.lines() {
+        answers_row(rt, alloc, table, row)?;
+    }
+    Ok(())
+}
+
+#[test]
+fn files_are_answered(rt: HostRuntime) -> Result<(), Fail> {
+    for table in &TABLES {
+        answers_table(&rt, rt.alloc(), table)?;
+    }
+    Ok(())
+}
+
+// A plant whose controllers and hosts do not rise in the file.
+const READ: &str = r#"version = 1
+scan_time = 25
+watchdog = 1000
+[net]
+fates = "DLA"
+answer = 2
+rotations = 10
+rounds = 100
+holds = 100000
+[[controller]]
+node = 9
+coils = 32
+inputs = 32
+input_registers = 20
+registers = 100
+panel = ["00001", "\t10032 "]
+orders = ["1 00016 2 -", " 1\t- - 1"]
+[[controller.drop]]
+number = 2
+modules = ["in 10017", " outw\t40005  16 ", "inw 30019 2", "out 00001"]
+script = ["8000 00Ff 1234", " X "]
+[[controller.drop]]
+number = 1
+modules = ["inw 30001 1"]
+[[controller.segment]]
+networks = ["", "1,1 H; 4,1 V\n;1,2 T>R 40030 40040 5; 1,3 CO 00016; 6,1 V"]
+[[controller]]
+node = 3
+[[host]]
+node = 64
+requests = ["10 3 0300aB", "1 9 08"]
+[[host]]
+node = 1
+"#;
+
+fn at(kind: RefKind, number: u16) -> Ref {
+    Ref { kind, number }
+}
+
+fn io_module(kind: ModuleKind, first: u16, count: u16) -> Module {
+    Module { kind, first, count }
+}
+
+fn cell(column: u8, element: Element) -> Cell {
+    Cell {
+        row: 1,
+        column,
+        element,
+    }
+}
+
+fn order(control: Option<Ref>, input: Option<u8>, output: Option<u8>) -> OrderRow {
+    OrderRow {
+        segment: 1,
+        control,
+        input,
+        output,
+    }
+}
+
+fn has_words(row: &ScriptRow, words: &[u16]) -> bool {
+    match row {
+        ScriptRow::Row(row) => row.words() == words,
+        ScriptRow::Silent => words.is_empty(),
+    }
+}
+
+fn has_second_network(networks: &[Network]) -> bool {
+    let [_, network] = networks else {
+        return false;
+    };
+    let to_register = Element::Move {
+        op: MoveOp::TableToReg,
+        top: at(RefKind::Register, 30),
+        mid: at(RefKind::Register, 40),
+        length: 5,
+    };
+    let cells = [
+        cell(1, Element::Wire),
+        cell(2, to_register),
+        cell(3, Element::Coil(at(RefKind::Coil, 16))),
+    ];
+    let shorts = [Short { row: 4, column: 1 }, Short { row: 6, column: 1 }];
+    network.cells.as_slice() == cells.as_slice() && network.shorts.as_slice() == shorts.as_slice()
+}
+
+fn has_drops(drops: &[IoDrop]) -> bool {
+    let [two, one] = drops else {
+        return false;
+    };
+    let modules = [
+        io_module(ModuleKind::In, 17, 1),
+        io_module(ModuleKind::OutWords, 5, 16),
+        io_module(ModuleKind::InWords, 19, 2),
+        io_module(ModuleKind::Out, 1, 1),
+    ];
+    let ([words, silent], [zeros]) = (two.script.as_slice(), one.script.as_slice()) else {
+        return false;
+    };
+    two.number == 2
+        && two.modules.as_slice() == modules.as_slice()
+        && has_words(words, &[0x8000, 0x00ff, 0x1234])
+        && has_words(silent, &[])
+        && one.number == 1
+        && has_words(zeros, &[0])
+}
+
+fn has_plan(plan: &ControllerPlan) -> bool {
+    let panel = [at(RefKind::Coil, 1), at(RefKind::Input, 32)];
+    let orders = [
+        order(Some(at(RefKind::Coil, 16)), Some(2), None),
+        order(None, None, Some(1)),
+    ];
+    let [segment] = plan.segments.as_slice() else {
+        return false;
+    };
+    plan.node == 9
+        && plan.coils == 32
+        && plan.input_registers == 20
+        && plan.registers == 100
+        && plan.panel.as_slice() == panel.as_slice()
+        && plan.orders.as_slice() == orders.as_slice()
+        && has_drops(plan.drops.as_slice())
+        && has_second_network(segment.networks.as_slice())
+}
+
+fn is_ask(ask: &HostAsk, hold: u32, to: u8, bytes: &[u8]) -> bool {
+    ask.hold == hold && ask.to == to && ask.pdu.bytes() == bytes
+}
+
+fn has_hosts(hosts: &[HostPlan]) -> bool {
+    let [one, other] = hosts else {
+        return false;
+    };
+    let [first, second] = other.requests.as_slice() else {
+        return false;
+    };
+    one.node == 1
+        && one.requests.as_slice().is_empty()
+        && other.node == 64
+        && is_ask(first, 10, 3, &[3, 0, 0xab])
+        && is_ask(second, 1, 9, &[8])
+}
+
+fn has_net(net: &NetPlan, fates: &[Fate]) -> bool {
+    net.members.as_slice() == [1, 3, 9, 64].as_slice()
+        && net.fates.as_slice() == fates
+        && net.answer == 2
+        && net.rotations == 10
+        && net.rounds == 100
+        && net.holds == 100_000
+}
+
+fn is_read(plant: &Plant) -> bool {
+    let [low, high] = plant.controllers.as_slice() else {
+        return false;
+    };
+    plant.scan_time == 25
+        && plant.watchdog == 1000
+        && has_net(&plant.net, &[Fate::D, Fate::L, Fate::A])
+        && low.node == 3
+        && has_plan(high)
+        && has_hosts(plant.hosts.as_slice())
+}
+
+#[test]
+fn plants_are_read(rt: HostRuntime) -> Result<(), Fail> {
+    let plant = load(rt.alloc(), READ.as_bytes());
+    assert!(rt; plant.is_ok_and(|plant| is_read(&plant)));
+    let small = load(
+        rt.alloc(),
+        b"version = 1\ncontroller = [{ node = 7 }]\nscan_time = 1\n",
+    );
+    assert!(rt;
+        small.is_ok_and(|plant| plant.net.members.as_slice() == [7].as_slice()
+            && plant.net.fates.as_slice() == [Fate::D].as_slice()
+            && plant.net.holds == 100_000)
+    );
+    Ok(())
+}
+
+// Texts of many items, and how each is answered.
+fn many(alloc: Global, item: &str, count: u16) -> Result<String, AllocError> {
+    let mut list = String::new(alloc);
+    for _ in 0..count {
+        list.push_str(item)?;
+    }
+    Ok(list)
+}
+
+struct Limit {
+    start: &'static str,
+    item: &'static str,
+    count: u16,
+    end: &'static str,
+    answer: &'static str,
+}
+
+const LIMITS: [Limit; 11] = [
+    Limit {
+        start: MANY_NETWORKS,
+        item: "\"\",",
+        count: 1000,
+        end: "] }]\n",
+        answer: "taken",
+    },
+    Limit {
+        start: MANY_NETWORKS,
+        item: "\"\",",
+        count: 1001,
+        end: "] }]\n",
+        answer: "13 TooLarge controller 1 segment 1",
+    },
+    Limit {
+        start: MANY_MESSAGES,
+        item: "\"1,1 MSTR 40001 40010 1\",",
+        count: 64,
+        end: "] }]\n",
+        answer: "taken",
+    },
+    Limit {
+        start: MANY_MESSAGES,
+        item: "\"1,1 MSTR 40001 40010 1\",",
+        count: 65,
+        end: "] }]\n",
+        answer: "13 TooLarge controller 1 segment 1 network 65 cell 1",
+    },
+    Limit {
+        start: MANY_REFERENCES,
+        item: "\"00001\",",
+        count: 64,
+        end: "]\n",
+        answer: "taken",
+    },
+    Limit {
+        start: MANY_REFERENCES,
+        item: "\"00001\",",
+        count: 65,
+        end: "]\n",
+        answer: "13 TooLarge controller 1",
+    },
+    Limit {
+        start: MANY_CONTROLLERS,
+        item: "{ node = 0 },",
+        count: 17,
+        end: "]\nhost = 1\n",
+        answer: "13 TooLarge plant",
+    },
+    Limit {
+        start: MANY_HOSTS,
+        item: "{},",
+        count: 17,
+        end: "]\n",
+        answer: "13 TooLarge plant",
+    },
+    Limit {
+        start: MANY_REQUESTS,
+        item: "\"x\",",
+        count: 1001,
+        end: "] }]\n",
+        answer: "13 TooLarge host 1",
+    },
+    Limit {
+        start: PDU,
+        item: "00",
+        count: 253,
+        end: "\"] }]\n",
+        answer: "taken",
+    },
+    Limit {
+        start: PDU,
+        item: "00",
+        count: 254,
+        end: "\"] }]\n",
+        answer: "3 BadValue host 1 request 1",
+    },
+];
+
+#[test]
+fn limits_are_kept(rt: HostRuntime) -> Result<(), Fail> {
+    let alloc = rt.alloc();
+    for limit in &LIMITS {
+        let items = many(alloc, limit.item, limit.count)?;
+        let text = format!(in alloc; "{}{items}{}", limit.start, limit.end)?;
+        let answer = answer(alloc, text.as_bytes())?;
+        assert_eq!(rt;
+            answer.as_str(),
+            limit.answer,
+            "{} of {}",
+            limit.count,
+            limit.item
+        );
+    }
+    Ok(())
+}
+
+// What is no document.
+const NO_DOCUMENTS: [&[u8]; 5] = [
+    b"version = 1\n# \xff",
+    b"version = \"1",
+    b"version = 1\nversion = 1\n",
+    b"version = 99999999999999999999\n",
+    b"version 1\n",
+];
+
+#[test]
+fn other_bytes_are_no_document(rt: HostRuntime) -> Result<(), Fail> {
+    let alloc = rt.alloc();
+    for bytes in NO_DOCUMENTS {
+        assert_eq!(rt; answer(alloc, bytes)?.as_str(), "1 BadToml plant");
+    }
+    let nested = format!(in alloc; "x = {}", many(alloc, "[", 10_000)?)?;
+    assert_eq!(rt;
+        answer(alloc, nested.as_bytes())?.as_str(),
+        "1 BadToml plant"
+    );
+    assert_eq!(rt; answer(alloc, b"")?.as_str(), "2 BadKey plant");
+    Ok(())
+}

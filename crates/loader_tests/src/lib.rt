@@ -1,0 +1,5 @@
+//! Tests of plant files: what each is answered with.
+#![tactic(auto)]
+
+#[cfg(test)]
+mod files;

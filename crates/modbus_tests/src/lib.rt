@@ -1,0 +1,7 @@
+//! Tests of Modbus requests, replies and answers.
+#![tactic(auto)]
+
+#[cfg(test)]
+mod answers;
+#[cfg(test)]
+mod requests;

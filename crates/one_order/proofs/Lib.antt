@@ -1,0 +1,5 @@
+pub mod Merges
+pub mod Greedy
+pub mod Orders
+pub mod Walks
+pub mod Fronts

@@ -1,0 +1,10 @@
+use Rattle.std.proofs.Common.{refl}
+use Rattle.panel_text.specs.Panel.{most_scans}
+use Rattle.plant984.proofs.answering.journal_tells_all.Goals as goal
+
+pub returns : goal.returns
+returns c = record {
+  plain = c.legal_is_plain.ensures c.args.plant.now most_scans c.args.joint.now c.requires.plant.sound c.requires.joint;
+  fits = c.fits_its_types.ensures;
+  text = refl;
+}

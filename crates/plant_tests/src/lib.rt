@@ -1,0 +1,5 @@
+//! Tests of stores, plans and their copies.
+#![tactic(auto)]
+
+#[cfg(test)]
+mod values;

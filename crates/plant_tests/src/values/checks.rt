@@ -1,0 +1,331 @@
+//! The first fault of a plan, each once with its place.
+use plant_types::{
+    Cell, ControllerPlan, Element, IoDrop, List, Network, Operand, OrderRow, Part, Place,
+    PlantFault, Ref, RefKind, Segment, Short,
+};
+use std::alloc::{AllocError, Global};
+
+fn coil(number: u16) -> Ref {
+    Ref {
+        kind: RefKind::Coil,
+        number,
+    }
+}
+
+fn register(number: u16) -> Ref {
+    Ref {
+        kind: RefKind::Register,
+        number,
+    }
+}
+
+fn cell(row: u8, column: u8, element: Element) -> Cell {
+    Cell {
+        row,
+        column,
+        element,
+    }
+}
+
+fn message() -> Element {
+    Element::Mstr {
+        control: register(1),
+        area: register(10),
+        length: 10,
+    }
+}
+
+fn network(alloc: Global, cells: &[Cell], shorts: &[Short]) -> Result<Network, AllocError> {
+    Ok(Network {
+        cells: List::from_vec(Vec::from_slice(alloc, cells)?),
+        shorts: List::from_vec(Vec::from_slice(alloc, shorts)?),
+    })
+}
+
+/// A segment of so many networks that have these cells and shorts.
+fn segment(
+    alloc: Global,
+    cells: &[Cell],
+    shorts: &[Short],
+    times: usize,
+) -> Result<Segment, AllocError> {
+    let mut networks = List::new(alloc);
+    for _ in 0..times {
+        networks.push(network(alloc, cells, shorts)?)?;
+    }
+    Ok(Segment { networks })
+}
+
+/// Segments of one network each, which has one cell.
+fn segments(alloc: Global, cells: &[Cell]) -> Result<List<Segment>, AllocError> {
+    let mut made = List::new(alloc);
+    for cell in cells {
+        made.push(segment(alloc, &[*cell], &[], 1)?)?;
+    }
+    Ok(made)
+}
+
+fn only(alloc: Global, segment: Result<Segment, AllocError>) -> Result<List<Segment>, AllocError> {
+    let mut made = List::new(alloc);
+    made.push(segment?)?;
+    Ok(made)
+}
+
+/// 16 coils and 20 registers, and these segments.
+fn plan(alloc: Global, segments: List<Segment>) -> ControllerPlan {
+    ControllerPlan {
+        node: 1,
+        coils: 16,
+        inputs: 0,
+        input_registers: 0,
+        registers: 20,
+        panel: List::new(alloc),
+        orders: List::new(alloc),
+        drops: List::new(alloc),
+        segments,
+    }
+}
+
+fn bare(alloc: Global) -> ControllerPlan {
+    plan(alloc, List::new(alloc))
+}
+
+fn with_panel(alloc: Global, panel: &[Ref]) -> Result<ControllerPlan, AllocError> {
+    let panel = List::from_vec(Vec::from_slice(alloc, panel)?);
+    Ok(ControllerPlan {
+        panel,
+        ..bare(alloc)
+    })
+}
+
+/// A plan of one cell, and of order rows.
+fn with_orders(alloc: Global, cell: Cell, rows: &[OrderRow]) -> Result<ControllerPlan, AllocError> {
+    let orders = List::from_vec(Vec::from_slice(alloc, rows)?);
+    let segments = segments(alloc, &[cell])?;
+    Ok(ControllerPlan {
+        orders,
+        ..plan(alloc, segments)
+    })
+}
+
+/// A plan of a wire, of an order row, and of drop 3.
+fn with_drop(alloc: Global, row: OrderRow) -> Result<ControllerPlan, AllocError> {
+    let mut drops = List::new(alloc);
+    drops.push(IoDrop {
+        number: 3,
+        modules: List::new(alloc),
+        script: List::new(alloc),
+    })?;
+    Ok(ControllerPlan {
+        drops,
+        ..with_orders(alloc, cell(1, 1, Element::Wire), &[row])?
+    })
+}
+
+fn network_fault(alloc: Global, cells: &[Cell], shorts: &[Short]) -> Result<u8, AllocError> {
+    let network = network(alloc, cells, shorts)?;
+    match network.check(&bare(alloc)) {
+        Ok(()) => Ok(0),
+        Err(fault) => Ok(fault.number()),
+    }
+}
+
+/// A plan fails so at this place.
+fn fails(plan: ControllerPlan, fault: PlantFault, part: Part, at: [u32; 4]) -> bool {
+    match plan.check() {
+        Ok(()) => false,
+        Err((first, place)) => first == fault && place == Place { part, at },
+    }
+}
+
+fn passes(plan: ControllerPlan) -> bool {
+    plan.check().is_ok()
+}
+
+#[test]
+fn cells_are_tested_by_themselves(rt: HostRuntime) -> Result<(), AllocError> {
+    let alloc = rt.alloc();
+    let mut faults = [0; 5];
+    for (i, cell) in [
+        cell(8, 1, Element::Wire),
+        cell(1, 1, Element::Skip(Operand::Const(10_000))),
+        cell(1, 1, Element::Coil(register(1))),
+        cell(1, 1, Element::Coil(coil(17))),
+        cell(1, 1, Element::Coil(coil(16))),
+    ]
+    .iter()
+    .enumerate()
+    {
+        faults[i] = network_fault(alloc, &[*cell], &[])?;
+    }
+    assert_eq!(rt; faults, [6, 3, 5, 5, 0]);
+    Ok(())
+}
+
+#[test]
+fn cells_are_tested_beside_each_other(rt: HostRuntime) -> Result<(), AllocError> {
+    let alloc = rt.alloc();
+    let wire = cell(2, 1, Element::Wire);
+    let right = cell(1, 2, Element::Wire);
+    let left = cell(1, 1, Element::Coil(coil(1)));
+    let faults = [
+        network_fault(alloc, &[wire, cell(1, 1, message())], &[])?,
+        network_fault(alloc, &[cell(6, 1, message())], &[])?,
+        network_fault(alloc, &[right, left], &[])?,
+        network_fault(alloc, &[cell(2, 1, Element::Label(1))], &[])?,
+    ];
+    assert_eq!(rt; faults, [PlantFault::BadShape.number(); 4]);
+    Ok(())
+}
+
+#[test]
+fn shorts_are_tested(rt: HostRuntime) -> Result<(), AllocError> {
+    let alloc = rt.alloc();
+    let low = Short { row: 7, column: 1 };
+    let short = Short { row: 6, column: 11 };
+    let faults = [
+        network_fault(alloc, &[], &[low])?,
+        network_fault(alloc, &[], &[short, short])?,
+        network_fault(alloc, &[], &[short])?,
+    ];
+    assert_eq!(rt; faults, [6, 7, 0]);
+    Ok(())
+}
+
+#[test]
+fn shorts_stand_behind_all_cells(rt: HostRuntime) -> Result<(), AllocError> {
+    let alloc = rt.alloc();
+    let low = Short { row: 7, column: 1 };
+    let short = Short { row: 6, column: 11 };
+    let made = segment(alloc, &[cell(1, 1, Element::Wire)], &[short, low], 1);
+    let made = plan(alloc, only(alloc, made)?);
+    assert!(rt; fails(made, PlantFault::BadCell, Part::Cell, [1, 1, 1, 3]));
+    Ok(())
+}
+
+#[test]
+fn tables_are_tested(rt: HostRuntime) {
+    let alloc = rt.alloc();
+    let at = [1, 0, 0, 0];
+    let odd = ControllerPlan {
+        coils: 8,
+        ..bare(alloc)
+    };
+    let far = ControllerPlan {
+        node: 65,
+        coils: 8,
+        ..bare(alloc)
+    };
+    let found = [
+        passes(bare(alloc)),
+        fails(odd, PlantFault::BadValue, Part::Controller, at),
+        fails(far, PlantFault::BadNode, Part::Controller, at),
+    ];
+    assert_eq!(rt; found, [true; 3]);
+}
+
+#[test]
+fn panels_are_tested(rt: HostRuntime) -> Result<(), AllocError> {
+    let alloc = rt.alloc();
+    let outside = with_panel(alloc, &[coil(16), coil(17)])?;
+    assert!(rt; fails(outside, PlantFault::BadRef, Part::Panel, [1, 2, 0, 0]));
+    let long = with_panel(alloc, &[coil(1); 65])?;
+    assert!(rt; fails(long, PlantFault::TooLarge, Part::Controller, [1, 0, 0, 0]));
+    Ok(())
+}
+
+#[test]
+fn coils_and_labels_stand_once(rt: HostRuntime) -> Result<(), AllocError> {
+    let alloc = rt.alloc();
+    let coils = [
+        cell(1, 11, Element::Coil(coil(1))),
+        cell(2, 11, Element::Latch(coil(1))),
+    ];
+    let label = cell(1, 1, Element::Label(7));
+    let again = plan(alloc, segments(alloc, &coils)?);
+    assert!(rt; fails(again, PlantFault::CoilTwice, Part::Cell, [1, 2, 1, 1]));
+    assert!(rt; passes(plan(alloc, segments(alloc, &[label])?)));
+    let stray = plan(alloc, segments(alloc, &[label; 2])?);
+    assert!(rt; fails(stray, PlantFault::BadShape, Part::Cell, [1, 1, 1, 1]));
+    Ok(())
+}
+
+/// A plan of one segment whose networks have one cell each, so many times.
+fn repeated(alloc: Global, element: Element, times: usize) -> Result<ControllerPlan, AllocError> {
+    let made = segment(alloc, &[cell(1, 1, element)], &[], times);
+    Ok(plan(alloc, only(alloc, made)?))
+}
+
+#[test]
+fn networks_are_counted(rt: HostRuntime) -> Result<(), AllocError> {
+    let alloc = rt.alloc();
+    assert!(rt; passes(repeated(alloc, message(), 64)?));
+    for (element, times, fault, part, at) in [
+        (
+            Element::Label(255),
+            2,
+            PlantFault::BadShape,
+            Part::Cell,
+            [1, 1, 2, 1],
+        ),
+        (
+            message(),
+            65,
+            PlantFault::TooLarge,
+            Part::Cell,
+            [1, 1, 65, 1],
+        ),
+        (
+            Element::Wire,
+            1001,
+            PlantFault::TooLarge,
+            Part::Segment,
+            [1, 1, 0, 0],
+        ),
+    ] {
+        assert!(rt; fails(repeated(alloc, element, times)?, fault, part, at));
+    }
+    Ok(())
+}
+
+const ROW: OrderRow = OrderRow {
+    segment: 1,
+    control: None,
+    input: None,
+    output: None,
+};
+
+#[test]
+fn order_rows_are_tested(rt: HostRuntime) -> Result<(), AllocError> {
+    let alloc = rt.alloc();
+    let wire = cell(1, 1, Element::Wire);
+    let nowhere = OrderRow { segment: 2, ..ROW };
+    assert!(rt; passes(with_orders(alloc, wire, &[ROW])?));
+    let made = with_orders(alloc, wire, &[ROW, nowhere])?;
+    assert!(rt; fails(made, PlantFault::BadOrder, Part::Order, [1, 2, 0, 0]));
+    let made = with_orders(alloc, cell(1, 1, Element::Label(1)), &[ROW])?;
+    assert!(rt; fails(made, PlantFault::BadOrder, Part::Order, [1, 1, 0, 0]));
+    Ok(())
+}
+
+#[test]
+fn order_rows_name_drops_and_controls(rt: HostRuntime) -> Result<(), AllocError> {
+    let alloc = rt.alloc();
+    let at = [1, 1, 0, 0];
+    let named = OrderRow {
+        control: Some(register(1)),
+        input: Some(3),
+        ..ROW
+    };
+    let made = with_orders(alloc, cell(1, 1, Element::Wire), &[named])?;
+    assert!(rt; fails(made, PlantFault::BadOrder, Part::Order, at));
+    assert!(rt;
+        fails(
+            with_drop(alloc, named)?,
+            PlantFault::BadRef,
+            Part::Order,
+            at
+        )
+    );
+    Ok(())
+}

@@ -1,0 +1,268 @@
+//! Copies with ample memory: each call answers a value that equals its own.
+use plant_types::{
+    Block, ControllerPlan, Copied, Element, Fate, HostAsk, HostPlan, IoDrop, List, MathOp,
+    MatrixOp, Module, ModuleKind, MoveOp, NetPlan, Network, NodePower, Operand, OrderRow, Part,
+    Pdu, Place, Plant, PlantFault, Ref, RefKind, ScriptRow, Segment, Unit, Words, is_host_plan,
+    is_net_plan,
+};
+use std::alloc::{AllocError, Global};
+
+const COIL_1: Ref = Ref {
+    kind: RefKind::Coil,
+    number: 1,
+};
+
+const ROW: OrderRow = OrderRow {
+    segment: 2,
+    control: Some(COIL_1),
+    input: Some(3),
+    output: None,
+};
+
+const MODULE: Module = Module {
+    kind: ModuleKind::InWords,
+    first: 17,
+    count: 16,
+};
+
+fn only<T: Drop>(alloc: Global, item: T) -> Result<List<T>, AllocError> {
+    let mut list = List::new(alloc);
+    list.push(item)?;
+    Ok(list)
+}
+
+fn pdu(alloc: Global) -> Result<Pdu, AllocError> {
+    match Pdu::of(alloc, &[3, 0, 0, 0, 2])? {
+        Some(pdu) => Ok(pdu),
+        None => Err(AllocError),
+    }
+}
+
+fn drop_of(alloc: Global) -> Result<IoDrop, AllocError> {
+    let mut script = only(alloc, ScriptRow::Silent)?;
+    script.push(ScriptRow::Row(Words::of(alloc, &[7, 65_535])?))?;
+    Ok(IoDrop {
+        number: 32,
+        modules: only(alloc, MODULE)?,
+        script,
+    })
+}
+
+fn controller(alloc: Global) -> Result<ControllerPlan, AllocError> {
+    let network = Network {
+        cells: List::new(alloc),
+        shorts: List::new(alloc),
+    };
+    let segment = Segment {
+        networks: only(alloc, network)?,
+    };
+    Ok(ControllerPlan {
+        node: 64,
+        coils: 16,
+        inputs: 32,
+        input_registers: 3,
+        registers: 4,
+        panel: only(alloc, COIL_1)?,
+        orders: only(alloc, ROW)?,
+        drops: only(alloc, drop_of(alloc)?)?,
+        segments: only(alloc, segment)?,
+    })
+}
+
+fn net(alloc: Global) -> Result<NetPlan, AllocError> {
+    Ok(NetPlan {
+        members: only(alloc, 64)?,
+        fates: only(alloc, Fate::A)?,
+        answer: 20,
+        rotations: 4,
+        rounds: 2,
+        holds: 100_000,
+    })
+}
+
+fn ask(alloc: Global) -> Result<HostAsk, AllocError> {
+    Ok(HostAsk {
+        hold: 10_000,
+        to: 5,
+        pdu: pdu(alloc)?,
+    })
+}
+
+fn host(alloc: Global) -> Result<HostPlan, AllocError> {
+    Ok(HostPlan {
+        node: 7,
+        requests: only(alloc, ask(alloc)?)?,
+    })
+}
+
+fn plant(alloc: Global) -> Result<Plant, AllocError> {
+    Ok(Plant {
+        scan_time: 10,
+        watchdog: 500,
+        net: net(alloc)?,
+        controllers: only(alloc, controller(alloc)?)?,
+        hosts: only(alloc, host(alloc)?)?,
+    })
+}
+
+/// A value equals its copy.
+fn is_copied<T: Copied + PartialEq + Drop>(alloc: Global, value: T) -> Result<bool, AllocError> {
+    let copy = value.copied(alloc)?;
+    Ok(copy == value)
+}
+
+#[test]
+fn copies_of_numbers_and_references(rt: HostRuntime) -> Result<(), AllocError> {
+    let alloc = rt.alloc();
+    let same = [
+        is_copied(alloc, true)?,
+        is_copied(alloc, 255u8)?,
+        is_copied(alloc, 65_535u16)?,
+        is_copied(alloc, RefKind::Register)?,
+        is_copied(alloc, COIL_1)?,
+    ];
+    assert_eq!(rt; same, [true; 5]);
+    Ok(())
+}
+
+#[test]
+fn copies_of_elements(rt: HostRuntime) -> Result<(), AllocError> {
+    let alloc = rt.alloc();
+    let same = [
+        is_copied(alloc, Operand::At(COIL_1))?,
+        is_copied(alloc, Unit::Tenth)?,
+        is_copied(alloc, MathOp::Div)?,
+        is_copied(alloc, MoveOp::Search)?,
+        is_copied(alloc, MatrixOp::Brot)?,
+        is_copied(alloc, Element::Label(7))?,
+    ];
+    assert_eq!(rt; same, [true; 6]);
+    Ok(())
+}
+
+#[test]
+fn copies_of_parts_and_faults(rt: HostRuntime) -> Result<(), AllocError> {
+    let alloc = rt.alloc();
+    let same = [
+        is_copied(alloc, ROW)?,
+        is_copied(alloc, ModuleKind::Out)?,
+        is_copied(alloc, MODULE)?,
+        is_copied(alloc, Fate::L)?,
+        is_copied(alloc, NodePower::OFF)?,
+        is_copied(alloc, PlantFault::BadDrop)?,
+        is_copied(alloc, Part::HostRequest)?,
+        is_copied(alloc, Place::PLANT)?,
+    ];
+    assert_eq!(rt; same, [true; 8]);
+    Ok(())
+}
+
+#[test]
+fn copies_of_words_and_blocks(rt: HostRuntime) -> Result<(), AllocError> {
+    let alloc = rt.alloc();
+    let words = Words::of(alloc, &[1, 2])?.copied(alloc)?;
+    assert_eq!(rt; words.words(), [1, 2].as_slice());
+    let bytes = pdu(alloc)?.copied(alloc)?;
+    assert_eq!(rt; bytes.bytes(), [3, 0, 0, 0, 2].as_slice());
+    let block = Block::of(&[9, 8]).copied(alloc)?;
+    assert_eq!(rt; block.words(), [9, 8].as_slice());
+    Ok(())
+}
+
+fn has_row(row: &ScriptRow, held: &[u16]) -> bool {
+    match row {
+        ScriptRow::Row(words) => words.words() == held,
+        ScriptRow::Silent => held.is_empty(),
+    }
+}
+
+#[test]
+fn a_script_row_and_its_copy(rt: HostRuntime) -> Result<(), AllocError> {
+    let alloc = rt.alloc();
+    let row = ScriptRow::Row(Words::of(alloc, &[7, 65_535])?).copied(alloc)?;
+    assert!(rt; has_row(&row, &[7, 65_535]));
+    let silent = ScriptRow::Silent.copied(alloc)?;
+    assert!(rt; has_row(&silent, &[]));
+    Ok(())
+}
+
+#[test]
+fn a_drop_and_its_copy(rt: HostRuntime) -> Result<(), AllocError> {
+    let copy = drop_of(rt.alloc())?.copied(rt.alloc())?;
+    assert!(rt;
+        copy.number == 32
+            && copy.modules.as_slice() == [MODULE].as_slice()
+            && copy.script.as_slice().len() == 2
+    );
+    Ok(())
+}
+
+fn is_the_controller(plan: &ControllerPlan) -> bool {
+    plan.node == 64
+        && [
+            plan.coils,
+            plan.inputs,
+            plan.input_registers,
+            plan.registers,
+        ] == [16, 32, 3, 4]
+        && plan.panel.as_slice() == [COIL_1].as_slice()
+        && plan.orders.as_slice() == [ROW].as_slice()
+        && plan.segments.as_slice().len() == 1
+        && plan.drops.as_slice().len() == 1
+}
+
+#[test]
+fn a_controller_and_its_copy(rt: HostRuntime) -> Result<(), AllocError> {
+    let copy = controller(rt.alloc())?.copied(rt.alloc())?;
+    assert!(rt; is_the_controller(&copy));
+    Ok(())
+}
+
+fn is_the_net(net: &NetPlan) -> bool {
+    net.members.as_slice() == [64].as_slice()
+        && net.fates.as_slice() == [Fate::A].as_slice()
+        && [net.answer, net.rotations, net.rounds, net.holds] == [20, 4, 2, 100_000]
+}
+
+#[test]
+fn a_net_and_its_copy(rt: HostRuntime) -> Result<(), AllocError> {
+    let copy = net(rt.alloc())?.copied(rt.alloc())?;
+    assert!(rt; is_the_net(&copy));
+    Ok(())
+}
+
+fn is_the_ask(ask: &HostAsk) -> bool {
+    ask.hold == 10_000 && ask.to == 5 && ask.pdu.bytes() == [3, 0, 0, 0, 2].as_slice()
+}
+
+#[test]
+fn a_host_and_its_copy(rt: HostRuntime) -> Result<(), AllocError> {
+    let copy = host(rt.alloc())?.copied(rt.alloc())?;
+    assert!(rt; copy.node == 7 && copy.requests.as_slice().iter().all(is_the_ask));
+    Ok(())
+}
+
+#[test]
+fn a_plant_and_its_copy(rt: HostRuntime) -> Result<(), AllocError> {
+    let copy = plant(rt.alloc())?.copied(rt.alloc())?;
+    assert!(rt;
+        [copy.scan_time, copy.watchdog] == [10, 500]
+            && is_the_net(&copy.net)
+            && copy.controllers.as_slice().iter().all(is_the_controller)
+            && copy.hosts.as_slice().len() == 1
+    );
+    Ok(())
+}
+
+#[test]
+fn networks_and_hosts_are_tested(rt: HostRuntime) -> Result<(), AllocError> {
+    let mut net = net(rt.alloc())?;
+    assert!(rt; is_net_plan(&net));
+    net.answer = 1;
+    assert!(rt; !is_net_plan(&net));
+    let mut host = host(rt.alloc())?;
+    assert!(rt; is_host_plan(&host));
+    host.node = 5;
+    assert!(rt; !is_host_plan(&host));
+    Ok(())
+}

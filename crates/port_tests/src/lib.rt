@@ -1,0 +1,9 @@
+//! Tests of hosts, and of what stations do with the token.
+#![tactic(auto)]
+
+#[cfg(test)]
+mod host_turns;
+#[cfg(test)]
+mod hosts;
+#[cfg(test)]
+mod turns;

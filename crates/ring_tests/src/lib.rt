@@ -1,0 +1,19 @@
+//! Tables of calls on a ring and their answers, worked out by hand.
+#![tactic(auto)]
+
+#[cfg(test)]
+mod exchanges;
+#[cfg(test)]
+mod fates;
+#[cfg(test)]
+mod give_ups;
+#[cfg(test)]
+mod inboxes;
+#[cfg(test)]
+mod leaving;
+#[cfg(test)]
+mod refusals;
+#[cfg(test)]
+mod script;
+#[cfg(test)]
+mod statistics;

@@ -1,0 +1,9 @@
+//! Tests of runs: the plant READ2 by turns, serially and in threads.
+#![tactic(auto)]
+
+#[cfg(test)]
+mod live;
+#[cfg(test)]
+mod read2;
+#[cfg(test)]
+mod serial;

@@ -1,0 +1,286 @@
+//! A gate over a ring, and the plant READ2 in threads.
+ghost use Rattle.std.specs.Prelude.{◌≡◌, ◌∷◌, [], IfOk};
+
+use crate::read2::{AS_IT_IS, read2};
+use controller_core::Entry;
+use crossbeam_utils::Backoff;
+use joint_history::Joint;
+use live_run::{Meet, NoMeet, RingCell, live};
+use mstr_block::MstrResult;
+use plant_types::{Fate, List, NetPlan};
+use ring_core::{LeaveCause, Ring, RingEntry};
+use std::alloc::{AllocError, Global};
+use std::sync::Wait;
+use std::sync::atomic::{AtomicU64, Ordering};
+use std::thread::Threads;
+use std::time::Clock;
+use turn_gate::Gate;
+
+/// A ring with the one member 7.
+fn lonely_ring(alloc: Global) -> Result<Ring, AllocError>
+    ensures { IfOk result (λ ring. ring.net.members ≡ 7 ∷ []) }
+{
+    let net = NetPlan {
+        members: List::from_vec(Vec::from_slice(alloc, &[7])?),
+        fates: List::from_vec(Vec::from_slice(alloc, &[Fate::D])?),
+        answer: 20,
+        rotations: 2,
+        rounds: 1,
+        holds: 100_000,
+    };
+    Ring::new(alloc, &net)
+}
+
+/// The history is `PA 7 0 -`.
+fn is_one_pass(history: &[RingEntry]) -> bool {
+    match history.first() {
+        Some(RingEntry::Pass { node, done, words }) => {
+            history.len() == 1 && *node == 7 && !*done && words.words().is_empty()
+        }
+        _ => false,
+    }
+}
+
+#[test]
+fn a_pass_behind_a_gate(rt: HostRuntime) -> Result<(), AllocError> {
+    let cell = RingCell::new(lonely_ring(rt.alloc())?);
+    let (gate, zero) = Gate::new(rt.alloc(), cell)?;
+    let (zero, mut seven) = gate.split(zero, 7);
+    let mut held = gate.enter(&rt, &mut seven);
+    let passed = held.value().get_mut().pass(7, false);
+    gate.leave(&mut seven, held);
+    let zero = gate.join(zero, seven);
+    let ring = gate.close(zero).into_inner();
+    assert!(rt; passed.is_ok());
+    assert!(rt; is_one_pass(ring.history()));
+    Ok(())
+}
+
+fn ran<M: Meet + Sync, R: Threads + Wait + Clock + Sync>(
+    rt: &R,
+    alloc: Global,
+    meet: &M,
+) -> Result<Joint, AllocError> {
+    let plant = read2(alloc, AS_IT_IS)?;
+    live(rt, alloc, &plant, 2, meet)
+}
+
+/// A letter for each event of the scan.
+fn scan_letter(entry: &Entry) -> Option<u8> {
+    match entry {
+        Entry::Begin => Some(b'B'),
+        Entry::Input(_) => Some(b'I'),
+        Entry::Solve(_) => Some(b'S'),
+        Entry::Output { .. } => Some(b'O'),
+        Entry::End => Some(b'E'),
+        Entry::Collect(_) | Entry::Peer { .. } | Entry::Finish { .. } => None,
+    }
+}
+
+/// The events of the scans of all controllers.
+fn scans(alloc: Global, joint: &Joint) -> Result<Vec<u8>, AllocError> {
+    let mut text = Vec::new(alloc);
+    for log in joint.controllers.as_slice() {
+        for entry in log.entries.as_slice() {
+            if let Some(letter) = scan_letter(entry) {
+                text.push(letter)?;
+            }
+        }
+        text.push(b' ')?;
+    }
+    Ok(text)
+}
+
+/// The words of a result, and no word of a node for an error.
+fn push_words(words: &mut Vec<u16>, outcome: &MstrResult) -> Result<(), AllocError> {
+    match outcome {
+        MstrResult::Good(block) => {
+            for word in block.words() {
+                words.push(*word)?;
+            }
+        }
+        MstrResult::Bad(_) => words.push(65_535)?,
+    }
+    Ok(())
+}
+
+/// Each controller's node, and behind it what its calls brought.
+fn results(alloc: Global, joint: &Joint) -> Result<Vec<u16>, AllocError> {
+    let mut words = Vec::new(alloc);
+    for log in joint.controllers.as_slice() {
+        words.push(u16::from(log.node))?;
+        for entry in log.entries.as_slice() {
+            if let Entry::Finish { result, .. } = entry {
+                push_words(&mut words, result)?;
+            }
+        }
+    }
+    Ok(words)
+}
+
+/// The first events of all controllers.
+fn begins(alloc: Global, joint: &Joint) -> Result<Vec<u8>, AllocError> {
+    let mut text = Vec::new(alloc);
+    for log in joint.controllers.as_slice() {
+        if let Some(entry) = log.entries.as_slice().first() {
+            text.push(scan_letter(entry).unwrap_or(b'-'))?;
+        }
+    }
+    Ok(text)
+}
+
+/// How often a node left for a cause.
+fn leaves(ring: &[RingEntry], of: u8, why: LeaveCause) -> u64 {
+    let mut count = 0u64;
+    for entry in ring {
+        if let RingEntry::Leave { node, cause } = entry {
+            count = count.saturating_add(u64::from(*node == of && *cause == why));
+        }
+    }
+    count
+}
+
+/// The node left once, and had come to its end.
+fn has_ended(ring: &[RingEntry], node: u8) -> bool {
+    leaves(ring, node, LeaveCause::Ended) == 1 && leaves(ring, node, LeaveCause::Spent) == 0
+}
+
+#[test]
+fn a_call_is_answered(rt: HostRuntime) -> Result<(), AllocError> {
+    let joint = ran(&rt, rt.alloc(), &NoMeet)?;
+    let events = scans(rt.alloc(), &joint)?;
+    assert!(rt; events.as_slice() == b"BSEBSE BSEBSE ".as_slice());
+    // Node 5 is asked before its first scan, or after it.
+    let words = results(rt.alloc(), &joint)?;
+    let words = words.as_slice();
+    assert!(rt; words == [2, 42, 43, 5].as_slice() || words == [2, 0, 0, 5].as_slice());
+    assert!(rt; has_ended(joint.ring.as_slice(), 2));
+    assert!(rt; has_ended(joint.ring.as_slice(), 5));
+    Ok(())
+}
+
+/// Lets node 2 go on from its first segment once node 5 has solved its own.
+#[derive(Drop)]
+struct FiveFirst {
+    solved: AtomicU64,
+}
+
+impl Meet for FiveFirst {
+    fn in_ram(&self, node: u8) {
+        if node == 5 {
+            self.solved.store(1, Ordering::SeqCst);
+        }
+        let backoff = Backoff::new();
+        for _ in 0..10_000_000 {
+            if self.solved.load(Ordering::SeqCst) != 0 {
+                return;
+            }
+            backoff.snooze();
+        }
+    }
+
+    fn ring_entry(&self, node: u8) {
+        let _ = node;
+    }
+}
+
+#[test]
+fn a_call_brings_words(rt: HostRuntime) -> Result<(), AllocError> {
+    let meet = FiveFirst {
+        solved: AtomicU64::new(0),
+    };
+    let joint = ran(&rt, rt.alloc(), &meet)?;
+    let first = begins(rt.alloc(), &joint)?;
+    assert!(rt; first.as_slice() == b"BB".as_slice());
+    let words = results(rt.alloc(), &joint)?;
+    assert!(rt; words.as_slice() == [2, 42, 43, 5].as_slice());
+    assert!(rt; has_ended(joint.ring.as_slice(), 2));
+    assert!(rt; has_ended(joint.ring.as_slice(), 5));
+    Ok(())
+}
+
+/// How often the workers of a node told where they are.
+#[derive(Drop)]
+struct Told {
+    solves: AtomicU64,
+    entries: AtomicU64,
+}
+
+impl Told {
+    fn new() -> Told {
+        Told {
+            solves: AtomicU64::new(0),
+            entries: AtomicU64::new(0),
+        }
+    }
+
+    fn counts(&self) -> [u64; 2] {
+        [
+            self.solves.load(Ordering::SeqCst),
+            self.entries.load(Ordering::SeqCst),
+        ]
+    }
+}
+
+/// Counts what it is told of node 2 and of all others.
+#[derive(Drop)]
+struct Counts {
+    two: Told,
+    others: Told,
+}
+
+impl Counts {
+    fn of(&self, node: u8) -> &Told {
+        if node == 2 { &self.two } else { &self.others }
+    }
+}
+
+impl Meet for Counts {
+    fn in_ram(&self, node: u8) {
+        self.of(node).solves.fetch_add(1, Ordering::SeqCst);
+    }
+
+    fn ring_entry(&self, node: u8) {
+        self.of(node).entries.fetch_add(1, Ordering::SeqCst);
+    }
+}
+
+/// Who made an entry of the ring.
+fn maker(entry: &RingEntry) -> u8 {
+    match entry {
+        RingEntry::Post { node, .. } | RingEntry::Send { node, .. } => *node,
+        RingEntry::Take { node, .. } | RingEntry::Local { node, .. } => *node,
+        RingEntry::Pass { node, .. } | RingEntry::Leave { node, .. } => *node,
+        RingEntry::GiveUp { id, .. } => id.node,
+    }
+}
+
+/// The Solves of node's controller and the node's entries of the ring.
+fn made(joint: &Joint, node: u8) -> [u64; 2] {
+    let mut solves = 0u64;
+    for log in joint.controllers.as_slice() {
+        for entry in log.entries.as_slice() {
+            let is_its = log.node == node && scan_letter(entry) == Some(b'S');
+            solves = solves.saturating_add(u64::from(is_its));
+        }
+    }
+    let mut entries = 0u64;
+    for entry in joint.ring.as_slice() {
+        entries = entries.saturating_add(u64::from(maker(entry) == node));
+    }
+    [solves, entries]
+}
+
+#[test]
+fn each_solve_and_each_entry_is_told(rt: HostRuntime) -> Result<(), AllocError> {
+    let meet = Counts {
+        two: Told::new(),
+        others: Told::new(),
+    };
+    let joint = ran(&rt, rt.alloc(), &meet)?;
+    assert!(rt; made(&joint, 2) == meet.two.counts());
+    assert!(rt; made(&joint, 5) == meet.others.counts());
+    let [solves, entries] = meet.two.counts();
+    assert!(rt; solves == 2 && entries > 2);
+    Ok(())
+}

@@ -1,0 +1,255 @@
+//! The plant READ2: node 2 reads two registers of node 5.
+ghost use Rattle.std.specs.Prelude.{◌≡◌, ◌≤◌, length, IfOk, IfSome, ◌∷◌, [], map, All};
+ghost use Rattle.std.specs.List.{AllByRecursion};
+ghost use Rattle.controller_core.specs.Machine.{CanRun};
+ghost use Rattle.plant_types.specs.Plans.{IsNetPlan, PassesTests};
+ghost use Rattle.joint_history.specs.Runnable.{CanRunPlant};
+
+use plant_types::{
+    Cell, ControllerPlan, Element, Fate, List, MathOp, NetPlan, Network, Operand, OrderRow, Plant,
+    Ref, RefKind, Segment, checks_are_exact, is_net_plan,
+};
+use std::alloc::{AllocError, Global};
+
+/// What a test changes of it.
+#[derive(Clone, Copy)]
+pub struct Change {
+    pub fates: &'static [Fate],
+    pub rotations: u32,
+    pub holds: u32,
+    /// The node that is asked.
+    pub to: u16,
+}
+
+pub const AS_IT_IS: Change = Change {
+    fates: &[Fate::D],
+    rotations: 2,
+    holds: 100_000,
+    to: 5,
+};
+
+/// The segment is solved, whatever is on.
+const ROW: OrderRow = OrderRow {
+    segment: 1,
+    control: None,
+    input: None,
+    output: None,
+};
+
+fn register(number: u16) -> Ref {
+    Ref {
+        kind: RefKind::Register,
+        number,
+    }
+}
+
+fn coil(number: u16) -> Element {
+    Element::Coil(Ref {
+        kind: RefKind::Coil,
+        number,
+    })
+}
+
+fn cell(row: u8, column: u8, element: Element) -> Cell {
+    Cell {
+        row,
+        column,
+        element,
+    }
+}
+
+/// An ADD in column 1.
+fn sum(row: u8, one: u16, other: u16, low: u16) -> Cell {
+    let element = Element::Math {
+        op: MathOp::Add,
+        top: Operand::Const(one),
+        mid: Operand::Const(other),
+        low: register(low),
+    };
+    cell(row, 1, element)
+}
+
+fn network(alloc: Global, cells: &[Cell]) -> Result<Network, AllocError> {
+    Ok(Network {
+        cells: List::from_vec(Vec::from_slice(alloc, cells)?),
+        shorts: List::new(alloc),
+    })
+}
+
+fn message(alloc: Global) -> Result<Network, AllocError> {
+    let message = Element::Mstr {
+        control: register(1),
+        area: register(11),
+        length: 10,
+    };
+    let cells = [
+        cell(1, 1, Element::Wire),
+        cell(1, 2, message),
+        cell(1, 3, coil(1)),
+        cell(2, 3, coil(2)),
+        cell(3, 3, coil(3)),
+    ];
+    network(alloc, &cells)
+}
+
+/// What node 2 solves.
+fn asking(alloc: Global, to: u16) -> Result<List<Network>, AllocError> {
+    let mut networks = List::new(alloc);
+    networks.push(network(alloc, &[sum(1, 2, 0, 1), sum(4, 2, 0, 3)])?)?;
+    networks.push(network(alloc, &[sum(1, 1, 0, 4), sum(4, to, 0, 5)])?)?;
+    networks.push(message(alloc)?)?;
+    Ok(networks)
+}
+
+/// What node 5 solves.
+fn asked(alloc: Global) -> Result<List<Network>, AllocError> {
+    let mut networks = List::new(alloc);
+    networks.push(network(alloc, &[sum(1, 41, 1, 1), sum(4, 43, 0, 2)])?)?;
+    Ok(networks)
+}
+
+fn one_row(alloc: Global) -> Result<List<OrderRow>, AllocError>
+    ensures { IfOk result (λ rows. rows ≡ ROW ∷ []) }
+{
+    let mut rows = List::new(alloc);
+    rows.push(ROW)?;
+    Ok(rows)
+}
+
+fn one_segment(alloc: Global, networks: List<Network>) -> Result<List<Segment>, AllocError>
+    ensures { IfOk result (λ segments. length segments ≡ 1) }
+{
+    let mut segments = List::new(alloc);
+    segments.push(Segment { networks })?;
+    Ok(segments)
+}
+
+/// The plan, if it passes its tests.
+fn checked(plan: ControllerPlan) -> Option<ControllerPlan>
+    requires rows { AllByRecursion (λ row. row ≡ ROW) plan.orders }
+    requires few { length plan.orders ≤ 3 }
+    requires segment { length plan.segments ≡ 1 }
+    ensures runs { IfSome result CanRun }
+    ensures passes { IfSome result PassesTests }
+    ensures node { IfSome result (λ checked. checked.node ≡ plan.node) }
+{
+    checks_are_exact();
+    match plan.check() {
+        Ok(()) => Some(plan),
+        Err(_) => None,
+    }
+}
+
+fn controller(
+    alloc: Global,
+    node: u8,
+    registers: u16,
+    networks: List<Network>,
+) -> Result<Option<ControllerPlan>, AllocError>
+    ensures runs { IfOk result (λ plan. IfSome plan CanRun) }
+    ensures passes { IfOk result (λ plan. IfSome plan PassesTests) }
+    ensures node { IfOk result (λ plan. IfSome plan (λ plan. plan.node ≡ node)) }
+{
+    Ok(checked(ControllerPlan {
+        node,
+        coils: 16,
+        inputs: 0,
+        input_registers: 0,
+        registers,
+        panel: List::new(alloc),
+        orders: one_row(alloc)?,
+        drops: List::new(alloc),
+        segments: one_segment(alloc, networks)?,
+    }))
+}
+
+fn one_plan(alloc: Global, plan: Option<ControllerPlan>) -> Result<List<ControllerPlan>, AllocError>
+    requires runs { IfSome plan CanRun }
+    requires passes { IfSome plan PassesTests }
+    requires node { IfSome plan (λ plan. plan.node ≡ 2) }
+    ensures runs { IfOk result (All CanRun) }
+    ensures passes { IfOk result (All PassesTests) }
+    ensures nodes { IfOk result (λ plans. map (λ plan. plan.node) plans ≡ 2 ∷ []) }
+{
+    let mut plans = List::new(alloc);
+    match plan {
+        Some(plan) => plans.push(plan)?,
+        None => return Err(AllocError),
+    }
+    Ok(plans)
+}
+
+fn two_plans(
+    mut plans: List<ControllerPlan>,
+    plan: Option<ControllerPlan>,
+) -> Result<List<ControllerPlan>, AllocError>
+    requires all_run { All CanRun plans }
+    requires all_pass { All PassesTests plans }
+    requires nodes { map (λ plan. plan.node) plans ≡ 2 ∷ [] }
+    requires runs { IfSome plan CanRun }
+    requires passes { IfSome plan PassesTests }
+    requires node { IfSome plan (λ plan. plan.node ≡ 5) }
+    ensures runs { IfOk result (All CanRun) }
+    ensures passes { IfOk result (All PassesTests) }
+    ensures nodes { IfOk result (λ plans. map (λ plan. plan.node) plans ≡ 2 ∷ 5 ∷ []) }
+{
+    match plan {
+        Some(plan) => plans.push(plan)?,
+        None => return Err(AllocError),
+    }
+    Ok(plans)
+}
+
+fn controllers(alloc: Global, to: u16) -> Result<List<ControllerPlan>, AllocError>
+    ensures runs { IfOk result (All CanRun) }
+    ensures passes { IfOk result (All PassesTests) }
+    ensures nodes { IfOk result (λ plans. map (λ plan. plan.node) plans ≡ 2 ∷ 5 ∷ []) }
+{
+    let two = controller(alloc, 2, 20, asking(alloc, to)?)?;
+    let plans = one_plan(alloc, two)?;
+    let five = controller(alloc, 5, 4, asked(alloc)?)?;
+    two_plans(plans, five)
+}
+
+fn net(alloc: Global, change: Change) -> Result<NetPlan, AllocError>
+    ensures sound { IfOk result IsNetPlan }
+    ensures members { IfOk result (λ net. net.members ≡ 2 ∷ 5 ∷ []) }
+{
+    let net = NetPlan {
+        members: List::from_vec(Vec::from_slice(alloc, &[2, 5])?),
+        fates: List::from_vec(Vec::from_slice(alloc, change.fates)?),
+        answer: 20,
+        rotations: change.rotations,
+        rounds: 1,
+        holds: change.holds,
+    };
+    if !is_net_plan(&net) {
+        return Err(AllocError);
+    }
+    Ok(net)
+}
+
+fn plant_of(alloc: Global, net: NetPlan, controllers: List<ControllerPlan>) -> Plant
+    requires net { IsNetPlan net }
+    requires members { net.members ≡ 2 ∷ 5 ∷ [] }
+    requires runs { All CanRun controllers }
+    requires passes { All PassesTests controllers }
+    requires nodes { map (λ plan. plan.node) controllers ≡ 2 ∷ 5 ∷ [] }
+    ensures { CanRunPlant result }
+{
+    Plant {
+        scan_time: 10,
+        watchdog: 500,
+        net,
+        controllers,
+        hosts: List::new(alloc),
+    }
+}
+
+pub fn read2(alloc: Global, change: Change) -> Result<Plant, AllocError>
+    ensures { IfOk result CanRunPlant }
+{
+    let net = net(alloc, change)?;
+    let controllers = controllers(alloc, change.to)?;
+    Ok(plant_of(alloc, net, controllers))
+}

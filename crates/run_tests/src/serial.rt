@@ -1,0 +1,209 @@
+//! Runs of the plant READ2.
+ghost use Rattle.std.specs.Prelude.{◌≤◌};
+
+use crate::read2::{AS_IT_IS, Change, read2};
+use controller_core::Entry;
+use joint_history::Joint;
+use mstr_block::MstrResult;
+use plant_types::Fate;
+use ring_core::{FrameKind, Heard, LeaveCause, RingEntry};
+use serial_run::{Turn, run, turns};
+use std::alloc::{AllocError, Global};
+
+/// A letter for each entry of a controller.
+fn controller_letter(entry: &Entry) -> u8 {
+    match entry {
+        Entry::Begin => b'B',
+        Entry::Input(_) => b'I',
+        Entry::Solve(_) => b'S',
+        Entry::Output { .. } => b'O',
+        Entry::End => b'E',
+        Entry::Collect(_) => b'L',
+        Entry::Peer { .. } => b'P',
+        Entry::Finish { result, .. } => match result {
+            MstrResult::Good(_) => b'F',
+            MstrResult::Bad(_) => b'f',
+        },
+    }
+}
+
+/// Who made an entry of the ring, and a letter for it.
+fn ring_letter(entry: &RingEntry) -> (u8, u8) {
+    match entry {
+        RingEntry::Post { node, frame } => match frame.kind {
+            FrameKind::Request => (*node, b'Q'),
+            FrameKind::Reply => (*node, b'R'),
+        },
+        RingEntry::Send { node, heard } => match heard {
+            Heard::Acked => (*node, b'A'),
+            Heard::Silent => (*node, b'S'),
+            Heard::Busy => (*node, b'B'),
+        },
+        RingEntry::Take { node, .. } => (*node, b'T'),
+        RingEntry::Local { node, .. } => (*node, b'O'),
+        RingEntry::GiveUp { id, .. } => (id.node, b'G'),
+        RingEntry::Pass { node, done, .. } => (*node, if *done { b'd' } else { b'n' }),
+        RingEntry::Leave { node, cause } => match cause {
+            LeaveCause::Ended => (*node, b'E'),
+            LeaveCause::Spent => (*node, b'X'),
+        },
+    }
+}
+
+fn push_controller(text: &mut Vec<u8>, entries: &[Entry]) -> Result<(), AllocError> {
+    for entry in entries {
+        text.push(controller_letter(entry))?;
+    }
+    text.push(b' ')?;
+    Ok(())
+}
+
+fn push_ring(text: &mut Vec<u8>, entries: &[RingEntry]) -> Result<(), AllocError> {
+    for entry in entries {
+        let (node, letter) = ring_letter(entry);
+        text.push(if node == 2 { b'2' } else { b'5' })?;
+        text.push(letter)?;
+    }
+    Ok(())
+}
+
+/// The letters of both controllers and of the ring.
+fn letters(alloc: Global, joint: &Joint) -> Result<Vec<u8>, AllocError> {
+    let mut text = Vec::new(alloc);
+    for log in joint.controllers.as_slice() {
+        push_controller(&mut text, log.entries.as_slice())?;
+    }
+    push_ring(&mut text, joint.ring.as_slice())?;
+    Ok(text)
+}
+
+fn turned(alloc: Global, change: Change, scans: u32, order: &[Turn]) -> Result<Vec<u8>, AllocError>
+    requires { scans ≤ 2000 }
+{
+    let plant = read2(alloc, change)?;
+    let joint = turns(alloc, &plant, scans, order)?;
+    letters(alloc, &joint)
+}
+
+fn ran(alloc: Global, change: Change, scans: u32) -> Result<Vec<u8>, AllocError>
+    requires { scans ≤ 2000 }
+{
+    let plant = read2(alloc, change)?;
+    let joint = run(alloc, &plant, scans)?;
+    letters(alloc, &joint)
+}
+
+#[test]
+fn turns_come_in_any_order(rt: HostRuntime) -> Result<(), AllocError> {
+    let alloc = rt.alloc();
+    let scan = [Turn::Step(2), Turn::Step(2), Turn::Step(2), Turn::Hold];
+    let text = turned(alloc, AS_IT_IS, 2, &scan)?;
+    assert!(rt; text.as_slice() == b"BSEL  2Q2A2n".as_slice());
+
+    // No serial run begins with the token, steps by halves or knows node 9.
+    let order = [
+        Turn::Hold,
+        Turn::Hold,
+        Turn::Step(5),
+        Turn::Step(9),
+        Turn::Visit(2),
+        Turn::Step(2),
+        Turn::Step(2),
+        Turn::Step(2),
+        Turn::Hold,
+        Turn::Step(5),
+        Turn::Hold,
+        Turn::Step(5),
+        Turn::Step(5),
+        Turn::Hold,
+        Turn::Hold,
+        Turn::Hold,
+        Turn::Hold,
+        Turn::Hold,
+        Turn::Visit(2),
+    ];
+    let text = turned(alloc, AS_IT_IS, 1, &order)?;
+    assert!(rt; text.as_slice() == b"BSELF BSPE 2n5n2Q2A2n5T5R5A5n2T2d5d2E5E".as_slice());
+    Ok(())
+}
+
+#[test]
+fn a_node_that_has_left_ends_its_calls(rt: HostRuntime) -> Result<(), AllocError> {
+    let change = Change {
+        holds: 1,
+        ..AS_IT_IS
+    };
+    let order = [
+        Turn::Hold,
+        Turn::Hold,
+        Turn::Hold,
+        Turn::Hold,
+        Turn::Step(2),
+        Turn::Step(2),
+        Turn::Step(2),
+        Turn::Visit(5),
+        Turn::Visit(2),
+        Turn::Visit(2),
+    ];
+    let text = turned(rt.alloc(), change, 2, &order)?;
+    assert!(rt; text.as_slice() == b"BSELf  2n5n2X5X2Q2G".as_slice());
+    Ok(())
+}
+
+#[test]
+fn a_run_brings_words(rt: HostRuntime) -> Result<(), AllocError> {
+    let nobody = Change { to: 9, ..AS_IT_IS };
+    let own = Change { to: 2, ..AS_IT_IS };
+    let rows: [(Change, u32, &[u8]); 3] = [
+        (
+            AS_IT_IS,
+            2,
+            b"BSELFBSE BSEPBSE 2Q2A2n5T5R5A5n2T2n5n2d5d2E5E",
+        ),
+        (nobody, 2, b"BSELfBSE BSEBSE 2Q2S2S2S2G2n5n2n5n2d5d2E5E"),
+        (own, 2, b"BSEBSE BSEBSE 2n5n2n5n2d5d2E5E"),
+    ];
+    for (change, scans, text) in rows {
+        let ran = ran(rt.alloc(), change, scans)?;
+        assert!(rt; ran.as_slice() == text);
+    }
+    Ok(())
+}
+
+#[test]
+fn a_run_loses_frames_and_spends_passes(rt: HostRuntime) -> Result<(), AllocError> {
+    let silent = Change {
+        fates: &[Fate::A],
+        ..AS_IT_IS
+    };
+    let again = Change {
+        fates: &[Fate::A, Fate::D],
+        ..AS_IT_IS
+    };
+    let spent = Change {
+        holds: 1,
+        ..AS_IT_IS
+    };
+    let rows: [(Change, u32, &[u8]); 3] = [
+        (
+            silent,
+            2,
+            b"BSELfBSE BSEPBSE 2Q2S2S2S2G2n5T5R5S5S5S5n2n5n2d5d2E5E",
+        ),
+        (
+            again,
+            2,
+            b"BSELFBSE BSEPBSE 2Q2S2A2n5T5R5S5A5n2T2n5n2d5d2E5E",
+        ),
+        (
+            spent,
+            4,
+            b"BSELFBSEBSELfBSE BSEPBSEBSEBSE 2Q2A2n5T5R5A5n2T2X5X2Q2G",
+        ),
+    ];
+    for (change, scans, text) in rows {
+        let ran = ran(rt.alloc(), change, scans)?;
+        assert!(rt; ran.as_slice() == text);
+    }
+    Ok(())
+}

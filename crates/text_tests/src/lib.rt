@@ -1,0 +1,7 @@
+//! Tests of journals, written and read.
+#![tactic(auto)]
+
+#[cfg(test)]
+mod read;
+#[cfg(test)]
+mod written;

@@ -1,0 +1,11 @@
+//! Whether the lists of a plant fit one order in time in which nothing comes before its cause, and
+//! where not.
+#![tactic(auto)]
+
+mod counts;
+mod judging;
+mod laws;
+mod reaching;
+
+pub use judging::{Standstill, first_standstill};
+pub use laws::stands_still_once;

@@ -1,0 +1,4 @@
+pub mod Blocks
+pub mod Turn
+pub mod HostTurn
+pub mod Legal

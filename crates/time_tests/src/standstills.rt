@@ -1,0 +1,334 @@
+//! Small joint histories, told by their lists.
+use controller_core::{Call, CallKind, Entry};
+use host_port::{HostEntry, HostResult};
+use joint_history::{ControllerLog, HostLog, Joint};
+use mstr_block::{CallId, MstrResult};
+use plant_types::{List, Pdu};
+use ring_core::{Frame, FrameKind, GET_STATISTICS, LocalOp, RingEntry};
+use std::alloc::{AllocError, Global};
+use std::test::Fail;
+use time_judge::{Standstill, first_standstill};
+
+/// What is asked.
+const READ: [u8; 5] = [3, 0, 0, 0, 1];
+
+fn pdu_of(alloc: Global, bytes: &[u8]) -> Result<Pdu, AllocError> {
+    match Pdu::of(alloc, bytes)? {
+        Some(pdu) => Ok(pdu),
+        None => Err(AllocError),
+    }
+}
+
+/// The first call of a node on its path 1.
+fn call_of(node: u8) -> CallId {
+    CallId {
+        node,
+        path: 1,
+        seq: 1,
+    }
+}
+
+/// What a controller noted of calls that are named by who asked.
+#[derive(Clone, Copy)]
+enum Noted {
+    Collects(u8),
+    Answers(u8),
+    Finishes(u8),
+}
+
+fn collect(alloc: Global, node: u8) -> Result<Entry, AllocError> {
+    let mut calls = List::new(alloc);
+    calls.push(Call {
+        id: call_of(node),
+        kind: CallKind::Net {
+            to: 9,
+            pdu: pdu_of(alloc, &READ)?,
+        },
+    })?;
+    Ok(Entry::Collect(calls))
+}
+
+fn entry_of(alloc: Global, noted: Noted) -> Result<Entry, AllocError> {
+    match noted {
+        Noted::Collects(node) => collect(alloc, node),
+        Noted::Answers(node) => Ok(Entry::Peer {
+            id: call_of(node),
+            request: pdu_of(alloc, &READ)?,
+            reply: pdu_of(alloc, &READ)?,
+        }),
+        Noted::Finishes(node) => Ok(Entry::Finish {
+            id: call_of(node),
+            result: MstrResult::Bad(0x6101),
+        }),
+    }
+}
+
+fn controller(alloc: Global, node: u8, list: &[Noted]) -> Result<ControllerLog, AllocError> {
+    let mut entries = List::new(alloc);
+    for noted in list {
+        entries.push(entry_of(alloc, *noted)?)?;
+    }
+    Ok(ControllerLog { node, entries })
+}
+
+/// What a node did on the ring; a call is named by who asked.
+#[derive(Clone, Copy)]
+enum Did {
+    Posts(u8),
+    Takes(u8, u8),
+    TakesForPort(u8, u8),
+    AnswersAtPort(u8, u8),
+    Replies(u8, u8),
+    TakesReply(u8),
+}
+
+fn frame_of(alloc: Global, kind: FrameKind, from: u8, bytes: &[u8]) -> Result<Frame, AllocError> {
+    Ok(Frame {
+        kind,
+        to: 9,
+        id: call_of(from),
+        pdu: pdu_of(alloc, bytes)?,
+    })
+}
+
+fn deed_of(alloc: Global, did: Did) -> Result<RingEntry, AllocError> {
+    match did {
+        Did::Posts(node) => Ok(RingEntry::Post {
+            node,
+            frame: frame_of(alloc, FrameKind::Request, node, &READ)?,
+        }),
+        Did::Takes(node, from) => Ok(RingEntry::Take {
+            node,
+            frame: frame_of(alloc, FrameKind::Request, from, &READ)?,
+        }),
+        Did::TakesForPort(node, from) => Ok(RingEntry::Take {
+            node,
+            frame: frame_of(alloc, FrameKind::Request, from, &GET_STATISTICS)?,
+        }),
+        Did::AnswersAtPort(node, from) => Ok(RingEntry::Local {
+            node,
+            id: call_of(from),
+            op: LocalOp::RemoteGet,
+            result: MstrResult::Bad(0x6101),
+        }),
+        Did::Replies(node, from) => Ok(RingEntry::Post {
+            node,
+            frame: frame_of(alloc, FrameKind::Reply, from, &READ)?,
+        }),
+        Did::TakesReply(node) => Ok(RingEntry::Take {
+            node,
+            frame: frame_of(alloc, FrameKind::Reply, node, &READ)?,
+        }),
+    }
+}
+
+fn ring(alloc: Global, list: &[Did]) -> Result<List<RingEntry>, AllocError> {
+    let mut entries = List::new(alloc);
+    for one in list {
+        entries.push(deed_of(alloc, *one)?)?;
+    }
+    Ok(entries)
+}
+
+/// Where controllers 1 and 2 and the ring stand still.
+fn two_stand_still(
+    alloc: Global,
+    one: &[Noted],
+    two: &[Noted],
+    list: &[Did],
+) -> Result<Option<Standstill>, AllocError> {
+    let mut controllers = List::new(alloc);
+    controllers.push(controller(alloc, 1, one)?)?;
+    controllers.push(controller(alloc, 2, two)?)?;
+    let joint = Joint {
+        controllers,
+        hosts: List::new(alloc),
+        ring: ring(alloc, list)?,
+    };
+    first_standstill(alloc, &joint)
+}
+
+/// Each of two nodes reads of the other; node 1 posts first.
+const BOTH: [Did; 8] = [
+    Did::Posts(1),
+    Did::Takes(2, 1),
+    Did::Replies(2, 1),
+    Did::Posts(2),
+    Did::TakesReply(1),
+    Did::Takes(1, 2),
+    Did::Replies(1, 2),
+    Did::TakesReply(2),
+];
+
+#[test]
+fn two_reads_are_in_time(rt: HostRuntime) -> Result<(), Fail> {
+    let one = [Noted::Collects(1), Noted::Finishes(1), Noted::Answers(2)];
+    let two = [Noted::Answers(1), Noted::Collects(2), Noted::Finishes(2)];
+    assert!(rt; two_stand_still(rt.alloc(), &one, &two, &BOTH)?.is_none());
+    Ok(())
+}
+
+// Each answers before it asks: node 1 waits for the request of node 2, which waits for its own.
+#[test]
+fn answers_before_asking(rt: HostRuntime) -> Result<(), Fail> {
+    let one = [Noted::Answers(2), Noted::Collects(1), Noted::Finishes(1)];
+    let two = [Noted::Answers(1), Noted::Collects(2), Noted::Finishes(2)];
+    let at = Standstill {
+        node: 1,
+        entries: 0,
+        place: 0,
+    };
+    assert!(rt; two_stand_still(rt.alloc(), &one, &two, &BOTH)? == Some(at));
+    Ok(())
+}
+
+// The first station is in time, the second replied before it answered.
+#[test]
+fn replies_before_answering(rt: HostRuntime) -> Result<(), Fail> {
+    let one = [Noted::Collects(1), Noted::Finishes(1), Noted::Answers(2)];
+    let two = [Noted::Collects(2), Noted::Finishes(2), Noted::Answers(1)];
+    let at = Standstill {
+        node: 2,
+        entries: 1,
+        place: 2,
+    };
+    assert!(rt; two_stand_still(rt.alloc(), &one, &two, &BOTH)? == Some(at));
+    Ok(())
+}
+
+// The reply of the port is none of the controller's: it may come before the controller's answer,
+// and the reply behind it may not.
+#[test]
+fn statistics_lend_nothing(rt: HostRuntime) -> Result<(), Fail> {
+    let list = [
+        Did::TakesForPort(2, 1),
+        Did::AnswersAtPort(2, 1),
+        Did::Takes(2, 1),
+        Did::Replies(2, 1),
+        Did::Posts(2),
+        Did::TakesReply(2),
+        Did::Replies(2, 1),
+    ];
+    let late = [Noted::Collects(2), Noted::Finishes(2), Noted::Answers(1)];
+    assert!(rt; two_stand_still(rt.alloc(), &[], &late, &list)?.is_none());
+    let early = [
+        Did::TakesForPort(2, 1),
+        Did::AnswersAtPort(2, 1),
+        Did::Takes(2, 1),
+        Did::Replies(2, 1),
+        Did::Replies(2, 1),
+        Did::Posts(2),
+        Did::TakesReply(2),
+    ];
+    let at = Standstill {
+        node: 2,
+        entries: 1,
+        place: 4,
+    };
+    assert!(rt; two_stand_still(rt.alloc(), &[], &late, &early)? == Some(at));
+    Ok(())
+}
+
+/// Where controller 2, which answers one request, and the ring stand still.
+fn answers_once(alloc: Global, list: &[Did]) -> Result<Option<Standstill>, AllocError> {
+    two_stand_still(alloc, &[], &[Noted::Answers(1)], list)
+}
+
+// A reply waits for the Take of a request, whatever was answered.
+#[test]
+fn replies_to_nothing(rt: HostRuntime) -> Result<(), Fail> {
+    let early = [Did::Takes(2, 1), Did::Replies(2, 1), Did::Replies(2, 1)];
+    let at = Standstill {
+        node: 2,
+        entries: 1,
+        place: 2,
+    };
+    assert!(rt; answers_once(rt.alloc(), &early)? == Some(at));
+    let taken = [Did::Replies(2, 1), Did::Takes(2, 1)];
+    let first = Standstill {
+        node: 2,
+        entries: 0,
+        place: 0,
+    };
+    assert!(rt; answers_once(rt.alloc(), &taken)? == Some(first));
+    Ok(())
+}
+
+// What a port answers waits for its request, and the reply for what the port answers.
+#[test]
+fn ports_answer_what_they_took(rt: HostRuntime) -> Result<(), Fail> {
+    let at = Standstill {
+        node: 2,
+        entries: 0,
+        place: 0,
+    };
+    let early = [Did::AnswersAtPort(2, 1), Did::TakesForPort(2, 1)];
+    assert!(rt; two_stand_still(rt.alloc(), &[], &[], &early)? == Some(at));
+    let unanswered = [
+        Did::TakesForPort(2, 1),
+        Did::Replies(2, 1),
+        Did::AnswersAtPort(2, 1),
+    ];
+    let late = Standstill {
+        node: 2,
+        entries: 0,
+        place: 1,
+    };
+    assert!(rt; two_stand_still(rt.alloc(), &[], &[], &unanswered)? == Some(late));
+    Ok(())
+}
+
+fn ask(alloc: Global) -> Result<HostEntry, AllocError> {
+    Ok(HostEntry::Ask {
+        id: call_of(7),
+        to: 9,
+        pdu: pdu_of(alloc, &READ)?,
+    })
+}
+
+fn answer() -> HostEntry {
+    HostEntry::Answer {
+        id: call_of(7),
+        result: HostResult::Bad(0x6101),
+    }
+}
+
+/// Where host 7, which asks once, and the ring stand still.
+fn host_stands_still(
+    alloc: Global,
+    entries: List<HostEntry>,
+) -> Result<Option<Standstill>, AllocError> {
+    let mut hosts = List::new(alloc);
+    hosts.push(HostLog { node: 7, entries })?;
+    let joint = Joint {
+        controllers: List::new(alloc),
+        hosts,
+        ring: ring(alloc, &[Did::Posts(7), Did::TakesReply(7)])?,
+    };
+    first_standstill(alloc, &joint)
+}
+
+#[test]
+fn a_host_asks_first(rt: HostRuntime) -> Result<(), Fail> {
+    let alloc = rt.alloc();
+    let mut entries = List::new(alloc);
+    entries.push(ask(alloc)?)?;
+    entries.push(answer())?;
+    assert!(rt; host_stands_still(alloc, entries)?.is_none());
+    Ok(())
+}
+
+#[test]
+fn a_host_is_answered_too_soon(rt: HostRuntime) -> Result<(), Fail> {
+    let alloc = rt.alloc();
+    let mut entries = List::new(alloc);
+    entries.push(answer())?;
+    entries.push(ask(alloc)?)?;
+    let at = Standstill {
+        node: 7,
+        entries: 0,
+        place: 0,
+    };
+    assert!(rt; host_stands_still(alloc, entries)? == Some(at));
+    Ok(())
+}

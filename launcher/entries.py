@@ -1,0 +1,74 @@
+"""The lines of a journal: its sections, their entries, and what each says in words."""
+import re
+
+WORDS = [
+    (r"B", "a scan begins"),
+    (r"I (\d+)", "the input drop of row {0} of the order of solve was read"),
+    (r"S (\d+)", "the segment of row {0} was solved, or left out where its control is off"),
+    (r"O (\d+) (\S+)", "the output drop of row {0} was given the words {1}"),
+    (r"E", "the scan ended"),
+    (r"L (.*)", "calls were handed on: {0}"),
+    (r"P (\S+) (\S+) (\S+)", "the request {1} of call {0} was answered with {2}"),
+    (r"F (\S+) G (\S+)", "call {0} came to a good result: the words {1}"),
+    (r"F (\S+) B (\S+)", "call {0} ended with the error word {1}"),
+    (r"Q (\S+) (\d+) (\S+)", "the host asked node {1} as call {0}: {2}"),
+    (r"A (\S+) R (\S+)", "call {0} got the reply {1}"),
+    (r"A (\S+) B (\S+)", "call {0} got no reply: {1}"),
+    (r"PO (\d+) Q (\S+) (\d+) (\S+)", "node {0} put the request {3} of call {1}, to node {2}, into its outbox"),
+    (r"PO (\d+) R (\S+) (\S+)", "node {0} put the reply {2} to call {1} into its outbox"),
+    (r"SE (\d+) A", "node {0} sent the head of its outbox, and was told that it was received"),
+    (r"SE (\d+) S", "node {0} sent the head of its outbox, and was told nothing"),
+    (r"SE (\d+) B", "node {0} sent the head of its outbox, and was told that four requests wait there"),
+    (r"TA (\d+) Q (\S+) (\S+)", "node {0} took the request {2} of call {1} from its inbox"),
+    (r"TA (\d+) R (\S+) (\S+)", "node {0} took the reply {2} to call {1} from its inbox"),
+    (r"LO (\d+) (\S+) (\S+) G (\S+)", "node {0} asked its own port {2} as call {1}, and got {3}"),
+    (r"LO (\d+) (\S+) (\S+) B (\S+)", "node {0} asked its own port {2} as call {1}, and got the error word {3}"),
+    (r"GU (\d+) (\S+) (\S+)", "node {0} gave up call {1} with the error word {2}"),
+    (r"PA (\d+) 0 (\S+)", "node {0} passed the token on, with work left; its global words: {1}"),
+    (r"PA (\d+) 1 (\S+)", "node {0} passed the token on, and was done; its global words: {1}"),
+    (r"LE (\d+) E", "node {0} left the ring, since all were done"),
+    (r"LE (\d+) S", "node {0} left the ring, since it had used up its passes"),
+]
+
+
+def in_words(text):
+    """What an entry says, or nothing where it does not read."""
+    for pattern, words in WORDS:
+        found = re.fullmatch(pattern, text)
+        if found:
+            return words.format(*found.groups())
+    return ""
+
+
+class Entry:
+    def __init__(self, line, text):
+        self.line, self.text, self.words = line, text, text.split(" ")
+
+
+class Journal:
+    """The lines from `%JOURNAL` on, numbered from 1, and the entries of each section."""
+
+    def __init__(self, text):
+        self.lines = text.split("\n")
+        if self.lines[-1] == "":
+            self.lines.pop()
+        self.sections, self.end, entries = {}, None, None
+        for number, line in enumerate(self.lines[1:], 2):
+            if line == "%END":
+                self.end = number
+                break
+            if re.fullmatch(r"[CH] \d+|R", line):
+                entries = self.sections.setdefault(line, [])
+            elif entries is not None:
+                entries.append(Entry(number, line))
+
+    def of(self, section):
+        return self.sections.get(section, [])
+
+    def station(self, node):
+        """The entries of the controller or the host of a node."""
+        return self.of(f"C {node}") or self.of(f"H {node}")
+
+    def ring(self, *heads):
+        """The ring's entries that begin with one of some texts."""
+        return [entry for entry in self.of("R") if (entry.text + " ").startswith(heads)]

@@ -1,0 +1,163 @@
+"""Explains a refusal line: the line of the file, the text that stands there, what is wrong with it and what to do."""
+import os
+import re
+import tomllib
+
+import cells
+import reasons
+from places import TEXT, Places
+from reasons import Finding, Plant
+from schema import TOP, schema
+
+PAGE = os.path.join(TOP, "docs/guide/REFUSALS.md")
+ROW = re.compile(r"^\| `(\d+ \w+)` \| ([^|]+) \| [^|]+ \| ([^|]+) \|$", re.MULTILINE)
+STEPS = {"module": "modules", "network": "networks", "order": "orders", "request": "requests"}
+MOST_BRACKETS = 80
+# How many characters of a line are shown.
+SHOWN = 100
+
+
+def advice():
+    """What docs/guide/REFUSALS.md says to do, by fault and by what is wrong."""
+    with open(PAGE, encoding="utf-8") as file:
+        return {(int(fault.split()[0]), reason): words for fault, reason, words in ROW.findall(file.read())}
+
+
+class Refusal:
+    """A line `refused <number> <name> <place>`, and the path of its place."""
+
+    def __init__(self, line):
+        found = re.fullmatch(r"refused (\d+) (\w+) (plant|net|(?:[a-z]+ \d+ ?)+)\n?", line)
+        if not found:
+            raise ValueError(f"no refusal line: {line!r}")
+        self.number, self.name = int(found[1]), found[2]
+        self.path, self.what = (() if found[3] == "plant" else ("net",)), found[3]
+        if found[3] not in ("plant", "net"):
+            words = found[3].split()
+            steps = zip(words[::2], words[1::2])
+            self.path = tuple(it for word, number in steps for it in (STEPS.get(word, word), int(number) - 1) if it != "cell")
+            self.what = words[-2]
+
+
+TESTS = {
+    "controller": reasons.of_controller,
+    "drop": reasons.of_drop,
+    "module": reasons.of_module,
+    "script": reasons.of_script,
+    "order": reasons.of_order,
+    "panel": reasons.of_panel,
+    "host": reasons.of_host,
+    "request": reasons.of_request,
+    "cell": cells.of_cell,
+}
+
+
+def findings(plant, refusal):
+    """What is wrong at the place of a refusal."""
+    if refusal.what == "plant":
+        return reasons.of_table(plant, (), plant.schema, reasons.TABLES[""])
+    if refusal.what in ("net", "segment"):
+        return reasons.of_table(plant, refusal.path, plant.schema["$defs"][refusal.what], reasons.TABLES[refusal.what])
+    return TESTS[refusal.what](plant, refusal.path)
+
+
+def brackets(text):
+    """The place of the first bracket that is one too many open at once, or None."""
+    depth = 0
+    for found in re.finditer(TEXT.pattern + r"|#[^\n]*|[\[\]{}]", text, re.DOTALL):
+        depth += (found[0] in "[{") - (found[0] in "]}") if len(found[0]) == 1 else 0
+        if depth > MOST_BRACKETS:
+            return found.start()
+    return None
+
+
+def large_number(value, path=()):
+    """The path of a number beyond 64 bits, or None."""
+    if isinstance(value, int) and not -(2**63) <= value < 2**63:
+        return path
+    items = value.items() if isinstance(value, dict) else enumerate(value) if isinstance(value, list) else ()
+    return next((found for key, item in items if (found := large_number(item, path + (key,))) is not None), None)
+
+
+def of_toml(text):
+    """Why a text is no TOML document: what is wrong, details, and the number of the line."""
+    deep = brackets(text)
+    if deep is not None:
+        return "more than 80 open brackets", "the 81st opens here", text.count("\n", 0, deep) + 1
+    try:
+        document = tomllib.loads(text)
+    except (ValueError, RecursionError) as error:
+        found = re.fullmatch(r"(.*) \(at (?:line (\d+), column \d+|end of document)\)", str(error), re.DOTALL)
+        words, last = (found[1], found[2]) if found else (str(error), None)
+        line = int(last or text.rstrip("\n").count("\n") + 1)
+        if text.split("\n")[line - 1].startswith("%JOURNAL"):
+            return "a journal where none is read", "`run`, `trace` and `live` read a plant alone", line
+        if re.search("overwrite|twice|immutable|already", words):
+            return "a key or a table that stands there twice", words, line
+        return "a line that is no TOML", words[:1].lower() + words[1:], line
+    path = large_number(document)
+    return ("a number beyond 64 bits", "here", Places(text).line_of(path)) if path is not None else None
+
+
+def seen(text):
+    """A text in which what cannot be seen is written as an escape."""
+    return "".join(it if it.isprintable() or it == "\t" else it.encode("unicode_escape").decode() for it in text)
+
+
+def shown(text):
+    """The first line of a text, cut where it is long."""
+    first, _, more = text.strip(" \t\r\n").partition("\n")
+    cut = first.rstrip("\r")[:SHOWN]
+    return seen(cut) + (" .." if more or len(cut) < len(first.rstrip("\r")) else "")
+
+
+def spot_of(plant, spot):
+    """The number of a line, and the text that stands there."""
+    if isinstance(spot, cells.Piece):
+        return plant.places.line_at(spot.offset), shown(spot.text)
+    span = plant.places.nearest(spot)
+    if span.key == span.end:
+        return 1, shown(plant.text.partition("\n")[0])
+    return plant.places.line_at(span.key), shown(plant.text[span.key : span.end])
+
+
+def told(name, spots, number, fault, finding):
+    """The lines that explain."""
+    (line, text), *others = spots
+    yield f"{name} line {line}: {text}"
+    for line, text in others:
+        yield f"  against line {line}: {text}"
+    yield f"{number} {fault}, {finding.reason}: {finding.detail}"
+    words = advice().get((number, finding.reason))
+    if words:
+        yield f"what to do: {words.replace('`', '')}"
+
+
+def explain(name, data, refusal):
+    """The lines that explain the refusal of a file's bytes; none where these tests find nothing wrong there."""
+    try:
+        text = data.decode()
+    except UnicodeDecodeError as error:
+        line, begins = data.count(10, 0, error.start) + 1, data.rfind(10, 0, error.start) + 1
+        row = data[begins:].split(b"\n", 1)[0].decode(errors="replace")
+        finding = Finding(1, "a file that is not UTF-8", f"the byte {data[error.start]:02x} is none of a character there")
+        return told(name, [(line, shown(row))], refusal.number, refusal.name, finding)
+    found = of_toml(text)
+    if found:
+        reason, detail, line = found
+        row = text.split("\n")[line - 1]
+        return told(name, [(line, shown(row))], refusal.number, refusal.name, Finding(1, reason, detail))
+    plant = Plant(text, tomllib.loads(text), Places(text), schema())
+    finding = next((it for it in findings(plant, refusal) if it.fault == refusal.number), None)
+    if finding is None:
+        return []
+    spots = [spot_of(plant, spot) for spot in finding.spots]
+    return told(name, spots, refusal.number, refusal.name, finding)
+
+
+def plant_part(data):
+    """A file up to its first line `%JOURNAL`, behind which a journal stands."""
+    if data.startswith(b"%JOURNAL\n"):
+        return b""
+    begins = data.find(b"\n%JOURNAL\n")
+    return data if begins < 0 else data[: begins + 1]

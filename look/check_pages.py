@@ -1,0 +1,213 @@
+"""Tests of the pages, in a headless Chromium."""
+import os
+import re
+import tempfile
+
+import browser
+import journal as journals
+import program
+from checking import CASES, TOP, changed, panel_of, plant_file, read_text, results, run_script
+
+PAGES = "bottle_counter conveyor count_line endless_call matrices motor_starter pump_house pumps read_two traffic_light".split()
+LABELS = """(() => { const box = document.getElementById('plot'), found = {};
+  for (let top = 0; top === 0 || top < box.scrollHeight; top += 100) {
+    box.scrollTop = top; drawTiming(view);
+    for (const one of document.querySelectorAll('.value')) found[one.dataset.node + ' ' + one.dataset.reference] = one.textContent;
+  }
+  box.scrollTop = 0; return found; })()"""
+
+
+def try_page(window, folder, name):
+    """A page shows the stored panel, scan by scan, as the cursor moves by key."""
+    file = plant_file(name)
+    stored, scans = panel_of(file)
+    page = os.path.join(folder, name + ".html")
+    results.equal(f"{name}: view", (0, "", ""), run_script("view", str(scans), file, page))
+    window.open("file://" + page)
+    kept = [line for line in stored.splitlines() if line.startswith("S ")]
+    for scan in range(1, scans + 1):
+        lines = [line for line in kept if line.split(" ")[1] == str(scan)]
+        results.equal(f"{name}: the panel lines of scan {scan}", "\n".join(lines), window.text("#panel"))
+        if scan in (1, 2, scans):
+            words = [(line.split(" ")[3], word.split("=")) for line in lines for word in line.split(" ")[4:] if "=" in word]
+            wanted = {f"{node} {reference}": value for node, (reference, value) in words}
+            results.equal(f"{name}: values at the cursor in scan {scan}", wanted, window.value(LABELS))
+        window.press("ArrowRight")
+    results.equal(f"{name}: the cursor stays at the last scan", str(scans), window.field("#scan", "value"))
+    window.press("Home")
+    results.equal(f"{name}: the cursor at the first scan", "1", window.field("#scan", "value"))
+    results.equal(f"{name}: errors", [], window.errors())
+
+
+PUMP = 'figure[data-node="3"][data-network="1.4"]'
+
+
+def try_pump_house(window, folder):
+    """The bands, networks, search, calls and frames of one page."""
+    window.open("file://" + os.path.join(folder, "pump_house.html") + "#scan=5")
+    band = '.band[data-node="3"][data-reference="40001"][data-from="2"]'
+    results.equal("a band from scan 2 on", "300", window.field(band, "dataset.value"))
+    high = '.high[data-reference="00001"]'
+    results.equal("the pump's high line", ["5", "8"], [window.field(high, "dataset.from"), window.field(high, "dataset.to")])
+    line = window.field('.line[data-node="3"][data-reference="00001"]', "attributes.d.value")
+    down, up, down_again = (float(level) for level in re.findall(r"(?:M[\d.]+ |V)([\d.]+)", line))
+    results.note("the pump's line is low, high and low", down == down_again > up, line)
+    window.value("networks.draw(true)")
+    results.equal("the pump's coil is on", ["00001"], window.fields(PUMP + " .coil.on", "dataset.reference"))
+    closed = window.fields(PUMP + " .contact.on", "dataset.reference")
+    results.equal("its closed contacts", ["00011", "00001", "00012", "00013"], closed)
+    results.equal("the comment beside it", "The pump holds itself until the level is low.", window.text(PUMP + " .comment"))
+    window.value("view.find('40021')")
+    does, what = window.fields("#found .place", "dataset.does"), window.texts("#found .place code")
+    wanted = [("drives", "1,1 BLKM 30001 40021 1")] + [("reads", "read 40021")] * 5
+    results.equal("who drives and reads 40021", wanted, list(zip(does, what))[:6])
+    try_failed_call(window)
+    results.equal("pump_house: errors", [], window.errors())
+
+
+def try_failed_call(window):
+    """A click on the failed call shows it, its lines and its frames."""
+    file = plant_file("pump_house")
+    trace = program.call(["trace", str(panel_of(file)[1])], file=file)
+    good, bad = (len(re.findall(form, trace, re.MULTILINE)) for form in ("^(?:F .* G|A .* R) ", "^[FA] .* B "))
+    results.equal("outcomes", [f"✓ {good} ended well", f"✕ {bad} failed"], window.texts("#outcomes button"))
+    window.value("document.querySelector('#outcomes .bad').click()")
+    told = window.text("#call")
+    wanted = ("Call 20.1.4: failed", "Node 20 asks node 9", "6103", "GU 20.1.4 6103")
+    results.note("the call that failed", all(word in told for word in wanted), told)
+    fates = [text.strip() for text in window.texts("#chart .send.selected i")]
+    results.equal("the fates of its frames", ["nobody there", "nobody there", "nobody there, no further try"], fates)
+
+
+def try_markup(window, folder):
+    """Texts of the plant file stay texts."""
+    nasty = """<script>document.title = "no"</script> " ' & </script x <!-- <script x <b>{{data}}</b> \u2028"""
+    file = changed(folder, "markup.toml", "# One contact and one coil: ", f"# {nasty}\n# One contact and one coil: ", "first")
+    text = read_text(file).replace('networks = ["', f'# {nasty}\nnetworks = ["')
+    named = os.path.join(folder, """a <b>"name" & 'co'.toml""")
+    with open(named, "w", encoding="utf-8") as out:
+        out.write(text)
+    page = os.path.join(folder, "markup.html")
+    results.equal("markup: view", 0, run_script("view", "2", named, page)[0])
+    window.open("file://" + page)
+    results.note("markup at the head", nasty.strip() in window.text("#head"), "")
+    results.equal("markup beside a network", nasty, window.text(".comment"))
+    results.equal("markup in the title", """plant984: a <b>"name" & 'co'.toml, 2 scans""", window.value("document.title"))
+    results.equal("markup makes no elements", [], window.texts("#head *, .comment *, h1 *"))
+    results.equal("markup: errors", [], window.errors())
+
+
+def large_plant():
+    """64 references on the panel: coils that divide the scans by two again and again, and registers that count."""
+    panel = [text for number in range(1, 33) for text in (f"{number:05}", f"4{number:04}")]
+    networks = ["1,1 NC 00001; 1,2 CO 00001"]
+    for number in range(2, 33):
+        before, own = f"{number - 1:05}", f"{number:05}"
+        networks.append(f"1,1 PT {before}; 1,2 NC {own}; 1,2 V; 1,3 CO {own}; 2,1 NC {before}; 2,2 NO {own}")
+    networks += [f"1,1 ADD 4{number:04} {number} 4{number:04}" for number in range(1, 33)]
+    lines = ["version = 1", "[[controller]]", "node = 1", "coils = 32", "registers = 32"]
+    lines += [f"panel = {panel}", 'orders = ["1 - - -"]']
+    return "\n".join(lines + ["[[controller.segment]]", f"networks = {networks}"]).replace("'", '"') + "\n"
+
+
+def try_large(window, folder):
+    """2000 scans of 64 references are drawn within two seconds, and scroll."""
+    file, page = os.path.join(folder, "large.toml"), os.path.join(folder, "large.html")
+    with open(file, "w", encoding="utf-8") as out:
+        out.write(large_plant())
+    results.equal("large: view", 0, run_script("view", "2000", file, page)[0])
+    window.open("file://" + page)
+    took = window.seconds()
+    results.note("large: drawn within two seconds", 0 < took < 2, f"it took {took:.2f} s")
+    results.equal("large: 64 values", 64, len(window.value(LABELS)))
+    window.press("End")
+    results.equal("large: the last value of a counter", str(2000 * 32 % 10000), window.value(LABELS)["1 40032"])
+    for _ in range(6):
+        window.press("+")
+    firsts, before = [], window.seconds()
+    for step in range(20):
+        window.value(f"view.box.scrollLeft = {900 * step}")
+        window.settle()
+        firsts.append(window.value("view.scale.first"))
+    took = window.seconds() - before
+    results.note("large: it scrolls", firsts == sorted(firsts) and len(set(firsts)) > 10, firsts)
+    results.note("large: without delay", took < 4, f"20 steps took {took:.2f} s")
+    results.equal("large: errors", [], window.errors())
+
+
+def try_journal_pages(window, folder):
+    """A journal is shown with its verdict; two are laid side by side."""
+    read_two = plant_file("read_two")
+    trace = program.call(["trace", "3"], file=read_two)
+    names = {"good": trace, "wrong": trace.replace("F 2.1.1 G 002a002b", "F 2.1.1 G 002a002c")}
+    names["none"] = trace.replace("SE 2 A", "SE 2 X", 1)
+    for name, text in names.items():
+        with open(os.path.join(folder, name + ".journal"), "w", encoding="utf-8") as out:
+            out.write(text)
+    page = os.path.join(folder, "journal.html")
+    line = names["none"].split("\n").index("SE 2 X") + 1
+    cases = ("good", "legal", "42"), ("wrong", "illegal J4 2 1", "–"), ("none", f"illegal text {line}", "–")
+    for name, wanted, values in cases:
+        status = run_script("view", "3", read_two, os.path.join(folder, name + ".journal"), page)[0]
+        window.open("file://" + page + "#scan=2")
+        found = (status, window.field(".chip", "dataset.verdict"), window.value(LABELS)["2 40011"], window.errors())
+        results.equal(f"a journal, {name}", (0, wanted, values, []), found)
+    both_ways = os.path.join(CASES, "read_both_ways")
+    status = run_script("view", "1", both_ways + ".toml", both_ways + ".journal", page)[0]
+    window.open("file://" + page)
+    note = window.text(".note")
+    results.note("a journal that fits no order in time", status == 0 and note and "no order in time" in note, status, note)
+    live = os.path.join(folder, "live.journal")
+    with open(live, "w", encoding="utf-8") as out:
+        out.write(program.call(["live", "3"], file=read_two))
+    status = run_script("view", "3", read_two, os.path.join(folder, "good.journal"), live, page)[0]
+    window.open("file://" + page)
+    chips = window.texts(".chip")
+    wanted = (0, ["good.journal: legal", "live.journal: legal"], [])
+    results.equal("two journals side by side", wanted, (status, chips[:2], window.errors()))
+    window.value("byId('which').value = 1; byId('which').dispatchEvent(new Event('change'))")
+    results.equal("the networks and messages of the other", 1, window.value("view.charted"))
+    head = window.texts(".answers th")
+    results.equal("their requests", ["node", "its request", "good.journal", "live.journal"], head)
+
+
+def try_compare_page(window, folder):
+    read_two, page = plant_file("read_two"), os.path.join(folder, "compare.html")
+    lost = changed(folder, "lost.toml", "rounds = 1", 'rounds = 1\nfates = "A"', "read_two")
+    results.equal("compare with a page", 8, run_script("compare", "2", read_two, lost, page)[0])
+    window.open("file://" + page)
+    marks = list(zip(window.fields(".differs[data-from]", "dataset.from"), window.fields(".differs[data-from]", "dataset.to")))
+    results.equal("differences are marked, for was and is", [("2", "2")] * 10, marks)
+    results.equal("compare page: errors", [], window.errors())
+
+
+def try_pages(folder):
+    if not browser.installed():
+        print("look: pages NOT RUN, since there is no Chromium")
+        return
+    window = browser.Browser()
+    try:
+        window.size(1400, 1000)
+        for name in PAGES:
+            try_page(window, folder, name)
+        try_pump_house(window, folder)
+        try_markup(window, folder)
+        try_large(window, folder)
+        try_journal_pages(window, folder)
+        try_compare_page(window, folder)
+    finally:
+        window.close()
+
+
+def make_picture():
+    """The picture of README.md: the pump house as its pump starts."""
+    page = os.path.join(tempfile.mkdtemp(), "page.html")
+    run_script("view", "12", plant_file("pump_house"), page)
+    window = browser.Browser()
+    window.size(1280, 1060)
+    window.open("file://" + page + "#scan=5")
+    window.value("document.querySelector('#outcomes .bad').click(); window.scrollTo(0, 0)")
+    window.value("document.querySelector('#networks .list').scrollTop = 480")
+    window.settle()
+    window.picture(os.path.join(TOP, "docs/look.png"))
+    window.close()

@@ -1,0 +1,495 @@
+"""Reads journals and panel lines (docs/guide/JOURNAL.md), and says what became of each call and frame."""
+import re
+from collections import deque
+from dataclasses import dataclass, field
+
+import modbus
+
+NUMBER = r"(?:0|[1-9][0-9]*)"
+ID = rf"{NUMBER}\.{NUMBER}\.{NUMBER}"
+PDU = r"(?:[0-9a-f]{2}){1,253}"
+WORDS = r"(?:-|(?:[0-9a-f]{4})+)"
+BLOCK = r"(?:-|(?:[0-9a-f]{4}){1,100})"
+WORD = r"[0-9a-f]{4}"
+LOCAL = rf"(?:GS|CS|PG:{WORDS}|GG:{NUMBER}:{NUMBER})"
+CALL = rf"{ID}={NUMBER}:{PDU}|{ID}={LOCAL}"
+
+STATION = rf"""
+    (?P<kind>P)\ (?P<id>{ID})\ (?P<pdu>{PDU})\ (?P<reply>{PDU})"""
+CONTROLLER = re.compile(
+    rf"""(?P<event>[BE]) | (?P<row>[IS])\ (?P<at>{NUMBER}) | O\ (?P<out>{NUMBER})\ {BLOCK}
+    | L(?P<calls>(?:\ (?:{CALL}))+) | {STATION}
+    | F\ (?P<ended>{ID})\ (?:G\ (?P<good>{BLOCK})|B\ (?P<bad>{WORD}))""",
+    re.VERBOSE,
+)
+HOST = re.compile(
+    rf"""Q\ (?P<asked>{ID})\ (?P<to>{NUMBER})\ (?P<ask>{PDU})
+    | A\ (?P<ended>{ID})\ (?:R\ (?P<good>{PDU})|B\ (?P<bad>{WORD})) | {STATION}""",
+    re.VERBOSE,
+)
+RING = re.compile(
+    rf"""PO\ (?P<post>{NUMBER})\ (?:Q\ (?P<asked>{ID})\ (?P<to>{NUMBER})|R\ (?P<replied>{ID}))\ (?P<posted>{PDU})
+    | SE\ (?P<send>{NUMBER})\ (?P<heard>[ASB])
+    | TA\ (?P<take>{NUMBER})\ (?P<what>[QR])\ (?P<taken>{ID})\ (?P<pdu>{PDU})
+    | LO\ (?P<local>{NUMBER})\ (?P<own>{ID})\ (?P<op>{LOCAL}|RG|RC)\ (?:G\ (?P<good>{BLOCK})|B\ (?P<bad>{WORD}))
+    | GU\ (?P<given>{ID})\ (?P<word>{WORD})
+    | PA\ (?P<passed>{NUMBER})\ (?P<done>[01])\ (?P<words>{WORDS})
+    | LE\ (?P<left>{NUMBER})\ (?P<cause>[ES])""",
+    re.VERBOSE,
+)
+# The largest number that each of these fields takes.
+LIMITS = {"at": 65535, "out": 65535}
+ONE_CALL = re.compile(rf"(?P<id>{ID})=(?:(?P<to>{NUMBER}):(?P<pdu>{PDU})|(?P<op>{LOCAL}))")
+
+
+class JournalFault(Exception):
+    """The number of the first line that does not read, from 1."""
+
+    def __init__(self, line):
+        super().__init__(line)
+        self.line = line
+
+
+@dataclass
+class Entry:
+    line: int
+    text: str
+    fields: dict
+
+
+@dataclass
+class Journal:
+    controllers: dict = field(default_factory=dict)
+    hosts: dict = field(default_factory=dict)
+    ring: list = field(default_factory=list)
+
+    def text(self):
+        """The journal as it is written."""
+        lines = ["%JOURNAL"]
+        for letter, sections in (("C", self.controllers), ("H", self.hosts)):
+            for node, entries in sections.items():
+                lines += [f"{letter} {node}"] + [entry.text for entry in entries]
+        return "\n".join(lines + ["R"] + [entry.text for entry in self.ring] + ["%END"]) + "\n"
+
+
+def small(name, value):
+    """Whether the numbers of a field are within their types."""
+    if value is None or not isinstance(value, str):
+        return True
+    if name in ("id", "ended", "asked", "replied", "taken", "own", "given"):
+        node, path, seq = (int(part) for part in value.split("."))
+        return node <= 255 and path <= 255 and seq < 2**32
+    if name in ("to", "post", "send", "take", "local", "passed", "left"):
+        return int(value) <= 255
+    if name == "op":
+        parts = value.split(":")
+        return parts[0] != "GG" or (int(parts[1]) <= 255 and int(parts[2]) <= 65535)
+    if name == "calls":
+        return all(small(key, part) for call in ONE_CALL.finditer(value) for key, part in call.groupdict().items())
+    return int(value) <= LIMITS[name] if name in LIMITS else True
+
+
+def read_journal(text):
+    """A journal, or the first line that does not read."""
+    lines = text.split("\n")
+    journal, section, form, last = Journal(), None, None, -1
+    if lines[0] != "%JOURNAL":
+        raise JournalFault(1)
+    for number, line in enumerate(lines[1:], 2):
+        is_last = number == len(lines)
+        header = re.fullmatch(rf"([CH]) ({NUMBER})", line)
+        if is_last:
+            raise JournalFault(number)
+        if line == "%END" and form is RING:
+            if lines[number:] != [""]:
+                raise JournalFault(number + 1)
+            return journal
+        if line == "R" and form is not RING:
+            section, form = journal.ring, RING
+        elif header and form is not RING and (header[1] == "H" or form is not HOST):
+            is_first_host = header[1] == "H" and form is not HOST
+            if int(header[2]) > 255 or (int(header[2]) <= last and not is_first_host):
+                raise JournalFault(number)
+            last = int(header[2])
+            form = HOST if header[1] == "H" else CONTROLLER
+            section = (journal.hosts if form is HOST else journal.controllers).setdefault(last, [])
+        else:
+            match = form.fullmatch(line) if form else None
+            fields = {key: value for key, value in match.groupdict().items() if value is not None} if match else {}
+            if not match or not all(small(key, value) for key, value in fields.items()):
+                raise JournalFault(number)
+            section.append(Entry(number, line, fields))
+    raise JournalFault(len(lines))
+
+
+@dataclass
+class Panel:
+    """The values of panel lines: by node and reference a list of a value a scan; and where a controller stopped or was dark."""
+
+    values: dict = field(default_factory=dict)
+    scans: dict = field(default_factory=dict)
+    stops: dict = field(default_factory=dict)
+    dark: dict = field(default_factory=dict)
+    hosts: dict = field(default_factory=dict)
+    lines: list = field(default_factory=list)
+
+    def changes(self, node, reference):
+        """Scan and value, again and again, for each scan in which the value is another than before."""
+        found, before = [], None
+        for scan, value in self.values.get(node, {}).get(reference, []):
+            if value != before:
+                found += [scan, value]
+                before = value
+        return found
+
+
+def read_panel(text):
+    panel = Panel()
+    for line in text.splitlines():
+        words = line.split(" ")
+        if words[0] == "H":
+            panel.hosts.setdefault(int(words[1]), []).append(" ".join(words[3:]))
+            continue
+        panel.lines.append(line)
+        scan, node = int(words[1]), int(words[3])
+        values = panel.values.setdefault(node, {})
+        if words[4:5] == ["STOP"]:
+            panel.stops[node] = (scan, int(words[5]))
+        elif words[4:5] == ["OFF"]:
+            panel.dark.setdefault(node, []).append(scan)
+        else:
+            panel.scans[node] = scan
+            for word in words[4:]:
+                reference, _, value = word.partition("=")
+                values.setdefault(reference, []).append((scan, int(value)))
+    return panel
+
+
+def split_trace(text):
+    """A trace as its journal and its panel lines."""
+    head, mark, rest = text.partition("\n%END\n")
+    return head + mark, rest
+
+
+# What became of calls and frames.
+
+
+@dataclass
+class Call:
+    id: str
+    node: int
+    to: int = 0
+    words: str = ""
+    pdu: str = ""
+    kind: str = "local"
+    began: list = None
+    ended: list = None
+    served: list = None
+    outcome: str = "open"
+    result: str = ""
+    raw: str = ""
+    sends: list = field(default_factory=list)
+    lines: list = field(default_factory=list)
+
+
+LOCAL_WORDS = {
+    "GS": "own statistics",
+    "CS": "clear the own statistics",
+    "RG": "statistics, for another node",
+    "RC": "clear the statistics, for another node",
+}
+
+
+def local_words(op):
+    name, *rest = op.split(":")
+    if name == "PG":
+        return f"put global words {'none' if rest[0] == '-' else decimal(rest[0])}"
+    if name == "GG":
+        return f"{rest[1]} global words of node {rest[0]}"
+    return LOCAL_WORDS[name]
+
+
+def decimal(words):
+    return "" if words == "-" else modbus.listed(int(words[at : at + 4], 16) for at in range(0, len(words), 4))
+
+
+class Calls:
+    """All calls of a journal, by their names, in the order in which they stand."""
+
+    def __init__(self, journal):
+        self.by_id = {}
+        self.scans = {}
+        for node, entries in journal.controllers.items():
+            self.read_controller(node, entries)
+        for node, entries in journal.hosts.items():
+            self.read_host(node, entries)
+
+    def call(self, name, entry, section):
+        call = self.by_id.setdefault(name, Call(name, int(name.split(".")[0])))
+        call.lines.append([entry.line, section, entry.text])
+        return call
+
+    def read_controller(self, node, entries):
+        scan, is_inside = 0, False
+        for entry in entries:
+            fields = entry.fields
+            if fields.get("event") == "B":
+                scan, is_inside = scan + 1, True
+            elif fields.get("event") == "E":
+                is_inside = False
+            at = [scan, is_inside, entry.line]
+            for one in ONE_CALL.finditer(fields.get("calls", "")):
+                call = self.call(one["id"], entry, f"C {node}")
+                call.began = at
+                if one["pdu"]:
+                    self.ask(call, int(one["to"]), one["pdu"], "controller")
+                else:
+                    call.words, call.to = local_words(one["op"]), node
+            self.read_served(node, entry, at, "C")
+            if "ended" in fields:
+                call = self.call(fields["ended"], entry, f"C {node}")
+                call.ended = at
+                self.end_of_block(call, fields)
+
+    def read_host(self, node, entries):
+        for entry in entries:
+            fields, at = entry.fields, [0, False, entry.line]
+            if "asked" in fields:
+                call = self.call(fields["asked"], entry, f"H {node}")
+                call.began = at
+                self.ask(call, int(fields["to"]), fields["ask"], "host")
+            self.read_served(node, entry, at, "H")
+            if "ended" in fields:
+                call = self.call(fields["ended"], entry, f"H {node}")
+                call.ended = at
+                self.end_of_request(call, fields)
+
+    def read_served(self, node, entry, at, letter):
+        if entry.fields.get("kind") == "P":
+            call = self.call(entry.fields["id"], entry, f"{letter} {node}")
+            call.served = [node, *at]
+
+    def ask(self, call, to, pdu, kind):
+        call.to, call.pdu, call.kind, call.words = to, pdu, kind, modbus.request_words(pdu)
+
+    def end_of_block(self, call, fields):
+        if "good" in fields:
+            call.outcome, call.raw = "good", fields["good"]
+            call.result = decimal(fields["good"]) or "done"
+        else:
+            call.outcome, call.raw = "bad", fields["bad"]
+            call.result = modbus.error_words(fields["bad"])
+
+    def end_of_request(self, call, fields):
+        if "bad" in fields:
+            self.end_of_block(call, fields)
+            return
+        call.raw = fields["good"]
+        call.outcome = "bad" if modbus.is_exception(fields["good"]) else "good"
+        call.result = modbus.reply_words(call.pdu, fields["good"]) if call.pdu else fields["good"]
+
+
+class Ring:
+    """The entries of the ring as the rows of a chart: frames with their fates, and idle rounds of the token as one row."""
+
+    def __init__(self, journal, plant, calls, scans=0):
+        self.plant, self.calls, self.scans = plant, calls, scans
+        self.members = set(plant.nodes)
+        self.outboxes = {}
+        self.passed = {}
+        self.sent = 0
+        self.rows = []
+        self.round, self.turns_left, self.hold = 1, len(self.members), []
+        for place, entry in enumerate(journal.ring, 1):
+            self.add(place, entry)
+        self.rows += self.hold
+
+    def scan(self):
+        """The repetition that a hold belongs to; 0 in a run of threads, where no scan waits for the token."""
+        return min((self.round - 1) // self.plant.rotations + 1, self.scans) if self.scans else 0
+
+    def row(self, place, entry, kind, node, **more):
+        name = more.get("id")
+        row = {"at": place, "line": entry.line, "kind": kind, "node": node, "text": entry.text, "scan": self.scan()} | more
+        began = self.calls.by_id[name].began if name in self.calls.by_id else None
+        if self.scans and node not in self.members and began:
+            # The visit of a node that has left: it holds no token, and its call tells the scan.
+            row["scan"] = max(row["scan"], began[0])
+        if name:
+            self.calls.call(name, entry, "R")
+        self.hold.append(row)
+        return row
+
+    def add(self, place, entry):
+        f = entry.fields
+        if "post" in f:
+            self.post(place, entry, f)
+        elif "send" in f:
+            self.send(place, entry, int(f["send"]), f["heard"])
+        elif "take" in f:
+            self.row(place, entry, "take", int(f["take"]), id=f["taken"], what=f["what"])
+        elif "local" in f:
+            result = decimal(f["good"]) or "done" if "good" in f else modbus.error_words(f["bad"])
+            self.row(place, entry, "local", int(f["local"]), id=f["own"], words=local_words(f["op"]), fate=result)
+        elif "given" in f:
+            node = int(f["given"].split(".")[0])
+            self.row(place, entry, "give up", node, id=f["given"], fate=modbus.error_words(f["word"]))
+            self.outboxes[node] = deque(frame for frame in self.outboxes.get(node, ()) if frame["id"] != f["given"])
+        elif "passed" in f:
+            self.pass_on(place, entry, int(f["passed"]), f)
+        else:
+            node = int(f["left"])
+            cause = "all are done" if f["cause"] == "E" else "its passes are spent"
+            self.row(place, entry, "leave", node, words=f"leaves the ring: {cause}")
+            self.members.discard(node)
+            self.end_turn()
+
+    def post(self, place, entry, f):
+        node, is_request = int(f["post"]), "asked" in f
+        name = f["asked"] if is_request else f["replied"]
+        to = int(f["to"]) if is_request else int(name.split(".")[0])
+        call = self.calls.by_id.get(name)
+        asked = call.pdu if call and call.pdu else "00"
+        words = modbus.request_words(f["posted"]) if is_request else modbus.reply_words(asked, f["posted"])
+        frame = {"id": name, "what": "Q" if is_request else "R", "to": to, "words": words, "tries": 0, "came": False}
+        self.outboxes.setdefault(node, deque()).append(frame)
+        self.row(place, entry, "post", node, id=name, what=frame["what"], to=to, words=words)
+
+    def send(self, place, entry, node, heard):
+        self.sent += 1
+        letter = self.plant.fates[(self.sent - 1) % len(self.plant.fates)]
+        box = self.outboxes.get(node)
+        if not box:
+            self.row(place, entry, "send", node, fate="nothing to send")
+            return
+        frame = box[0]
+        frame["tries"] += 1
+        fate, mark = self.fate(frame, letter, heard)
+        row = self.row(
+            place, entry, "send", node, id=frame["id"], what=frame["what"], to=frame["to"], words=frame["words"],
+            fate=fate, mark=mark, tries=frame["tries"],
+        )
+        call = self.calls.by_id[frame["id"]]
+        call.sends.append(row["at"])
+        if heard in "AB" or frame["tries"] == 3:
+            box.popleft()
+
+    def fate(self, frame, letter, heard):
+        """What became of a transmission, in words and as the mark of its arrow."""
+        came_before, is_member = frame["came"], frame["to"] in self.members
+        frame["came"] = came_before or (is_member and letter != "L")
+        again = ", a repeat that is dropped" if came_before else ""
+        last = ", no further try" if frame["tries"] == 3 else ""
+        if heard == "A":
+            return f"acknowledged{again}", "came"
+        if heard == "B":
+            return "four requests wait there", "busy"
+        if not is_member:
+            return f"nobody there{last}", "nobody"
+        if letter == "L":
+            return f"lost{last}", "lost"
+        return f"received{again}, its acknowledgement lost{last}", "unheard"
+
+    def pass_on(self, place, entry, node, f):
+        new_words = f["words"] != self.passed.get(node, "-")
+        self.passed[node] = f["words"]
+        words = f"passes the token with global words {decimal(f['words']) or 'none'}" if new_words else "passes the token"
+        last = self.rows[-1] if self.rows else None
+        if not self.hold and not new_words and last and last["kind"] == "idle" and last["scan"] == self.scan():
+            last["count"] += 1
+            last["end"] = entry.line
+        elif not self.hold and not new_words:
+            row = {"at": place, "line": entry.line, "end": entry.line, "kind": "idle", "node": node, "count": 1}
+            self.rows.append(row | {"scan": self.scan()})
+        else:
+            self.row(place, entry, "pass", node, words=words, done=f["done"] == "1")
+        self.end_turn()
+
+    def end_turn(self):
+        """A round has as many turns as there were members at its beginning."""
+        self.rows += self.hold
+        self.hold = []
+        self.turns_left -= 1
+        if self.turns_left == 0:
+            self.round, self.turns_left = self.round + 1, len(self.members)
+
+
+def ring_lines(ring):
+    """The line of each entry of the ring that is linked with a station's, by what it is and the call's name."""
+    found = {}
+    for entry in ring:
+        f = entry.fields
+        if "asked" in f:
+            found["posted", f["asked"]] = entry.line
+        elif "replied" in f:
+            found["replied", f["replied"]] = entry.line
+        elif "taken" in f:
+            found["taken " + f["what"], f["taken"]] = entry.line
+        elif "given" in f:
+            found["given", f["given"]] = entry.line
+        elif "own" in f and f["op"] not in ("RG", "RC"):
+            found["local", f["own"]] = entry.line
+    return found
+
+
+def caused(entry, made):
+    """Pairs of lines, a cause and what stands behind it, between an entry of a station and the ring."""
+    f, line = entry.fields, entry.line
+    begun = [one["id"] for one in ONE_CALL.finditer(f.get("calls", ""))] + ([f["asked"]] if "asked" in f else [])
+    pairs = [(line, made.get((kind, name))) for name in begun for kind in ("posted", "local")]
+    if "ended" in f:
+        pairs += [(made.get((kind, f["ended"])), line) for kind in ("taken R", "given", "local")]
+    if f.get("kind") == "P":
+        pairs += [(made.get(("taken Q", f["id"])), line), (line, made.get(("replied", f["id"])))]
+    return [pair for pair in pairs if None not in pair]
+
+
+def caused_on_ring(entry, made):
+    """The same between entries of the ring: what a port answers stands between the Take of its request and the Reply to it."""
+    f, line = entry.fields, entry.line
+    pairs = []
+    if "replied" in f:
+        pairs.append((made.get(("taken Q", f["replied"])), line))
+    elif f.get("op") in ("RG", "RC"):
+        pairs += [(made.get(("taken Q", f["own"])), line), (line, made.get(("replied", f["own"])))]
+    return [pair for pair in pairs if None not in pair]
+
+
+def waiting_lines(journal):
+    """Two lines of which each waits for the other, where the lists of a journal fit no order in time; else None.
+
+    An entry stands behind the one before it in its list, and behind its cause in another list.
+    """
+    stations = [*journal.controllers.values(), *journal.hosts.values()]
+    lists, made = stations + [journal.ring], ring_lines(journal.ring)
+    pairs = [(first.line, then.line) for entries in lists for first, then in zip(entries, entries[1:])]
+    pairs += [pair for entries in stations for entry in entries for pair in caused(entry, made)]
+    pairs += [pair for entry in journal.ring for pair in caused_on_ring(entry, made)]
+    left = lines_that_wait(pairs, [entry.line for entries in lists for entry in entries])
+    if not left:
+        return None
+    # Each line that is left waits for another that is left: going back comes to a cycle.
+    line, seen = next(iter(left)), {}
+    while line not in seen:
+        seen[line] = len(seen)
+        line = next(first for first in left[line] if first in left)
+    cycle = [one for one, place in seen.items() if place >= seen[line]]
+    return min(cycle), max(cycle)
+
+
+def lines_that_wait(pairs, lines):
+    """The lines that no order can reach, each with those that it waits for."""
+    causes, behind = {line: [] for line in lines}, {line: [] for line in lines}
+    for first, then in pairs:
+        causes[then].append(first)
+        behind[first].append(then)
+    count = {line: len(firsts) for line, firsts in causes.items()}
+    free = deque(line for line in lines if count[line] == 0)
+    while free:
+        line = free.popleft()
+        del causes[line]
+        for then in behind[line]:
+            count[then] -= 1
+            if count[then] == 0:
+                free.append(then)
+    return causes

@@ -1,0 +1,186 @@
+"""Makes a page: one HTML file with its style, its scripts and the data that they draw."""
+import html
+import json
+import os
+
+import ladder
+import journal as journals
+import modbus
+
+FOLDER = os.path.join(os.path.dirname(os.path.abspath(__file__)), "page")
+SCRIPTS = ("reading.js", "layout.js", "timing.js", "messages.js", "networks.js", "page.js")
+
+
+def part(name):
+    with open(os.path.join(FOLDER, name), encoding="utf-8") as file:
+        return file.read()
+
+
+def in_script(data):
+    """JSON that can stand inside a script element, whatever texts are in it."""
+    text = json.dumps(data, separators=(",", ":"), ensure_ascii=False)
+    for sign in "<>&\u2028\u2029":
+        text = text.replace(sign, f"\\u{ord(sign):04x}")
+    return text
+
+
+def fill_in(title, data):
+    scripts = "\n".join(part(name) for name in SCRIPTS)
+    holes = {"title": html.escape(title), "style": part("page.css"), "data": in_script(data), "script": scripts}
+    page = part("page.html")
+    pieces = page.split("{{")
+    filled = [pieces[0]]
+    for piece in pieces[1:]:
+        name, _, rest = piece.partition("}}")
+        filled += [holes[name], rest]
+    return "".join(filled)
+
+
+def cell_data(cell):
+    return {
+        "row": cell.row,
+        "column": cell.column,
+        "name": cell.name,
+        "operands": cell.operands,
+        "text": cell.text,
+        "line": cell.line,
+        "nodes": ladder.NODES.get(cell.name, 0),
+    }
+
+
+def controller_data(one, sources):
+    others = one.references()[1]
+    segments = [
+        {
+            "number": segment.number,
+            "subroutines": segment.is_subroutines,
+            "networks": [
+                {
+                    "number": network.number,
+                    "line": network.line,
+                    "comment": network.comment,
+                    "cells": [cell_data(cell) for cell in network.cells],
+                    "shorts": [[short.row, short.column] for short in network.shorts],
+                }
+                for network in segment.networks
+            ],
+        }
+        for segment in one.segments
+    ]
+    return {
+        "node": one.node,
+        "line": one.line,
+        "panel": one.panel,
+        "others": others,
+        "orders": [" ".join(row) for row in one.orders],
+        "segments": segments,
+        "places": sources,
+    }
+
+
+def place(first, count, does, what, at, **more):
+    return {"first": first, "count": count, "does": does, "what": what, "at": at} | more
+
+
+DOES = {(True, False): "reads", (False, True): "drives", (True, True): "reads and drives"}
+
+
+def places_of(one, plant, calls):
+    """Each place that reads or drives a reference of a controller."""
+    found = []
+    for segment, network, cell in one.cells():
+        at = f"segment {segment.number} network {network.number}"
+        more = {"line": cell.line, "network": [segment.number, network.number], "cell": [cell.row, cell.column]}
+        for access in cell.accesses():
+            does = DOES[access.reads, access.writes]
+            found.append(place(access.first, access.count, does, cell.text, at, **more))
+    for number, row in enumerate(one.orders, 1):
+        if row[1] != "-":
+            found.append(place(row[1], 1, "reads", " ".join(row), f"order row {number}, its control"))
+    for drop in one.table.get("drop", []):
+        for module in drop["modules"]:
+            kind, first, *count = module.split()
+            size = int(count[0]) if count else 16
+            does = "drives" if kind in ("in", "inw") else "reads"
+            found.append(place(first, size, does, module, f"drop {drop['number']}"))
+    for call in calls.values() if calls else ():
+        if call.to == one.node and call.served:
+            for kind, address, quantity, writes in modbus.touched(call.pdu):
+                if address < 9984:
+                    who = f"request {call.id} of node {call.node}, in scan {call.served[1]}"
+                    found.append(place(f"{kind}{address + 1:04}", quantity, "drives" if writes else "reads", call.words, who))
+    return found
+
+
+def call_data(call, rows_scan):
+    began, ended = list(call.began or [0, False, 0]), list(call.ended or [0, False, 0])
+    if call.kind == "host":
+        began[0], ended[0] = rows_scan.get((call.id, "began"), 0), rows_scan.get((call.id, "ended"), 0)
+    return {
+        "id": call.id,
+        "node": call.node,
+        "to": call.to,
+        "kind": call.kind,
+        "words": call.words,
+        "began": began if call.began else None,
+        "ended": ended if call.ended else None,
+        "served": call.served,
+        "outcome": call.outcome,
+        "result": call.result,
+        "tries": len(call.sends),
+        "lines": call.lines,
+    }
+
+
+def ring_data(journal, plant, scans):
+    """The calls and the rows of the chart. Scans is 0 where the token's rounds tell no scan."""
+    calls = journals.Calls(journal)
+    ring = journals.Ring(journal, plant, calls, scans)
+    rows_scan = {}
+    for row in ring.rows:
+        name = row.get("id")
+        if name and row["kind"] == "post" and row["what"] == "Q":
+            rows_scan[name, "began"] = row["scan"]
+        elif name and (row["kind"] == "give up" or (row["kind"] == "take" and row["what"] == "R")):
+            rows_scan[name, "ended"] = row["scan"]
+    listed = [call_data(call, rows_scan) for call in calls.by_id.values()]
+    first_row = {}
+    for number, row in enumerate(ring.rows):
+        if row.get("id"):
+            first_row.setdefault(row["id"], number)
+    listed.sort(key=lambda call: first_row.get(call["id"], len(ring.rows)))
+    return calls, listed, ring.rows
+
+
+def run_data(name, plant, panel, verdict, journal=None, scans=0, note=""):
+    """A run as the page draws it, and its calls."""
+    calls, listed, rows = ring_data(journal, plant, scans) if journal else (None, [], [])
+    values = {node: {name: panel.changes(node, name) for name in names} for node, names in panel.values.items()}
+    data = {
+        "name": name,
+        "verdict": verdict,
+        "note": note,
+        "values": values,
+        "lasts": panel.scans,
+        "stops": panel.stops,
+        "dark": panel.dark,
+        "calls": listed,
+        "rows": rows,
+    }
+    return data, calls
+
+
+def plant_data(plant, calls):
+    controllers = [controller_data(one, places_of(one, plant, calls.by_id if calls else None)) for one in plant.controllers]
+    head = []
+    for line, text in plant.comments:
+        if line != len(head) + 1:
+            break
+        head.append(text)
+    return {
+        "head": head,
+        "nodes": plant.nodes,
+        "hosts": [host["node"] for host in plant.hosts],
+        "controllers": controllers,
+        "scan_time": plant.document.get("scan_time", 10),
+    }
