@@ -1,7 +1,9 @@
 //! A plain solver of relay networks, by columns: the yardstick beside which plant984 is timed.
 //!
-//! Usage: `plain SCANS COILS INPUTS < networks`, one network a line in the text of a plant file. It
-//! writes the coils after the last scan, as 0 and 1, from 00001 on.
+//! Usage: `plain SCANS COILS INPUTS PANEL < networks`, one network a line in the text of a plant file.
+//! It writes what plant984 writes for them: the panel line of each scan, with so many coils from
+//! 00001 on.
+use std::fmt::Write as _;
 use std::io::{self, Read, Write};
 
 #[derive(Clone, Copy)]
@@ -117,21 +119,31 @@ fn solve(network: &Network, discretes: &mut Discretes) {
     }
 }
 
+/// The panel line of a scan.
+fn push_line(text: &mut String, scan: usize, shown: &[bool]) {
+    write!(text, "S {scan} N 1").expect("a string");
+    for (place, on) in shown.iter().enumerate() {
+        write!(text, " {:05}={}", place + 1, u8::from(*on)).expect("a string");
+    }
+    text.push('\n');
+}
+
 fn main() -> io::Result<()> {
     let mut numbers = std::env::args().skip(1).map(|word| word.parse().expect("a number"));
-    let mut next = || numbers.next().expect("SCANS COILS INPUTS");
-    let (scans, coils, inputs): (usize, usize, usize) = (next(), next(), next());
+    let mut next = || numbers.next().expect("SCANS COILS INPUTS PANEL");
+    let (scans, coils, inputs, panel): (usize, usize, usize, usize) = (next(), next(), next(), next());
     let off = vec![false; coils + inputs];
     let mut discretes = Discretes { coils, now: off.clone(), past: off };
     let mut text = String::new();
     io::stdin().read_to_string(&mut text)?;
     let networks: Vec<Network> = text.lines().map(|line| network_of(line, &discretes)).collect();
-    for _ in 0..scans {
+    let mut lines = String::new();
+    for scan in 1..=scans {
         for network in &networks {
             solve(network, &mut discretes);
         }
         discretes.past.copy_from_slice(&discretes.now);
+        push_line(&mut lines, scan, &discretes.now[..panel]);
     }
-    let shown: String = discretes.now[..coils].iter().map(|on| if *on { '1' } else { '0' }).collect();
-    writeln!(io::stdout(), "{shown}")
+    io::stdout().write_all(lines.as_bytes())
 }

@@ -1,12 +1,14 @@
 -- What is counted is how much is read.
-use Rattle.std.proofs.Common.{◌≡◌, ℕ, ◌+◌, ◌==◌, Bool, true, false, List, [], ◌∷◌, length, map, Option, Some, None, refl, ◌∙◌, arith, if◌then◌else◌}
+use Rattle.std.proofs.Common.{◌≡◌, ℕ, ◌+◌, ◌==◌, Bool, true, false, List, [], ◌∷◌, length, map}
+use Rattle.std.proofs.Common.{Option, Some, None, refl, ◌∙◌, arith, if◌then◌else◌}
 use Rattle.std.specs.Prelude.{filter_map}
 use Rattle.std.specs.List.{flat_map, cons_option}
 use Rattle.std.proofs.lemmas.List.{length-append}
 use Rattle.controller_core.specs.declared.call.Call.{Call}
 use Rattle.controller_core.specs.declared.call.CallKind.{CallKind}
 use Rattle.controller_core.specs.declared.call.CallKind.TheVariants as call_kinds
-use Rattle.controller_core.specs.declared.entry.Entry.TheVariants.{Begin, Input, Solve, Output, End, Collect, Peer, Finish}
+use Rattle.controller_core.specs.declared.entry.Entry.TheVariants.{Begin, Input, Solve, Output}
+use Rattle.controller_core.specs.declared.entry.Entry.TheVariants.{End, Collect, Peer, Finish}
 use Rattle.host_port.specs.declared.entry.HostEntry.TheVariants as hosts
 use Rattle.mstr_block.specs.declared.call.CallId.{CallId}
 use Rattle.ring_core.specs.Statistics.{is_stats}
@@ -16,27 +18,41 @@ use Rattle.ring_core.specs.declared.frame.FrameKind.TheVariants.{Request, Reply}
 use Rattle.ring_core.specs.declared.entry.LocalOp.{LocalOp}
 use Rattle.mstr_block.specs.declared.call.MstrResult.{MstrResult}
 use Rattle.ring_core.specs.declared.entry.RingEntry.{RingEntry}
-use Rattle.ring_core.specs.declared.entry.RingEntry.TheVariants.{Post, Send, Take, Local, GiveUp, Pass, Leave}
-use Rattle.tied_lists.specs.Items.{Asked, Answered, Item, Plain, ForStats, AController, net_ask, asked_of, asked_in, taken_in, plain_items, stats_items, request_of, reply_of, answered_for, replied_in, replied_of, ended_in, ended_at_home, LocalCall, Came}
+use Rattle.ring_core.specs.declared.entry.RingEntry.TheVariants.{Post, Send, Take, Local, GiveUp}
+use Rattle.ring_core.specs.declared.entry.RingEntry.TheVariants.{Pass, Leave}
+use Rattle.tied_lists.specs.Items.{Asked, Answered, Item, Plain, ForStats, AController, net_ask}
+use Rattle.tied_lists.specs.Items.{asked_of, asked_in, taken_in, plain_items, stats_items}
+use Rattle.tied_lists.specs.Items.{request_of, reply_of, answered_for, replied_in, replied_of}
+use Rattle.tied_lists.specs.Items.{ended_in, ended_at_home, LocalCall, Came}
 use Rattle.joint_history.specs.Reading.{called_of, sort_of}
 use Rattle.one_order.specs.Merges.{tally}
-use Rattle.entry_causes.specs.Causes.{StationEntry, ByController, ByHost, Noted, Done, noted_next, done_next, asking, asking_of, posting, taking, working, note, deed}
-use Rattle.call_order.specs.Named.{asks_in, answers_in, ends_in, takes_in, port_takes_in, port_answers_in, overs_in, end_id}
+use Rattle.entry_causes.specs.Causes.{StationEntry, ByController, ByHost, Noted, Done, noted_next}
+use Rattle.entry_causes.specs.Causes.{done_next, asking, asking_of, posting, taking, working, note}
+use Rattle.entry_causes.specs.Causes.{deed}
+use Rattle.call_order.specs.Named.{asks_in, answers_in, ends_in, takes_in, port_takes_in}
+use Rattle.call_order.specs.Named.{port_answers_in, overs_in, end_id}
 
-length-cons : {X : Type 0} (o : Option X) (xs : List X) → length (cons_option o xs) ≡ length (cons_option o []) + length xs
+length-cons : {X : Type 0} (o : Option X) (xs : List X)
+    → length (cons_option o xs) ≡ length (cons_option o []) + length xs
 length-cons None xs = omega arith
 length-cons (Some x) xs = omega arith
 
 -- calls that are handed on
-one-asked : (s : Noted) (id : CallId) (kind : CallKind) → (noted_next s (asking kind)).asked ≡ s.asked + length (cons_option (net_ask (record { id = id; sort = sort_of kind })) [])
+one-asked : (s : Noted) (id : CallId) (kind : CallKind)
+    → (noted_next s (asking kind)).asked
+    ≡ s.asked + length (cons_option (net_ask (record { id = id; sort = sort_of kind })) [])
 one-asked s id (call_kinds.Net to pdu) = refl
 one-asked s id (call_kinds.Local op) = omega arith
 
-one-served : (s : Noted) (kind : CallKind) → ((noted_next s (asking kind)).served ≡ s.served) × ((noted_next s (asking kind)).ended ≡ s.ended)
+one-served : (s : Noted) (kind : CallKind)
+    → ((noted_next s (asking kind)).served ≡ s.served)
+    × ((noted_next s (asking kind)).ended ≡ s.ended)
 one-served s (call_kinds.Net to pdu) = (refl, refl)
 one-served s (call_kinds.Local op) = (refl, refl)
 
-calls-asked : (s : Noted) (calls : List Call) → (tally noted_next s (map asking_of calls)).asked ≡ s.asked + length (filter_map net_ask (map called_of calls))
+calls-asked : (s : Noted) (calls : List Call)
+    → (tally noted_next s (map asking_of calls)).asked
+    ≡ s.asked + length (filter_map net_ask (map called_of calls))
 calls-asked s [] = omega arith
 calls-asked s (c ∷ calls) =
     let a = calls-asked (noted_next s (asking_of c)) calls in
@@ -44,7 +60,9 @@ calls-asked s (c ∷ calls) =
     let d = length-cons (net_ask (called_of c)) (filter_map net_ask (map called_of calls)) in
     omega (arith, a, b, d)
 
-calls-served : (s : Noted) (calls : List Call) → ((tally noted_next s (map asking_of calls)).served ≡ s.served) × ((tally noted_next s (map asking_of calls)).ended ≡ s.ended)
+calls-served : (s : Noted) (calls : List Call)
+    → ((tally noted_next s (map asking_of calls)).served ≡ s.served)
+    × ((tally noted_next s (map asking_of calls)).ended ≡ s.ended)
 calls-served s [] = (refl, refl)
 calls-served s (c ∷ calls) =
     let a = calls-served (noted_next s (asking_of c)) calls in
@@ -90,7 +108,8 @@ note-ended s (ByHost (hosts.Ask id to pdu)) = omega arith
 note-ended s (ByHost (hosts.Served id request reply)) = omega arith
 note-ended s (ByHost (hosts.Answer id result)) = refl
 
-pub all-asked : (s : Noted) (es : List StationEntry) → (tally note s es).asked ≡ s.asked + length (flat_map asks_in es)
+pub all-asked : (s : Noted) (es : List StationEntry)
+    → (tally note s es).asked ≡ s.asked + length (flat_map asks_in es)
 all-asked s [] = omega arith
 all-asked s (e ∷ es) =
     let a = all-asked (note s e) es in
@@ -98,7 +117,8 @@ all-asked s (e ∷ es) =
     let c = length-append (asks_in e) (flat_map asks_in es) in
     omega (arith, a, b, c)
 
-pub all-served : (s : Noted) (es : List StationEntry) → (tally note s es).served ≡ s.served + length (flat_map answers_in es)
+pub all-served : (s : Noted) (es : List StationEntry)
+    → (tally note s es).served ≡ s.served + length (flat_map answers_in es)
 all-served s [] = omega arith
 all-served s (e ∷ es) =
     let a = all-served (note s e) es in
@@ -106,7 +126,8 @@ all-served s (e ∷ es) =
     let c = length-append (answers_in e) (flat_map answers_in es) in
     omega (arith, a, b, c)
 
-pub all-ended : (s : Noted) (es : List StationEntry) → (tally note s es).ended ≡ s.ended + length (flat_map ends_in es)
+pub all-ended : (s : Noted) (es : List StationEntry)
+    → (tally note s es).ended ≡ s.ended + length (flat_map ends_in es)
 all-ended s [] = omega arith
 all-ended s (e ∷ es) =
     let a = all-ended (note s e) es in
@@ -118,78 +139,115 @@ all-ended s (e ∷ es) =
 abbrev pub posts_in : RingEntry → List Asked
 posts_in r = cons_option (asked_of r) []
 
-post-posted : (d : Done) (kind : FrameKind) (f : Frame) → (tally done_next d (posting kind ∷ [])).posted ≡ d.posted + length (cons_option (asked_in kind f) [])
+post-posted : (d : Done) (kind : FrameKind) (f : Frame)
+    → (tally done_next d (posting kind ∷ [])).posted
+    ≡ d.posted + length (cons_option (asked_in kind f) [])
 post-posted d Request f = refl
 post-posted d Reply f = omega arith
 
-post-other : (d : Done) (kind : FrameKind) → ((tally done_next d (posting kind ∷ [])).taken ≡ d.taken) × ((tally done_next d (posting kind ∷ [])).over ≡ d.over)
+post-other : (d : Done) (kind : FrameKind)
+    → ((tally done_next d (posting kind ∷ [])).taken ≡ d.taken)
+    × ((tally done_next d (posting kind ∷ [])).over ≡ d.over)
 post-other d Request = (refl, refl)
 post-other d Reply = (refl, refl)
 
-take-posted : (d : Done) (kind : FrameKind) (stats : Bool) → (tally done_next d (taking kind stats ∷ [])).posted ≡ d.posted
+take-posted : (d : Done) (kind : FrameKind) (stats : Bool)
+    → (tally done_next d (taking kind stats ∷ [])).posted ≡ d.posted
 take-posted d Request true = refl
 take-posted d Request false = refl
 take-posted d Reply stats = refl
 
-take-taken-at : (d : Done) (f : Frame) (stats : Bool) → (tally done_next d (taking Request stats ∷ [])).taken
-    ≡ d.taken + length (plain_items (cons_option (Some (if stats then ForStats f.id f.pdu else Plain f.id f.pdu)) []))
+take-taken-at : (d : Done) (f : Frame) (stats : Bool)
+    → (tally done_next d (taking Request stats ∷ [])).taken
+    ≡ d.taken + length (plain_items
+    (cons_option (Some (if stats then ForStats f.id f.pdu else Plain f.id f.pdu)) []))
 take-taken-at d f true = omega arith
 take-taken-at d f false = refl
 
-take-taken : (d : Done) (f : Frame) (kind : FrameKind) → (tally done_next d (taking kind (is_stats f.pdu) ∷ [])).taken ≡ d.taken + length (plain_items (cons_option (taken_in kind f) []))
+take-taken : (d : Done) (f : Frame) (kind : FrameKind)
+    → (tally done_next d (taking kind (is_stats f.pdu) ∷ [])).taken
+    ≡ d.taken + length (plain_items (cons_option (taken_in kind f) []))
 take-taken d f Request = take-taken-at d f (is_stats f.pdu)
 take-taken d f Reply = omega arith
 
-take-port-at : (d : Done) (f : Frame) (stats : Bool) → (tally done_next d (taking Request stats ∷ [])).taken_port
-    ≡ d.taken_port + length (stats_items (cons_option (Some (if stats then ForStats f.id f.pdu else Plain f.id f.pdu)) []))
+take-port-at : (d : Done) (f : Frame) (stats : Bool)
+    → (tally done_next d (taking Request stats ∷ [])).taken_port
+    ≡ d.taken_port + length (stats_items
+    (cons_option (Some (if stats then ForStats f.id f.pdu else Plain f.id f.pdu)) []))
 take-port-at d f true = refl
 take-port-at d f false = omega arith
 
-take-port : (d : Done) (f : Frame) (kind : FrameKind) → (tally done_next d (taking kind (is_stats f.pdu) ∷ [])).taken_port ≡ d.taken_port + length (stats_items (cons_option (taken_in kind f) []))
+take-port : (d : Done) (f : Frame) (kind : FrameKind)
+    → (tally done_next d (taking kind (is_stats f.pdu) ∷ [])).taken_port
+    ≡ d.taken_port + length (stats_items (cons_option (taken_in kind f) []))
 take-port d f Request = take-port-at d f (is_stats f.pdu)
 take-port d f Reply = omega arith
 
 -- of Replies posted, and of what the port answered
-post-replies : (d : Done) (kind : FrameKind) (f : Frame) → (tally done_next d (posting kind ∷ [])).replies ≡ d.replies + length (cons_option (replied_in kind f) [])
+post-replies : (d : Done) (kind : FrameKind) (f : Frame)
+    → (tally done_next d (posting kind ∷ [])).replies
+    ≡ d.replies + length (cons_option (replied_in kind f) [])
 post-replies d Request f = omega arith
 post-replies d Reply f = refl
 
-post-port : (d : Done) (kind : FrameKind) → ((tally done_next d (posting kind ∷ [])).taken_port ≡ d.taken_port) × ((tally done_next d (posting kind ∷ [])).answered_port ≡ d.answered_port)
+post-port : (d : Done) (kind : FrameKind)
+    → ((tally done_next d (posting kind ∷ [])).taken_port ≡ d.taken_port)
+    × ((tally done_next d (posting kind ∷ [])).answered_port ≡ d.answered_port)
 post-port d Request = (refl, refl)
 post-port d Reply = (refl, refl)
 
-take-replies : (d : Done) (kind : FrameKind) (stats : Bool) → ((tally done_next d (taking kind stats ∷ [])).replies ≡ d.replies) × ((tally done_next d (taking kind stats ∷ [])).answered_port ≡ d.answered_port)
+take-replies : (d : Done) (kind : FrameKind) (stats : Bool)
+    → ((tally done_next d (taking kind stats ∷ [])).replies ≡ d.replies)
+    × ((tally done_next d (taking kind stats ∷ [])).answered_port ≡ d.answered_port)
 take-replies d Request true = (refl, refl)
 take-replies d Request false = (refl, refl)
 take-replies d Reply stats = (refl, refl)
 
-work-port : (d : Done) (own : Bool) → ((tally done_next d (working own)).replies ≡ d.replies) × ((tally done_next d (working own)).taken_port ≡ d.taken_port)
+work-port : (d : Done) (own : Bool)
+    → ((tally done_next d (working own)).replies ≡ d.replies)
+    × ((tally done_next d (working own)).taken_port ≡ d.taken_port)
 work-port d true = (refl, refl)
 work-port d false = (refl, refl)
 
-work-answered-at : (d : Done) (answer : Answered) (own : Bool) → (tally done_next d (working own)).answered_port ≡ d.answered_port + length (cons_option (if own then None else Some answer) [])
+work-answered-at : (d : Done) (answer : Answered) (own : Bool)
+    → (tally done_next d (working own)).answered_port
+    ≡ d.answered_port + length (cons_option (if own then None else Some answer) [])
 work-answered-at d answer true = omega arith
 work-answered-at d answer false = refl
 
-work-answered : (d : Done) (n : ℕ) (id : CallId) (op : LocalOp) (result : MstrResult) → (tally done_next d (working (id.node == n))).answered_port ≡ d.answered_port + length (cons_option (answered_for n id op result) [])
-work-answered d n id op result = work-answered-at d (record { id = id; request = request_of op; reply = reply_of result }) (id.node == n)
+work-answered : (d : Done) (n : ℕ) (id : CallId) (op : LocalOp) (result : MstrResult)
+    → (tally done_next d (working (id.node == n))).answered_port
+    ≡ d.answered_port + length (cons_option (answered_for n id op result) [])
+work-answered d n id op result =
+    work-answered-at d (record { id = id; request = request_of op; reply = reply_of result })
+    (id.node == n)
 
-take-over-at : (d : Done) (stats : Bool) → (tally done_next d (taking Request stats ∷ [])).over ≡ d.over + 0
+take-over-at : (d : Done) (stats : Bool)
+    → (tally done_next d (taking Request stats ∷ [])).over ≡ d.over + 0
 take-over-at d true = omega arith
 take-over-at d false = omega arith
 
-take-over : (d : Done) (f : Frame) (kind : FrameKind) (stats : Bool) → (tally done_next d (taking kind stats ∷ [])).over ≡ d.over + length (map end_id (cons_option (ended_in AController [] kind f) []))
+take-over : (d : Done) (f : Frame) (kind : FrameKind) (stats : Bool)
+    → (tally done_next d (taking kind stats ∷ [])).over
+    ≡ d.over + length (map end_id (cons_option (ended_in AController [] kind f) []))
 take-over d f Request stats = take-over-at d stats
 take-over d f Reply stats = refl
 
-work-other : (d : Done) (own : Bool) → ((tally done_next d (working own)).posted ≡ d.posted) × ((tally done_next d (working own)).taken ≡ d.taken)
+work-other : (d : Done) (own : Bool)
+    → ((tally done_next d (working own)).posted ≡ d.posted)
+    × ((tally done_next d (working own)).taken ≡ d.taken)
 work-other d true = (refl, refl)
 work-other d false = (refl, refl)
 
-work-over : (d : Done) (n : ℕ) (id : CallId) (op : LocalOp) (result : MstrResult) → (tally done_next d (working (id.node == n))).over ≡ d.over + length (map end_id (cons_option (ended_at_home n id op result) []))
+work-over : (d : Done) (n : ℕ) (id : CallId) (op : LocalOp) (result : MstrResult)
+    → (tally done_next d (working (id.node == n))).over
+    ≡ d.over + length (map end_id (cons_option (ended_at_home n id op result) []))
 work-over d n id op result = at (id.node == n)
   where
-    at : (own : Bool) → (tally done_next d (working own)).over ≡ d.over + length (map end_id (cons_option (if own then Some (record { id = id; kind = Some (LocalCall op); outcome = Came result }) else None) []))
+    at : (own : Bool) → (tally done_next d (working own)).over
+        ≡ d.over + length (map end_id
+        (cons_option (if own then Some
+        (record { id = id; kind = Some (LocalCall op); outcome = Came result }) else None) []))
     at true = refl
     at false = omega arith
 
@@ -223,16 +281,19 @@ deed-over d (Leave n cause) = omega arith
 abbrev pub replies_posted_in : RingEntry → List Item
 replies_posted_in r = cons_option (replied_of r) []
 
-deed-taken-port : (d : Done) (r : RingEntry) → (deed d r).taken_port ≡ d.taken_port + length (port_takes_in r)
+deed-taken-port : (d : Done) (r : RingEntry)
+    → (deed d r).taken_port ≡ d.taken_port + length (port_takes_in r)
 deed-taken-port d (Post n f) = let a = (post-port d f.kind).0 in omega (arith, a)
 deed-taken-port d (Take n f) = take-port d f f.kind
-deed-taken-port d (Local n id op result) = let a = (work-port d (id.node == n)).1 in omega (arith, a)
+deed-taken-port d (Local n id op result) =
+    let a = (work-port d (id.node == n)).1 in omega (arith, a)
 deed-taken-port d (GiveUp id word) = omega arith
 deed-taken-port d (Send n heard) = omega arith
 deed-taken-port d (Pass n done words) = omega arith
 deed-taken-port d (Leave n cause) = omega arith
 
-deed-answered : (d : Done) (r : RingEntry) → (deed d r).answered_port ≡ d.answered_port + length (port_answers_in r)
+deed-answered : (d : Done) (r : RingEntry)
+    → (deed d r).answered_port ≡ d.answered_port + length (port_answers_in r)
 deed-answered d (Post n f) = let a = (post-port d f.kind).1 in omega (arith, a)
 deed-answered d (Take n f) = let a = (take-replies d f.kind (is_stats f.pdu)).1 in omega (arith, a)
 deed-answered d (Local n id op result) = work-answered d n id op result
@@ -241,7 +302,8 @@ deed-answered d (Send n heard) = omega arith
 deed-answered d (Pass n done words) = omega arith
 deed-answered d (Leave n cause) = omega arith
 
-deed-replies : (d : Done) (r : RingEntry) → (deed d r).replies ≡ d.replies + length (replies_posted_in r)
+deed-replies : (d : Done) (r : RingEntry)
+    → (deed d r).replies ≡ d.replies + length (replies_posted_in r)
 deed-replies d (Post n f) = post-replies d f.kind f
 deed-replies d (Take n f) = let a = (take-replies d f.kind (is_stats f.pdu)).0 in omega (arith, a)
 deed-replies d (Local n id op result) = let a = (work-port d (id.node == n)).0 in omega (arith, a)
@@ -250,7 +312,8 @@ deed-replies d (Send n heard) = omega arith
 deed-replies d (Pass n done words) = omega arith
 deed-replies d (Leave n cause) = omega arith
 
-pub all-taken-port : (d : Done) (rs : List RingEntry) → (tally deed d rs).taken_port ≡ d.taken_port + length (flat_map port_takes_in rs)
+pub all-taken-port : (d : Done) (rs : List RingEntry)
+    → (tally deed d rs).taken_port ≡ d.taken_port + length (flat_map port_takes_in rs)
 all-taken-port d [] = omega arith
 all-taken-port d (r ∷ rs) =
     let a = all-taken-port (deed d r) rs in
@@ -258,7 +321,8 @@ all-taken-port d (r ∷ rs) =
     let c = length-append (port_takes_in r) (flat_map port_takes_in rs) in
     omega (arith, a, b, c)
 
-pub all-answered : (d : Done) (rs : List RingEntry) → (tally deed d rs).answered_port ≡ d.answered_port + length (flat_map port_answers_in rs)
+pub all-answered : (d : Done) (rs : List RingEntry)
+    → (tally deed d rs).answered_port ≡ d.answered_port + length (flat_map port_answers_in rs)
 all-answered d [] = omega arith
 all-answered d (r ∷ rs) =
     let a = all-answered (deed d r) rs in
@@ -266,7 +330,8 @@ all-answered d (r ∷ rs) =
     let c = length-append (port_answers_in r) (flat_map port_answers_in rs) in
     omega (arith, a, b, c)
 
-pub all-replies : (d : Done) (rs : List RingEntry) → (tally deed d rs).replies ≡ d.replies + length (flat_map replies_posted_in rs)
+pub all-replies : (d : Done) (rs : List RingEntry)
+    → (tally deed d rs).replies ≡ d.replies + length (flat_map replies_posted_in rs)
 all-replies d [] = omega arith
 all-replies d (r ∷ rs) =
     let a = all-replies (deed d r) rs in
@@ -274,7 +339,8 @@ all-replies d (r ∷ rs) =
     let c = length-append (replies_posted_in r) (flat_map replies_posted_in rs) in
     omega (arith, a, b, c)
 
-pub all-posted : (d : Done) (rs : List RingEntry) → (tally deed d rs).posted ≡ d.posted + length (flat_map posts_in rs)
+pub all-posted : (d : Done) (rs : List RingEntry)
+    → (tally deed d rs).posted ≡ d.posted + length (flat_map posts_in rs)
 all-posted d [] = omega arith
 all-posted d (r ∷ rs) =
     let a = all-posted (deed d r) rs in
@@ -282,7 +348,8 @@ all-posted d (r ∷ rs) =
     let c = length-append (posts_in r) (flat_map posts_in rs) in
     omega (arith, a, b, c)
 
-pub all-taken : (d : Done) (rs : List RingEntry) → (tally deed d rs).taken ≡ d.taken + length (flat_map takes_in rs)
+pub all-taken : (d : Done) (rs : List RingEntry)
+    → (tally deed d rs).taken ≡ d.taken + length (flat_map takes_in rs)
 all-taken d [] = omega arith
 all-taken d (r ∷ rs) =
     let a = all-taken (deed d r) rs in
@@ -290,7 +357,8 @@ all-taken d (r ∷ rs) =
     let c = length-append (takes_in r) (flat_map takes_in rs) in
     omega (arith, a, b, c)
 
-pub all-over : (d : Done) (rs : List RingEntry) → (tally deed d rs).over ≡ d.over + length (flat_map overs_in rs)
+pub all-over : (d : Done) (rs : List RingEntry)
+    → (tally deed d rs).over ≡ d.over + length (flat_map overs_in rs)
 all-over d [] = omega arith
 all-over d (r ∷ rs) =
     let a = all-over (deed d r) rs in

@@ -1,9 +1,12 @@
 -- Names stand in order.
-use Rattle.std.proofs.Common.{◌≡◌, ℕ, ◌+◌, ◌≤◌, ◌==◌, ◌⊎◌, Bool, true, false, cond, List, [], ◌∷◌, ◌++◌, length, map, Some, refl, sym, ap, subst, ◌∙◌, ⊎_elim, inl, inr, arith, append_assoc}
+use Rattle.std.proofs.Common.{◌≡◌, ℕ, ◌+◌, ◌≤◌, ◌==◌, ◌⊎◌, Bool, true, false, cond, List, [], ◌∷◌}
+use Rattle.std.proofs.Common.{◌++◌, length, map, Some, refl, sym, ap, subst, ◌∙◌, ⊎_elim, inl, inr}
+use Rattle.std.proofs.Common.{arith, append_assoc}
 use Rattle.std.specs.List.{cons_option, flat_map, Contains, AllByRecursion as Each}
 use Rattle.std.proofs.lemmas.Grind.{flat_map-append}
 use Rattle.std.proofs.lemmas.List.{length-append, length-map}
-use Rattle.std.proofs.lemmas.List.Elements.{filter_map-append, Contains-push, Contains-push_cases, Contains-append_right}
+use Rattle.std.proofs.lemmas.List.Elements.{filter_map-append, Contains-push, Contains-push_cases}
+use Rattle.std.proofs.lemmas.List.Elements.{Contains-append_right}
 use Rattle.plant_types.specs.declared.net.NetPlan.{NetPlan}
 use Rattle.ring_core.specs.Words.{maker}
 use Rattle.ring_core.specs.Legal.{IsRun, IsLegal}
@@ -11,22 +14,36 @@ use Rattle.ring_core.specs.declared.frame.Frame.{Frame}
 use Rattle.ring_core.specs.declared.frame.FrameKind.{FrameKind}
 use Rattle.ring_core.specs.declared.frame.FrameKind.TheVariants.{Request, Reply}
 use Rattle.ring_core.specs.declared.entry.RingEntry.{RingEntry}
-use Rattle.ring_core.specs.declared.entry.RingEntry.TheVariants.{Post, Send, Take, Local, GiveUp, Pass, Leave}
+use Rattle.ring_core.specs.declared.entry.RingEntry.TheVariants.{Post, Send, Take, Local, GiveUp}
+use Rattle.ring_core.specs.declared.entry.RingEntry.TheVariants.{Pass, Leave}
 use Rattle.mstr_block.specs.declared.call.CallId.{CallId}
 use Rattle.ring_laws.specs.Once.{IsRingHistory, OnlyItsTarget, ReplyToItsCaller, TookCall}
-use Rattle.tied_lists.specs.Items.{Answered, Item, Taken, Plain, ForStats, asked_in, item_of, taken_of, taken_by, plain_items, stats_items, port_answers, replied_in, replied_of, replied_by, due_replies, replies_in}
+use Rattle.tied_lists.specs.Items.{Answered, Item, Taken, Plain, ForStats, asked_in, item_of}
+use Rattle.tied_lists.specs.Items.{taken_of, taken_by, plain_items, stats_items, port_answers}
+use Rattle.tied_lists.specs.Items.{replied_in, replied_of, replied_by, due_replies, replies_in}
 use Rattle.joint_history.specs.declared.joint.Joint.{Joint}
 use Rattle.joint_history.specs.JointLaws.{IsJoint}
 use Rattle.one_order.specs.Merges.{tally}
-use Rattle.one_order.specs.Orders.{Event, AtStation, AtRing, Log, on_ring, if_on_ring, at_station, if_at_station, own_of}
+use Rattle.one_order.specs.Orders.{Event, AtStation, AtRing, Log, on_ring, if_on_ring, at_station}
+use Rattle.one_order.specs.Orders.{if_at_station, own_of}
 use Rattle.one_order.proofs.Merges.{tally-append}
 use Rattle.one_order.proofs.Fronts.{own-append}
-use Rattle.entry_causes.specs.Causes.{StationEntry, Done, PostsReply, no_notes, no_deeds, note, deed, done_next, posting, replies_for_station, replies_for_port, AreCaused}
+use Rattle.entry_causes.specs.Causes.{StationEntry, Done, PostsReply, no_notes, no_deeds, note}
+use Rattle.entry_causes.specs.Causes.{deed, done_next, posting, replies_for_station}
+use Rattle.entry_causes.specs.Causes.{replies_for_port, AreCaused}
 use Rattle.entry_causes.specs.Joint.{logs_of, IsInOneOrder}
-use Rattle.call_order.specs.Named.{Order, own_in, asks_in, answers_in, ends_in, takes_in, port_takes_in, port_answers_in, overs_in, PostsFollowAsks, AnswersFollowTakes, PortAnswersFollowTakes, Carries, ReplyPostsFollowAnswers, ReplyPostsFollowTakes, EndsFollowOvers, TakesFollowPosts, ReplyTakesFollowPosts, NamesStandInOrder}
-use Rattle.call_order.proofs.Behind.{stands-in, ring-behind, station-behind, own-behind, ring-own, ring-station}
-use Rattle.call_order.proofs.Counts.{posts_in, replies_posted_in, all-asked, all-served, all-ended, all-posted, all-taken, all-taken-port, all-answered, all-replies, all-over}
-use Rattle.call_order.proofs.Readings.{cons-one, takes-read, port-takes-read, port-answers-read, replies-read, items-read}
+use Rattle.call_order.specs.Named.{Order, own_in, asks_in, answers_in, ends_in, takes_in}
+use Rattle.call_order.specs.Named.{port_takes_in, port_answers_in, overs_in, PostsFollowAsks}
+use Rattle.call_order.specs.Named.{AnswersFollowTakes, PortAnswersFollowTakes, Carries}
+use Rattle.call_order.specs.Named.{ReplyPostsFollowAnswers, ReplyPostsFollowTakes, EndsFollowOvers}
+use Rattle.call_order.specs.Named.{TakesFollowPosts, ReplyTakesFollowPosts, NamesStandInOrder}
+use Rattle.call_order.proofs.Behind.{stands-in, ring-behind, station-behind, own-behind, ring-own}
+use Rattle.call_order.proofs.Behind.{ring-station}
+use Rattle.call_order.proofs.Counts.{posts_in, replies_posted_in, all-asked, all-served, all-ended}
+use Rattle.call_order.proofs.Counts.{all-posted, all-taken, all-taken-port, all-answered}
+use Rattle.call_order.proofs.Counts.{all-replies, all-over}
+use Rattle.call_order.proofs.Readings.{cons-one, takes-read, port-takes-read, port-answers-read}
+use Rattle.call_order.proofs.Readings.{replies-read, items-read}
 use Rattle.call_order.proofs.Ties.{Ties, all-tie}
 use Rattle.call_order.proofs.Queues.{Queued, HaveRequests, for-station, all-queued, none-without}
 use Rattle.call_order.proofs.Due.{AnswersAt, AnsweredAs, due-at, due-name}
@@ -35,12 +52,16 @@ use Rattle.effect_laws.proofs.Sources.{name_of, of-map, of-own, take-of, here}
 -- ---- One station.
 
 abbrev Caused : ℕ → Order → Type 0
-Caused n order = (v rest : Order) → order ≡ v ++ rest → AreCaused (tally note no_notes (at_station n v)) (tally deed no_deeds (own_in n v))
+Caused n order =
+    (v rest : Order) → order ≡ v ++ rest
+    → AreCaused (tally note no_notes (at_station n v)) (tally deed no_deeds (own_in n v))
 
-request-posts : (n : ℕ) (f : Frame) → f.kind ≡ Request → posts_in (Post n f) ≡ record { id = f.id; to = f.to; pdu = f.pdu } ∷ []
+request-posts : (n : ℕ) (f : Frame) → f.kind ≡ Request
+    → posts_in (Post n f) ≡ record { id = f.id; to = f.to; pdu = f.pdu } ∷ []
 request-posts n f k = ap (λ (kind : FrameKind). cons_option (asked_in kind f) []) k
 
-posts-bound : (n : ℕ) (order : Order) → Caused n order → (v rest : Order) → order ≡ v ++ rest → length (flat_map posts_in (own_in n v)) ≤ length (flat_map asks_in (at_station n v))
+posts-bound : (n : ℕ) (order : Order) → Caused n order → (v rest : Order) → order ≡ v ++ rest
+    → length (flat_map posts_in (own_in n v)) ≤ length (flat_map asks_in (at_station n v))
 posts-bound n order c v rest q =
     let h = (c v rest q).posts in
     let a = all-asked no_notes (at_station n v) in
@@ -54,13 +75,19 @@ items_in e = map item_of (answers_in e)
 abbrev port_items_in : RingEntry → List Item
 port_items_in r = map item_of (port_answers_in r)
 
-served-size : (es : List StationEntry) → length (flat_map items_in es) ≡ length (flat_map answers_in es)
-served-size es = ap length (sym (items-read answers_in es)) ∙ length-map (flat_map answers_in es) item_of
+served-size : (es : List StationEntry)
+    → length (flat_map items_in es) ≡ length (flat_map answers_in es)
+served-size es =
+    ap length (sym (items-read answers_in es)) ∙ length-map (flat_map answers_in es) item_of
 
-port-size : (rs : List RingEntry) → length (flat_map port_items_in rs) ≡ length (flat_map port_answers_in rs)
-port-size rs = ap length (sym (items-read port_answers_in rs)) ∙ length-map (flat_map port_answers_in rs) item_of
+port-size : (rs : List RingEntry)
+    → length (flat_map port_items_in rs) ≡ length (flat_map port_answers_in rs)
+port-size rs =
+    ap length (sym (items-read port_answers_in rs))
+    ∙ length-map (flat_map port_answers_in rs) item_of
 
-answers-bound : (n : ℕ) (order : Order) → Caused n order → (v rest : Order) → order ≡ v ++ rest → length (flat_map items_in (at_station n v)) ≤ length (flat_map takes_in (own_in n v))
+answers-bound : (n : ℕ) (order : Order) → Caused n order → (v rest : Order) → order ≡ v ++ rest
+    → length (flat_map items_in (at_station n v)) ≤ length (flat_map takes_in (own_in n v))
 answers-bound n order c v rest q =
     let h = (c v rest q).answers in
     let a = all-served no_notes (at_station n v) in
@@ -68,7 +95,8 @@ answers-bound n order c v rest q =
     let e = served-size (at_station n v) in
     omega (arith, h, a, b, e)
 
-port-bound : (n : ℕ) (order : Order) → Caused n order → (v rest : Order) → order ≡ v ++ rest → length (flat_map port_items_in (own_in n v)) ≤ length (flat_map port_takes_in (own_in n v))
+port-bound : (n : ℕ) (order : Order) → Caused n order → (v rest : Order) → order ≡ v ++ rest
+    → length (flat_map port_items_in (own_in n v)) ≤ length (flat_map port_takes_in (own_in n v))
 port-bound n order c v rest q =
     let h = (c v rest q).port_answers in
     let a = all-answered no_deeds (own_in n v) in
@@ -76,7 +104,8 @@ port-bound n order c v rest q =
     let e = port-size (own_in n v) in
     omega (arith, h, a, b, e)
 
-ends-bound : (n : ℕ) (order : Order) → Caused n order → (v rest : Order) → order ≡ v ++ rest → length (flat_map ends_in (at_station n v)) ≤ length (flat_map overs_in (own_in n v))
+ends-bound : (n : ℕ) (order : Order) → Caused n order → (v rest : Order) → order ≡ v ++ rest
+    → length (flat_map ends_in (at_station n v)) ≤ length (flat_map overs_in (own_in n v))
 ends-bound n order c v rest q =
     let h = (c v rest q).ends in
     let a = all-ended no_notes (at_station n v) in
@@ -86,39 +115,64 @@ ends-bound n order c v rest q =
 -- the lists of an order are those that are tied
 record TiedIn (n : ℕ) (order : Order) : Type 0 where
   asks : flat_map posts_in (own_in n order) ≡ flat_map asks_in (at_station n order)
-  answers : map item_of (flat_map answers_in (at_station n order)) ≡ plain_items (taken_by (own_in n order))
+  answers : map item_of (flat_map answers_in (at_station n order))
+      ≡ plain_items (taken_by (own_in n order))
   port : map item_of (port_answers (own_in n order)) ≡ stats_items (taken_by (own_in n order))
   replies : replied_by (own_in n order)
-      ≡ due_replies (taken_by (own_in n order)) (replies_in (flat_map answers_in (at_station n order))) (replies_in (port_answers (own_in n order)))
+      ≡ due_replies (taken_by (own_in n order))
+      (replies_in (flat_map answers_in (at_station n order)))
+      (replies_in (port_answers (own_in n order)))
   ends : flat_map ends_in (at_station n order) ≡ flat_map overs_in (own_in n order)
 
-tied-in : (ring : List RingEntry) (order : Order) (log : Log StationEntry) → on_ring order ≡ ring → at_station log.node order ≡ log.entries → Ties ring log → TiedIn log.node order
-tied-in ring order log p q t = tied-as (own_of maker log.node ring) log.entries (ap (own_of maker log.node) p) q t.asks t.answers t.port t.replies t.ends
+tied-in : (ring : List RingEntry) (order : Order) (log : Log StationEntry) → on_ring order ≡ ring
+    → at_station log.node order ≡ log.entries → Ties ring log → TiedIn log.node order
+tied-in ring order log p q t =
+    tied-as (own_of maker log.node ring) log.entries (ap (own_of maker log.node) p) q t.asks
+    t.answers t.port t.replies t.ends
   where
-    tied-as : (b : List RingEntry) (es : List StationEntry) → own_in log.node order ≡ b → at_station log.node order ≡ es
-        → flat_map posts_in b ≡ flat_map asks_in es → map item_of (flat_map answers_in es) ≡ plain_items (taken_by b) → map item_of (port_answers b) ≡ stats_items (taken_by b)
-        → replied_by b ≡ due_replies (taken_by b) (replies_in (flat_map answers_in es)) (replies_in (port_answers b)) → flat_map ends_in es ≡ flat_map overs_in b
+    tied-as : (b : List RingEntry) (es : List StationEntry) → own_in log.node order ≡ b
+        → at_station log.node order ≡ es
+        → flat_map posts_in b ≡ flat_map asks_in es
+        → map item_of (flat_map answers_in es) ≡ plain_items (taken_by b)
+        → map item_of (port_answers b) ≡ stats_items (taken_by b)
+        → replied_by b ≡ due_replies (taken_by b) (replies_in (flat_map answers_in es))
+        (replies_in (port_answers b)) → flat_map ends_in es ≡ flat_map overs_in b
         → TiedIn log.node order
     tied-as b es x y asks answers port replies ends = record {
       asks = ap (flat_map posts_in) x ∙ (asks ∙ ap (flat_map asks_in) (sym y));
-      answers = ap (λ (l : List StationEntry). map item_of (flat_map answers_in l)) y ∙ (answers ∙ ap (λ (l : List RingEntry). plain_items (taken_by l)) (sym x));
-      port = ap (λ (l : List RingEntry). map item_of (port_answers l)) x ∙ (port ∙ ap (λ (l : List RingEntry). stats_items (taken_by l)) (sym x));
-      replies = subst (λ (l : List RingEntry). replied_by l ≡ due_replies (taken_by l) (replies_in (flat_map answers_in (at_station log.node order))) (replies_in (port_answers l))) (sym x)
-          (subst (λ (l : List StationEntry). replied_by b ≡ due_replies (taken_by b) (replies_in (flat_map answers_in l)) (replies_in (port_answers b))) (sym y) replies);
+      answers =
+          ap (λ (l : List StationEntry). map item_of (flat_map answers_in l)) y
+          ∙ (answers ∙ ap (λ (l : List RingEntry). plain_items (taken_by l)) (sym x));
+      port =
+          ap (λ (l : List RingEntry). map item_of (port_answers l)) x
+          ∙ (port ∙ ap (λ (l : List RingEntry). stats_items (taken_by l)) (sym x));
+      replies =
+          subst (λ (l : List RingEntry). replied_by l
+          ≡ due_replies (taken_by l) (replies_in (flat_map answers_in (at_station log.node order)))
+          (replies_in (port_answers l))) (sym x)
+          (subst (λ (l : List StationEntry). replied_by b
+          ≡ due_replies (taken_by b) (replies_in (flat_map answers_in l))
+          (replies_in (port_answers b))) (sym y) replies);
       ends = ap (flat_map ends_in) y ∙ (ends ∙ ap (flat_map overs_in) (sym x));
     }
 
 posts-follow : (n : ℕ) (order : Order) → TiedIn n order → Caused n order → PostsFollowAsks n order
 posts-follow n order t c before after f is k =
-    ring-behind maker asks_in posts_in n order before after (Post n f) (record { id = f.id; to = f.to; pdu = f.pdu }) is refl (request-posts n f k) t.asks (posts-bound n order c)
+    ring-behind maker asks_in posts_in n order before after (Post n f)
+    (record { id = f.id; to = f.to; pdu = f.pdu }) is refl (request-posts n f k) t.asks
+    (posts-bound n order c)
 
-answers-follow : (n : ℕ) (order : Order) → TiedIn n order → Caused n order → AnswersFollowTakes n order
+answers-follow : (n : ℕ) (order : Order) → TiedIn n order → Caused n order
+    → AnswersFollowTakes n order
 answers-follow n order t c before after e answer is one =
-    station-behind maker items_in takes_in n order before after e (item_of answer) is (ap (map item_of) one)
-    (sym (items-read answers_in (at_station n order)) ∙ (t.answers ∙ takes-read (own_in n order))) (answers-bound n order c)
+    station-behind maker items_in takes_in n order before after e (item_of answer) is
+    (ap (map item_of) one)
+    (sym (items-read answers_in (at_station n order)) ∙ (t.answers ∙ takes-read (own_in n order)))
+    (answers-bound n order c)
 
 -- what answers for the port takes nothing
-takes-none : (r : RingEntry) (answer : Answered) → port_answers_in r ≡ answer ∷ [] → port_takes_in r ≡ []
+takes-none : (r : RingEntry) (answer : Answered) → port_answers_in r ≡ answer ∷ []
+    → port_takes_in r ≡ []
 takes-none (Local n id op result) answer q = refl
 takes-none (Post n f) answer q = absurd (cc)
 takes-none (Take n f) answer q = absurd (cc)
@@ -127,14 +181,19 @@ takes-none (Send n heard) answer q = absurd (cc)
 takes-none (Pass n done words) answer q = absurd (cc)
 takes-none (Leave n cause) answer q = absurd (cc)
 
-port-answers-follow : (n : ℕ) (order : Order) → TiedIn n order → Caused n order → PortAnswersFollowTakes n order
+port-answers-follow : (n : ℕ) (order : Order) → TiedIn n order → Caused n order
+    → PortAnswersFollowTakes n order
 port-answers-follow n order t c before after r answer is m one =
-    own-behind maker port_takes_in port_items_in n order before after r (item_of answer) is m (ap (map item_of) one) (takes-none r answer one)
-    (sym (items-read port_answers_in (own_in n order)) ∙ (ap (map item_of) (sym (port-answers-read (own_in n order))) ∙ (t.port ∙ port-takes-read (own_in n order)))) (port-bound n order c)
+    own-behind maker port_takes_in port_items_in n order before after r (item_of answer) is m
+    (ap (map item_of) one) (takes-none r answer one)
+    (sym (items-read port_answers_in (own_in n order))
+    ∙ (ap (map item_of) (sym (port-answers-read (own_in n order)))
+    ∙ (t.port ∙ port-takes-read (own_in n order)))) (port-bound n order c)
 
 ends-follow : (n : ℕ) (order : Order) → TiedIn n order → Caused n order → EndsFollowOvers n order
 ends-follow n order t c before after e id is one =
-    station-behind maker ends_in overs_in n order before after e id is one t.ends (ends-bound n order c)
+    station-behind maker ends_in overs_in n order before after e id is one t.ends
+    (ends-bound n order c)
 
 -- ---- A Reply.
 
@@ -145,14 +204,23 @@ record FrontOf (n : ℕ) (v : Order) (c : List RingEntry) : Type 0 where
   is : v ≡ front ++ rest
   own_is : own_in n front ≡ c
 
-front-on : (n : ℕ) (x : Event StationEntry RingEntry) (v : Order) (c d : List RingEntry) → ((w : Order) → own_in n w ≡ c → own_in n (x ∷ w) ≡ d) → FrontOf n v c → FrontOf n (x ∷ v) d
-front-on n x v c d go f = record { front = x ∷ f.front; rest = f.rest; is = ap (λ (w : Order). x ∷ w) f.is; own_is = go f.front f.own_is }
+front-on : (n : ℕ) (x : Event StationEntry RingEntry) (v : Order) (c d : List RingEntry)
+    → ((w : Order) → own_in n w ≡ c → own_in n (x ∷ w) ≡ d) → FrontOf n v c → FrontOf n (x ∷ v) d
+front-on n x v c d go f =
+    record {
+      front = x ∷ f.front;
+      rest = f.rest;
+      is = ap (λ (w : Order). x ∷ w) f.is;
+      own_is = go f.front f.own_is;
+    }
 
 own-front : (n : ℕ) (v : Order) (c rest : List RingEntry) → own_in n v ≡ c ++ rest → FrontOf n v c
 own-front n v [] rest q = record { front = []; rest = v; is = refl; own_is = refl }
 own-front n [] (r ∷ c) rest q = absurd (cc)
-own-front n (AtStation m e ∷ v) (r ∷ c) rest q = front-on n (AtStation m e) v (r ∷ c) (r ∷ c) (λ w is. is) (own-front n v (r ∷ c) rest q)
-own-front n (AtRing s ∷ v) (r ∷ c) rest q = at (maker s == n) refl q (own-front n v c rest) (own-front n v (r ∷ c) rest)
+own-front n (AtStation m e ∷ v) (r ∷ c) rest q =
+    front-on n (AtStation m e) v (r ∷ c) (r ∷ c) (λ w is. is) (own-front n v (r ∷ c) rest q)
+own-front n (AtRing s ∷ v) (r ∷ c) rest q =
+    at (maker s == n) refl q (own-front n v c rest) (own-front n v (r ∷ c) rest)
   where
     mine : (b : Bool) (t l : List RingEntry) → b ≡ true → s ≡ r → t ≡ l → cond b (s ∷ t) t ≡ r ∷ l
     mine true t l m same is = λ i. same i ∷ is i
@@ -162,81 +230,117 @@ own-front n (AtRing s ∷ v) (r ∷ c) rest q = at (maker s == n) refl q (own-fr
     other true t l m is = absurd (cc)
     other false t l m is = is
 
-    at : (b : Bool) → (maker s == n) ≡ b → cond b (s ∷ own_in n v) (own_in n v) ≡ r ∷ (c ++ rest) → (own_in n v ≡ c ++ rest → FrontOf n v c)
+    at : (b : Bool) → (maker s == n) ≡ b → cond b (s ∷ own_in n v) (own_in n v) ≡ r ∷ (c ++ rest)
+        → (own_in n v ≡ c ++ rest → FrontOf n v c)
         → (own_in n v ≡ r ∷ (c ++ rest) → FrontOf n v (r ∷ c)) → FrontOf n (AtRing s ∷ v) (r ∷ c)
     at true m e go on =
         let same : s ≡ r = cc in
-        front-on n (AtRing s) v c (r ∷ c) (λ w is. mine (maker s == n) (own_in n w) c m same is) (go (cc))
-    at false m e go on = front-on n (AtRing s) v (r ∷ c) (r ∷ c) (λ w is. other (maker s == n) (own_in n w) (r ∷ c) m is) (on e)
+        front-on n (AtRing s) v c (r ∷ c) (λ w is. mine (maker s == n) (own_in n w) c m same is)
+        (go (cc))
+    at false m e go on =
+        front-on n (AtRing s) v (r ∷ c) (r ∷ c)
+        (λ w is. other (maker s == n) (own_in n w) (r ∷ c) m is) (on e)
 
-queued-at : (n : ℕ) (order : Order) → Caused n order → (v rest : Order) → order ≡ v ++ rest → Queued (tally deed no_deeds (own_in n v)) (taken_by (own_in n v))
+queued-at : (n : ℕ) (order : Order) → Caused n order → (v rest : Order) → order ≡ v ++ rest
+    → Queued (tally deed no_deeds (own_in n v)) (taken_by (own_in n v))
 queued-at n order c v rest q = all-queued (own_in n v)
     (λ front later is.
     let f = own-front n v front later is in
     subst (λ (l : List RingEntry). HaveRequests (tally deed no_deeds l)) f.own_is
-    (c f.front (f.rest ++ rest) (q ∙ (ap (λ (w : Order). w ++ rest) f.is ∙ append_assoc f.front f.rest rest))).requests)
+    (c f.front (f.rest ++ rest) (q
+    ∙ (ap (λ (w : Order). w ++ rest) f.is ∙ append_assoc f.front f.rest rest))).requests)
 
 -- an answer whose place is within those that were noted
-carried : (f : Frame) (whole seen rest : List Answered) (place : ℕ) → AnswersAt whole place f.id f.pdu → whole ≡ seen ++ rest → place + 1 ≤ length seen → Carries f seen
+carried : (f : Frame) (whole seen rest : List Answered) (place : ℕ)
+    → AnswersAt whole place f.id f.pdu → whole ≡ seen ++ rest → place + 1 ≤ length seen
+    → Carries f seen
 carried f whole seen rest place x q h = record {
   answer = x.answer;
   among =
-      let split : (x.front ++ x.answer ∷ []) ++ x.rest ≡ seen ++ rest = append_assoc x.front (x.answer ∷ []) x.rest ∙ (sym x.is ∙ q) in
-      let size : length (x.front ++ x.answer ∷ []) ≡ length x.front + 1 = length-append x.front (x.answer ∷ []) in
+      let split : (x.front ++ x.answer ∷ []) ++ x.rest ≡ seen
+      ++ rest = append_assoc x.front (x.answer ∷ []) x.rest ∙ (sym x.is ∙ q) in
+      let size : length (x.front ++ x.answer ∷ [])
+      ≡ length x.front + 1 = length-append x.front (x.answer ∷ []) in
       let at = x.place_is in
-      stands-in (x.front ++ x.answer ∷ []) seen x.rest rest x.front x.answer split (omega (arith, size, at, h)) refl;
+      stands-in (x.front ++ x.answer ∷ []) seen x.rest rest x.front x.answer split
+      (omega (arith, size, at, h)) refl;
   call = x.call;
   reply = x.reply;
 }
 
 abbrev Tells : ℕ → Order → Frame → Type 0
-Tells n before f = Carries f (flat_map answers_in (at_station n before)) ⊎ Carries f (flat_map port_answers_in (own_in n before))
+Tells n before f =
+    Carries f (flat_map answers_in (at_station n before))
+    ⊎ Carries f (flat_map port_answers_in (own_in n before))
 
 -- where this Request waits first
-told-by : (n : ℕ) (order before : Order) (more : List StationEntry) (rest : List RingEntry) (f : Frame) (d : Done) (first later : List Taken) (u : Taken)
+told-by : (n : ℕ) (order before : Order) (more : List StationEntry) (rest : List RingEntry)
+    (f : Frame) (d : Done) (first later : List Taken) (u : Taken)
     → at_station n order ≡ at_station n before ++ more → own_in n order ≡ own_in n before ++ rest
-    → d.waiting ≡ map for-station (u ∷ later) → d.replied ≡ length (plain_items first) → d.replied_port ≡ length (stats_items first)
-    → d.replied + replies_for_station d.waiting ≤ length (flat_map answers_in (at_station n before))
-    → d.replied_port + replies_for_port d.waiting ≤ length (flat_map port_answers_in (own_in n before))
-    → AnsweredAs u first (flat_map answers_in (at_station n order)) (port_answers (own_in n order)) f.id f.pdu → Tells n before f
+    → d.waiting ≡ map for-station (u ∷ later) → d.replied ≡ length (plain_items first)
+    → d.replied_port ≡ length (stats_items first)
+    → d.replied + replies_for_station d.waiting ≤ length
+    (flat_map answers_in (at_station n before))
+    → d.replied_port + replies_for_port d.waiting ≤ length
+    (flat_map port_answers_in (own_in n before))
+    → AnsweredAs u first (flat_map answers_in (at_station n order)) (port_answers (own_in n order))
+    f.id f.pdu → Tells n before f
 told-by n order before more rest f d first later (Plain i request) es rs w p q h k x =
-    let station : flat_map answers_in (at_station n order) ≡ flat_map answers_in (at_station n before) ++ flat_map answers_in more
+    let station : flat_map answers_in (at_station n order)
+    ≡ flat_map answers_in (at_station n before) ++ flat_map answers_in more
     = ap (flat_map answers_in) es ∙ flat_map-append answers_in (at_station n before) more in
     let one : replies_for_station d.waiting ≡ 1 = ap replies_for_station w in
-    inl (carried f (flat_map answers_in (at_station n order)) (flat_map answers_in (at_station n before)) (flat_map answers_in more) (length (plain_items first)) x station (omega (arith, p, h, one)))
+    inl (carried f (flat_map answers_in (at_station n order))
+    (flat_map answers_in (at_station n before)) (flat_map answers_in more)
+    (length (plain_items first)) x station (omega (arith, p, h, one)))
 told-by n order before more rest f d first later (ForStats i request) es rs w p q h k x =
-    let port : port_answers (own_in n order) ≡ flat_map port_answers_in (own_in n before) ++ flat_map port_answers_in rest
-    = port-answers-read (own_in n order) ∙ (ap (flat_map port_answers_in) rs ∙ flat_map-append port_answers_in (own_in n before) rest) in
+    let port : port_answers (own_in n order) ≡ flat_map port_answers_in (own_in n before)
+    ++ flat_map port_answers_in rest
+    = port-answers-read (own_in n order)
+    ∙ (ap (flat_map port_answers_in) rs
+    ∙ flat_map-append port_answers_in (own_in n before) rest) in
     let one : replies_for_port d.waiting ≡ 1 = ap replies_for_port w in
-    inr (carried f (port_answers (own_in n order)) (flat_map port_answers_in (own_in n before)) (flat_map port_answers_in rest) (length (stats_items first)) x port (omega (arith, q, k, one)))
+    inr (carried f (port_answers (own_in n order)) (flat_map port_answers_in (own_in n before))
+    (flat_map port_answers_in rest) (length (stats_items first)) x port
+    (omega (arith, q, k, one)))
 
-posting-reply : (d : Done) (n : ℕ) (f : Frame) → f.kind ≡ Reply → deed d (Post n f) ≡ done_next d PostsReply
+posting-reply : (d : Done) (n : ℕ) (f : Frame) → f.kind ≡ Reply
+    → deed d (Post n f) ≡ done_next d PostsReply
 posting-reply d n f k = ap (λ (kind : FrameKind). tally done_next d (posting kind ∷ [])) k
 
-reply-posts : (n : ℕ) (f : Frame) → f.kind ≡ Reply → replies_posted_in (Post n f) ≡ (f.id, Some f.pdu) ∷ []
+reply-posts : (n : ℕ) (f : Frame) → f.kind ≡ Reply
+    → replies_posted_in (Post n f) ≡ (f.id, Some f.pdu) ∷ []
 reply-posts n f k = ap (λ (kind : FrameKind). cons_option (replied_in kind f) []) k
 
 -- what is counted, and read, where a Reply is posted
 record Posting (n : ℕ) (order before after : Order) (f : Frame) (d : Done) : Type 0 where
   requests : d.replies + 1 ≤ d.taken + d.taken_port
-  station : d.replied + replies_for_station d.waiting ≤ length (flat_map answers_in (at_station n before))
-  port : d.replied_port + replies_for_port d.waiting ≤ length (flat_map port_answers_in (own_in n before))
+  station : d.replied + replies_for_station d.waiting ≤ length
+      (flat_map answers_in (at_station n before))
+  port : d.replied_port + replies_for_port d.waiting ≤ length
+      (flat_map port_answers_in (own_in n before))
   notes : at_station n order ≡ at_station n before ++ at_station n after
   deeds : own_in n order ≡ own_in n before ++ (Post n f ∷ own_in n after)
   replies : d.replies ≡ length (flat_map replies_posted_in (own_in n before))
 
-posting-at : (n : ℕ) (order before after : Order) (f : Frame) → Caused n order → order ≡ before ++ AtRing (Post n f) ∷ after → f.kind ≡ Reply
+posting-at : (n : ℕ) (order before after : Order) (f : Frame) → Caused n order
+    → order ≡ before ++ AtRing (Post n f) ∷ after → f.kind ≡ Reply
     → Posting n order before after f (tally deed no_deeds (own_in n before))
 posting-at n order before after f c is k =
     let v : Order = before ++ AtRing (Post n f) ∷ [] in
     let d : Done = tally deed no_deeds (own_in n before) in
-    let whole : order ≡ v ++ after = is ∙ sym (append_assoc before (AtRing (Post n f) ∷ []) after) in
-    let own_is : own_in n v ≡ own_in n before ++ Post n f ∷ [] = ring-own maker n before (Post n f) refl in
+    let whole : order ≡ v ++ after = is
+    ∙ sym (append_assoc before (AtRing (Post n f) ∷ []) after) in
+    let own_is : own_in n v ≡ own_in n before
+    ++ Post n f ∷ [] = ring-own maker n before (Post n f) refl in
     let done : tally deed no_deeds (own_in n v) ≡ done_next d PostsReply
-    = ap (tally deed no_deeds) own_is ∙ (tally-append deed no_deeds (own_in n before) (Post n f ∷ []) ∙ posting-reply d n f k) in
+    = ap (tally deed no_deeds) own_is
+    ∙ (tally-append deed no_deeds (own_in n before) (Post n f ∷ []) ∙ posting-reply d n f k) in
     let caused : AreCaused (tally note no_notes (at_station n before)) (done_next d PostsReply)
     = subst (λ (q : Done). AreCaused (tally note no_notes (at_station n before)) q) done
-    (subst (λ (es : List StationEntry). AreCaused (tally note no_notes es) (tally deed no_deeds (own_in n v))) (ring-station n before (Post n f)) (c v after whole)) in
+    (subst (λ (es : List StationEntry). AreCaused (tally note no_notes es)
+    (tally deed no_deeds (own_in n v))) (ring-station n before (Post n f))
+    (c v after whole)) in
     let served = all-served no_notes (at_station n before) in
     let answered = all-answered no_deeds (own_in n before) in
     let replied = all-replies no_deeds (own_in n before) in
@@ -244,30 +348,42 @@ posting-at n order before after f c is k =
       requests = caused.requests;
       station = let h = caused.replies in omega (arith, h, served);
       port = let h = caused.port_replies in omega (arith, h, answered);
-      notes = ap (at_station n) whole ∙ (filter_map-append (if_at_station n) v after ∙ ap (λ (l : List StationEntry). l ++ at_station n after) (ring-station n before (Post n f)));
-      deeds = ap (own_in n) whole ∙ (ap (own_of maker n) (filter_map-append if_on_ring v after) ∙ (own-append maker n (on_ring v) (on_ring after)
-          ∙ (ap (λ (l : List RingEntry). l ++ own_in n after) own_is ∙ append_assoc (own_in n before) (Post n f ∷ []) (own_in n after))));
+      notes =
+          ap (at_station n) whole ∙ (filter_map-append (if_at_station n) v after
+          ∙ ap (λ (l : List StationEntry). l ++ at_station n after)
+          (ring-station n before (Post n f)));
+      deeds =
+          ap (own_in n) whole ∙ (ap (own_of maker n) (filter_map-append if_on_ring v after)
+          ∙ (own-append maker n (on_ring v) (on_ring after)
+          ∙ (ap (λ (l : List RingEntry). l ++ own_in n after) own_is
+          ∙ append_assoc (own_in n before) (Post n f ∷ []) (own_in n after))));
       replies = omega (arith, replied);
     }
 
 -- what was taken, and what was posted, before and behind a Reply
-taken-split : (b rest : List RingEntry) (n : ℕ) (f : Frame) → taken_by (b ++ (Post n f ∷ rest)) ≡ taken_by b ++ taken_by rest
+taken-split : (b rest : List RingEntry) (n : ℕ) (f : Frame)
+    → taken_by (b ++ (Post n f ∷ rest)) ≡ taken_by b ++ taken_by rest
 taken-split b rest n f = filter_map-append taken_of b (Post n f ∷ rest)
 
-replied-split : (b rest : List RingEntry) (n : ℕ) (f : Frame) → f.kind ≡ Reply → replied_by (b ++ (Post n f ∷ rest)) ≡ replied_by b ++ (f.id, Some f.pdu) ∷ replied_by rest
+replied-split : (b rest : List RingEntry) (n : ℕ) (f : Frame) → f.kind ≡ Reply
+    → replied_by (b ++ (Post n f ∷ rest)) ≡ replied_by b ++ (f.id, Some f.pdu) ∷ replied_by rest
 replied-split b rest n f k =
     filter_map-append replied_of b (Post n f ∷ rest)
-    ∙ ap (λ (l : List Item). replied_by b ++ l) (cons-one (replied_of (Post n f)) (replied_by rest) ∙ ap (λ (l : List Item). l ++ replied_by rest) (reply-posts n f k))
+    ∙ ap (λ (l : List Item). replied_by b ++ l)
+    (cons-one (replied_of (Post n f)) (replied_by rest)
+    ∙ ap (λ (l : List Item). l ++ replied_by rest) (reply-posts n f k))
 
 middle : {X : Type 0} (xs : List X) (x : X) (ys : List X) → Contains (xs ++ x ∷ ys) x
 middle xs x ys = Contains-append_right xs (x ∷ ys) x (here x ys)
 
 -- the Request stands on the ring
-took : (n : ℕ) (before : Order) (u : Taken) (id : CallId) → Contains (taken_by (own_in n before)) u → name_of u ≡ id → TookCall (on_ring before) n id
+took : (n : ℕ) (before : Order) (u : Taken) (id : CallId) → Contains (taken_by (own_in n before)) u
+    → name_of u ≡ id → TookCall (on_ring before) n id
 took n before u id there name =
     let found = of-map taken_of (own_in n before) u there in
     let t = take-of found.0 u found.2 in
-    let entry : Contains (own_in n before) (Take t.node t.frame) = subst (λ (e : RingEntry). Contains (own_in n before) e) t.is found.1 in
+    let entry : Contains (own_in n before) (Take t.node t.frame) = subst
+    (λ (e : RingEntry). Contains (own_in n before) e) t.is found.1 in
     let on = of-own n (on_ring before) (Take t.node t.frame) entry in
     record {
       request = t.frame;
@@ -276,85 +392,147 @@ took n before u id there name =
       same = t.id ∙ name;
     }
 
-reply-posts-by : (n : ℕ) (order before after : Order) (f : Frame) → f.kind ≡ Reply → TiedIn n order → Posting n order before after f (tally deed no_deeds (own_in n before))
-    → (x : Queued (tally deed no_deeds (own_in n before)) (taken_by (own_in n before))) → (waits : List Taken) → x.waits ≡ waits
+reply-posts-by : (n : ℕ) (order before after : Order) (f : Frame) → f.kind ≡ Reply → TiedIn n order
+    → Posting n order before after f (tally deed no_deeds (own_in n before))
+    → (x : Queued (tally deed no_deeds (own_in n before)) (taken_by (own_in n before)))
+    → (waits : List Taken) → x.waits ≡ waits
     → Tells n before f × TookCall (on_ring before) n f.id
-reply-posts-by n order before after f k t p x [] w = absurd (none-without (tally deed no_deeds (own_in n before)) (taken_by (own_in n before)) x p.requests w)
+reply-posts-by n order before after f k t p x [] w =
+    absurd (none-without (tally deed no_deeds (own_in n before)) (taken_by (own_in n before)) x
+    p.requests w)
 reply-posts-by n order before after f k t p x (u ∷ later) w =
     let b : List RingEntry = own_in n before in
     let rest : List RingEntry = own_in n after in
     let taken : taken_by (own_in n order) ≡ x.first ++ u ∷ (later ++ taken_by rest)
-    = ap taken_by p.deeds ∙ (taken-split b rest n f ∙ (ap (λ (l : List Taken). l ++ taken_by rest) (x.taken_is ∙ ap (λ (l : List Taken). x.first ++ l) w)
+    = ap taken_by p.deeds ∙ (taken-split b rest n f
+    ∙ (ap (λ (l : List Taken). l ++ taken_by rest)
+    (x.taken_is ∙ ap (λ (l : List Taken). x.first ++ l) w)
     ∙ append_assoc x.first (u ∷ later) (taken_by rest))) in
-    let replied : replied_by (own_in n order) ≡ replied_by b ++ (f.id, Some f.pdu) ∷ replied_by rest = ap replied_by p.deeds ∙ replied-split b rest n f k in
+    let replied : replied_by (own_in n order) ≡ replied_by b
+    ++ (f.id, Some f.pdu) ∷ replied_by rest = ap replied_by p.deeds
+    ∙ replied-split b rest n f k in
     let due : replied_by b ++ (f.id, Some f.pdu) ∷ replied_by rest
-    ≡ due_replies (x.first ++ u ∷ (later ++ taken_by rest)) (replies_in (flat_map answers_in (at_station n order))) (replies_in (port_answers (own_in n order)))
-    = sym replied ∙ (t.replies ∙ ap (λ (l : List Taken). due_replies l (replies_in (flat_map answers_in (at_station n order))) (replies_in (port_answers (own_in n order)))) taken) in
-    let read : length (replied_by b) ≡ length (flat_map replies_posted_in b) = ap length (replies-read b) in
+    ≡ due_replies (x.first ++ u ∷ (later ++ taken_by rest))
+    (replies_in (flat_map answers_in (at_station n order)))
+    (replies_in (port_answers (own_in n order)))
+    = sym replied ∙ (t.replies ∙ ap
+    (λ (l : List Taken). due_replies l (replies_in (flat_map answers_in (at_station n order)))
+    (replies_in (port_answers (own_in n order)))) taken) in
+    let read : length (replied_by b)
+    ≡ length (flat_map replies_posted_in b) = ap length (replies-read b) in
     let one = p.replies in
     let two = x.replies_is in
     let size : length (replied_by b) ≡ length x.first = omega (arith, read, one, two) in (
-      told-by n order before (at_station n after) (Post n f ∷ rest) f (tally deed no_deeds b) x.first later u
-          p.notes p.deeds (x.waiting_is ∙ ap (map for-station) w) x.replied_is x.replied_port_is p.station p.port
-          (due-at x.first u (later ++ taken_by rest) (flat_map answers_in (at_station n order)) (port_answers (own_in n order)) (replied_by b) (replied_by rest) f.id f.pdu
+      told-by n order before (at_station n after) (Post n f ∷ rest) f (tally deed no_deeds b)
+          x.first later u
+          p.notes p.deeds (x.waiting_is ∙ ap (map for-station) w) x.replied_is x.replied_port_is
+          p.station p.port
+          (due-at x.first u (later ++ taken_by rest) (flat_map answers_in (at_station n order))
+          (port_answers (own_in n order)) (replied_by b) (replied_by rest) f.id f.pdu
           (t.answers ∙ ap plain_items taken) (t.port ∙ ap stats_items taken) due size),
-      took n before u f.id (subst (λ (l : List Taken). Contains l u) (sym (x.taken_is ∙ ap (λ (l : List Taken). x.first ++ l) w)) (middle x.first u later))
-          (due-name x.first u (later ++ taken_by rest) _ _ (replied_by b) (replied_by rest) f.id f.pdu due size),
+      took n before u f.id (subst (λ (l : List Taken). Contains l u)
+          (sym (x.taken_is ∙ ap (λ (l : List Taken). x.first ++ l) w)) (middle x.first u later))
+          (due-name x.first u (later ++ taken_by rest) _ _ (replied_by b) (replied_by rest) f.id
+          f.pdu due size),
     )
 
-reply-posts-follow : (n : ℕ) (order : Order) → TiedIn n order → Caused n order → ReplyPostsFollowAnswers n order
+reply-posts-follow : (n : ℕ) (order : Order) → TiedIn n order → Caused n order
+    → ReplyPostsFollowAnswers n order
 reply-posts-follow n order t c before after f is k =
     let x = queued-at n order c before (AtRing (Post n f) ∷ after) is in
-    (reply-posts-by n order before after f k t (posting-at n order before after f c is k) x x.waits refl).0
+    (reply-posts-by n order before after f k t (posting-at n order before after f c is k) x x.waits
+    refl).0
 
-reply-requests-follow : (n : ℕ) (order : Order) → TiedIn n order → Caused n order → ReplyPostsFollowTakes n order
+reply-requests-follow : (n : ℕ) (order : Order) → TiedIn n order → Caused n order
+    → ReplyPostsFollowTakes n order
 reply-requests-follow n order t c before after f is k =
     let x = queued-at n order c before (AtRing (Post n f) ∷ after) is in
-    (reply-posts-by n order before after f k t (posting-at n order before after f c is k) x x.waits refl).1
+    (reply-posts-by n order before after f k t (posting-at n order before after f c is k) x x.waits
+    refl).1
 
 -- ---- All stations.
 
-module _ (P : ℕ → Order → Type 0) (law : (n : ℕ) (order : Order) → TiedIn n order → Caused n order → P n order) where
-  each : (ring : List RingEntry) (order : Order) (logs : List (Log StationEntry)) → on_ring order ≡ ring
-      → Each (Ties ring) logs → Each (λ (log : Log StationEntry). at_station log.node order ≡ log.entries) logs → Each (λ (log : Log StationEntry). Caused log.node order) logs
+module _ (P : ℕ → Order → Type 0)
+    (law : (n : ℕ) (order : Order) → TiedIn n order → Caused n order → P n order) where
+  each : (ring : List RingEntry) (order : Order) (logs : List (Log StationEntry))
+      → on_ring order ≡ ring
+      → Each (Ties ring) logs → Each
+      (λ (log : Log StationEntry). at_station log.node order ≡ log.entries) logs
+      → Each (λ (log : Log StationEntry). Caused log.node order) logs
       → Each (λ (log : Log StationEntry). P log.node order) logs
   each ring order [] p t s c = tt
-  each ring order (log ∷ logs) p t s c = (law log.node order (tied-in ring order log p s.0 t.0) c.0, each ring order logs p t.1 s.1 c.1)
+  each ring order (log ∷ logs) p t s c = (
+    law log.node order (tied-in ring order log p s.0 t.0) c.0,
+    each ring order logs p t.1 s.1
+        c.1,
+  )
 
 -- ---- The ring.
 
-run-front : (net : NetPlan) (past a b : List RingEntry) → IsRun net past (a ++ b) → IsRun net past a
+run-front : (net : NetPlan) (past a b : List RingEntry) → IsRun net past (a ++ b)
+    → IsRun net past a
 run-front net past [] b x = tt
 run-front net past (e ∷ a) b x = (x.0, run-front net (past ++ e ∷ []) a b x.1)
 
 -- a front that ends with an entry of the ring
-pub front-history : (net : NetPlan) (ring : List RingEntry) (order before after : Order) (r : RingEntry) → IsRingHistory net ring → on_ring order ≡ ring → order ≡ before ++ AtRing r ∷ after
+pub front-history : (net : NetPlan) (ring : List RingEntry) (order before after : Order)
+    (r : RingEntry) → IsRingHistory net ring → on_ring order ≡ ring
+    → order ≡ before ++ AtRing r ∷ after
     → IsRingHistory net (on_ring before ++ r ∷ [])
 front-history net ring order before after r h p is =
-    let e : ring ≡ (on_ring before ++ r ∷ []) ++ on_ring after = sym p ∙ (ap on_ring is ∙ (filter_map-append if_on_ring before (AtRing r ∷ after) ∙ sym (append_assoc (on_ring before) (r ∷ []) (on_ring after)))) in
-    record { members = h.members; legal = run-front net [] (on_ring before ++ r ∷ []) (on_ring after) (subst (λ (l : List RingEntry). IsLegal net l) e h.legal) }
+    let e : ring ≡ (on_ring before ++ r ∷ []) ++ on_ring after = sym p
+    ∙ (ap on_ring is ∙ (filter_map-append if_on_ring before (AtRing r ∷ after)
+    ∙ sym (append_assoc (on_ring before) (r ∷ []) (on_ring after)))) in
+    record {
+      members = h.members;
+      legal = run-front net [] (on_ring before ++ r ∷ []) (on_ring after)
+          (subst (λ (l : List RingEntry). IsLegal net l) e h.legal);
+    }
 
-pub not-itself : (before : List RingEntry) (n m : ℕ) (f g : Frame) → Contains (before ++ Take n f ∷ []) (Post m g) → Contains before (Post m g)
-not-itself before n m f g x = ⊎_elim (λ (a : Contains before (Post m g)). a) (λ (e : Take n f ≡ Post m g). absurd (cc)) (Contains-push_cases before (Take n f) (Post m g) x)
+pub not-itself : (before : List RingEntry) (n m : ℕ) (f g : Frame)
+    → Contains (before ++ Take n f ∷ []) (Post m g) → Contains before (Post m g)
+not-itself before n m f g x =
+    ⊎_elim (λ (a : Contains before (Post m g)). a) (λ (e : Take n f ≡ Post m g). absurd (cc))
+    (Contains-push_cases before (Take n f) (Post m g) x)
 
-takes-follow : OnlyItsTarget → (net : NetPlan) (ring : List RingEntry) (order : Order) → IsRingHistory net ring → on_ring order ≡ ring → TakesFollowPosts order
+takes-follow : OnlyItsTarget → (net : NetPlan) (ring : List RingEntry) (order : Order)
+    → IsRingHistory net ring → on_ring order ≡ ring → TakesFollowPosts order
 takes-follow law net ring order h p before after n f is k =
     not-itself (on_ring before) n f.id.node f f
-    (law net (on_ring before ++ Take n f ∷ []) n f (front-history net ring order before after (Take n f) h p is) (inr (Contains-push (on_ring before) (Take n f))) k).2
+    (law net (on_ring before ++ Take n f ∷ []) n f
+    (front-history net ring order before after (Take n f) h p is)
+    (inr (Contains-push (on_ring before) (Take n f))) k).2
 
-reply-takes-follow : ReplyToItsCaller → (net : NetPlan) (ring : List RingEntry) (order : Order) → IsRingHistory net ring → on_ring order ≡ ring → ReplyTakesFollowPosts order
+reply-takes-follow : ReplyToItsCaller → (net : NetPlan) (ring : List RingEntry) (order : Order)
+    → IsRingHistory net ring → on_ring order ≡ ring → ReplyTakesFollowPosts order
 reply-takes-follow law net ring order h p before after n f is k =
-    let by = (law net (on_ring before ++ Take n f ∷ []) n f (front-history net ring order before after (Take n f) h p is) (inr (Contains-push (on_ring before) (Take n f))) k).3 in
+    let by = (law net (on_ring before ++ Take n f ∷ []) n f
+    (front-history net ring order before after (Take n f) h p is)
+    (inr (Contains-push (on_ring before) (Take n f))) k).3 in
     (by.0, not-itself (on_ring before) n by.0 f f by.2)
 
-pub in-order : OnlyItsTarget → ReplyToItsCaller → (net : NetPlan) (joint : Joint) → IsRingHistory net joint.ring → IsJoint joint → (one : IsInOneOrder joint) → NamesStandInOrder joint one.order
+pub in-order : OnlyItsTarget → ReplyToItsCaller → (net : NetPlan) (joint : Joint)
+    → IsRingHistory net joint.ring → IsJoint joint → (one : IsInOneOrder joint)
+    → NamesStandInOrder joint one.order
 in-order target caller net joint h tied one = record {
-  posts = each PostsFollowAsks posts-follow joint.ring one.order (logs_of joint) one.ring_is (all-tie joint tied) one.stations one.caused;
-  answers = each AnswersFollowTakes answers-follow joint.ring one.order (logs_of joint) one.ring_is (all-tie joint tied) one.stations one.caused;
-  port_answers = each PortAnswersFollowTakes port-answers-follow joint.ring one.order (logs_of joint) one.ring_is (all-tie joint tied) one.stations one.caused;
-  reply_posts = each ReplyPostsFollowAnswers reply-posts-follow joint.ring one.order (logs_of joint) one.ring_is (all-tie joint tied) one.stations one.caused;
-  reply_requests = each ReplyPostsFollowTakes reply-requests-follow joint.ring one.order (logs_of joint) one.ring_is (all-tie joint tied) one.stations one.caused;
-  ends = each EndsFollowOvers ends-follow joint.ring one.order (logs_of joint) one.ring_is (all-tie joint tied) one.stations one.caused;
+  posts =
+      each PostsFollowAsks posts-follow joint.ring one.order (logs_of joint) one.ring_is
+      (all-tie joint tied) one.stations one.caused;
+  answers =
+      each AnswersFollowTakes answers-follow joint.ring one.order (logs_of joint) one.ring_is
+      (all-tie joint tied) one.stations one.caused;
+  port_answers =
+      each PortAnswersFollowTakes port-answers-follow joint.ring one.order (logs_of joint)
+      one.ring_is (all-tie joint tied) one.stations one.caused;
+  reply_posts =
+      each ReplyPostsFollowAnswers reply-posts-follow joint.ring one.order (logs_of joint)
+      one.ring_is (all-tie joint tied) one.stations one.caused;
+  reply_requests =
+      each ReplyPostsFollowTakes reply-requests-follow joint.ring one.order (logs_of joint)
+      one.ring_is (all-tie joint tied) one.stations one.caused;
+  ends =
+      each EndsFollowOvers ends-follow joint.ring one.order (logs_of joint) one.ring_is
+      (all-tie joint tied) one.stations one.caused;
   takes = takes-follow target net joint.ring one.order h one.ring_is;
   reply_takes = reply-takes-follow caller net joint.ring one.order h one.ring_is;
 }

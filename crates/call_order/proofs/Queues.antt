@@ -1,5 +1,8 @@
--- The Requests that have their Reply are the first of those that were taken, where no Reply is to none.
-use Rattle.std.proofs.Common.{◌≡◌, ◌==◌, ◌+◌, ◌≤◌, Bool, true, false, List, [], ◌∷◌, ◌++◌, length, map, refl, sym, ap, subst, ◌∙◌, append_assoc, append-nil, arith, if◌then◌else◌, Some}
+-- The Requests that have their Reply are the first of those that were taken, where no Reply is to
+-- none.
+use Rattle.std.proofs.Common.{◌≡◌, ◌==◌, ◌+◌, ◌≤◌, Bool, true, false, List, [], ◌∷◌, ◌++◌, length}
+use Rattle.std.proofs.Common.{map, refl, sym, ap, subst, ◌∙◌, append_assoc, append-nil, arith}
+use Rattle.std.proofs.Common.{if◌then◌else◌, Some}
 use Rattle.std.specs.List.{cons_option}
 use Rattle.std.proofs.lemmas.List.{length-append, map-append}
 use Rattle.ring_core.specs.Statistics.{is_stats}
@@ -7,10 +10,14 @@ use Rattle.ring_core.specs.declared.frame.Frame.{Frame}
 use Rattle.ring_core.specs.declared.frame.FrameKind.{FrameKind}
 use Rattle.ring_core.specs.declared.frame.FrameKind.TheVariants.{Request, Reply}
 use Rattle.ring_core.specs.declared.entry.RingEntry.{RingEntry}
-use Rattle.ring_core.specs.declared.entry.RingEntry.TheVariants.{Post, Send, Take, Local, GiveUp, Pass, Leave}
-use Rattle.tied_lists.specs.Items.{Taken, Plain, ForStats, taken_in, taken_of, taken_by, plain_items, stats_items}
+use Rattle.ring_core.specs.declared.entry.RingEntry.TheVariants.{Post, Send, Take, Local, GiveUp}
+use Rattle.ring_core.specs.declared.entry.RingEntry.TheVariants.{Pass, Leave}
+use Rattle.tied_lists.specs.Items.{Taken, Plain, ForStats, taken_in, taken_of, taken_by}
+use Rattle.tied_lists.specs.Items.{plain_items, stats_items}
 use Rattle.one_order.specs.Merges.{tally}
-use Rattle.entry_causes.specs.Causes.{Done, no_deeds, done_next, PostsRequest, TakesRequest, TakesForPort, PostsReply, IsOver, posting, taking, working, deed, behind_first, replies_for_station, replies_for_port}
+use Rattle.entry_causes.specs.Causes.{Done, no_deeds, done_next, PostsRequest, TakesRequest}
+use Rattle.entry_causes.specs.Causes.{TakesForPort, PostsReply, IsOver, posting, taking, working}
+use Rattle.entry_causes.specs.Causes.{deed, behind_first, replies_for_station, replies_for_port}
 use Rattle.call_order.proofs.Readings.{cons-one}
 
 pub plain-append : (a b : List Taken) → plain_items (a ++ b) ≡ plain_items a ++ plain_items b
@@ -48,7 +55,8 @@ abbrev pub HaveRequests : Done → Type 0
 HaveRequests d = d.replies ≤ d.taken + d.taken_port
 
 -- an entry that takes no Request and posts no Reply
-kept : (d q : Done) (taken : List Taken) → q.waiting ≡ d.waiting → q.replies ≡ d.replies → q.replied ≡ d.replied → q.replied_port ≡ d.replied_port
+kept : (d q : Done) (taken : List Taken) → q.waiting ≡ d.waiting → q.replies ≡ d.replies
+    → q.replied ≡ d.replied → q.replied_port ≡ d.replied_port
     → q.taken ≡ d.taken → q.taken_port ≡ d.taken_port → Queued d taken → Queued q (taken ++ [])
 kept d q taken w r s p t u x = subst (Queued q) (sym (append-nil taken)) (record {
   first = x.first;
@@ -63,12 +71,16 @@ kept d q taken w r s p t u x = subst (Queued q) (sym (append-nil taken)) (record
 })
 
 -- a Reply is to the first that waits
-on-plain : (d : Done) (taken : List Taken) (x : Queued d taken) (t : Taken) (later : List Taken) → x.waits ≡ t ∷ later → Queued (done_next d PostsReply) taken
+on-plain : (d : Done) (taken : List Taken) (x : Queued d taken) (t : Taken) (later : List Taken)
+    → x.waits ≡ t ∷ later → Queued (done_next d PostsReply) taken
 on-plain d taken x (Plain id pdu) later w =
     let waits : d.waiting ≡ true ∷ map for-station later = x.waiting_is ∙ ap (map for-station) w in
-    let front : length (x.first ++ Plain id pdu ∷ []) ≡ length x.first + 1 = length-append x.first (Plain id pdu ∷ []) in
-    let plain : length (plain_items (x.first ++ Plain id pdu ∷ [])) ≡ length (plain_items x.first) + 1
-    = ap length (plain-append x.first (Plain id pdu ∷ [])) ∙ length-append (plain_items x.first) ((id, Some pdu) ∷ []) in
+    let front : length (x.first ++ Plain id pdu ∷ [])
+    ≡ length x.first + 1 = length-append x.first (Plain id pdu ∷ []) in
+    let plain : length (plain_items (x.first ++ Plain id pdu ∷ []))
+    ≡ length (plain_items x.first) + 1
+    = ap length (plain-append x.first (Plain id pdu ∷ []))
+    ∙ length-append (plain_items x.first) ((id, Some pdu) ∷ []) in
     let stats : length (stats_items (x.first ++ Plain id pdu ∷ [])) ≡ length (stats_items x.first)
     = ap length (stats-append x.first (Plain id pdu ∷ []) ∙ append-nil (stats_items x.first)) in
     let a = x.replies_is in
@@ -77,40 +89,59 @@ on-plain d taken x (Plain id pdu) later w =
     record {
       first = x.first ++ Plain id pdu ∷ [];
       waits = later;
-      taken_is = x.taken_is ∙ (ap (λ (l : List Taken). x.first ++ l) w ∙ sym (append_assoc x.first (Plain id pdu ∷ []) later));
+      taken_is =
+          x.taken_is ∙ (ap (λ (l : List Taken). x.first ++ l) w
+          ∙ sym (append_assoc x.first (Plain id pdu ∷ []) later));
       waiting_is = ap behind_first waits;
       replies_is = omega (arith, a, front);
-      replied_is = ap (λ (l : List Bool). d.replied + replies_for_station l) waits ∙ omega (arith, b, plain);
-      replied_port_is = ap (λ (l : List Bool). d.replied_port + replies_for_port l) waits ∙ omega (arith, c, stats);
+      replied_is =
+          ap (λ (l : List Bool). d.replied + replies_for_station l) waits
+          ∙ omega (arith, b, plain);
+      replied_port_is =
+          ap (λ (l : List Bool). d.replied_port + replies_for_port l) waits
+          ∙ omega (arith, c, stats);
       came = x.came;
       came_port = x.came_port;
     }
 on-plain d taken x (ForStats id pdu) later w =
-    let waits : d.waiting ≡ false ∷ map for-station later = x.waiting_is ∙ ap (map for-station) w in
-    let front : length (x.first ++ ForStats id pdu ∷ []) ≡ length x.first + 1 = length-append x.first (ForStats id pdu ∷ []) in
-    let plain : length (plain_items (x.first ++ ForStats id pdu ∷ [])) ≡ length (plain_items x.first)
+    let waits : d.waiting ≡ false ∷ map for-station later = x.waiting_is
+    ∙ ap (map for-station) w in
+    let front : length (x.first ++ ForStats id pdu ∷ [])
+    ≡ length x.first + 1 = length-append x.first (ForStats id pdu ∷ []) in
+    let plain : length (plain_items (x.first ++ ForStats id pdu ∷ []))
+    ≡ length (plain_items x.first)
     = ap length (plain-append x.first (ForStats id pdu ∷ []) ∙ append-nil (plain_items x.first)) in
-    let stats : length (stats_items (x.first ++ ForStats id pdu ∷ [])) ≡ length (stats_items x.first) + 1
-    = ap length (stats-append x.first (ForStats id pdu ∷ [])) ∙ length-append (stats_items x.first) ((id, Some pdu) ∷ []) in
+    let stats : length (stats_items (x.first ++ ForStats id pdu ∷ []))
+    ≡ length (stats_items x.first) + 1
+    = ap length (stats-append x.first (ForStats id pdu ∷ []))
+    ∙ length-append (stats_items x.first) ((id, Some pdu) ∷ []) in
     let a = x.replies_is in
     let b = x.replied_is in
     let c = x.replied_port_is in
     record {
       first = x.first ++ ForStats id pdu ∷ [];
       waits = later;
-      taken_is = x.taken_is ∙ (ap (λ (l : List Taken). x.first ++ l) w ∙ sym (append_assoc x.first (ForStats id pdu ∷ []) later));
+      taken_is =
+          x.taken_is ∙ (ap (λ (l : List Taken). x.first ++ l) w
+          ∙ sym (append_assoc x.first (ForStats id pdu ∷ []) later));
       waiting_is = ap behind_first waits;
       replies_is = omega (arith, a, front);
-      replied_is = ap (λ (l : List Bool). d.replied + replies_for_station l) waits ∙ omega (arith, b, plain);
-      replied_port_is = ap (λ (l : List Bool). d.replied_port + replies_for_port l) waits ∙ omega (arith, c, stats);
+      replied_is =
+          ap (λ (l : List Bool). d.replied + replies_for_station l) waits
+          ∙ omega (arith, b, plain);
+      replied_port_is =
+          ap (λ (l : List Bool). d.replied_port + replies_for_port l) waits
+          ∙ omega (arith, c, stats);
       came = x.came;
       came_port = x.came_port;
     }
 
 -- where one more is posted, one waits
-pub none-without : (d : Done) (taken : List Taken) (x : Queued d taken) → d.replies + 1 ≤ d.taken + d.taken_port → x.waits ≡ [] → ⊥
+pub none-without : (d : Done) (taken : List Taken) (x : Queued d taken)
+    → d.replies + 1 ≤ d.taken + d.taken_port → x.waits ≡ [] → ⊥
 none-without d taken x h w =
-    let all : length taken ≡ length x.first = ap length (x.taken_is ∙ (ap (λ (l : List Taken). x.first ++ l) w ∙ append-nil x.first)) in
+    let all : length taken ≡ length x.first = ap length
+    (x.taken_is ∙ (ap (λ (l : List Taken). x.first ++ l) w ∙ append-nil x.first)) in
     let sorts = both-sorts taken in
     let a = x.replies_is in
     let b = x.came in
@@ -118,29 +149,47 @@ none-without d taken x h w =
     let no : d.replies + 1 ≤ d.replies = omega (arith, h, all, sorts, a, b, c) in
     absurd (omega (arith, no))
 
-on-reply : (d : Done) (taken : List Taken) (x : Queued d taken) (waits : List Taken) → x.waits ≡ waits → d.replies + 1 ≤ d.taken + d.taken_port → Queued (done_next d PostsReply) taken
+on-reply : (d : Done) (taken : List Taken) (x : Queued d taken) (waits : List Taken)
+    → x.waits ≡ waits → d.replies + 1 ≤ d.taken + d.taken_port
+    → Queued (done_next d PostsReply) taken
 on-reply d taken x [] w h = absurd (none-without d taken x h w)
 on-reply d taken x (t ∷ later) w h = on-plain d taken x t later w
 
-on-post : (d : Done) (taken : List Taken) (kind : FrameKind) → Queued d taken → HaveRequests (tally done_next d (posting kind ∷ [])) → Queued (tally done_next d (posting kind ∷ [])) (taken ++ [])
-on-post d taken Request x h = kept d (done_next d PostsRequest) taken refl refl refl refl refl refl x
-on-post d taken Reply x h = subst (Queued (done_next d PostsReply)) (sym (append-nil taken)) (on-reply d taken x x.waits refl h)
+on-post : (d : Done) (taken : List Taken) (kind : FrameKind) → Queued d taken
+    → HaveRequests (tally done_next d (posting kind ∷ []))
+    → Queued (tally done_next d (posting kind ∷ [])) (taken ++ [])
+on-post d taken Request x h =
+    kept d (done_next d PostsRequest) taken refl refl refl refl refl refl x
+on-post d taken Reply x h =
+    subst (Queued (done_next d PostsReply)) (sym (append-nil taken))
+    (on-reply d taken x x.waits refl h)
 
 -- a Request that is taken waits last
-on-taken : (d q : Done) (taken : List Taken) (t : Taken) → q.waiting ≡ d.waiting ++ for-station t ∷ [] → q.replies ≡ d.replies → q.replied ≡ d.replied → q.replied_port ≡ d.replied_port
-    → q.taken ≡ d.taken + length (plain_items (t ∷ [])) → q.taken_port ≡ d.taken_port + length (stats_items (t ∷ [])) → Queued d taken → Queued q (taken ++ t ∷ [])
+on-taken : (d q : Done) (taken : List Taken) (t : Taken)
+    → q.waiting ≡ d.waiting ++ for-station t ∷ [] → q.replies ≡ d.replies → q.replied ≡ d.replied
+    → q.replied_port ≡ d.replied_port
+    → q.taken ≡ d.taken + length (plain_items (t ∷ []))
+    → q.taken_port ≡ d.taken_port + length (stats_items (t ∷ [])) → Queued d taken
+    → Queued q (taken ++ t ∷ [])
 on-taken d q taken t w r s p u v x =
-    let plain : length (plain_items (taken ++ t ∷ [])) ≡ length (plain_items taken) + length (plain_items (t ∷ []))
-    = ap length (plain-append taken (t ∷ [])) ∙ length-append (plain_items taken) (plain_items (t ∷ [])) in
-    let stats : length (stats_items (taken ++ t ∷ [])) ≡ length (stats_items taken) + length (stats_items (t ∷ []))
-    = ap length (stats-append taken (t ∷ [])) ∙ length-append (stats_items taken) (stats_items (t ∷ [])) in
+    let plain : length (plain_items (taken ++ t ∷ []))
+    ≡ length (plain_items taken) + length (plain_items (t ∷ []))
+    = ap length (plain-append taken (t ∷ []))
+    ∙ length-append (plain_items taken) (plain_items (t ∷ [])) in
+    let stats : length (stats_items (taken ++ t ∷ []))
+    ≡ length (stats_items taken) + length (stats_items (t ∷ []))
+    = ap length (stats-append taken (t ∷ []))
+    ∙ length-append (stats_items taken) (stats_items (t ∷ [])) in
     let a = x.came in
     let b = x.came_port in
     record {
       first = x.first;
       waits = x.waits ++ t ∷ [];
-      taken_is = ap (λ (l : List Taken). l ++ t ∷ []) x.taken_is ∙ append_assoc x.first x.waits (t ∷ []);
-      waiting_is = w ∙ (ap (λ (l : List Bool). l ++ for-station t ∷ []) x.waiting_is ∙ sym (map-append for-station x.waits (t ∷ [])));
+      taken_is =
+          ap (λ (l : List Taken). l ++ t ∷ []) x.taken_is ∙ append_assoc x.first x.waits (t ∷ []);
+      waiting_is =
+          w ∙ (ap (λ (l : List Bool). l ++ for-station t ∷ []) x.waiting_is
+          ∙ sym (map-append for-station x.waits (t ∷ [])));
       replies_is = r ∙ x.replies_is;
       replied_is = s ∙ x.replied_is;
       replied_port_is = p ∙ x.replied_port_is;
@@ -149,40 +198,59 @@ on-taken d q taken t w r s p u v x =
     }
 
 on-request : (d : Done) (taken : List Taken) (f : Frame) (stats : Bool) → Queued d taken
-    → Queued (tally done_next d (taking Request stats ∷ [])) (taken ++ cons_option (Some (if stats then ForStats f.id f.pdu else Plain f.id f.pdu)) [])
-on-request d taken f true x = on-taken d (done_next d TakesForPort) taken (ForStats f.id f.pdu) refl refl refl refl (omega arith) refl x
-on-request d taken f false x = on-taken d (done_next d TakesRequest) taken (Plain f.id f.pdu) refl refl refl refl refl (omega arith) x
+    → Queued (tally done_next d (taking Request stats ∷ []))
+    (taken ++ cons_option (Some (if stats then ForStats f.id f.pdu else Plain f.id f.pdu)) [])
+on-request d taken f true x =
+    on-taken d (done_next d TakesForPort) taken (ForStats f.id f.pdu) refl refl refl refl
+    (omega arith) refl x
+on-request d taken f false x =
+    on-taken d (done_next d TakesRequest) taken (Plain f.id f.pdu) refl refl refl refl refl
+    (omega arith) x
 
-on-take : (d : Done) (taken : List Taken) (f : Frame) (kind : FrameKind) (stats : Bool) → is_stats f.pdu ≡ stats → Queued d taken
-    → Queued (tally done_next d (taking kind (is_stats f.pdu) ∷ [])) (taken ++ cons_option (taken_in kind f) [])
+on-take : (d : Done) (taken : List Taken) (f : Frame) (kind : FrameKind) (stats : Bool)
+    → is_stats f.pdu ≡ stats → Queued d taken
+    → Queued (tally done_next d (taking kind (is_stats f.pdu) ∷ []))
+    (taken ++ cons_option (taken_in kind f) [])
 on-take d taken f Request stats is x = on-request d taken f (is_stats f.pdu) x
-on-take d taken f Reply stats is x = kept d (done_next d IsOver) taken refl refl refl refl refl refl x
+on-take d taken f Reply stats is x =
+    kept d (done_next d IsOver) taken refl refl refl refl refl refl x
 
-on-work : (d : Done) (taken : List Taken) (own : Bool) → Queued d taken → Queued (tally done_next d (working own)) (taken ++ [])
-on-work d taken true x = kept d (tally done_next d (working true)) taken refl refl refl refl refl refl x
-on-work d taken false x = kept d (tally done_next d (working false)) taken refl refl refl refl refl refl x
+on-work : (d : Done) (taken : List Taken) (own : Bool) → Queued d taken
+    → Queued (tally done_next d (working own)) (taken ++ [])
+on-work d taken true x =
+    kept d (tally done_next d (working true)) taken refl refl refl refl refl refl x
+on-work d taken false x =
+    kept d (tally done_next d (working false)) taken refl refl refl refl refl refl x
 
-queued-next : (d : Done) (taken : List Taken) (r : RingEntry) → Queued d taken → HaveRequests (deed d r) → Queued (deed d r) (taken ++ cons_option (taken_of r) [])
+queued-next : (d : Done) (taken : List Taken) (r : RingEntry) → Queued d taken
+    → HaveRequests (deed d r) → Queued (deed d r) (taken ++ cons_option (taken_of r) [])
 queued-next d taken (Post n f) x h = on-post d taken f.kind x h
 queued-next d taken (Take n f) x h = on-take d taken f f.kind (is_stats f.pdu) refl x
 queued-next d taken (Local n id op result) x h = on-work d taken (id.node == n) x
-queued-next d taken (GiveUp id word) x h = kept d (done_next d IsOver) taken refl refl refl refl refl refl x
+queued-next d taken (GiveUp id word) x h =
+    kept d (done_next d IsOver) taken refl refl refl refl refl refl x
 queued-next d taken (Send n heard) x h = kept d d taken refl refl refl refl refl refl x
 queued-next d taken (Pass n done words) x h = kept d d taken refl refl refl refl refl refl x
 queued-next d taken (Leave n cause) x h = kept d d taken refl refl refl refl refl refl x
 
 -- after a list in each of whose fronts no Reply is to none
 abbrev EachHasRequests : Done → List RingEntry → Type 0
-EachHasRequests d b = (front rest : List RingEntry) → b ≡ front ++ rest → HaveRequests (tally deed d front)
+EachHasRequests d b =
+    (front rest : List RingEntry) → b ≡ front ++ rest → HaveRequests (tally deed d front)
 
-queued-after : (d : Done) (taken : List Taken) (b : List RingEntry) → Queued d taken → EachHasRequests d b → Queued (tally deed d b) (taken ++ taken_by b)
+queued-after : (d : Done) (taken : List Taken) (b : List RingEntry) → Queued d taken
+    → EachHasRequests d b → Queued (tally deed d b) (taken ++ taken_by b)
 queued-after d taken [] x h = subst (Queued d) (sym (append-nil taken)) x
 queued-after d taken (r ∷ b) x h =
-    subst (Queued (tally deed (deed d r) b)) (append_assoc taken (cons_option (taken_of r) []) (taken_by b) ∙ ap (λ (l : List Taken). taken ++ l) (sym (cons-one (taken_of r) (taken_by b))))
-    (queued-after (deed d r) (taken ++ cons_option (taken_of r) []) b (queued-next d taken r x (h (r ∷ []) b refl))
+    subst (Queued (tally deed (deed d r) b))
+    (append_assoc taken (cons_option (taken_of r) []) (taken_by b)
+    ∙ ap (λ (l : List Taken). taken ++ l) (sym (cons-one (taken_of r) (taken_by b))))
+    (queued-after (deed d r) (taken ++ cons_option (taken_of r) []) b
+    (queued-next d taken r x (h (r ∷ []) b refl))
     (λ front rest is. h (r ∷ front) rest (ap (λ (l : List RingEntry). r ∷ l) is)))
 
-pub all-queued : (b : List RingEntry) → EachHasRequests no_deeds b → Queued (tally deed no_deeds b) (taken_by b)
+pub all-queued : (b : List RingEntry) → EachHasRequests no_deeds b
+    → Queued (tally deed no_deeds b) (taken_by b)
 all-queued b h = queued-after no_deeds [] b (record {
   first = [];
   waits = [];

@@ -10,7 +10,8 @@ use Rattle.ring_core.specs.declared.entry.RingEntry.TheVariants.{Post, Take}
 use Rattle.tied_lists.specs.Items.{Answered}
 use Rattle.one_order.specs.Orders.{AtStation, AtRing, at_station}
 use Rattle.entry_causes.specs.Causes.{ByController}
-use Rattle.call_order.specs.Named.{Order, own_in, answers_in, port_answers_in, Carries, ReplyPostsFollowAnswers}
+use Rattle.call_order.specs.Named.{Order, own_in, answers_in, port_answers_in, Carries}
+use Rattle.call_order.specs.Named.{ReplyPostsFollowAnswers}
 
 abbrev call : CallId
 call = record { node = 2; path = 1; seq = 1 }
@@ -37,12 +38,18 @@ abbrev answer : Answered
 answer = record { id = call; request = Some reads; reply = tells }
 
 -- behind it the Reply has its answer
-is-told : Carries reply (flat_map answers_in (at_station 5 answered)) ⊎ Carries reply (flat_map port_answers_in (own_in 5 answered))
-is-told = inl (record { answer = answer; among = Contains-push [] answer; call = refl; reply = refl })
+is-told : Carries reply (flat_map answers_in (at_station 5 answered))
+    ⊎ Carries reply (flat_map port_answers_in (own_in 5 answered))
+is-told =
+    inl (record { answer = answer; among = Contains-push [] answer; call = refl; reply = refl })
 
 no-answer : Carries reply [] → ⊥
 no-answer x = let none = x.among in absurd (omega (arith, none.1))
 
 -- before it the Reply has none
-not-told : ReplyPostsFollowAnswers 5 (AtRing (Take 5 request) ∷ AtRing (Post 5 reply) ∷ AtStation 5 (ByController (Peer call reads tells)) ∷ []) → ⊥
-not-told law = ⊎_elim no-answer no-answer (law taken (AtStation 5 (ByController (Peer call reads tells)) ∷ []) reply refl refl)
+not-told : ReplyPostsFollowAnswers 5
+    (AtRing (Take 5 request) ∷ AtRing (Post 5 reply) ∷ AtStation 5
+    (ByController (Peer call reads tells)) ∷ []) → ⊥
+not-told law =
+    ⊎_elim no-answer no-answer (law taken (AtStation 5 (ByController (Peer call reads tells)) ∷ [])
+    reply refl refl)

@@ -1,6 +1,7 @@
 //! The names of pieces.
 ghost use Rattle.std.specs.Prelude.{◌≡◌};
 ghost use Rattle.cell_text.specs.Names.{element_text, name_text, spelled_name};
+ghost use Rattle.plant_types.specs.declared.name.ElementName.TheVariants as names;
 
 use crate::words::is_text;
 use plant_types::{ElementName, MathOp, MatrixOp, MoveOp, Unit};
@@ -54,6 +55,49 @@ const NAMES: [PieceName; 37] = [
 ];
 
 #[tactic(auto, unfolding(crate::specs::Names::element_text))]
+fn math_text(op: MathOp) -> &'static str
+    ensures { result.now ≡ element_text (names.Math op) }
+{
+    match op {
+        MathOp::Add => "ADD",
+        MathOp::Sub => "SUB",
+        MathOp::Mul => "MUL",
+        MathOp::Div => "DIV",
+    }
+}
+
+#[tactic(auto, unfolding(crate::specs::Names::element_text))]
+fn move_text(op: MoveOp) -> &'static str
+    ensures { result.now ≡ element_text (names.Move op) }
+{
+    match op {
+        MoveOp::RegToTable => "R>T",
+        MoveOp::TableToReg => "T>R",
+        MoveOp::TableToTable => "T>T",
+        MoveOp::Copy => "BLKM",
+        MoveOp::FirstIn => "FIN",
+        MoveOp::FirstOut => "FOUT",
+        MoveOp::Search => "SRCH",
+    }
+}
+
+#[tactic(auto, unfolding(crate::specs::Names::element_text))]
+fn matrix_text(op: MatrixOp) -> &'static str
+    ensures { result.now ≡ element_text (names.Matrix op) }
+{
+    match op {
+        MatrixOp::And => "AND",
+        MatrixOp::Or => "OR",
+        MatrixOp::Xor => "XOR",
+        MatrixOp::Comp => "COMP",
+        MatrixOp::Brot => "BROT",
+        MatrixOp::Cmpr => "CMPR",
+        MatrixOp::Mbit => "MBIT",
+        MatrixOp::Sens => "SENS",
+    }
+}
+
+#[tactic(auto, unfolding(crate::specs::Names::element_text))]
 fn element_text(name: ElementName) -> &'static str
     ensures { result.now ≡ element_text name }
 {
@@ -70,25 +114,9 @@ fn element_text(name: ElementName) -> &'static str
         ElementName::Timer(Unit::Hundredth) => "T.01",
         ElementName::Counter { up: true } => "UCTR",
         ElementName::Counter { up: false } => "DCTR",
-        ElementName::Math(MathOp::Add) => "ADD",
-        ElementName::Math(MathOp::Sub) => "SUB",
-        ElementName::Math(MathOp::Mul) => "MUL",
-        ElementName::Math(MathOp::Div) => "DIV",
-        ElementName::Move(MoveOp::RegToTable) => "R>T",
-        ElementName::Move(MoveOp::TableToReg) => "T>R",
-        ElementName::Move(MoveOp::TableToTable) => "T>T",
-        ElementName::Move(MoveOp::Copy) => "BLKM",
-        ElementName::Move(MoveOp::FirstIn) => "FIN",
-        ElementName::Move(MoveOp::FirstOut) => "FOUT",
-        ElementName::Move(MoveOp::Search) => "SRCH",
-        ElementName::Matrix(MatrixOp::And) => "AND",
-        ElementName::Matrix(MatrixOp::Or) => "OR",
-        ElementName::Matrix(MatrixOp::Xor) => "XOR",
-        ElementName::Matrix(MatrixOp::Comp) => "COMP",
-        ElementName::Matrix(MatrixOp::Brot) => "BROT",
-        ElementName::Matrix(MatrixOp::Cmpr) => "CMPR",
-        ElementName::Matrix(MatrixOp::Mbit) => "MBIT",
-        ElementName::Matrix(MatrixOp::Sens) => "SENS",
+        ElementName::Math(op) => math_text(op),
+        ElementName::Move(op) => move_text(op),
+        ElementName::Matrix(op) => matrix_text(op),
         ElementName::Skip => "SKP",
         ElementName::Label => "LAB",
         ElementName::Call => "JSR",

@@ -22,33 +22,44 @@ use Rattle.comm_port.specs.Parts.{InOrder, PartOf}
 use Rattle.joint_history.specs.Reading.{is_ours, has_started_at}
 use Rattle.comm_port.proofs.Parts.{grew-none, in-order-last, part-both, part-none}
 
-pub made-net : (n : ℕ) (c : Call) (to : ℕ) (pdu : List ℕ) → c.kind ≡ kinds.Net to pdu → IsMade n c [] (Post n (request_frame c.id to pdu) ∷ [])
-made-net n c to pdu is = subst (λ (k : CallKind). MadeAs k n c.id [] (Post n (request_frame c.id to pdu) ∷ [])) (sym is) (refl, refl)
+pub made-net : (n : ℕ) (c : Call) (to : ℕ) (pdu : List ℕ) → c.kind ≡ kinds.Net to pdu
+    → IsMade n c [] (Post n (request_frame c.id to pdu) ∷ [])
+made-net n c to pdu is = subst (λ (k : CallKind). MadeAs k n c.id []
+    (Post n (request_frame c.id to pdu) ∷ [])) (sym is) (refl, refl)
 
-pub made-local : (n : ℕ) (c : Call) (op : LocalOp) (r : MstrResult) → c.kind ≡ kinds.Local op → IsMade n c (Finish c.id r ∷ []) (Local n c.id op r ∷ [])
-made-local n c op r is = subst (λ (k : CallKind). MadeAs k n c.id (Finish c.id r ∷ []) (Local n c.id op r ∷ [])) (sym is) (r, refl, refl)
+pub made-local : (n : ℕ) (c : Call) (op : LocalOp) (r : MstrResult) → c.kind ≡ kinds.Local op
+    → IsMade n c (Finish c.id r ∷ []) (Local n c.id op r ∷ [])
+made-local n c op r is = subst (λ (k : CallKind). MadeAs k n c.id (Finish c.id r ∷ [])
+    (Local n c.id op r ∷ [])) (sym is) (r, refl, refl)
 
 -- the calls up to a place
-take-suc : (calls : List Call) (at : ℕ) (c : Call) → at < length calls → c ≡ get_or calls at c → take (suc at) calls ≡ take at calls ++ c ∷ []
+take-suc : (calls : List Call) (at : ℕ) (c : Call) → at < length calls → c ≡ get_or calls at c
+    → take (suc at) calls ≡ take at calls ++ c ∷ []
 take-suc [] at c low is = absurd (omega (arith, low))
 take-suc (x ∷ xs) zero c low is = ap (λ (y : Call). y ∷ []) (sym is)
-take-suc (x ∷ xs) (suc at) c low is = ap (λ (l : List Call). x ∷ l) (take-suc xs at c (omega (arith, low)) is)
+take-suc (x ∷ xs) (suc at) c low is = ap (λ (l : List Call). x ∷ l)
+    (take-suc xs at c (omega (arith, low)) is)
 
-pub due-next : (Due : Call → List Entry → List RingEntry → Type 0) (alone alone' : Bool) (n : ℕ) (calls : List Call) (at : ℕ)
+pub due-next : (Due : Call → List Entry → List RingEntry → Type 0) (alone alone' : Bool) (n : ℕ)
+    (calls : List Call) (at : ℕ)
     (known0 known known' : List Entry) (ring0 ring ring' : List RingEntry) → at < length calls
     → PartOf alone alone' is_ours n (InOrder Due (take at calls)) known0 known ring0 ring
     → PartOf alone alone' is_ours n (IsDueAt Due calls at) known known' ring ring'
     → PartOf alone alone' is_ours n (InOrder Due (take (at + 1) calls)) known0 known' ring0 ring'
 due-next Due alone alone' n calls at known0 known known' ring0 ring ring' low a b =
-    part-both alone alone' is_ours n (InOrder Due (take at calls)) (IsDueAt Due calls at) (InOrder Due (take (at + 1) calls)) known0 known known' ring0 ring ring'
+    part-both alone alone' is_ours n (InOrder Due (take at calls)) (IsDueAt Due calls at)
+    (InOrder Due (take (at + 1) calls)) known0 known known' ring0 ring ring'
     (λ noted noted' done done' x y.
-    let is : take (at + 1) calls ≡ take at calls ++ y.0 ∷ [] = ap (λ k. take k calls) (add-one at) ∙ take-suc calls at y.0 low y.1 in
+    let is : take (at + 1) calls ≡ take at calls ++ y.0 ∷ [] = ap (λ k. take k calls) (add-one at)
+    ∙ take-suc calls at y.0 low y.1 in
     subst (λ (l : List Call). InOrder Due l (noted ++ noted') (done ++ done')) (sym is)
     (in-order-last Due (take at calls) y.0 noted noted' done done' x y.2)) a b
 
 -- nothing was started
-pub collects-none : (Due : Call → List Entry → List RingEntry → Type 0) (alone alone' : Bool) (fixed : Fixed) (n : ℕ) (known asked :
-    List Entry) (ring : List RingEntry) → WentOn alone is_ours known [] asked → has_started_at fixed asked ≡ false
+pub collects-none : (Due : Call → List Entry → List RingEntry → Type 0) (alone alone' : Bool)
+    (fixed : Fixed) (n : ℕ) (known asked :
+    List Entry) (ring : List RingEntry) → WentOn alone is_ours known [] asked
+    → has_started_at fixed asked ≡ false
     → Collects alone alone' fixed n Due known asked ring ring
 collects-none Due alone alone' fixed n known asked ring went no' = record {
   asked = asked;
@@ -58,27 +69,35 @@ collects-none Due alone alone' fixed n known asked ring went no' = record {
 }
 
 -- what was started was collected, and to all of it was done what is due
-pub collects-all : (Due : Call → List Entry → List RingEntry → Type 0) (alone alone' : Bool) (fixed : Fixed) (n : ℕ) (calls slice : List
-    Call) (at : ℕ) (known asked known1 known' : List Entry) (ring ring' : List RingEntry) → WentOn alone is_ours known [] asked
-    → has_started_at fixed asked ≡ true → WentOn alone is_ours asked (Collect calls ∷ []) known1 → slice ≡ calls → length slice ≤ at
-    → PartOf alone alone' is_ours n (InOrder Due (take at slice)) known1 known' ring ring' → Collects alone alone' fixed n Due known known' ring ring'
-collects-all Due alone alone' fixed n calls slice at known asked known1 known' ring ring' went started collected is all p = record {
-  asked = asked;
-  asks = went;
-  goes = part-both alone alone' is_ours n (λ noted done. (noted ≡ Collect calls ∷ []) × (done ≡ [])) (InOrder Due (take at slice))
-      (CollectsIf (has_started_at fixed asked) Due) asked known1 known' ring ring ring'
-      (λ noted noted' done done' x y. subst (λ (b : Bool). CollectsIf b Due (noted ++ noted') (done ++ done')) (sym started) (
-        calls,
-        noted',
-        ap (λ (l : List Entry). l ++ noted') x.0,
-        subst (λ (l : List Call). InOrder Due l noted' (done ++ done')) (take_all at slice all ∙ is)
-            (subst (λ (l : List RingEntry). InOrder Due (take at slice) noted' (l ++ done')) (sym x.1) y),
-      ))
-      (record {
-        noted = Collect calls ∷ [];
-        done = [];
-        due = (refl, refl);
-        station = grew-one alone is_ours asked (Collect calls ∷ []) known1 refl collected;
-        node = grew-none alone' (is_of n) ring;
-      }) p;
-}
+pub collects-all : (Due : Call → List Entry → List RingEntry → Type 0) (alone alone' : Bool)
+    (fixed : Fixed) (n : ℕ) (calls slice : List
+    Call) (at : ℕ) (known asked known1 known' : List Entry) (ring ring' : List RingEntry)
+    → WentOn alone is_ours known [] asked
+    → has_started_at fixed asked ≡ true → WentOn alone is_ours asked (Collect calls ∷ []) known1
+    → slice ≡ calls → length slice ≤ at
+    → PartOf alone alone' is_ours n (InOrder Due (take at slice)) known1 known' ring ring'
+    → Collects alone alone' fixed n Due known known' ring ring'
+collects-all Due alone alone' fixed n calls slice at known asked known1 known' ring ring' went
+    started collected is all p = record {
+      asked = asked;
+      asks = went;
+      goes = part-both alone alone' is_ours n (λ noted done. (noted ≡ Collect calls ∷ []) × (done ≡ []))
+          (InOrder Due (take at slice))
+          (CollectsIf (has_started_at fixed asked) Due) asked known1 known' ring ring ring'
+          (λ noted noted' done done' x y. subst
+          (λ (b : Bool). CollectsIf b Due (noted ++ noted') (done ++ done')) (sym started) (
+            calls,
+            noted',
+            ap (λ (l : List Entry). l ++ noted') x.0,
+            subst (λ (l : List Call). InOrder Due l noted' (done ++ done')) (take_all at slice all ∙ is)
+                (subst (λ (l : List RingEntry). InOrder Due (take at slice) noted' (l ++ done'))
+                (sym x.1) y),
+          ))
+          (record {
+            noted = Collect calls ∷ [];
+            done = [];
+            due = (refl, refl);
+            station = grew-one alone is_ours asked (Collect calls ∷ []) known1 refl collected;
+            node = grew-none alone' (is_of n) ring;
+          }) p;
+    }

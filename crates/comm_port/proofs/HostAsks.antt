@@ -56,18 +56,25 @@ pub record IsNextDue (v : HostIs) (f : Frame) : Type 0 where
   pub kind : f.kind ≡ Request
   pub within : length (requests_in v.history) < length v.plan.requests
 
-due-ask : (v : HostIs) (hold : ℕ) (o : Option HostAsk) (ask : HostAsk) → next_ask v ≡ o → if_due hold o ≡ Some ask → length
+due-ask : (v : HostIs) (hold : ℕ) (o : Option HostAsk) (ask : HostAsk) → next_ask v ≡ o
+    → if_due hold o ≡ Some ask → length
     (requests_in v.history) < length v.plan.requests
 due-ask v hold None ask is due = absurd cc
-due-ask v hold (Some x) ask is due = slice_get_within v.plan.requests (length (requests_in v.history)) x is
+due-ask v hold (Some x) ask is due = slice_get_within v.plan.requests
+    (length (requests_in v.history)) x is
 
-due-of : (v : HostIs) (hold : ℕ) (call : Option CallId) (o : Option HostAsk) (f : Frame) → due_ask v hold ≡ o → Some f ≡ request_for call o → IsNextDue v f
+due-of : (v : HostIs) (hold : ℕ) (call : Option CallId) (o : Option HostAsk) (f : Frame)
+    → due_ask v hold ≡ o → Some f ≡ request_for call o → IsNextDue v f
 due-of v hold None None f is due = absurd cc
 due-of v hold None (Some ask) f is due = absurd cc
 due-of v hold (Some id) None f is due = absurd cc
 due-of v hold (Some id) (Some ask) f is due =
     let same : f ≡ record { kind = Request; to = ask.to; id = id; pdu = ask.pdu } = cc in
-    record { kind = ap (λ (g : Frame). g.kind) same; within = due-ask v hold (next_ask v) ask refl is }
+    record {
+      kind = ap (λ (g : Frame). g.kind) same;
+      within = due-ask v hold (next_ask v) ask refl
+          is;
+    }
 
 pub due-frame : (v : HostIs) (hold : ℕ) (f : Frame) → Some f ≡ due_request v hold → IsNextDue v f
 due-frame v hold f is = due-of v hold _ (due_ask v hold) f refl is
@@ -76,55 +83,71 @@ pub due-kind : (v : HostIs) (hold : ℕ) (f : Frame) → Some f ≡ due_request 
 due-kind v hold f is = (due-frame v hold f is).kind
 
 -- the host's list behind it
-pub ask-legal : (old new : HostIs) (f : Frame) → HostWentOn (Ask f.id f.to f.pdu ∷ []) old new → IsHostHistory old.plan
+pub ask-legal : (old new : HostIs) (f : Frame) → HostWentOn (Ask f.id f.to f.pdu ∷ []) old new
+    → IsHostHistory old.plan
     (old.history ++ Ask f.id f.to f.pdu ∷ [])
 ask-legal old new f w = legal-with old new (Ask f.id f.to f.pdu) w
 
-pub ask-from : (n : ℕ) (old : HostIs) (f : Frame) → old.plan.node ≡ n → f.kind ≡ Request → IsFrom old.plan.node Request f → IsFrom n f.kind f
-ask-from n old f node kind from = subst (λ k. IsFrom n k f) (sym kind) (subst (λ m. IsFrom m Request f) node from)
+pub ask-from : (n : ℕ) (old : HostIs) (f : Frame) → old.plan.node ≡ n → f.kind ≡ Request
+    → IsFrom old.plan.node Request f → IsFrom n f.kind f
+ask-from n old f node kind from = subst (λ k. IsFrom n k f) (sym kind)
+    (subst (λ m. IsFrom m Request f) node from)
 
-pub ask-next : {Q : Type 0} (n : ℕ) (f : Frame) (old new : HostIs) (side : RingSideIs Q) (ring : List RingEntry) → HostTurning n
+pub ask-next : {Q : Type 0} (n : ℕ) (f : Frame) (old new : HostIs) (side : RingSideIs Q)
+    (ring : List RingEntry) → HostTurning n
     old side ring → f.kind ≡ Request
-    → HostWentOn (Ask f.id f.to f.pdu ∷ []) old new → IsNextNumber (ring_node (ring_after side.net ring) n) f.kind f.id
+    → HostWentOn (Ask f.id f.to f.pdu ∷ []) old new
+    → IsNextNumber (ring_node (ring_after side.net ring) n) f.kind f.id
 ask-next n f old new side ring t kind w =
     let call = open_requests.new old.plan old.history f.id f.to f.pdu (ask-legal old new f w) in
     let part = (legal-follows side.net ring n t.own_turn.on).node.part in
     let range = call.is_path in
     let low = range.1 in
     let posted = part.numbers f.id.path (omega arith) ∙ t.paths.numbers f.id.path in
-    let seq : f.id.seq ≡ asked_on old.history f.id.path + 1 = ap (λ (i : CallId). i.seq) call.name in
-    subst (λ k. IsNextNumber (ring_node (ring_after side.net ring) n) k f.id) (sym kind) (omega (arith, posted, seq))
+    let seq : f.id.seq ≡ asked_on old.history f.id.path + 1 = ap (λ (i : CallId). i.seq) call.name
+    in
+    subst (λ k. IsNextNumber (ring_node (ring_after side.net ring) n) k f.id) (sym kind)
+    (omega (arith, posted, seq))
 
-pub turning-asked : {Q : Type 0} (alone : Bool) (n : ℕ) (f : Frame) (old new : HostIs) (side : RingSideIs Q) (ring ring' : List
+pub turning-asked : {Q : Type 0} (alone : Bool) (n : ℕ) (f : Frame) (old new : HostIs)
+    (side : RingSideIs Q) (ring ring' : List
     RingEntry) → HostTurning n old side ring → f.kind ≡ Request
-    → HostWentOn (Ask f.id f.to f.pdu ∷ []) old new → WentOn alone (is_of n) ring (Post n f ∷ []) ring' → IsLegal side.net ring' →
+    → HostWentOn (Ask f.id f.to f.pdu ∷ []) old new
+    → WentOn alone (is_of n) ring (Post n f ∷ []) ring' → IsLegal side.net ring' →
     HostTurning n new side ring' × KeepsInbox side.net n ring ring'
 turning-asked alone n f old new side ring ring' t kind w went legal =
     let e : HostEntry = Ask f.id f.to f.pdu in
     let call : Called = record { id = f.id; sort = OverNet f.to f.pdu } in
     let m = own-moved side alone n ring (Post n f) ring' refl t.own_turn legal went in
     let kept = kept-post side.net n ring ring' f m in
-    let tied = tied-all AHost _ _ (tied-posted AHost [] call _ _ n f kind refl (tied-called AHost (call ∷ [])
+    let tied = tied-all AHost _ _ (tied-posted AHost [] call _ _ n f kind refl
+    (tied-called AHost (call ∷ [])
     (host_items_of old.history) (own n ring) t.tied)) in
-    let paths = agree_asked old.plan old.history (own n ring) n f kind (ask-legal old new f w) t.paths in (
+    let paths = agree_asked old.plan old.history (own n ring) n f kind (ask-legal old new f w)
+    t.paths in (
       record {
         node = ap (λ (p : HostPlan). p.node) w.plan ∙ t.node;
         legal = w.legal;
         own_turn = own-turn side ring ring' n t.own_turn legal kept;
         tied = subst (λ a. Tied AHost a (own n ring')) (sym (items-now old new e w))
-            (subst (Tied AHost (with_calls (host_items_of old.history) (call ∷ []))) (sym m.own_is) tied);
-        paths = subst (λ h. PathsAgree h (own n ring')) (sym w.history) (subst (PathsAgree (old.history ++ e ∷ [])) (sym m.own_is) paths);
+            (subst (Tied AHost (with_calls (host_items_of old.history) (call ∷ []))) (sym m.own_is)
+            tied);
+        paths = subst (λ h. PathsAgree h (own n ring')) (sym w.history)
+            (subst (PathsAgree (old.history ++ e ∷ [])) (sym m.own_is) paths);
       },
       kept,
     )
 
-pub fewer-asks : (old new : HostIs) (f : Frame) (hold : ℕ) → Some f ≡ due_request old hold → HostWentOn (Ask f.id f.to f.pdu ∷ [])
+pub fewer-asks : (old new : HostIs) (f : Frame) (hold : ℕ) → Some f ≡ due_request old hold
+    → HostWentOn (Ask f.id f.to f.pdu ∷ [])
     old new → asks_left new < asks_left old
 fewer-asks old new f hold is w =
     let d = (due-frame old hold f is).within in
     let more : length (requests_in new.history) ≡ length (requests_in old.history) + 1 =
-    ap (λ h. length (requests_in h)) w.history ∙ ap length (requests_ask old.history f.id f.to f.pdu) ∙ length_push (requests_in old.history) _ in
-    let plan : length new.plan.requests ≡ length old.plan.requests = ap (λ (p : HostPlan). length p.requests) w.plan in
+    ap (λ h. length (requests_in h)) w.history ∙ ap length
+    (requests_ask old.history f.id f.to f.pdu) ∙ length_push (requests_in old.history) _ in
+    let plan : length new.plan.requests ≡ length old.plan.requests = ap
+    (λ (p : HostPlan). length p.requests) w.plan in
     omega arith
 
 -- nothing was due
@@ -135,7 +158,8 @@ host-same old new w =
 
 -- ---- a GiveUp
 
-awaited : (seq : ℕ) (a : Await) (w : Option Frame) → awaited_number a ≡ seq → (seq ≡ 0 → ⊥) → AwaitsThis a w → (f : Frame) × (w ≡ Some f) × (f.id.seq ≡ seq)
+awaited : (seq : ℕ) (a : Await) (w : Option Frame) → awaited_number a ≡ seq → (seq ≡ 0 → ⊥)
+    → AwaitsThis a w → (f : Frame) × (w ≡ Some f) × (f.id.seq ≡ seq)
 awaited seq Nothing w is some this = absurd (some (sym is))
 awaited seq (Out s to passes) None is some this = absurd this
 awaited seq (Arrived s) None is some this = absurd this
@@ -145,43 +169,57 @@ awaited seq (Arrived s) (Some f) is some this = (f, refl, sym this ∙ is)
 awaited seq (Failed s word) (Some f) is some this = (f, refl, sym this ∙ is)
 
 -- what a path awaits is a call of the host that is out
-pub awaited-out : {Q : Type 0} (n p seq : ℕ) (host : HostIs) (side : RingSideIs Q) (ring : List RingEntry) → HostTurning n host side ring
-    → seq ≡ awaited_number (path_of (ring_node (ring_after side.net ring) n) p).awaits → (seq ≡ 0 → ⊥)
+pub awaited-out : {Q : Type 0} (n p seq : ℕ) (host : HostIs) (side : RingSideIs Q)
+    (ring : List RingEntry) → HostTurning n host side ring
+    → seq ≡ awaited_number (path_of (ring_node (ring_after side.net ring) n) p).awaits
+    → (seq ≡ 0 → ⊥)
     → is_unanswered host.history (record { node = n; path = p; seq = seq }) ≡ true
 awaited-out n p seq host side ring t is some =
     let part = (legal-follows side.net ring n t.own_turn.on).node.part in
-    let found = awaited seq (path_of (ring_node (ring_after side.net ring) n) p).awaits (waiting p (own n ring)) (sym is) some (part.paths p) in
+    let found = awaited seq (path_of (ring_node (ring_after side.net ring) n) p).awaits
+    (waiting p (own n ring)) (sym is) some (part.paths p) in
     let ask = part.asks p found.0 found.1 in
-    let there = open_requests.last host.plan host.history p found.0 t.legal (sym (t.paths.waits p) ∙ found.1) in
-    let same : found.0.id ≡ record { node = n; path = p; seq = seq } = λ i. record { node = ask.node i; path = ask.path i; seq = found.2 i } in
+    let there = open_requests.last host.plan host.history p found.0 t.legal
+    (sym (t.paths.waits p) ∙ found.1) in
+    let same : found.0.id ≡ record { node = n; path = p; seq = seq } = λ i. record
+    { node = ask.node i; path = ask.path i; seq = found.2 i } in
     subst (λ (id : CallId). is_unanswered host.history id ≡ true) same there.out
 
-pub turning-gave : {Q : Type 0} (alone : Bool) (id : CallId) (word : ℕ) (old new : HostIs) (side : RingSideIs Q) (ring ring' :
+pub turning-gave : {Q : Type 0} (alone : Bool) (id : CallId) (word : ℕ) (old new : HostIs)
+    (side : RingSideIs Q) (ring ring' :
     List RingEntry) → HostTurning id.node old side ring
-    → is_unanswered old.history id ≡ true → HostWentOn (Answer id (results.Bad word) ∷ []) old new → GaveUp alone side.net id ring
+    → is_unanswered old.history id ≡ true → HostWentOn (Answer id (results.Bad word) ∷ []) old new
+    → GaveUp alone side.net id ring
     ring' (Some word) → IsLegal side.net ring' → HostTurning id.node new side ring'
 turning-gave alone id word old new side ring ring' t out w gave legal =
     let n = id.node in
     let e : HostEntry = Answer id (results.Bad word) in
-    let own_is : own n ring' ≡ own n ring ++ GiveUp id word ∷ [] = grew-ours alone (is_of n) ring (GiveUp id word ∷ []) ring' gave.grew in
-    let tied = tied-all AHost _ _ (tied-given_up AHost [] (host_items_of old.history) (own n ring) id word (made_net old.history
+    let own_is : own n ring' ≡ own n ring ++ GiveUp id word ∷ [] = grew-ours alone (is_of n) ring
+    (GiveUp id word ∷ []) ring' gave.grew in
+    let tied = tied-all AHost _ _ (tied-given_up AHost [] (host_items_of old.history) (own n ring)
+    id word (made_net old.history
     id out) (tied-none AHost _ _ t.tied)) in
-    let paths = agree_given_up old.plan old.history (own n ring) id word (results.Bad word) (legal-with old new e w) t.paths in
+    let paths = agree_given_up old.plan old.history (own n ring) id word (results.Bad word)
+    (legal-with old new e w) t.paths in
     record {
       node = ap (λ (p : HostPlan). p.node) w.plan ∙ t.node;
       legal = w.legal;
       own_turn = own-turn side ring ring' n t.own_turn legal gave.kept;
       tied = subst (λ a. Tied AHost a (own n ring')) (sym (items-now old new e w))
-          (subst (Tied AHost (with_end (host_items_of old.history) id (Lacked word))) (sym own_is) tied);
-      paths = subst (λ h. PathsAgree h (own n ring')) (sym w.history) (subst (PathsAgree (old.history ++ e ∷ [])) (sym own_is) paths);
+          (subst (Tied AHost (with_end (host_items_of old.history) id (Lacked word))) (sym own_is)
+          tied);
+      paths = subst (λ h. PathsAgree h (own n ring')) (sym w.history)
+          (subst (PathsAgree (old.history ++ e ∷ [])) (sym own_is) paths);
     }
 
 -- nothing was given up
-pub turning-grew : {Q : Type 0} (alone : Bool) (n : ℕ) (host : HostIs) (side : RingSideIs Q) (ring ring' : List RingEntry) →
+pub turning-grew : {Q : Type 0} (alone : Bool) (n : ℕ) (host : HostIs) (side : RingSideIs Q)
+    (ring ring' : List RingEntry) →
     HostTurning n host side ring → Grew alone (is_of n) ring [] ring'
     → KeepsInbox side.net n ring ring' → IsLegal side.net ring' → HostTurning n host side ring'
 turning-grew alone n host side ring ring' t grew kept legal =
-    let same : own n ring' ≡ own n ring = grew-ours alone (is_of n) ring [] ring' grew ∙ append-nil (own n ring) in
+    let same : own n ring' ≡ own n ring = grew-ours alone (is_of n) ring [] ring' grew ∙ append-nil
+    (own n ring) in
     record {
       node = t.node;
       legal = t.legal;
@@ -192,18 +230,22 @@ turning-grew alone n host side ring ring' t grew kept legal =
 
 -- ---- one step of giving up, behind a look at the ring
 
-pub record Looked {Q : Type 0} (alone : Bool) (n : ℕ) (host : HostIs) (side : RingSideIs Q) (ring ring' : List RingEntry) : Type 0 where
+pub record Looked {Q : Type 0} (alone : Bool) (n : ℕ) (host : HostIs) (side : RingSideIs Q)
+    (ring ring' : List RingEntry) : Type 0 where
   pub turning : HostTurning n host side ring'
   pub kept : KeepsInbox side.net n ring ring'
   pub less : sends_left side.net ring' n ≤ sends_left side.net ring n
   pub left : HasLeft side.net ring n → HasLeft side.net ring' n
 
-pub looked : {Q : Type 0} (alone : Bool) (n : ℕ) (host : HostIs) (side : RingSideIs Q) (ring ring' : List RingEntry) → IsLegal
+pub looked : {Q : Type 0} (alone : Bool) (n : ℕ) (host : HostIs) (side : RingSideIs Q)
+    (ring ring' : List RingEntry) → IsLegal
     side.net ring' → WentOn alone (is_of n) ring [] ring'
     → HostTurning n host side ring → Looked alone n host side ring ring'
 looked alone n host side ring ring' legal went t =
-    let found = unmoved side.net n alone ring ring' (on-ring side ring ring' n t.own_turn legal) went t.own_turn.free in
-    let same : sends_left side.net ring' n ≡ sends_left side.net ring n = ap sends_of found.part_is in
+    let found = unmoved side.net n alone ring ring' (on-ring side ring ring' n t.own_turn legal)
+    went t.own_turn.free in
+    let same : sends_left side.net ring' n ≡ sends_left side.net ring n = ap sends_of found.part_is
+    in
     record {
       turning = turning-still alone n host side ring ring' legal went t;
       kept = kept-found side.net n ring ring' found;
@@ -211,18 +253,23 @@ looked alone n host side ring ring' legal went t =
       left = λ gone. ap (λ (c : NodeIs). c.here) found.part_is ∙ gone;
     }
 
-pub turn-at : {Q : Type 0} (n : ℕ) (side side' : RingSideIs Q) (ring : List RingEntry) → side' ≡ side → IsOwnTurn side ring n → IsOwnTurn side' ring n
+pub turn-at : {Q : Type 0} (n : ℕ) (side side' : RingSideIs Q) (ring : List RingEntry)
+    → side' ≡ side → IsOwnTurn side ring n → IsOwnTurn side' ring n
 turn-at {Q} n side side' ring same t = subst (λ (s : RingSideIs Q). IsOwnTurn s ring n) (sym same) t
 
-pub gave-at : {Q : Type 0} (alone : Bool) (id : CallId) (side side' : RingSideIs Q) (ring ring' : List RingEntry) (o o' : Option ℕ) →
+pub gave-at : {Q : Type 0} (alone : Bool) (id : CallId) (side side' : RingSideIs Q)
+    (ring ring' : List RingEntry) (o o' : Option ℕ) →
     side' ≡ side → o ≡ o' → GaveUp alone side'.net id ring ring' o
     → GaveUp alone side.net id ring ring' o'
 gave-at {Q} alone id side side' ring ring' o o' same is gave =
-    subst (λ (s : RingSideIs Q). GaveUp alone s.net id ring ring' o') same (subst (GaveUp alone side'.net id ring ring') is gave)
+    subst (λ (s : RingSideIs Q). GaveUp alone s.net id ring ring' o') same
+    (subst (GaveUp alone side'.net id ring ring') is gave)
 
-pub gave-none : {Q : Type 0} (alone : Bool) (id : CallId) (o : Option ℕ) (host : HostIs) (side side' : RingSideIs Q) (a b c : List
+pub gave-none : {Q : Type 0} (alone : Bool) (id : CallId) (o : Option ℕ) (host : HostIs)
+    (side side' : RingSideIs Q) (a b c : List
     RingEntry) → Looked alone id.node host side a b → side' ≡ side
-    → GaveUp alone side'.net id b c o → o ≡ None → IsLegal side'.net c → Looked alone id.node host side a c
+    → GaveUp alone side'.net id b c o → o ≡ None → IsLegal side'.net c
+    → Looked alone id.node host side a c
 gave-none {Q} alone id o host side side' a b c l same gave is legal' =
     let g = gave-at alone id side side' b c o None same is gave in
     let legal = subst (λ (s : RingSideIs Q). IsLegal s.net c) same legal' in
@@ -233,9 +280,11 @@ gave-none {Q} alone id o host side side' a b c l same gave is legal' =
       left = λ gone. g.left (l.left gone);
     }
 
-pub gave-some : {Q : Type 0} (alone : Bool) (id : CallId) (o : Option ℕ) (word : ℕ) (old new : HostIs) (side side' : RingSideIs Q)
+pub gave-some : {Q : Type 0} (alone : Bool) (id : CallId) (o : Option ℕ) (word : ℕ)
+    (old new : HostIs) (side side' : RingSideIs Q)
     (a b c : List RingEntry) → Looked alone id.node old side a b → side' ≡ side
-    → GaveUp alone side'.net id b c o → o ≡ Some word → IsLegal side'.net c → is_unanswered old.history id ≡ true → HostWentOn
+    → GaveUp alone side'.net id b c o → o ≡ Some word → IsLegal side'.net c
+    → is_unanswered old.history id ≡ true → HostWentOn
     (Answer id (results.Bad word) ∷ []) old new → Looked alone id.node new side a c
 gave-some {Q} alone id o word old new side side' a b c l same gave is legal' out w =
     let g = gave-at alone id side side' b c o (Some word) same is gave in
@@ -249,23 +298,30 @@ gave-some {Q} alone id o word old new side side' a b c l same gave is legal' out
 
 -- ---- what an ask answered
 
-pub went-some : (o : Option Frame) (f : Frame) (old new : HostIs) → o ≡ Some f → HostWentOn (entry_asked {E = ℕ} (Ok o)) old new →
+pub went-some : (o : Option Frame) (f : Frame) (old new : HostIs) → o ≡ Some f
+    → HostWentOn (entry_asked {E = ℕ} (Ok o)) old new →
     HostWentOn (Ask f.id f.to f.pdu ∷ []) old new
-went-some o f old new is w = subst (λ (x : Option Frame). HostWentOn (entry_asked {E = ℕ} (Ok x)) old new) is w
+went-some o f old new is w = subst
+    (λ (x : Option Frame). HostWentOn (entry_asked {E = ℕ} (Ok x)) old new) is w
 
-pub from-some : (n : ℕ) (o : Option Frame) (f : Frame) → o ≡ Some f → IfSome o (IsFrom n Request) → IsFrom n Request f
+pub from-some : (n : ℕ) (o : Option Frame) (f : Frame) → o ≡ Some f → IfSome o (IsFrom n Request)
+    → IsFrom n Request f
 from-some n o f is from = subst (λ (x : Option Frame). IfSome x (IsFrom n Request)) is from
 
 -- ---- a Send
 
-pub turning-sent : {Q : Type 0} (alone : Bool) (n : ℕ) (heard : Heard) (host : HostIs) (side : RingSideIs Q) (ring ring' : List
+pub turning-sent : {Q : Type 0} (alone : Bool) (n : ℕ) (heard : Heard) (host : HostIs)
+    (side : RingSideIs Q) (ring ring' : List
     RingEntry) → HostTurning n host side ring → SentNext alone side.net n heard ring ring'
     → IsLegal side.net ring' → HostTurning n host side ring'
 turning-sent alone n heard host side ring ring' t sent legal =
-    let own_is : own n ring' ≡ own n ring ++ Send n heard ∷ [] = grew-ours alone (is_of n) ring (Send n heard ∷ []) ring' sent.grew in
-    let tied = tied-all AHost _ _ (tied-quiet AHost [] (host_items_of host.history) (own n ring) (Send n heard) refl refl refl
+    let own_is : own n ring' ≡ own n ring ++ Send n heard ∷ [] = grew-ours alone (is_of n) ring
+    (Send n heard ∷ []) ring' sent.grew in
+    let tied = tied-all AHost _ _ (tied-quiet AHost [] (host_items_of host.history) (own n ring)
+    (Send n heard) refl refl refl
     refl refl (tied-none AHost _ _ t.tied)) in
-    let paths = agree_still host.history (own n ring) (Send n heard) (λ p now. refl) (λ p now. refl) t.paths in
+    let paths = agree_still host.history (own n ring) (Send n heard) (λ p now. refl) (λ p now. refl)
+    t.paths in
     record {
       node = t.node;
       legal = t.legal;
@@ -276,31 +332,43 @@ turning-sent alone n heard host side ring ring' t sent legal =
 
 -- ---- the last entry of a turn
 
-last-quiet : (n : ℕ) (done : Bool) (words : List ℕ) (cause : Option LeaveCause) (a : Items) (b : List RingEntry) → TiedBut AHost
+last-quiet : (n : ℕ) (done : Bool) (words : List ℕ) (cause : Option LeaveCause) (a : Items)
+    (b : List RingEntry) → TiedBut AHost
     [] a b → TiedBut AHost [] a (b ++ last_entry n done words cause ∷ [])
-last-quiet n done words None a b t = tied-quiet AHost [] a b (Pass n done words) refl refl refl refl refl t
-last-quiet n done words (Some cause) a b t = tied-quiet AHost [] a b (Leave n cause) refl refl refl refl refl t
+last-quiet n done words None a b t = tied-quiet AHost [] a b (Pass n done words) refl refl refl refl
+    refl t
+last-quiet n done words (Some cause) a b t = tied-quiet AHost [] a b (Leave n cause) refl refl refl
+    refl refl t
 
-last-still : (n : ℕ) (done : Bool) (words : List ℕ) (cause : Option LeaveCause) (h : List HostEntry) (b : List RingEntry) →
+last-still : (n : ℕ) (done : Bool) (words : List ℕ) (cause : Option LeaveCause) (h : List HostEntry)
+    (b : List RingEntry) →
     PathsAgree h b → PathsAgree h (b ++ last_entry n done words cause ∷ [])
-last-still n done words None h b agree = agree_still h b (Pass n done words) (λ p now. refl) (λ p now. refl) agree
-last-still n done words (Some cause) h b agree = agree_still h b (Leave n cause) (λ p now. refl) (λ p now. refl) agree
+last-still n done words None h b agree = agree_still h b (Pass n done words) (λ p now. refl)
+    (λ p now. refl) agree
+last-still n done words (Some cause) h b agree = agree_still h b (Leave n cause) (λ p now. refl)
+    (λ p now. refl) agree
 
-pub ties-handed : {Q : Type 0} (alone : Bool) (n : ℕ) (done : Bool) (words : List ℕ) (cause : Option LeaveCause) (host : HostIs)
+pub ties-handed : {Q : Type 0} (alone : Bool) (n : ℕ) (done : Bool) (words : List ℕ)
+    (cause : Option LeaveCause) (host : HostIs)
     (side : RingSideIs Q) (ring ring' : List RingEntry) → HostTurning n host side ring
-    → HandedOn alone side.net n done words cause ring ring' → IsLegal side.net ring' → HostTies n host side ring'
+    → HandedOn alone side.net n done words cause ring ring' → IsLegal side.net ring'
+    → HostTies n host side ring'
 ties-handed alone n done words cause host side ring ring' t handed legal =
-    let own_is = grew-ours alone (is_of n) ring (last_entry n done words cause ∷ []) ring' handed.grew in
+    let own_is = grew-ours alone (is_of n) ring (last_entry n done words cause ∷ []) ring'
+    handed.grew in
     record {
       node = t.node;
       legal = t.legal;
       serves = t.own_turn.serves;
       on = on-ring side ring ring' n t.own_turn legal;
-      tied = subst (Tied AHost (host_items_of host.history)) (sym own_is) (tied-all AHost _ _ (last-quiet n done words cause _ _ (tied-none AHost _ _ t.tied)));
-      paths = subst (PathsAgree host.history) (sym own_is) (last-still n done words cause host.history (own n ring) t.paths);
+      tied = subst (Tied AHost (host_items_of host.history)) (sym own_is)
+          (tied-all AHost _ _ (last-quiet n done words cause _ _ (tied-none AHost _ _ t.tied)));
+      paths = subst (PathsAgree host.history) (sym own_is)
+          (last-still n done words cause host.history (own n ring) t.paths);
     }
 
-pub turning-left : {Q : Type 0} (n : ℕ) (host : HostIs) (side : RingSideIs Q) (ring : List RingEntry) → HostTies n host side ring
+pub turning-left : {Q : Type 0} (n : ℕ) (host : HostIs) (side : RingSideIs Q)
+    (ring : List RingEntry) → HostTies n host side ring
     → HasLeft side.net ring n → HostTurning n host side ring
 turning-left n host side ring t gone = record {
   node = t.node;
@@ -310,7 +378,8 @@ turning-left n host side ring t gone = record {
   paths = t.paths;
 }
 
-pub turning-held : {Q : Type 0} (n : ℕ) (host : HostIs) (side : RingSideIs Q) (ring : List RingEntry) → HostTies n host side ring
+pub turning-held : {Q : Type 0} (n : ℕ) (host : HostIs) (side : RingSideIs Q)
+    (ring : List RingEntry) → HostTies n host side ring
     → Holds side.net ring n → HostTurning n host side ring
 turning-held n host side ring t holds = record {
   node = t.node;
@@ -320,40 +389,62 @@ turning-held n host side ring t holds = record {
   paths = t.paths;
 }
 
-pub ties-of : {Q : Type 0} (n : ℕ) (host : HostIs) (side : RingSideIs Q) (ring : List RingEntry) → HostTurning n host side ring → HostTies n host side ring
-ties-of n host side ring t = record { node = t.node; legal = t.legal; serves = t.own_turn.serves; on = t.own_turn.on; tied = t.tied; paths = t.paths }
+pub ties-of : {Q : Type 0} (n : ℕ) (host : HostIs) (side : RingSideIs Q) (ring : List RingEntry)
+    → HostTurning n host side ring → HostTies n host side ring
+ties-of n host side ring t = record {
+  node = t.node;
+  legal = t.legal;
+  serves = t.own_turn.serves;
+  on = t.own_turn.on;
+  tied = t.tied;
+  paths = t.paths;
+}
 
-pub holds-at : {Q : Type 0} (n : ℕ) (side side' : RingSideIs Q) (ring : List RingEntry) → side' ≡ side → Holds side.net ring n → Holds side'.net ring n
-holds-at {Q} n side side' ring same h = subst (λ (s : RingSideIs Q). Holds s.net ring n) (sym same) h
+pub holds-at : {Q : Type 0} (n : ℕ) (side side' : RingSideIs Q) (ring : List RingEntry)
+    → side' ≡ side → Holds side.net ring n → Holds side'.net ring n
+holds-at {Q} n side side' ring same h = subst (λ (s : RingSideIs Q). Holds s.net ring n) (sym same)
+    h
 
-pub sent-some : (alone : Bool) (net : NetPlan) (n : ℕ) (heard : Heard) (old new : List RingEntry) (o : Option Heard) → o ≡ Some
+pub sent-some : (alone : Bool) (net : NetPlan) (n : ℕ) (heard : Heard) (old new : List RingEntry)
+    (o : Option Heard) → o ≡ Some
     heard → SentOrAll alone net n old new o → SentNext alone net n heard old new
 sent-some alone net n heard old new o is sent = subst (SentOrAll alone net n old new) is sent
 
-pub sent-none : (alone : Bool) (net : NetPlan) (n : ℕ) (old new : List RingEntry) (o : Option Heard) → o ≡ None → SentOrAll alone
+pub sent-none : (alone : Bool) (net : NetPlan) (n : ℕ) (old new : List RingEntry) (o : Option Heard)
+    → o ≡ None → SentOrAll alone
     net n old new o → AllSent alone net n old new
 sent-none alone net n old new o is sent = subst (SentOrAll alone net n old new) is sent
 
 -- the last entry, where the node stays
-pub ends-with : (alone : Bool) (net : NetPlan) (n : ℕ) (done : Bool) (words : List ℕ) (cause : Option LeaveCause) (ring ring' :
+pub ends-with : (alone : Bool) (net : NetPlan) (n : ℕ) (done : Bool) (words : List ℕ)
+    (cause : Option LeaveCause) (ring ring' :
     List RingEntry) → HandedOn alone net n done words cause ring ring' → false ≡ is_some cause
     → EndsWithPass n done (own n ring')
 ends-with alone net n done words None ring ring' handed is =
-    record { front = own n ring; words = words; is = grew-ours alone (is_of n) ring (Pass n done words ∷ []) ring' handed.grew }
+    record {
+      front = own n ring;
+      words = words;
+      is = grew-ours alone (is_of n) ring
+          (Pass n done words ∷ []) ring' handed.grew;
+    }
 ends-with alone net n done words (Some cause) ring ring' handed is = absurd cc
 
-pub gone-with : (alone : Bool) (net : NetPlan) (n : ℕ) (done : Bool) (words : List ℕ) (cause : Option LeaveCause) (ring ring' :
+pub gone-with : (alone : Bool) (net : NetPlan) (n : ℕ) (done : Bool) (words : List ℕ)
+    (cause : Option LeaveCause) (ring ring' :
     List RingEntry) → HandedOn alone net n done words cause ring ring' → true ≡ is_some cause
     → HasLeft net ring' n
 gone-with alone net n done words None ring ring' handed is = absurd cc
 gone-with alone net n done words (Some cause) ring ring' handed is = handed.gone cause refl
 
-pub stays-with : (alone : Bool) (net : NetPlan) (n : ℕ) (done : Bool) (words : List ℕ) (cause : Option LeaveCause) (ring ring' :
+pub stays-with : (alone : Bool) (net : NetPlan) (n : ℕ) (done : Bool) (words : List ℕ)
+    (cause : Option LeaveCause) (ring ring' :
     List RingEntry) → HandedOn alone net n done words cause ring ring' → false ≡ is_some cause
     → IsHere net ring' n
 stays-with alone net n done words None ring ring' handed is = handed.stays refl
 stays-with alone net n done words (Some cause) ring ring' handed is = absurd cc
 
-pub gone-on : {Q : Type 0} (n : ℕ) (side side' : RingSideIs Q) (ring ring' : List RingEntry) → side' ≡ side → HasLeft side.net ring n
+pub gone-on : {Q : Type 0} (n : ℕ) (side side' : RingSideIs Q) (ring ring' : List RingEntry)
+    → side' ≡ side → HasLeft side.net ring n
     → (HasLeft side'.net ring n → HasLeft side'.net ring' n) → HasLeft side.net ring' n
-gone-on {Q} n side side' ring ring' same gone stays = subst (λ (s : RingSideIs Q). HasLeft s.net ring n → HasLeft s.net ring' n) same stays gone
+gone-on {Q} n side side' ring ring' same gone stays = subst
+    (λ (s : RingSideIs Q). HasLeft s.net ring n → HasLeft s.net ring' n) same stays gone

@@ -34,45 +34,62 @@ KeepsBox _ = ⊥
 
 -- what a node that holds the token keeps through its own entries
 abbrev HolderKeeps : NetPlan → ℕ → (RingEntry → Type 0) → (NodeIs → Type 0) → Type 0
-HolderKeeps net n Sort Q = (past after' : List RingEntry) (e : RingEntry) → maker e ≡ n → Moved net n past e after' → Sort e → Holds net past n → Q (part_at net n past)
+HolderKeeps net n Sort Q = (past after' : List RingEntry) (e : RingEntry) → maker e ≡ n
+    → Moved net n past e after' → Sort e → Holds net past n → Q (part_at net n past)
     → Holds net after' n × Q (part_at net n after')
 
-holder-run : (net : NetPlan) (n : ℕ) (Sort : RingEntry → Type 0) (Q : NodeIs → Type 0) → HolderKeeps net n Sort Q → (past more : List RingEntry) → IsOnRing net past n
-    → IsLegal net (past ++ more) → Each Sort (own n more) → Holds net past n → Q (part_at net n past) → Q (part_at net n (past ++ more))
-holder-run net n Sort Q keeps past [] on legal sorts h it = subst (λ (l : List RingEntry). Q (part_at net n l)) (sym (append-nil past)) it
+holder-run : (net : NetPlan) (n : ℕ) (Sort : RingEntry → Type 0) (Q : NodeIs → Type 0)
+    → HolderKeeps net n Sort Q → (past more : List RingEntry) → IsOnRing net past n
+    → IsLegal net (past ++ more) → Each Sort (own n more) → Holds net past n
+    → Q (part_at net n past) → Q (part_at net n (past ++ more))
+holder-run net n Sort Q keeps past [] on legal sorts h it = subst
+    (λ (l : List RingEntry). Q (part_at net n l)) (sym (append-nil past)) it
 holder-run net n Sort Q keeps past (e ∷ es) on legal sorts h it =
     let join = append_assoc past (e ∷ []) es in
     let run = (legal-parts net past (e ∷ es) legal).1 in
     let legal' : IsLegal net ((past ++ e ∷ []) ++ es) = subst (IsLegal net) (sym join) legal in
     let near = (legal-parts net (past ++ e ∷ []) es legal').0 in
-    let on' : IsOnRing net (past ++ e ∷ []) n = record { members = on.members; legal = near; member = on.member } in
+    let on' : IsOnRing net (past ++ e ∷ []) n = record
+    { members = on.members; legal = near; member = on.member } in
     subst (λ (l : List RingEntry). Q (part_at net n l)) join
     (⊎_elim
     (λ (mine : is_of n e ≡ true).
-    let sorts' : Each Sort (e ∷ own n es) = subst (λ (b : Bool). Each Sort (cond b (e ∷ own n es) (own n es))) mine sorts in
-    let k = keeps past (past ++ e ∷ []) e (eqb-true (maker e) n mine) (own-moves net n past e (eqb-true (maker e) n mine) on (inl h) run.0) sorts'.0 h it in
+    let sorts' : Each Sort (e ∷ own n es) = subst
+    (λ (b : Bool). Each Sort (cond b (e ∷ own n es) (own n es))) mine sorts in
+    let k = keeps past (past ++ e ∷ []) e (eqb-true (maker e) n mine)
+    (own-moves net n past e (eqb-true (maker e) n mine) on (inl h) run.0) sorts'.0 h it in
     holder-run net n Sort Q keeps (past ++ e ∷ []) es on' legal' sorts'.1 k.0 k.1)
     (λ (other : is_of n e ≡ false).
-    let sorts' : Each Sort (own n es) = subst (λ (b : Bool). Each Sort (cond b (e ∷ own n es) (own n es))) other sorts in
+    let sorts' : Each Sort (own n es) = subst
+    (λ (b : Bool). Each Sort (cond b (e ∷ own n es) (own n es))) other sorts in
     let none : own n (e ∷ []) ≡ [] = ap (λ (b : Bool). cond b (e ∷ []) []) other in
     let f = found-at net n past (e ∷ []) near none (inl h) in
-    holder-run net n Sort Q keeps (past ++ e ∷ []) es on' legal' sorts' (f.holds h) (subst Q (sym f.part_is) it))
+    holder-run net n Sort Q keeps (past ++ e ∷ []) es on' legal' sorts' (f.holds h)
+    (subst Q (sym f.part_is) it))
     (cases_Bool (is_of n e)))
 
-holder-through : (alone : Bool) (net : NetPlan) (n : ℕ) (Sort : RingEntry → Type 0) (Q : NodeIs → Type 0) (ring ring' : List RingEntry) → HolderKeeps net n Sort Q → IsOnRing
-    net ring n → IsLegal net ring' → Holds net ring n → Adds alone (is_of n) Sort ring ring' → Q (part_at net n ring) → Q (part_at net n ring')
+holder-through : (alone : Bool) (net : NetPlan) (n : ℕ) (Sort : RingEntry → Type 0)
+    (Q : NodeIs → Type 0) (ring ring' : List RingEntry) → HolderKeeps net n Sort Q → IsOnRing
+    net ring n → IsLegal net ring' → Holds net ring n → Adds alone (is_of n) Sort ring ring'
+    → Q (part_at net n ring) → Q (part_at net n ring')
 holder-through alone net n Sort Q ring ring' keeps on legal h adds it =
     let g = adds.grew in
     subst (λ (l : List RingEntry). Q (part_at net n l)) (sym g.after_is)
-    (holder-run net n Sort Q keeps ring g.more on (subst (IsLegal net) g.after_is legal) (subst (Each Sort) (sym g.ours_are) adds.sort) h it)
+    (holder-run net n Sort Q keeps ring g.more on (subst (IsLegal net) g.after_is legal)
+    (subst (Each Sort) (sym g.ours_are) adds.sort) h it)
 
 inbox-keeps : (net : NetPlan) (n : ℕ) → HolderKeeps net n KeepsBox (λ c. c.inbox ≡ [])
 inbox-keeps net n past after' (Post m f) mine move sort h q =
-    let w = after-post net n past f after' (subst (λ (k : ℕ). Moved net n past (Post k f) after') mine move) in
+    let w = after-post net n past f after'
+    (subst (λ (k : ℕ). Moved net n past (Post k f) after') mine move) in
     (w.holds h, ap (λ (c : NodeIs). c.inbox) w.part_is ∙ q)
 inbox-keeps net n past after' (Send m heard) mine move sort h q =
-    let s = sent-one net n past heard after' h (subst (λ (k : ℕ). Moved net n past (Send k heard) after') mine move) in
-    (s.holds h, ap (λ (c : NodeIs). c.inbox) s.part_is ∙ (heard-inbox (part_at net n past) s.f.kind s.f.id s.there heard ∙ q))
+    let s = sent-one net n past heard after' h
+    (subst (λ (k : ℕ). Moved net n past (Send k heard) after') mine move) in (
+      s.holds h,
+      ap (λ (c : NodeIs). c.inbox) s.part_is
+          ∙ (heard-inbox (part_at net n past) s.f.kind s.f.id s.there heard ∙ q),
+    )
 inbox-keeps net n past after' (GiveUp id word) mine move sort h q =
     let w = after-give_up net n past id word after' mine move in
     (w.holds h, ap (λ (c : NodeIs). c.inbox) w.part_is ∙ q)
@@ -102,7 +119,8 @@ gives-sort : (ends : List GivenUp) → Each IsGivingUp (map give_up_of ends)
 gives-sort [] = tt
 gives-sort (e ∷ ends) = (tt, gives-sort ends)
 
-step-sort : (net : NetPlan) (on : ℕ → Bool) (c : NodeIs) (e : RingEntry) → IsSendingStep net on c e → KeepsBox e
+step-sort : (net : NetPlan) (on : ℕ → Bool) (c : NodeIs) (e : RingEntry) → IsSendingStep net on c e
+    → KeepsBox e
 step-sort net on c (Send m heard) it = tt
 step-sort net on c (GiveUp id word) it = tt
 step-sort net on c (Post m f) it = absurd it
@@ -111,26 +129,48 @@ step-sort net on c (Local m id op result) it = absurd it
 step-sort net on c (Pass m done words) it = absurd it
 step-sort net on c (Leave m cause) it = absurd it
 
-sends-sort : (net : NetPlan) (n : ℕ) (on : ℕ → Bool) (past more : List RingEntry) → EachSends net n on past more → Each KeepsBox (own n more)
+sends-sort : (net : NetPlan) (n : ℕ) (on : ℕ → Bool) (past more : List RingEntry)
+    → EachSends net n on past more → Each KeepsBox (own n more)
 sends-sort net n on past [] each = tt
 sends-sort net n on past (e ∷ es) each = ⊎_elim
-    (λ (mine : is_of n e ≡ true). subst (λ (b : Bool). Each KeepsBox (cond b (e ∷ own n es) (own n es))) (sym mine)
-    (step-sort net on (part_at net n past) e (each.0 (eqb-true (maker e) n mine)), sends-sort net n on (past ++ e ∷ []) es each.1))
-    (λ (other : is_of n e ≡ false). subst (λ (b : Bool). Each KeepsBox (cond b (e ∷ own n es) (own n es))) (sym other)
+    (λ (mine : is_of n e ≡ true). subst
+    (λ (b : Bool). Each KeepsBox (cond b (e ∷ own n es) (own n es))) (sym mine) (
+      step-sort net on (part_at net n past) e (each.0 (eqb-true (maker e) n mine)),
+      sends-sort net n
+          on (past ++ e ∷ []) es each.1,
+    ))
+    (λ (other : is_of n e ≡ false). subst
+    (λ (b : Bool). Each KeepsBox (cond b (e ∷ own n es) (own n es))) (sym other)
     (sends-sort net n on (past ++ e ∷ []) es each.1))
     (cases_Bool (is_of n e))
 
 -- both boxes of a host that served, asked, sent and gave up are empty
-pub boxes-empty : (alone : Bool) (net : NetPlan) (n : ℕ) (plan : HostPlan) (hold : ℕ) (asks : List Frame) (on : ℕ → Bool) (paths : List ℕ) (k1 k2 k3 k4 : List HostEntry) (served asked sent
-    given : List RingEntry) → IsOnRing net served n → Holds net served n → IsLegal net asked → Holds net asked n → IsLegal net sent → Holds net sent n → IsLegal net given
-    → (part_at net n served).inbox ≡ [] → AsksAllDue alone n plan hold asks k1 k2 served asked → SendsOut alone net n on k2 k3 asked sent → GivesUpDue alone net n paths k3 k4 sent given
+pub boxes-empty : (alone : Bool) (net : NetPlan) (n : ℕ) (plan : HostPlan) (hold : ℕ)
+    (asks : List Frame) (on : ℕ → Bool) (paths : List ℕ) (k1 k2 k3 k4 : List HostEntry)
+    (served asked sent
+    given : List RingEntry) → IsOnRing net served n → Holds net served n → IsLegal net asked
+    → Holds net asked n → IsLegal net sent → Holds net sent n → IsLegal net given
+    → (part_at net n served).inbox ≡ [] → AsksAllDue alone n plan hold asks k1 k2 served asked
+    → SendsOut alone net n on k2 k3 asked sent → GivesUpDue alone net n paths k3 k4 sent given
     → BoxesEmpty (part_at net n given)
-boxes-empty alone net n plan hold asks on paths k1 k2 k3 k4 served asked sent given ring h1 legal2 h2 legal3 h3 legal4 empty a s u =
-    let on2 : IsOnRing net asked n = record { members = ring.members; legal = legal2; member = ring.member } in
-    let on3 : IsOnRing net sent n = record { members = ring.members; legal = legal3; member = ring.member } in
-    let one = holder-through alone net n KeepsBox (λ c. c.inbox ≡ []) served asked (inbox-keeps net n) ring legal2 h1
-    (record { added = map (Post n) asks; sort = posts-sort n asks; grew = a.in_order.grew }) empty in
-    let two = holder-through alone net n KeepsBox (λ c. c.inbox ≡ []) asked sent (inbox-keeps net n) on2 legal3 h2
-    (record { added = s.sends.entries; sort = subst (Each KeepsBox) s.sends.grew.ours_are (sends-sort net n on asked s.sends.grew.more s.sends.each); grew = s.sends.grew }) one in
+boxes-empty alone net n plan hold asks on paths k1 k2 k3 k4 served asked sent given ring h1 legal2
+    h2 legal3 h3 legal4 empty a s u =
+    let on2 : IsOnRing net asked n = record
+    { members = ring.members; legal = legal2; member = ring.member } in
+    let on3 : IsOnRing net sent n = record
+    { members = ring.members; legal = legal3; member = ring.member } in
+    let one = holder-through alone net n KeepsBox (λ c. c.inbox ≡ []) served asked
+    (inbox-keeps net n) ring legal2 h1
+    (record { added = map (Post n) asks; sort = posts-sort n asks; grew = a.in_order.grew }) empty
+    in
+    let two = holder-through alone net n KeepsBox (λ c. c.inbox ≡ []) asked sent (inbox-keeps net n)
+    on2 legal3 h2
+    (record {
+      added = s.sends.entries;
+      sort = subst (Each KeepsBox) s.sends.grew.ours_are
+          (sends-sort net n on asked s.sends.grew.more s.sends.each);
+      grew = s.sends.grew;
+    }) one in
     holder-through alone net n IsGivingUp BoxesEmpty sent given (boxes-keep net n) on3 legal4 h3
-    (record { added = map give_up_of u.ends; sort = gives-sort u.ends; grew = u.grew }) (s.empty, two)
+    (record { added = map give_up_of u.ends; sort = gives-sort u.ends; grew = u.grew })
+    (s.empty, two)

@@ -62,19 +62,25 @@ use Rattle.comm_port.proofs.HostRuns.{due-one, goes_by, kept_for, none-due}
 other-none : (seq : ℕ) → other_no seq seq ≡ None
 other-none seq = ap (λ (b : Bool). if b then None else Some (NotAwaited seq)) (eq-eqb seq seq refl)
 
-goes-left : (answer n p seq : ℕ) (a : Await) → awaited_number a ≡ seq → kept_for answer false a seq ≡ or_no (other_no seq seq) None
+goes-left : (answer n p seq : ℕ) (a : Await) → awaited_number a ≡ seq
+    → kept_for answer false a seq ≡ or_no (other_no seq seq) None
     → goes_by answer false n p a ≡ [] → ⊥
 goes-left answer n p seq a number why none =
-    let lets : kept_for answer false a (awaited_number a) ≡ None = ap (kept_for answer false a) number ∙ why ∙ ap (λ (o : Option RingNo). or_no o None) (other-none seq) in
+    let lets : kept_for answer false a (awaited_number a) ≡ None = ap (kept_for answer false a)
+    number ∙ why ∙ ap (λ (o : Option RingNo). or_no o None) (other-none seq) in
     let id : CallId = record { node = n; path = p; seq = awaited_number a } in
-    let wrong : id ∷ [] ≡ [] = sym (ap (λ (o : Option RingNo). cond (is_none o) (id ∷ []) []) lets) ∙ none in
+    let wrong : id ∷ [] ≡ [] = sym (ap (λ (o : Option RingNo). cond (is_none o) (id ∷ []) []) lets)
+    ∙ none in
     cc
 
 nothing-left : (answer n p : ℕ) (a : Await) → goes_by answer false n p a ≡ [] → a ≡ Nothing
 nothing-left answer n p Nothing none = refl
-nothing-left answer n p (Out s to passes) none = absurd (goes-left answer n p s (Out s to passes) refl refl none)
-nothing-left answer n p (Arrived s) none = absurd (goes-left answer n p s (Arrived s) refl refl none)
-nothing-left answer n p (Failed s word) none = absurd (goes-left answer n p s (Failed s word) refl refl none)
+nothing-left answer n p (Out s to passes) none = absurd
+    (goes-left answer n p s (Out s to passes) refl refl none)
+nothing-left answer n p (Arrived s) none = absurd
+    (goes-left answer n p s (Arrived s) refl refl none)
+nothing-left answer n p (Failed s word) none = absurd
+    (goes-left answer n p s (Failed s word) refl refl none)
 
 nothing-waits : (a : Await) (w : Option Frame) → a ≡ Nothing → AwaitsThis a w → w ≡ None
 nothing-waits Nothing None is this = refl
@@ -83,64 +89,80 @@ nothing-waits (Out s to passes) w is this = absurd (cc)
 nothing-waits (Arrived s) w is this = absurd (cc)
 nothing-waits (Failed s word) w is this = absurd (cc)
 
-none-open : (plan : HostPlan) (h : List HostEntry) (u : List Frame) → IsHostHistory plan h → unanswered_in h ≡ u
+none-open : (plan : HostPlan) (h : List HostEntry) (u : List Frame) → IsHostHistory plan h
+    → unanswered_in h ≡ u
     → ((p : ℕ) → IsPath p → open_on h p ≡ None) → u ≡ []
 none-open plan h [] legal is none = refl
 none-open plan h (f ∷ fs) legal is none =
     let p = f.id.path in
-    let here : open_on h p ≡ Some f = ap (find (goes_on p)) is ∙ ap (λ (b : Bool). cond b (Some f) (find (goes_on p) fs)) (eq-eqb p p refl) in
+    let here : open_on h p ≡ Some f = ap (find (goes_on p)) is ∙ ap
+    (λ (b : Bool). cond b (Some f) (find (goes_on p) fs)) (eq-eqb p p refl) in
     let last = open_requests.last plan h p f legal here in
     absurd (let wrong : Some f ≡ None = sym here ∙ none p last.is_path in cc)
 
-pub none-unanswered : {Q : Type 0} (n : ℕ) (host : HostIs) (side : RingSideIs Q) (ring : List RingEntry) → HostTurning n host side ring
-    → HasLeft side.net ring n → due_calls side.net n ring network_paths ≡ [] → unanswered_in host.history ≡ []
+pub none-unanswered : {Q : Type 0} (n : ℕ) (host : HostIs) (side : RingSideIs Q)
+    (ring : List RingEntry) → HostTurning n host side ring
+    → HasLeft side.net ring n → due_calls side.net n ring network_paths ≡ []
+    → unanswered_in host.history ≡ []
 none-unanswered n host side ring t gone' none =
     let net = side.net in
     let each = none-due net ring n network_paths none in
     let follows = (legal-follows net ring n t.own_turn.on).node.part in
     let at : (p : ℕ) → IsPath p → due_calls net n ring (p ∷ []) ≡ [] =
-    λ p is_path. at_path (λ (q : ℕ). due_calls net n ring (q ∷ []) ≡ []) p is_path each.0 each.1.0 each.1.1.0 each.1.1.1.0 in
+    λ p is_path. at_path (λ (q : ℕ). due_calls net n ring (q ∷ []) ≡ []) p is_path each.0 each.1.0
+    each.1.1.0 each.1.1.1.0 in
     none-open host.plan host.history (unanswered_in host.history) t.legal refl (λ p is_path.
     let a = (path_of (part net ring n) p).awaits in
-    let left : goes_by net.answer false n p a ≡ [] = ap (λ (b : Bool). goes_by net.answer b n p a) (sym gone') ∙ sym (due-one net ring n p) ∙ at p is_path in
-    sym (t.paths.waits p) ∙ nothing-waits a (waiting p (own n ring)) (nothing-left net.answer n p a left) (follows.paths p))
+    let left : goes_by net.answer false n p a ≡ [] = ap (λ (b : Bool). goes_by net.answer b n p a)
+    (sym gone') ∙ sym (due-one net ring n p) ∙ at p is_path in
+    sym (t.paths.waits p) ∙ nothing-waits a (waiting p (own n ring))
+    (nothing-left net.answer n p a left) (follows.paths p))
 
 -- ---- the end
 
-pub ends-host : (alone : Bool) (net : NetPlan) (n : ℕ) (plan : HostPlan) (budget done : Bool) (list : List HostEntry) (ring handed : List RingEntry)
-    → done ≡ host_is_done (host_at plan list) → false ≡ is_some (cause_due net (ring_after net ring) n done budget)
-    → HandedOn alone net n done (words_put n ring) (cause_due net (ring_after net ring) n done budget) ring handed
+pub ends-host : (alone : Bool) (net : NetPlan) (n : ℕ) (plan : HostPlan) (budget done : Bool)
+    (list : List HostEntry) (ring handed : List RingEntry)
+    → done ≡ host_is_done (host_at plan list)
+    → false ≡ is_some (cause_due net (ring_after net ring) n done budget)
+    → HandedOn alone net n done (words_put n ring)
+    (cause_due net (ring_after net ring) n done budget) ring handed
     → EndsHostTurn alone net n plan budget list list ring handed false
 ends-host alone net n plan budget done list ring handed is left handed_on = record {
   handed_ring = handed;
   left_is = left ∙ ap (λ (d : Bool). is_some (cause_due net (ring_after net ring) n d budget)) is;
-  handed = subst (λ (d : Bool). HandedOn alone net n d (words_put n ring) (cause_due net (ring_after net ring) n d budget) ring handed) is handed_on;
+  handed = subst (λ (d : Bool). HandedOn alone net n d (words_put n ring)
+      (cause_due net (ring_after net ring) n d budget) ring handed) is handed_on;
   ends_there = λ e. (refl, refl);
   gives_up = λ e. absurd (cc);
   answered = λ e. absurd (cc);
 }
 
-pub leaves-host : (alone : Bool) (net : NetPlan) (n : ℕ) (plan : HostPlan) (budget done : Bool) (list new : List HostEntry)
+pub leaves-host : (alone : Bool) (net : NetPlan) (n : ℕ) (plan : HostPlan) (budget done : Bool)
+    (list new : List HostEntry)
     (ring handed ring' : List RingEntry) → done ≡ host_is_done (host_at plan list)
     → true ≡ is_some (cause_due net (ring_after net ring) n done budget)
-    → HandedOn alone net n done (words_put n ring) (cause_due net (ring_after net ring) n done budget) ring handed
+    → HandedOn alone net n done (words_put n ring)
+    (cause_due net (ring_after net ring) n done budget) ring handed
     → GivesUpDue alone net n network_paths list new handed ring' → unanswered_in new ≡ []
     → EndsHostTurn alone net n plan budget list new ring ring' true
-leaves-host alone net n plan budget done list new ring handed ring' is left handed_on gives none = record {
-  handed_ring = handed;
-  left_is = left ∙ ap (λ (d : Bool). is_some (cause_due net (ring_after net ring) n d budget)) is;
-  handed = subst (λ (d : Bool). HandedOn alone net n d (words_put n ring) (cause_due net (ring_after net ring) n d budget) ring handed) is handed_on;
-  ends_there = λ e. absurd (cc);
-  gives_up = λ e. gives;
-  answered = λ e. none;
-}
+leaves-host alone net n plan budget done list new ring handed ring' is left handed_on gives
+    none = record {
+      handed_ring = handed;
+      left_is = left ∙ ap (λ (d : Bool). is_some (cause_due net (ring_after net ring) n d budget)) is;
+      handed = subst (λ (d : Bool). HandedOn alone net n d (words_put n ring)
+          (cause_due net (ring_after net ring) n d budget) ring handed) is handed_on;
+      ends_there = λ e. absurd (cc);
+      gives_up = λ e. gives;
+      answered = λ e. none;
+    }
 
 -- ---- the number of a hold
 
 abbrev most : ℕ
 most = 4294967295
 
-low-min : (h : ℕ) (ask : HostAsk) → ask.hold ≤ 10000 → nat_le ask.hold (min h most) ≡ nat_le ask.hold h
+low-min : (h : ℕ) (ask : HostAsk) → ask.hold ≤ 10000
+    → nat_le ask.hold (min h most) ≡ nat_le ask.hold h
 low-min h ask low = elim (cases_Bool (nat_le ask.hold h)) [
   | inl hit ↦
       let less = leb-true ask.hold h hit in
@@ -157,23 +179,33 @@ low-min h ask low = elim (cases_Bool (nat_le ask.hold h)) [
   ]
 ]
 
-low-due : (plan : HostPlan) (v : HostIs) (h : ℕ) (o : Option HostAsk) → IsHostPlan plan → v.plan ≡ plan → next_ask v ≡ o → if_due (min h most) o ≡ if_due h o
+low-due : (plan : HostPlan) (v : HostIs) (h : ℕ) (o : Option HostAsk) → IsHostPlan plan
+    → v.plan ≡ plan → next_ask v ≡ o → if_due (min h most) o ≡ if_due h o
 low-due plan v h None sound is next = refl
 low-due plan v h (Some ask) sound is next =
-    let all : All (IsAskOf plan.node) v.plan.requests = subst (λ (p : HostPlan). All (IsAskOf plan.node) p.requests) (sym is) sound.requests in
-    let ok = all_at (IsAskOf plan.node) v.plan.requests (length (requests_in v.history)) ask all next in
+    let all : All (IsAskOf plan.node) v.plan.requests = subst
+    (λ (p : HostPlan). All (IsAskOf plan.node) p.requests) (sym is) sound.requests in
+    let ok = all_at (IsAskOf plan.node) v.plan.requests (length (requests_in v.history)) ask all
+    next in
     ap (λ (b : Bool). if b then Some ask else None) (low-min h ask ok.hold.to)
 
-pub due-min : (plan : HostPlan) (v : HostIs) (h : ℕ) → IsHostPlan plan → v.plan ≡ plan → due_request v (min h most) ≡ due_request v h
-due-min plan v h sound is = ap (request_for (next_host_call v.plan v.history)) (low-due plan v h (next_ask v) sound is refl)
+pub due-min : (plan : HostPlan) (v : HostIs) (h : ℕ) → IsHostPlan plan → v.plan ≡ plan
+    → due_request v (min h most) ≡ due_request v h
+due-min plan v h sound is = ap (request_for (next_host_call v.plan v.history))
+    (low-due plan v h (next_ask v) sound is refl)
 
-pub asks-at-hold : (alone : Bool) (n : ℕ) (plan : HostPlan) (hold h : ℕ) (asks : List Frame) (list new : List HostEntry) (ring ring' : List RingEntry)
-    → IsHostPlan plan → hold ≡ min h most → AsksAllDue alone n plan hold asks list new ring ring' → AsksAllDue alone n plan h asks list new ring ring'
+pub asks-at-hold : (alone : Bool) (n : ℕ) (plan : HostPlan) (hold h : ℕ) (asks : List Frame)
+    (list new : List HostEntry) (ring ring' : List RingEntry)
+    → IsHostPlan plan → hold ≡ min h most → AsksAllDue alone n plan hold asks list new ring ring'
+    → AsksAllDue alone n plan h asks list new ring ring'
 asks-at-hold alone n plan hold h asks list new ring ring' sound is a =
-    let at : (v : HostIs) → v.plan ≡ plan → due_request v h ≡ due_request v hold = λ v same. sym (ap (due_request v) is ∙ due-min plan v h sound same) in
+    let at : (v : HostIs) → v.plan ≡ plan
+    → due_request v h ≡ due_request v hold = λ v same. sym
+    (ap (due_request v) is ∙ due-min plan v h sound same) in
     record {
       in_order = record {
-        each = λ before after' f here. at (host_at plan (list ++ map ask_of before)) refl ∙ a.in_order.each before after' f here;
+        each = λ before after' f here. at (host_at plan (list ++ map ask_of before)) refl
+            ∙ a.in_order.each before after' f here;
         asked = a.in_order.asked;
         grew = a.in_order.grew;
       };
@@ -192,14 +224,18 @@ passes_in es = count_by is_pass es
 passes-both : (xs ys : List RingEntry) → passes_in (xs ++ ys) ≡ passes_in xs + passes_in ys
 passes-both xs ys = sum_by-append (λ (e : RingEntry). cond (is_pass e) 1 0) xs ys
 
-served-none : (n : ℕ) (f : Frame) (entries : List RingEntry) (k : FrameKind) (stats : Bool) → is_stats f.pdu ≡ stats → ServesKind k n f entries → passes_in entries ≡ 0
+served-none : (n : ℕ) (f : Frame) (entries : List RingEntry) (k : FrameKind) (stats : Bool)
+    → is_stats f.pdu ≡ stats → ServesKind k n f entries → passes_in entries ≡ 0
 served-none n f entries Reply stats is s = ap passes_in s
 served-none n f entries Request true is s =
-    let t : ServesRequest true n f entries = subst (λ (b : Bool). ServesRequest b n f entries) is s in ap passes_in t.entries_are
+    let t : ServesRequest true n f entries = subst (λ (b : Bool). ServesRequest b n f entries) is s
+    in ap passes_in t.entries_are
 served-none n f entries Request false is s =
-    let t : ServesRequest false n f entries = subst (λ (b : Bool). ServesRequest b n f entries) is s in ap passes_in t
+    let t : ServesRequest false n f entries = subst (λ (b : Bool). ServesRequest b n f entries) is s
+    in ap passes_in t
 
-served-passes : (n : ℕ) (fs : List Frame) (parts : List (List RingEntry)) → AllZip (ServesFrame n) fs parts → passes_in (flat_map (λ p. p) parts) ≡ 0
+served-passes : (n : ℕ) (fs : List Frame) (parts : List (List RingEntry))
+    → AllZip (ServesFrame n) fs parts → passes_in (flat_map (λ p. p) parts) ≡ 0
 served-passes n [] [] all = refl
 served-passes n [] (p ∷ parts) all = absurd all
 served-passes n (f ∷ fs) [] all = absurd all
@@ -216,7 +252,8 @@ gave-passes : (ends : List GivenUp) → passes_in (map give_up_of ends) ≡ 0
 gave-passes [] = refl
 gave-passes (g ∷ ends) = gave-passes ends
 
-step-none : (net : NetPlan) (on : ℕ → Bool) (c : NodeIs) (e : RingEntry) → IsSendingStep net on c e → is_pass e ≡ false
+step-none : (net : NetPlan) (on : ℕ → Bool) (c : NodeIs) (e : RingEntry) → IsSendingStep net on c e
+    → is_pass e ≡ false
 step-none net on c (Post n f) s = refl
 step-none net on c (Send n heard) s = refl
 step-none net on c (Take n f) s = refl
@@ -228,72 +265,100 @@ step-none net on c (Leave n cause) s = refl
 none-of-both : (a b c : ℕ) → a ≡ b + c → b ≡ 0 → c ≡ 0 → a ≡ 0
 none-of-both a b c is one two = omega arith
 
-sent-passes : (net : NetPlan) (n : ℕ) (on : ℕ → Bool) (past more : List RingEntry) → EachSends net n on past more → passes_in (own n more) ≡ 0
+sent-passes : (net : NetPlan) (n : ℕ) (on : ℕ → Bool) (past more : List RingEntry)
+    → EachSends net n on past more → passes_in (own n more) ≡ 0
 sent-passes net n on past [] each = refl
 sent-passes net n on past (e ∷ more) each = elim (cases_Bool (is_of n e)) [
   | inl mine ↦
-      let none = step-none net on (ring_node (ring_after net past) n) e (each.0 (eqb-true (maker e) n mine)) in
+      let none = step-none net on (ring_node (ring_after net past) n) e
+      (each.0 (eqb-true (maker e) n mine)) in
       none-of-both (passes_in (own n (e ∷ more))) (passes_in (e ∷ [])) (passes_in (own n more))
-      (ap passes_in (ap (λ (b : Bool). cond b (e ∷ own n more) (own n more)) mine) ∙ passes-both (e ∷ []) (own n more))
+      (ap passes_in (ap (λ (b : Bool). cond b (e ∷ own n more) (own n more)) mine) ∙ passes-both
+      (e ∷ []) (own n more))
       (ap (λ (b : Bool). 0 + cond b 1 0) none) (sent-passes net n on (past ++ e ∷ []) more each.1)
-  | inr other ↦ ap passes_in (ap (λ (b : Bool). cond b (e ∷ own n more) (own n more)) other) ∙ sent-passes net n on (past ++ e ∷ []) more each.1
+  | inr other ↦ ap passes_in (ap (λ (b : Bool). cond b (e ∷ own n more) (own n more)) other)
+      ∙ sent-passes net n on (past ++ e ∷ []) more each.1
 ]
 
-grew-passes : (alone : Bool) (n : ℕ) (a added b : List RingEntry) → Grew alone (is_of n) a added b → passes_in (own n b) ≡ passes_in (own n a) + passes_in added
-grew-passes alone n a added b g = ap passes_in (grew-ours alone (is_of n) a added b g) ∙ passes-both (own n a) added
+grew-passes : (alone : Bool) (n : ℕ) (a added b : List RingEntry) → Grew alone (is_of n) a added b
+    → passes_in (own n b) ≡ passes_in (own n a) + passes_in added
+grew-passes alone n a added b g = ap passes_in (grew-ours alone (is_of n) a added b g) ∙ passes-both
+    (own n a) added
 
 none-more : (a b k : ℕ) → b ≡ a + k → k ≡ 0 → b ≡ a
 none-more a b k is zero' = omega arith
 
-last-passes : (n : ℕ) (done left : Bool) (words : List ℕ) (cause : Option LeaveCause) → left ≡ is_some cause
+last-passes : (n : ℕ) (done left : Bool) (words : List ℕ) (cause : Option LeaveCause)
+    → left ≡ is_some cause
     → passes_in (last_entry n done words cause ∷ []) ≡ (if left then 0 else 1)
 last-passes n done left words None is = ap (λ (b : Bool). if b then 0 else 1) (sym is)
 last-passes n done left words (Some cause) is = ap (λ (b : Bool). if b then 0 else 1) (sym is)
 
-ended-passes : (alone : Bool) (net : NetPlan) (n : ℕ) (plan : HostPlan) (budget : Bool) (l l' : List HostEntry) (a b : List RingEntry) (left : Bool)
-    → EndsHostTurn alone net n plan budget l l' a b left → passes_in (own n b) ≡ passes_in (own n a) + (if left then 0 else 1)
+ended-passes : (alone : Bool) (net : NetPlan) (n : ℕ) (plan : HostPlan) (budget : Bool)
+    (l l' : List HostEntry) (a b : List RingEntry) (left : Bool)
+    → EndsHostTurn alone net n plan budget l l' a b left
+    → passes_in (own n b) ≡ passes_in (own n a) + (if left then 0 else 1)
 ended-passes alone net n plan budget l l' a b left e =
-    let handed = grew-passes alone n a _ e.handed_ring e.handed.grew ∙ ap (λ (k : ℕ). passes_in (own n a) + k) (last-passes n _ left _ _ e.left_is) in
+    let handed = grew-passes alone n a _ e.handed_ring e.handed.grew ∙ ap
+    (λ (k : ℕ). passes_in (own n a) + k) (last-passes n _ left _ _ e.left_is) in
     by left refl handed
   where
-    by : (left' : Bool) → left' ≡ left → passes_in (own n e.handed_ring) ≡ passes_in (own n a) + (if left then 0 else 1)
+    by : (left' : Bool) → left' ≡ left
+        → passes_in (own n e.handed_ring) ≡ passes_in (own n a) + (if left then 0 else 1)
         → passes_in (own n b) ≡ passes_in (own n a) + (if left then 0 else 1)
     by true is handed =
         let g = e.gives_up (sym is) in
-        none-more (passes_in (own n e.handed_ring)) (passes_in (own n b)) (passes_in (map give_up_of g.ends)) (grew-passes alone n e.handed_ring (map give_up_of g.ends) b g.grew) (gave-passes g.ends)
+        none-more (passes_in (own n e.handed_ring)) (passes_in (own n b))
+        (passes_in (map give_up_of g.ends))
+        (grew-passes alone n e.handed_ring (map give_up_of g.ends) b g.grew)
+        (gave-passes g.ends)
         ∙ handed
-    by false is handed = ap (λ (r : List RingEntry). passes_in (own n r)) (e.ends_there (sym is)).0 ∙ handed
+    by false is handed = ap (λ (r : List RingEntry). passes_in (own n r)) (e.ends_there (sym is)).0
+        ∙ handed
 
-pub passes-turn : (alone : Bool) (net : NetPlan) (n : ℕ) (plan : HostPlan) (budget : Bool) (l l' : List HostEntry) (a b : List RingEntry) (left : Bool)
-    → HoldsHostTurn alone net n plan budget l l' a b left → passes_in (own n b) ≡ passes_in (own n a) + (if left then 0 else 1)
+pub passes-turn : (alone : Bool) (net : NetPlan) (n : ℕ) (plan : HostPlan) (budget : Bool)
+    (l l' : List HostEntry) (a b : List RingEntry) (left : Bool)
+    → HoldsHostTurn alone net n plan budget l l' a b left
+    → passes_in (own n b) ≡ passes_in (own n a) + (if left then 0 else 1)
 passes-turn alone net n plan budget l l' a b left t =
-    let one = none-more (passes_in (own n a)) (passes_in (own n t.served_ring)) _ (grew-passes alone n a _ t.served_ring t.serves.all.grew)
+    let one = none-more (passes_in (own n a)) (passes_in (own n t.served_ring)) _
+    (grew-passes alone n a _ t.served_ring t.serves.all.grew)
     (served-passes n _ t.serves.all.parts t.serves.all.serves) in
-    let two = none-more (passes_in (own n t.served_ring)) (passes_in (own n t.asked_ring)) _ (grew-passes alone n t.served_ring _ t.asked_ring t.makes.in_order.grew)
+    let two = none-more (passes_in (own n t.served_ring)) (passes_in (own n t.asked_ring)) _
+    (grew-passes alone n t.served_ring _ t.asked_ring t.makes.in_order.grew)
     (asked-passes n t.asks) in
     let g = t.sends.sends.grew in
-    let sent : passes_in t.sends.sends.entries ≡ 0 = ap passes_in (sym g.ours_are) ∙ sent-passes net n (went_on t.asks) t.asked_ring g.more t.sends.sends.each in
-    let three = none-more (passes_in (own n t.asked_ring)) (passes_in (own n t.sent_ring)) _ (grew-passes alone n t.asked_ring t.sends.sends.entries t.sent_ring g) sent in
-    let four = none-more (passes_in (own n t.sent_ring)) (passes_in (own n t.given_ring)) _ (grew-passes alone n t.sent_ring _ t.given_ring t.gives_up.grew) (gave-passes t.gives_up.ends) in
+    let sent : passes_in t.sends.sends.entries ≡ 0 = ap passes_in (sym g.ours_are) ∙ sent-passes net
+    n (went_on t.asks) t.asked_ring g.more t.sends.sends.each in
+    let three = none-more (passes_in (own n t.asked_ring)) (passes_in (own n t.sent_ring)) _
+    (grew-passes alone n t.asked_ring t.sends.sends.entries t.sent_ring g) sent in
+    let four = none-more (passes_in (own n t.sent_ring)) (passes_in (own n t.given_ring)) _
+    (grew-passes alone n t.sent_ring _ t.given_ring t.gives_up.grew)
+    (gave-passes t.gives_up.ends) in
     ended-passes alone net n plan budget t.given_list l' t.given_ring b left t.ends
     ∙ ap (λ (k : ℕ). k + (if left then 0 else 1)) (four ∙ three ∙ two ∙ one)
 
 -- ---- the whole
 
-pub ok-then : {T E : Type 0} (P Q : T → Type 0) (r : Result T E) → ((x : T) → P x → Q x) → IfOk r P → IfOk r Q
+pub ok-then : {T E : Type 0} (P Q : T → Type 0) (r : Result T E) → ((x : T) → P x → Q x) → IfOk r P
+    → IfOk r Q
 ok-then P Q (Ok x) f p = f x p
 ok-then P Q (Err e) f p = tt
 
 -- the asks of a turn, by the number of its hold
-pub record TurnAsks (alone : Bool) (net : NetPlan) (n : ℕ) (plan : HostPlan) (list0 list new : List HostEntry) (ring0 ring ring' : List RingEntry)
+pub record TurnAsks (alone : Bool) (net : NetPlan) (n : ℕ) (plan : HostPlan)
+    (list0 list new : List HostEntry) (ring0 ring ring' : List RingEntry)
     (fresh : List Bool) : Type 0 where
   pub asks : List Frame
   pub makes : AsksAllDue alone n plan (hold_of n ring0) asks list new ring ring'
   pub same : is_chosen fresh ≡ went_on asks
 
-pub asks-of : (alone : Bool) (net : NetPlan) (n : ℕ) (plan : HostPlan) (hold : ℕ) (list0 list new : List HostEntry) (ring0 ring ring' : List RingEntry)
-    (fresh : List Bool) (plan' : HostPlan) → plan' ≡ plan → IsHostPlan plan → hold ≡ min (hold_of n ring0) most
-    → AskedAll alone net n plan' hold list new ring ring' fresh → TurnAsks alone net n plan list0 list new ring0 ring ring' fresh
+pub asks-of : (alone : Bool) (net : NetPlan) (n : ℕ) (plan : HostPlan) (hold : ℕ)
+    (list0 list new : List HostEntry) (ring0 ring ring' : List RingEntry)
+    (fresh : List Bool) (plan' : HostPlan) → plan' ≡ plan → IsHostPlan plan
+    → hold ≡ min (hold_of n ring0) most
+    → AskedAll alone net n plan' hold list new ring ring' fresh
+    → TurnAsks alone net n plan list0 list new ring0 ring ring' fresh
 asks-of alone net n plan hold list0 list new ring0 ring ring' fresh plan' same sound is a = record {
   asks = a.asks;
   makes = asks-at-hold alone n plan hold (hold_of n ring0) a.asks list new ring ring' sound is
@@ -301,12 +366,16 @@ asks-of alone net n plan hold list0 list new ring0 ring ring' fresh plan' same s
   same = λ i p. a.paths p i;
 }
 
-pub sends-of : (alone : Bool) (net : NetPlan) (n : ℕ) (on on' : ℕ → Bool) (l l' : List HostEntry) (a b : List RingEntry) → on ≡ on'
+pub sends-of : (alone : Bool) (net : NetPlan) (n : ℕ) (on on' : ℕ → Bool) (l l' : List HostEntry)
+    (a b : List RingEntry) → on ≡ on'
     → SendsOut alone net n on l l' a b → SendsOut alone net n on' l l' a b
-sends-of alone net n on on' l l' a b same x = subst (λ (o : ℕ → Bool). SendsOut alone net n o l l' a b) same x
+sends-of alone net n on on' l l' a b same x = subst
+    (λ (o : ℕ → Bool). SendsOut alone net n o l l' a b) same x
 
-pub ends-at : {Q : Type 0} (alone : Bool) (n : ℕ) (plan plan' : HostPlan) (budget : Bool) (l l' : List HostEntry) (a b : List RingEntry) (left : Bool)
-    (side side' : RingSideIs Q) → side' ≡ side → plan' ≡ plan → EndsHostTurn alone side'.net n plan' budget l l' a b left
+pub ends-at : {Q : Type 0} (alone : Bool) (n : ℕ) (plan plan' : HostPlan) (budget : Bool)
+    (l l' : List HostEntry) (a b : List RingEntry) (left : Bool)
+    (side side' : RingSideIs Q) → side' ≡ side → plan' ≡ plan
+    → EndsHostTurn alone side'.net n plan' budget l l' a b left
     → EndsHostTurn alone side.net n plan budget l l' a b left
 ends-at {Q} alone n plan plan' budget l l' a b left side side' same same_plan e =
     subst (λ (p : HostPlan). EndsHostTurn alone side.net n p budget l l' a b left) same_plan
@@ -314,22 +383,29 @@ ends-at {Q} alone n plan plan' budget l l' a b left side side' same same_plan e 
 
 -- ---- a worker's count
 
-pub counts-more : (alone : Bool) (net : NetPlan) (n : ℕ) (plan : HostPlan) (budget : Bool) (l l' : List HostEntry) (a b : List RingEntry) (left : Bool)
-    (passes hold : ℕ) → left ≡ false → passes ≡ min (passes_in (own n a)) most → hold ≡ min (passes + 1) most
+pub counts-more : (alone : Bool) (net : NetPlan) (n : ℕ) (plan : HostPlan) (budget : Bool)
+    (l l' : List HostEntry) (a b : List RingEntry) (left : Bool)
+    (passes hold : ℕ) → left ≡ false → passes ≡ min (passes_in (own n a)) most
+    → hold ≡ min (passes + 1) most
     → HoldsHostTurn alone net n plan budget l l' a b left → hold ≡ min (passes_in (own n b)) most
 counts-more alone net n plan budget l l' a b left passes hold stays counts is t =
     let more : passes_in (own n b) ≡ passes_in (own n a) + 1 =
-    passes-turn alone net n plan budget l l' a b left t ∙ ap (λ (x : Bool). passes_in (own n a) + (if x then 0 else 1)) stays in
-    is ∙ ap (λ (k : ℕ). min (k + 1) most) counts ∙ hold-is (passes_in (own n a)) ∙ ap (λ (k : ℕ). min k most) (swap (passes_in (own n a)) ∙ sym more)
+    passes-turn alone net n plan budget l l' a b left t ∙ ap
+    (λ (x : Bool). passes_in (own n a) + (if x then 0 else 1)) stays in
+    is ∙ ap (λ (k : ℕ). min (k + 1) most) counts ∙ hold-is (passes_in (own n a)) ∙ ap
+    (λ (k : ℕ). min k most) (swap (passes_in (own n a)) ∙ sym more)
   where
     swap : (k : ℕ) → 1 + k ≡ k + 1
     swap k = omega arith
 
-pub counts-same : (alone : Bool) (net : NetPlan) (n : ℕ) (plan : HostPlan) (budget : Bool) (l l' : List HostEntry) (a b : List RingEntry) (left : Bool)
-    (passes : ℕ) → left ≡ true → passes ≡ min (passes_in (own n a)) most → HoldsHostTurn alone net n plan budget l l' a b left
+pub counts-same : (alone : Bool) (net : NetPlan) (n : ℕ) (plan : HostPlan) (budget : Bool)
+    (l l' : List HostEntry) (a b : List RingEntry) (left : Bool)
+    (passes : ℕ) → left ≡ true → passes ≡ min (passes_in (own n a)) most
+    → HoldsHostTurn alone net n plan budget l l' a b left
     → passes ≡ min (passes_in (own n b)) most
 counts-same alone net n plan budget l l' a b left passes gone' counts t =
     let same : passes_in (own n b) ≡ passes_in (own n a) =
-    none-more (passes_in (own n a)) (passes_in (own n b)) (if left then 0 else 1) (passes-turn alone net n plan budget l l' a b left t)
+    none-more (passes_in (own n a)) (passes_in (own n b)) (if left then 0 else 1)
+    (passes-turn alone net n plan budget l l' a b left t)
     (ap (λ (x : Bool). if x then 0 else 1) gone') in
     counts ∙ ap (λ (k : ℕ). min k most) (sym same)

@@ -29,7 +29,8 @@ use Rattle.comm_port.proofs.HostRuns.{free-none}
 use Rattle.comm_port.proofs.RingTurns.{on-ring}
 
 -- a call that nothing stands against was refused for want of memory
-pub only-short : (no' : Option RingNo) (why : RingNo) → no' ≡ None → (no' ≡ Some why) ⊎ ((why ≡ NoMemory) × (no' ≡ None)) → why ≡ NoMemory
+pub only-short : (no' : Option RingNo) (why : RingNo) → no' ≡ None
+    → (no' ≡ Some why) ⊎ ((why ≡ NoMemory) × (no' ≡ None)) → why ≡ NoMemory
 only-short no' why none refused = ⊎_elim
     (λ (e : no' ≡ Some why). absurd (let wrong : Some why ≡ None = sym e ∙ none in cc))
     (λ (e : (why ≡ NoMemory) × (no' ≡ None)). e.0) refused
@@ -41,14 +42,18 @@ turn-none r true false h k = absurd (cc)
 turn-none r false b h k = absurd (cc)
 
 -- a Take by who holds the token
-pub take-short : {Q : Type 0} (alone : Bool) (n : ℕ) (side : RingSideIs Q) (ring ring' : List RingEntry) (why : RingNo) → IsOwnTurn side ring n
+pub take-short : {Q : Type 0} (alone : Bool) (n : ℕ) (side : RingSideIs Q)
+    (ring ring' : List RingEntry) (why : RingNo) → IsOwnTurn side ring n
     → Holds side.net ring n → IsLegal side.net ring' → WentOn alone (is_of n) ring [] ring'
-    → (turn_no (ring_after side.net ring') n ≡ Some why) ⊎ ((why ≡ NoMemory) × (turn_no (ring_after side.net ring') n ≡ None)) → why ≡ NoMemory
+    → (turn_no (ring_after side.net ring') n ≡ Some why) ⊎
+    ((why ≡ NoMemory) × (turn_no (ring_after side.net ring') n ≡ None)) → why ≡ NoMemory
 take-short alone n side ring ring' why t holds legal went refused =
-    let found = unmoved side.net n alone ring ring' (on-ring side ring ring' n t legal) went t.free in
+    let found = unmoved side.net n alone ring ring' (on-ring side ring ring' n t legal) went t.free
+    in
     let h = found.holds holds in
     let r = ring_after side.net ring' in
-    only-short (turn_no r n) why (turn-none r (ring_node r n).here (r.holder == n) h.here (eq-eqb r.holder n h.holder)) refused
+    only-short (turn_no r n) why (turn-none r (ring_node r n).here (r.holder == n) h.here
+    (eq-eqb r.holder n h.holder)) refused
 
 none-awaits : (a : Await) (w : Option Frame) → w ≡ None → AwaitsThis a w → a ≡ Nothing
 none-awaits Nothing w is this = refl
@@ -60,20 +65,26 @@ none-awaits (Arrived s) (Some f) is this = absurd (cc)
 none-awaits (Failed s word) (Some f) is this = absurd (cc)
 
 -- a Post of the next request of a host
-pub post-short : {Q : Type 0} (alone : Bool) (n : ℕ) (f : Frame) (old new : HostIs) (side : RingSideIs Q) (ring ring' : List RingEntry) (why : RingNo)
-    → HostTurning n old side ring → f.kind ≡ Request → HostWentOn (Ask f.id f.to f.pdu ∷ []) old new → IsLegal side.net ring'
+pub post-short : {Q : Type 0} (alone : Bool) (n : ℕ) (f : Frame) (old new : HostIs)
+    (side : RingSideIs Q) (ring ring' : List RingEntry) (why : RingNo)
+    → HostTurning n old side ring → f.kind ≡ Request → HostWentOn (Ask f.id f.to f.pdu ∷ []) old new
+    → IsLegal side.net ring'
     → WentOn alone (is_of n) ring [] ring' → (post_no (ring_after side.net ring') n f ≡ Some why)
     ⊎ ((why ≡ NoMemory) × (post_no (ring_after side.net ring') n f ≡ None)) → why ≡ NoMemory
 post-short alone n f old new side ring ring' why t kind w legal went refused =
     let net = side.net in
     let p = f.id.path in
-    let found = unmoved net n alone ring ring' (on-ring side ring ring' n t.own_turn legal) went t.own_turn.free in
+    let found = unmoved net n alone ring ring' (on-ring side ring ring' n t.own_turn legal) went
+    t.own_turn.free in
     let call = open_requests.new old.plan old.history f.id f.to f.pdu (ask-legal old new f w) in
     let follows = (legal-follows net ring n t.own_turn.on).node.part in
     let awaits : (path_of (part net ring n) p).awaits ≡ Nothing =
-    none-awaits (path_of (part net ring n) p).awaits (waiting p (own n ring)) (t.paths.waits p ∙ call.free) (follows.paths p) in
-    let free' : path_no (part net ring' n) f.kind p ≡ None = ap (λ (k : FrameKind). path_no (part net ring' n) k p) kind
+    none-awaits (path_of (part net ring n) p).awaits (waiting p (own n ring))
+    (t.paths.waits p ∙ call.free) (follows.paths p) in
+    let free' : path_no (part net ring' n) f.kind p ≡ None = ap
+    (λ (k : FrameKind). path_no (part net ring' n) k p) kind
     ∙ ap (λ (c : NodeIs). taken_no (path_of c p).awaits) found.part_is ∙ ap taken_no awaits in
     let all : post_no (ring_after net ring') n f ≡ None =
-    ap (λ (o : Option RingNo). or_no o (path_no (part net ring' n) f.kind p)) (free-none net ring' n found.free) ∙ free' in
+    ap (λ (o : Option RingNo). or_no o (path_no (part net ring' n) f.kind p))
+    (free-none net ring' n found.free) ∙ free' in
     only-short (post_no (ring_after net ring') n f) why all refused

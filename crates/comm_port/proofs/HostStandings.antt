@@ -27,10 +27,11 @@ use Rattle.comm_port.proofs.HostTurnLaws.{counts-others, host-ties-others, host-
 
 fewer : (n : ℕ) (xs : List RingEntry) → length (own n xs) ≤ length xs
 fewer n [] = omega arith
-fewer n (e ∷ xs) = elim (is_of n e) as (λ (b : Bool). length (cond b (e ∷ own n xs) (own n xs)) ≤ length (e ∷ xs)) [
-  | true ↦ let less = fewer n xs in omega arith
-  | false ↦ let less = fewer n xs in omega arith
-]
+fewer n (e ∷ xs) = elim (is_of n e) as
+    (λ (b : Bool). length (cond b (e ∷ own n xs) (own n xs)) ≤ length (e ∷ xs)) [
+      | true ↦ let less = fewer n xs in omega arith
+      | false ↦ let less = fewer n xs in omega arith
+    ]
 
 tail-of : (x y : RingEntry) (xs ys : List RingEntry) → x ∷ xs ≡ y ∷ ys → xs ≡ ys
 tail-of x y xs ys is = cc
@@ -39,19 +40,23 @@ all-made : (n : ℕ) (xs : List RingEntry) → own n xs ≡ xs → Each (λ (e :
 all-made n [] is = tt
 all-made n (e ∷ xs) is = elim (cases_Bool (is_of n e)) [
   | inl mine ↦
-      let rest : e ∷ own n xs ≡ e ∷ xs = sym (ap (λ (b : Bool). cond b (e ∷ own n xs) (own n xs)) mine) ∙ is in
+      let rest : e ∷ own n xs ≡ e ∷ xs = sym
+      (ap (λ (b : Bool). cond b (e ∷ own n xs) (own n xs)) mine) ∙ is in
       (eqb-true (maker e) n mine, all-made n xs (tail-of e e (own n xs) xs rest))
   | inr other ↦
-      let rest : own n xs ≡ e ∷ xs = sym (ap (λ (b : Bool). cond b (e ∷ own n xs) (own n xs)) other) ∙ is in
+      let rest : own n xs ≡ e ∷ xs = sym (ap (λ (b : Bool). cond b (e ∷ own n xs) (own n xs)) other)
+      ∙ is in
       let less = fewer n xs in
       let size : length (own n xs) ≡ length (e ∷ xs) = ap length rest in
       absurd (omega arith)
 ]
 
-none-made : (m n : ℕ) (xs : List RingEntry) → m ≢ n → Each (λ (e : RingEntry). maker e ≡ n) xs → own m xs ≡ []
+none-made : (m n : ℕ) (xs : List RingEntry) → m ≢ n → Each (λ (e : RingEntry). maker e ≡ n) xs
+    → own m xs ≡ []
 none-made m n [] apart each = refl
 none-made m n (e ∷ xs) apart each =
-    ap (λ (b : Bool). cond b (e ∷ own m xs) (own m xs)) (ne_eqb (maker e) m (λ is. apart (sym is ∙ each.0))) ∙ none-made m n xs apart each.1
+    ap (λ (b : Bool). cond b (e ∷ own m xs) (own m xs))
+    (ne_eqb (maker e) m (λ is. apart (sym is ∙ each.0))) ∙ none-made m n xs apart each.1
 
 not-leave : (m n : ℕ) (e : RingEntry) → m ≢ n → maker e ≡ n → IsLeave m e → ⊥
 not-leave m n (Post k f) apart made is = is
@@ -62,14 +67,17 @@ not-leave m n (GiveUp id word) apart made is = is
 not-leave m n (Pass k done words) apart made is = is
 not-leave m n (Leave k cause) apart made is = apart (sym is ∙ made)
 
-no-leave : (m n : ℕ) (xs : List RingEntry) → m ≢ n → Each (λ (e : RingEntry). maker e ≡ n) xs → NoLeave m xs
+no-leave : (m n : ℕ) (xs : List RingEntry) → m ≢ n → Each (λ (e : RingEntry). maker e ≡ n) xs
+    → NoLeave m xs
 no-leave m n [] apart each = tt
 no-leave m n (e ∷ xs) apart each = (not-leave m n e apart each.0, no-leave m n xs apart each.1)
 
 -- ---- the other host, while one has its turn
 
-pub stands-on : (m n : ℕ) (host : HostIs) (w : HostWorkerIs) (left : Bool) (net : NetPlan) (plan : HostPlan) (budget : Bool) (l l' : List HostEntry)
-    (a b : List RingEntry) (gone' : Bool) → m ≢ n → IsLegal net b → HoldsHostTurn true net n plan budget l l' a b gone' → HostIsReady m host w left net a
+pub stands-on : (m n : ℕ) (host : HostIs) (w : HostWorkerIs) (left : Bool) (net : NetPlan)
+    (plan : HostPlan) (budget : Bool) (l l' : List HostEntry)
+    (a b : List RingEntry) (gone' : Bool) → m ≢ n → IsLegal net b
+    → HoldsHostTurn true net n plan budget l l' a b gone' → HostIsReady m host w left net a
     → HostIsReady m host w left net b
 stands-on m n host w left net plan budget l l' a b gone' apart legal turn t =
     let by = host-turn-grew true net n plan budget l l' a b gone' turn in
@@ -80,7 +88,8 @@ stands-on m n host w left net plan budget l l' a b gone' apart legal turn t =
     subst (λ (r : List RingEntry). HostIsReady m host w left net r) (sym g.after_is) (record {
       worker_node = t.worker_node;
       ties = host-ties-others m host (own_side net) a g.more none legal' t.ties;
-      counts = counts-others w a g.more (ap (λ (k : ℕ). own k g.more) t.worker_node ∙ none) t.counts;
+      counts = counts-others w a g.more (ap (λ (k : ℕ). own k g.more) t.worker_node ∙ none)
+          t.counts;
       here = λ stays. member-stays net a g.more m (t.here stays) (no-leave m n g.more apart made);
     })
 
@@ -90,8 +99,10 @@ after-node : (w : HostWorkerIs) (left : Bool) → (after_turn w left).node ≡ w
 after-node w true = refl
 after-node w false = refl
 
-pub stands-turn : (n : ℕ) (host : HostIs) (old new : HostWorkerIs) (left : Bool) (net : NetPlan) (ring : List RingEntry) → old.node ≡ n
-    → new ≡ after_turn old left → HostTies new.node host (own_side net) ring → CountsPasses new ring → (left ≡ false → IsHere net ring old.node)
+pub stands-turn : (n : ℕ) (host : HostIs) (old new : HostWorkerIs) (left : Bool) (net : NetPlan)
+    (ring : List RingEntry) → old.node ≡ n
+    → new ≡ after_turn old left → HostTies new.node host (own_side net) ring → CountsPasses new ring
+    → (left ≡ false → IsHere net ring old.node)
     → HostIsReady n host new left net ring
 stands-turn n host old new left net ring node is ties counts here =
     let same : new.node ≡ n = ap (λ (w : HostWorkerIs). w.node) is ∙ after-node old left ∙ node in
@@ -109,35 +120,53 @@ low-two zero d range = omega arith
 low-two (suc zero) d range = omega arith
 low-two (suc (suc k)) d range = absurd (omega (arith, range))
 
-pub stands-first : (n : ℕ) (host : HostIs) (w : HostWorkerIs) (left : Bool) (net : NetPlan) → net.members ≡ 1 ∷ 2 ∷ [] → IsMember net n
-    → (ring_node (ring_after net []) n).here ≡ true → host.plan.node ≡ n → host.history ≡ [] → w ≡ record { node = n; budget = true; passes = 0 }
+pub stands-first : (n : ℕ) (host : HostIs) (w : HostWorkerIs) (left : Bool) (net : NetPlan)
+    → net.members ≡ 1 ∷ 2 ∷ [] → IsMember net n
+    → (ring_node (ring_after net []) n).here ≡ true → host.plan.node ≡ n → host.history ≡ []
+    → w ≡ record { node = n; budget = true; passes = 0 }
     → HostIsReady n host w left net []
 stands-first n host w left net members member here node empty is = record {
   worker_node = ap (λ (x : HostWorkerIs). x.node) is;
-  ties = subst (λ (h : List HostEntry). HostTies n (record { plan = host.plan; history = h }) (own_side net) []) (sym empty) (record {
-    node = node;
-    legal = record { order = (_, refl); each = λ before after' entry k. absurd (not-there before after' entry k) };
-    serves = tt;
-    on = record { members = subst (All (λ m. m < addresses)) (sym members) low-two; legal = tt; member = member };
-    tied = record { asks = refl; peers = refl; port = refl; replies = refl; ends = refl };
-    paths = record { waits = λ p. refl; numbers = λ p. refl };
-  });
+  ties = subst (λ (h : List HostEntry). HostTies n (record { plan = host.plan; history = h })
+      (own_side net) []) (sym empty) (record {
+        node = node;
+        legal = record {
+          order = (_, refl);
+          each = λ before after' entry k. absurd
+              (not-there before after' entry k);
+        };
+        serves = tt;
+        on = record {
+          members = subst (All (λ m. m < addresses)) (sym members) low-two;
+          legal = tt;
+          member = member;
+        };
+        tied = record { asks = refl; peers = refl; port = refl; replies = refl; ends = refl };
+        paths = record { waits = λ p. refl; numbers = λ p. refl };
+      });
   counts = ap (λ (x : HostWorkerIs). x.passes) is;
   here = λ stays. here;
 }
   where
-    not-there : (before after' : List HostEntry) (entry : HostEntry) → [] ≡ before ++ entry ∷ after' → ⊥
+    not-there : (before after' : List HostEntry) (entry : HostEntry) → [] ≡ before ++ entry ∷ after'
+        → ⊥
     not-there [] after' entry k = cc
     not-there (x ∷ before) after' entry k = cc
 
-pub stands-one : (host : HostIs) (w : HostWorkerIs) (left : Bool) (net : NetPlan) → net.members ≡ 1 ∷ 2 ∷ [] → host.plan.node ≡ 1
-    → host.history ≡ [] → w ≡ record { node = 1; budget = true; passes = 0 } → HostIsReady 1 host w left net []
+pub stands-one : (host : HostIs) (w : HostWorkerIs) (left : Bool) (net : NetPlan)
+    → net.members ≡ 1 ∷ 2 ∷ [] → host.plan.node ≡ 1
+    → host.history ≡ [] → w ≡ record { node = 1; budget = true; passes = 0 }
+    → HostIsReady 1 host w left net []
 stands-one host w left net members node empty is =
-    stands-first 1 host w left net members (subst (λ (l : List ℕ). Contains l 1) (sym members) (0, omega arith, refl))
+    stands-first 1 host w left net members
+    (subst (λ (l : List ℕ). Contains l 1) (sym members) (0, omega arith, refl))
     (ap (λ (l : List ℕ). (get_or (opening_nodes l) 1 (fresh false)).here) members) node empty is
 
-pub stands-two : (host : HostIs) (w : HostWorkerIs) (left : Bool) (net : NetPlan) → net.members ≡ 1 ∷ 2 ∷ [] → host.plan.node ≡ 2
-    → host.history ≡ [] → w ≡ record { node = 2; budget = true; passes = 0 } → HostIsReady 2 host w left net []
+pub stands-two : (host : HostIs) (w : HostWorkerIs) (left : Bool) (net : NetPlan)
+    → net.members ≡ 1 ∷ 2 ∷ [] → host.plan.node ≡ 2
+    → host.history ≡ [] → w ≡ record { node = 2; budget = true; passes = 0 }
+    → HostIsReady 2 host w left net []
 stands-two host w left net members node empty is =
-    stands-first 2 host w left net members (subst (λ (l : List ℕ). Contains l 2) (sym members) (1, omega arith, refl))
+    stands-first 2 host w left net members
+    (subst (λ (l : List ℕ). Contains l 2) (sym members) (1, omega arith, refl))
     (ap (λ (l : List ℕ). (get_or (opening_nodes l) 2 (fresh false)).here) members) node empty is

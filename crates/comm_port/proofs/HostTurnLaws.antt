@@ -27,25 +27,37 @@ pub record GrewBy (alone : Bool) (n : ℕ) (ring new_ring : List RingEntry) : Ty
   pub added : List RingEntry
   pub grew : Grew alone (is_of n) ring added new_ring
 
-by-both : (alone : Bool) (n : ℕ) (a b c : List RingEntry) → GrewBy alone n a b → GrewBy alone n b c → GrewBy alone n a c
-by-both alone n a b c x y = record { added = x.added ++ y.added; grew = grew-more alone (is_of n) a b c x.added y.added x.grew y.grew }
+by-both : (alone : Bool) (n : ℕ) (a b c : List RingEntry) → GrewBy alone n a b → GrewBy alone n b c
+    → GrewBy alone n a c
+by-both alone n a b c x y = record {
+  added = x.added ++ y.added;
+  grew = grew-more alone (is_of n) a b c x.added y.added x.grew
+      y.grew;
+}
 
-end-grew : (alone : Bool) (net : NetPlan) (n : ℕ) (plan : HostPlan) (budget : Bool) (l l' : List HostEntry) (a b : List RingEntry) (left : Bool)
+end-grew : (alone : Bool) (net : NetPlan) (n : ℕ) (plan : HostPlan) (budget : Bool)
+    (l l' : List HostEntry) (a b : List RingEntry) (left : Bool)
     → EndsHostTurn alone net n plan budget l l' a b left → GrewBy alone n a b
 end-grew alone net n plan budget l l' a b left e = by left refl
   where
     by : (left' : Bool) → left' ≡ left → GrewBy alone n a b
     by true is =
         let g = e.gives_up (sym is) in
-        by-both alone n a e.handed_ring b (record { added = _; grew = e.handed.grew }) (record { added = map give_up_of g.ends; grew = g.grew })
-    by false is = subst (GrewBy alone n a) (sym (e.ends_there (sym is)).0) (record { added = _; grew = e.handed.grew })
+        by-both alone n a e.handed_ring b (record { added = _; grew = e.handed.grew })
+        (record { added = map give_up_of g.ends; grew = g.grew })
+    by false is = subst (GrewBy alone n a) (sym (e.ends_there (sym is)).0)
+        (record { added = _; grew = e.handed.grew })
 
-pub host-turn-grew : (alone : Bool) (net : NetPlan) (n : ℕ) (plan : HostPlan) (budget : Bool) (l l' : List HostEntry) (a b : List RingEntry) (left : Bool)
+pub host-turn-grew : (alone : Bool) (net : NetPlan) (n : ℕ) (plan : HostPlan) (budget : Bool)
+    (l l' : List HostEntry) (a b : List RingEntry) (left : Bool)
     → HoldsHostTurn alone net n plan budget l l' a b left → GrewBy alone n a b
 host-turn-grew alone net n plan budget l l' a b left t =
-    by-both alone n a t.given_ring b (by-both alone n a t.sent_ring t.given_ring (by-both alone n a t.asked_ring t.sent_ring
-    (by-both alone n a t.served_ring t.asked_ring (record { added = flat_map (λ p. p) t.serves.all.parts; grew = t.serves.all.grew })
-    (record { added = map (Post n) t.asks; grew = t.makes.in_order.grew })) (record { added = t.sends.sends.entries; grew = t.sends.sends.grew }))
+    by-both alone n a t.given_ring b
+    (by-both alone n a t.sent_ring t.given_ring (by-both alone n a t.asked_ring t.sent_ring
+    (by-both alone n a t.served_ring t.asked_ring
+    (record { added = flat_map (λ p. p) t.serves.all.parts; grew = t.serves.all.grew })
+    (record { added = map (Post n) t.asks; grew = t.makes.in_order.grew }))
+    (record { added = t.sends.sends.entries; grew = t.sends.sends.grew }))
     (record { added = map give_up_of t.gives_up.ends; grew = t.gives_up.grew }))
     (end-grew alone net n plan budget t.given_list l' t.given_ring b left t.ends)
 
@@ -54,7 +66,8 @@ any-each [] = tt
 any-each (x ∷ xs) = (tt, any-each xs)
 
 -- the ring went on by entries of the node
-pub host-turn-adds : (alone : Bool) (net : NetPlan) (n : ℕ) (plan : HostPlan) (budget : Bool) (l l' : List HostEntry) (a b : List RingEntry) (left : Bool)
+pub host-turn-adds : (alone : Bool) (net : NetPlan) (n : ℕ) (plan : HostPlan) (budget : Bool)
+    (l l' : List HostEntry) (a b : List RingEntry) (left : Bool)
     → HoldsHostTurn alone net n plan budget l l' a b left → Adds alone (is_of n) (λ e. Unit {0}) a b
 host-turn-adds alone net n plan budget l l' a b left t =
     let g = host-turn-grew alone net n plan budget l l' a b left t in
@@ -62,8 +75,10 @@ host-turn-adds alone net n plan budget l l' a b left t =
 
 -- ---- what others leave
 
-pub host-ties-others : {Q : Type 0} (n : ℕ) (host : HostIs) (side : RingSideIs Q) (ring more : List RingEntry) → own n more ≡ []
-    → IsLegal side.net (ring ++ more) → HostTies n host side ring → HostTies n host side (ring ++ more)
+pub host-ties-others : {Q : Type 0} (n : ℕ) (host : HostIs) (side : RingSideIs Q)
+    (ring more : List RingEntry) → own n more ≡ []
+    → IsLegal side.net (ring ++ more) → HostTies n host side ring
+    → HostTies n host side (ring ++ more)
 host-ties-others n host side ring more none legal t =
     let same = own-found n ring more none in
     record {
@@ -75,6 +90,8 @@ host-ties-others n host side ring more none legal t =
       paths = subst (PathsAgree host.history) (sym same) t.paths;
     }
 
-pub counts-others : (w : HostWorkerIs) (ring more : List RingEntry) → own w.node more ≡ [] → CountsPasses w ring → CountsPasses w (ring ++ more)
+pub counts-others : (w : HostWorkerIs) (ring more : List RingEntry) → own w.node more ≡ []
+    → CountsPasses w ring → CountsPasses w (ring ++ more)
 counts-others w ring more none counts =
-    counts ∙ ap (λ (l : List RingEntry). min (count_by is_pass l) 4294967295) (sym (own-found w.node ring more none))
+    counts ∙ ap (λ (l : List RingEntry). min (count_by is_pass l) 4294967295)
+    (sym (own-found w.node ring more none))

@@ -37,52 +37,66 @@ use Rattle.comm_port.proofs.RingTurns.{on-ring, own-moved}
 use Rattle.comm_port.proofs.Sends.{kept-found}
 
 -- a turn goes on
-pub own-turn : {Q : Type 0} (side : RingSideIs Q) (ring ring' : List RingEntry) (n : ℕ) → IsOwnTurn side ring n → IsLegal side.net
+pub own-turn : {Q : Type 0} (side : RingSideIs Q) (ring ring' : List RingEntry) (n : ℕ)
+    → IsOwnTurn side ring n → IsLegal side.net
     ring' → KeepsInbox side.net n ring ring' → IsOwnTurn side ring' n
-own-turn side ring ring' n t legal k = record { serves = t.serves; on = on-ring side ring ring' n t legal; free = k.free }
+own-turn side ring ring' n t legal k = record
+    { serves = t.serves; on = on-ring side ring ring' n t legal; free = k.free }
 
 -- a host's list that went on by one entry
-pub legal-with : (old new : HostIs) (e : HostEntry) → HostWentOn (e ∷ []) old new → IsHostHistory old.plan (old.history ++ e ∷ [])
-legal-with old new e w = subst (λ p. IsHostHistory p (old.history ++ e ∷ [])) w.plan (subst (IsHostHistory new.plan) w.history w.legal)
+pub legal-with : (old new : HostIs) (e : HostEntry) → HostWentOn (e ∷ []) old new
+    → IsHostHistory old.plan (old.history ++ e ∷ [])
+legal-with old new e w = subst (λ p. IsHostHistory p (old.history ++ e ∷ [])) w.plan
+    (subst (IsHostHistory new.plan) w.history w.legal)
 
-pub items-now : (old new : HostIs) (e : HostEntry) → HostWentOn (e ∷ []) old new → host_items_of new.history ≡ host_item_next (host_items_of old.history) e
+pub items-now : (old new : HostIs) (e : HostEntry) → HostWentOn (e ∷ []) old new
+    → host_items_of new.history ≡ host_item_next (host_items_of old.history) e
 items-now old new e w = ap host_items_of w.history ∙ items_with old.history e
 
 -- ---- a Reply
 
-pub turning-got : {Q : Type 0} (n : ℕ) (f : Frame) (old new : HostIs) (side : RingSideIs Q) (ring : List RingEntry) → HostTaking n
+pub turning-got : {Q : Type 0} (n : ℕ) (f : Frame) (old new : HostIs) (side : RingSideIs Q)
+    (ring : List RingEntry) → HostTaking n
     f old side ring → f.kind ≡ Reply
     → HostWentOn (Answer f.id (results.Reply f.pdu) ∷ []) old new → HostTurning n new side ring
 turning-got n f old new side ring t kind w =
     let e : HostEntry = Answer f.id (results.Reply f.pdu) in
     let made = made_net old.history f.id (t.reply kind) in
-    let tied = tied-all AHost _ _ (tied-got AHost [] (host_items_of old.history) t.before n f kind made (tied-none AHost _ _ t.tied)) in
-    let paths = agree_got old.plan old.history t.before n f (results.Reply f.pdu) kind (legal-with old new e w) t.paths in
+    let tied = tied-all AHost _ _ (tied-got AHost [] (host_items_of old.history) t.before n f kind
+    made (tied-none AHost _ _ t.tied)) in
+    let paths = agree_got old.plan old.history t.before n f (results.Reply f.pdu) kind
+    (legal-with old new e w) t.paths in
     record {
       node = ap (λ (p : HostPlan). p.node) w.plan ∙ t.node;
       legal = w.legal;
       own_turn = t.own_turn;
       tied = subst (λ a. Tied AHost a (own n ring)) (sym (items-now old new e w)) (subst (Tied AHost
           (with_end (host_items_of old.history) f.id (Replied f.pdu))) (sym t.own_is) tied);
-      paths = subst (λ h. PathsAgree h (own n ring)) (sym w.history) (subst (PathsAgree (old.history ++ e ∷ [])) (sym t.own_is) paths);
+      paths = subst (λ h. PathsAgree h (own n ring)) (sym w.history)
+          (subst (PathsAgree (old.history ++ e ∷ [])) (sym t.own_is) paths);
     }
 
 -- ---- a Request that the host refuses
 
-pub turning-served : {Q : Type 0} (n : ℕ) (f : Frame) (reply : List ℕ) (old new : HostIs) (side : RingSideIs Q) (alone : Bool)
+pub turning-served : {Q : Type 0} (n : ℕ) (f : Frame) (reply : List ℕ) (old new : HostIs)
+    (side : RingSideIs Q) (alone : Bool)
     (ring ring' : List RingEntry) → HostTaking n f old side ring → f.kind ≡ Request
-    → is_stats f.pdu ≡ false → HostWentOn (Served f.id f.pdu reply ∷ []) old new → Grew alone (is_of n) ring (Post n (reply_frame f.id reply) ∷ []) ring'
+    → is_stats f.pdu ≡ false → HostWentOn (Served f.id f.pdu reply ∷ []) old new
+    → Grew alone (is_of n) ring (Post n (reply_frame f.id reply) ∷ []) ring'
     → IsLegal side.net ring' → KeepsInbox side.net n ring ring' → HostTurning n new side ring'
 turning-served n f reply old new side alone ring ring' t kind plain w grew legal kept =
     let e : HostEntry = Served f.id f.pdu reply in
     let g = reply_frame f.id reply in
     let all = t.before ++ (Take n f ∷ Post n g ∷ []) in
-    let own_is : own n ring' ≡ all = grew-ours alone (is_of n) ring (Post n g ∷ []) ring' grew ∙ ap (λ l. l ++ Post n g ∷ []) t.own_is
+    let own_is : own n ring' ≡ all = grew-ours alone (is_of n) ring (Post n g ∷ []) ring' grew ∙ ap
+    (λ l. l ++ Post n g ∷ []) t.own_is
     ∙ append_assoc t.before (Take n f ∷ []) (Post n g ∷ []) in
-    let tied = tied-all AHost _ _ (tied-served AHost [] (host_items_of old.history) t.before n f g reply kind plain refl refl refl
+    let tied = tied-all AHost _ _ (tied-served AHost [] (host_items_of old.history) t.before n f g
+    reply kind plain refl refl refl
     (tied-none AHost _ _ t.tied)) in
     let before = agree_taken old.history t.before n f kind t.paths in
-    let paths = agree_served old.history ((t.before ++ Take n f ∷ []) ++ Post n g ∷ []) f.id f.pdu reply (agree_replied
+    let paths = agree_served old.history ((t.before ++ Take n f ∷ []) ++ Post n g ∷ []) f.id f.pdu
+    reply (agree_replied
     old.history (t.before ++ Take n f ∷ []) n g refl before) in
     let joined = append_assoc t.before (Take n f ∷ []) (Post n g ∷ []) in
     record {
@@ -90,28 +104,38 @@ turning-served n f reply old new side alone ring ring' t kind plain w grew legal
       legal = w.legal;
       own_turn = own-turn side ring ring' n t.own_turn legal kept;
       tied = subst (λ a. Tied AHost a (own n ring')) (sym (items-now old new e w))
-          (subst (Tied AHost (with_answer (host_items_of old.history) (record { id = f.id; request = Some f.pdu; reply = reply }))) (sym own_is) tied);
-      paths = subst (λ h. PathsAgree h (own n ring')) (sym w.history) (subst (PathsAgree (old.history ++ e ∷ [])) (joined ∙ sym own_is) paths);
+          (subst (Tied AHost (with_answer (host_items_of old.history)
+          (record { id = f.id; request = Some f.pdu; reply = reply }))) (sym own_is) tied);
+      paths = subst (λ h. PathsAgree h (own n ring')) (sym w.history)
+          (subst (PathsAgree (old.history ++ e ∷ [])) (joined ∙ sym own_is) paths);
     }
 
 -- ---- a Request for statistics
 
-pub turning-told : {Q : Type 0} (n : ℕ) (f : Frame) (host : HostIs) (side : RingSideIs Q) (alone : Bool) (ring ring' : List
+pub turning-told : {Q : Type 0} (n : ℕ) (f : Frame) (host : HostIs) (side : RingSideIs Q)
+    (alone : Bool) (ring ring' : List
     RingEntry) → HostTaking n f host side ring → f.kind ≡ Request
-    → is_stats f.pdu ≡ true → TellsStatistics alone n f.id f.pdu ring ring' → IsLegal side.net ring' → KeepsInbox side.net n ring ring' → HostTurning n host side ring'
+    → is_stats f.pdu ≡ true → TellsStatistics alone n f.id f.pdu ring ring' → IsLegal side.net ring'
+    → KeepsInbox side.net n ring ring' → HostTurning n host side ring'
 turning-told n f host side alone ring ring' t kind stats tells legal kept =
     let g = reply_frame f.id (reply_of tells.result) in
     let local : RingEntry = Local n f.id tells.op tells.result in
     let own_is : own n ring' ≡ t.before ++ (Take n f ∷ local ∷ Post n g ∷ []) =
-    grew-ours alone (is_of n) ring (local ∷ Post n g ∷ []) ring' tells.grew ∙ ap (λ l. l ++ (local ∷ Post n g ∷ [])) t.own_is
+    grew-ours alone (is_of n) ring (local ∷ Post n g ∷ []) ring' tells.grew ∙ ap
+    (λ l. l ++ (local ∷ Post n g ∷ [])) t.own_is
     ∙ append_assoc t.before (Take n f ∷ []) (local ∷ Post n g ∷ []) in
-    let tied = tied-all AHost _ _ (tied-told AHost [] (host_items_of host.history) t.before n f g tells.op tells.result kind stats
+    let tied = tied-all AHost _ _ (tied-told AHost [] (host_items_of host.history) t.before n f g
+    tells.op tells.result kind stats
     (t.request kind) tells.answers refl refl refl (tied-none AHost _ _ t.tied)) in
     let one = agree_taken host.history t.before n f kind t.paths in
-    let two = agree_still host.history (t.before ++ Take n f ∷ []) local (λ p now. refl) (λ p now. refl) one in
-    let three = agree_replied host.history ((t.before ++ Take n f ∷ []) ++ local ∷ []) n g refl two in
-    let joined : ((t.before ++ Take n f ∷ []) ++ local ∷ []) ++ Post n g ∷ [] ≡ t.before ++ (Take n f ∷ local ∷ Post n g ∷ []) =
-    append_assoc (t.before ++ Take n f ∷ []) (local ∷ []) (Post n g ∷ []) ∙ append_assoc t.before (Take n f ∷ []) (local ∷ Post n g ∷ []) in
+    let two = agree_still host.history (t.before ++ Take n f ∷ []) local (λ p now. refl)
+    (λ p now. refl) one in
+    let three = agree_replied host.history ((t.before ++ Take n f ∷ []) ++ local ∷ []) n g refl two
+    in
+    let joined : ((t.before ++ Take n f ∷ []) ++ local ∷ []) ++ Post n g ∷ [] ≡ t.before ++
+    (Take n f ∷ local ∷ Post n g ∷ []) =
+    append_assoc (t.before ++ Take n f ∷ []) (local ∷ []) (Post n g ∷ []) ∙ append_assoc t.before
+    (Take n f ∷ []) (local ∷ Post n g ∷ []) in
     record {
       node = t.node;
       legal = t.legal;
@@ -123,9 +147,11 @@ turning-told n f host side alone ring ring' t kind stats tells legal kept =
 -- ---- what is taken
 
 -- a Take, of a frame of another node or of a Reply that is awaited
-pub taking-now : {Q : Type 0} (alone : Bool) (n : ℕ) (f : Frame) (host : HostIs) (side side' : RingSideIs Q) (ring ring' : List
+pub taking-now : {Q : Type 0} (alone : Bool) (n : ℕ) (f : Frame) (host : HostIs)
+    (side side' : RingSideIs Q) (ring ring' : List
     RingEntry) → side' ≡ side → IsLegal side.net ring'
-    → WentOn alone (is_of n) ring (Take n f ∷ []) ring' → HostTurning n host side ring → HostTaking n f host side' ring'
+    → WentOn alone (is_of n) ring (Take n f ∷ []) ring' → HostTurning n host side ring
+    → HostTaking n f host side' ring'
 taking-now {Q} alone n f host side side' ring ring' same legal went t =
     let m = own-moved side alone n ring (Take n f) ring' refl t.own_turn legal went in
     subst (λ (s : RingSideIs Q). HostTaking n f host s ring') (sym same) (record {
@@ -133,31 +159,42 @@ taking-now {Q} alone n f host side side' ring ring' same legal went t =
       own_is = m.own_is;
       node = t.node;
       legal = t.legal;
-      own_turn = record { serves = t.own_turn.serves; on = on-ring side ring ring' n t.own_turn legal; free = (after-take side.net n ring f ring' m).free };
+      own_turn = record {
+        serves = t.own_turn.serves;
+        on = on-ring side ring ring' n t.own_turn
+            legal;
+        free = (after-take side.net n ring f ring' m).free;
+      };
       tied = t.tied;
       paths = t.paths;
       request = λ kind. request-of-other side.net n ring f ring' kind m;
       reply = λ kind.
           let a = reply-awaited side.net n ring f ring' kind m in
-          let there = open_requests.last host.plan host.history f.id.path a.ask t.legal (sym (t.paths.waits f.id.path) ∙ a.waits) in
+          let there = open_requests.last host.plan host.history f.id.path a.ask t.legal
+          (sym (t.paths.waits f.id.path) ∙ a.waits) in
           subst (λ (id : CallId). is_unanswered host.history id ≡ true) a.same there.out;
     })
 
 -- the node took nothing, as its inbox is empty
-pub turning-still : {Q : Type 0} (alone : Bool) (n : ℕ) (host : HostIs) (side : RingSideIs Q) (ring ring' : List RingEntry) →
+pub turning-still : {Q : Type 0} (alone : Bool) (n : ℕ) (host : HostIs) (side : RingSideIs Q)
+    (ring ring' : List RingEntry) →
     IsLegal side.net ring' → WentOn alone (is_of n) ring [] ring'
     → HostTurning n host side ring → HostTurning n host side ring'
 turning-still alone n host side ring ring' legal went t =
-    let found = unmoved side.net n alone ring ring' (on-ring side ring ring' n t.own_turn legal) went t.own_turn.free in
+    let found = unmoved side.net n alone ring ring' (on-ring side ring ring' n t.own_turn legal)
+    went t.own_turn.free in
     record {
       node = t.node;
       legal = t.legal;
-      own_turn = own-turn side ring ring' n t.own_turn legal (kept-found side.net n ring ring' found);
+      own_turn = own-turn side ring ring' n t.own_turn legal
+          (kept-found side.net n ring ring' found);
       tied = subst (Tied AHost (host_items_of host.history)) (sym found.own_is) t.tied;
       paths = subst (PathsAgree host.history) (sym found.own_is) t.paths;
     }
 
 -- a side that stayed the same
-pub turning-side : {Q : Type 0} (n : ℕ) (host : HostIs) (side side' : RingSideIs Q) (ring : List RingEntry) → side' ≡ side →
+pub turning-side : {Q : Type 0} (n : ℕ) (host : HostIs) (side side' : RingSideIs Q)
+    (ring : List RingEntry) → side' ≡ side →
     HostTurning n host side ring → HostTurning n host side' ring
-turning-side {Q} n host side side' ring same t = subst (λ (s : RingSideIs Q). HostTurning n host s ring) (sym same) t
+turning-side {Q} n host side side' ring same t = subst
+    (λ (s : RingSideIs Q). HostTurning n host s ring) (sym same) t

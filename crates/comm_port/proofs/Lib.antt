@@ -34,4 +34,4 @@ pub mod Standings
 pub mod Stands
 pub mod Allowed
 pub mod HostBoxes
-pub mod HostAndRing
+pub mod Steps

@@ -43,36 +43,45 @@ use Rattle.comm_port.proofs.Parts.{each-still, each-went}
 -- ---- how many Sends are left
 
 len-drop : (f : Frame) (fs out : List Frame) → out ≡ f ∷ fs → length (drop 1 out) + 1 ≡ length out
-len-drop f fs out is = subst (λ (l : List Frame). length (drop 1 l) + 1 ≡ length l) (sym is) (omega arith)
+len-drop f fs out is = subst (λ (l : List Frame). length (drop 1 l) + 1 ≡ length l) (sym is)
+    (omega arith)
 
-silent-falls : (c : NodeIs) (kind : FrameKind) (id : CallId) (there : Bool) (f : Frame) (fs : List Frame) → c.outbox ≡ f ∷ fs →
+silent-falls : (c : NodeIs) (kind : FrameKind) (id : CallId) (there : Bool) (f : Frame)
+    (fs : List Frame) → c.outbox ≡ f ∷ fs →
     c.tries ≤ 2 → (b : Bool) → nat_le 2 c.tries ≡ b
-    → sends_of (if b then sent_off c (failed c kind id (silence_word there)) else record c { tries = c.tries + 1 }) < sends_of c
-silent-falls c kind id there f fs is few true last = let l = len-drop f fs c.outbox is in omega arith
+    → sends_of (if b then sent_off c (failed c kind id (silence_word there)) else record c
+    { tries = c.tries + 1 }) < sends_of c
+silent-falls c kind id there f fs is few true last = let l = len-drop f fs c.outbox is in omega
+    arith
 silent-falls c kind id there f fs is few false more =
     let l = len-drop f fs c.outbox is in
     let low = leb-false 2 c.tries more in
     omega arith
 
-sends-fall : (c : NodeIs) (kind : FrameKind) (id : CallId) (there : Bool) (heard : Heard) (f : Frame) (fs : List Frame) → c.outbox ≡ f ∷ fs → c.tries ≤ 2
+sends-fall : (c : NodeIs) (kind : FrameKind) (id : CallId) (there : Bool) (heard : Heard)
+    (f : Frame) (fs : List Frame) → c.outbox ≡ f ∷ fs → c.tries ≤ 2
     → sends_of (heard_by c kind id there heard) < sends_of c
 sends-fall c kind id there Acked f fs is few = let l = len-drop f fs c.outbox is in omega arith
 sends-fall c kind id there Busy f fs is few = let l = len-drop f fs c.outbox is in omega arith
-sends-fall c kind id there Silent f fs is few = silent-falls c kind id there f fs is few (nat_le 2 c.tries) refl
+sends-fall c kind id there Silent f fs is few = silent-falls c kind id there f fs is few
+    (nat_le 2 c.tries) refl
 
 shorter : (test : Frame → Bool) (xs : List Frame) → length (filter test xs) ≤ length xs
 shorter test [] = omega arith
-shorter test (x ∷ xs) = elim (test x) as (λ b. length (cond b (x ∷ filter test xs) (filter test xs)) ≤ length (x ∷ xs)) [
-  | true ↦ let less = shorter test xs in omega arith
-  | false ↦ let less = shorter test xs in omega arith
-]
+shorter test (x ∷ xs) = elim (test x) as
+    (λ b. length (cond b (x ∷ filter test xs) (filter test xs)) ≤ length (x ∷ xs)) [
+      | true ↦ let less = shorter test xs in omega arith
+      | false ↦ let less = shorter test xs in omega arith
+    ]
 
 sends-no-more : (id : CallId) (out : List Frame) (tries : ℕ) → tries ≤ 2
-    → 3 * length (filter (λ f. not (asks_for id f)) out) - (if is_head id out then 0 else tries) ≤ 3 * length out - tries
+    → 3 * length (filter (λ f. not (asks_for id f)) out) - (if is_head id out then 0 else tries) ≤ 3
+    * length out - tries
 sends-no-more id [] tries few = omega arith
 sends-no-more id (f ∷ fs) tries few =
     let less = shorter (λ g. not (asks_for id g)) fs in
-    elim (asks_for id f) as (λ b. 3 * length (cond (not b) (f ∷ filter (λ g. not (asks_for id g)) fs)
+    elim (asks_for id f) as (λ b. 3 * length
+    (cond (not b) (f ∷ filter (λ g. not (asks_for id g)) fs)
     (filter (λ g. not (asks_for id g)) fs)) - (if b then 0 else tries)
     ≤ 3 * length (f ∷ fs) - tries) [
       | true ↦ omega arith
@@ -81,7 +90,8 @@ sends-no-more id (f ∷ fs) tries few =
 
 -- ---- a Send
 
-pub record SentOne (net : NetPlan) (n : ℕ) (before : List RingEntry) (heard : Heard) (after' : List RingEntry) : Type 0 where
+pub record SentOne (net : NetPlan) (n : ℕ) (before : List RingEntry) (heard : Heard)
+    (after' : List RingEntry) : Type 0 where
   pub f : Frame
   pub fs : List Frame
   pub there : Bool
@@ -98,7 +108,8 @@ record SentPart (n : ℕ) (r s : RingIs) (heard : Heard) : Type 0 where
   part_is : ring_node s n ≡ heard_by (ring_node r n) f.kind f.id there heard
   holder : s.holder ≡ r.holder
 
-sent-part : (net : NetPlan) (h : List RingEntry) (n : ℕ) (heard : Heard) (box : List Frame) (r s : RingIs) → n < addresses →
+sent-part : (net : NetPlan) (h : List RingEntry) (n : ℕ) (heard : Heard) (box : List Frame)
+    (r s : RingIs) → n < addresses →
     RingFollows n h r → (ring_node r n).outbox ≡ box
     → IsHeard net r box heard → s ≡ sent_head net r n box → SentPart n r s heard
 sent-part net h n heard [] r s range follows is told after_is = absurd told
@@ -107,10 +118,12 @@ sent-part net h n heard (f ∷ fs) r s range follows is told after_is =
     let nodes = arrived r.nodes f (arrival r.nodes fate f) in
     let there = (ring_node r f.to).here in
     let from : IsOwn n f = (subst (λ (l : List Frame). Each (IsOwn n) l) is (follows.frames n)).0 in
-    let same : part_of nodes n ≡ ring_node r n = arrived-part r.nodes f fate (λ k c. k ≡ n → c ≡ ring_node r n)
+    let same : part_of nodes n ≡ ring_node r n = arrived-part r.nodes f fate
+    (λ k c. k ≡ n → c ≡ ring_node r n)
     (λ k e. ap (part_of r.nodes) e) (λ here e. absurd (to-other n f f.kind from e)) n refl in
     let size : length nodes ≡ addresses = length-arrived r.nodes fate f ∙ follows.size in
-    let c' = heard_by (part_of nodes n) f.kind f.id there (heard_of fate (arrival r.nodes fate f)) in
+    let c' = heard_by (part_of nodes n) f.kind f.id there (heard_of fate (arrival r.nodes fate f))
+    in
     record {
       f = f;
       fs = fs;
@@ -122,42 +135,54 @@ sent-part net h n heard (f ∷ fs) r s range follows is told after_is =
     }
 
 low-address : (net : NetPlan) (h : List RingEntry) (n : ℕ) → IsOnRing net h n → n < addresses
-low-address net h n on = Rattle.std.proofs.lemmas.List.Elements.All-contains (λ m. m < addresses) net.members n on.members on.member
+low-address net h n on = Rattle.std.proofs.lemmas.List.Elements.All-contains (λ m. m < addresses)
+    net.members n on.members on.member
 
-pub sent-one : (net : NetPlan) (n : ℕ) (before : List RingEntry) (heard : Heard) (after' : List RingEntry) → Holds net before n →
+pub sent-one : (net : NetPlan) (n : ℕ) (before : List RingEntry) (heard : Heard)
+    (after' : List RingEntry) → Holds net before n →
     Moved net n before (Send n heard) after' → SentOne net n before heard after'
 sent-one net n before heard after' holding m =
     let r = ring_after net m.past in
-    let p = sent-part net m.past n heard (ring_node r n).outbox r (ring_after net after') (low-address net m.past n m.on)
+    let p = sent-part net m.past n heard (ring_node r n).outbox r (ring_after net after')
+    (low-address net m.past n m.on)
     (legal-follows net m.past n m.on) refl m.step.1.1 m.ring_is in
     let there = m.found.holds holding in
     let now : Holds net after' n = record {
       holder = p.holder ∙ there.holder;
-      here = ap (λ (c : NodeIs). c.here) p.part_is ∙ heard-here (ring_node r n) p.f.kind p.f.id p.there heard ∙ there.here;
+      here = ap (λ (c : NodeIs). c.here) p.part_is ∙ heard-here (ring_node r n) p.f.kind p.f.id
+          p.there heard ∙ there.here;
     } in
     record {
       f = p.f;
       fs = p.fs;
       there = p.there;
       box = ap (λ (c : NodeIs). c.outbox) (sym m.found.part_is) ∙ p.box;
-      part_is = p.part_is ∙ ap (λ (c : NodeIs). heard_by c p.f.kind p.f.id p.there heard) m.found.part_is;
+      part_is = p.part_is ∙ ap (λ (c : NodeIs). heard_by c p.f.kind p.f.id p.there heard)
+          m.found.part_is;
       holds = λ h. now;
       free = inl now;
     }
 
-few-tries : (net : NetPlan) (h : List RingEntry) (n : ℕ) → IsOnRing net h n → (part net h n).tries ≤ 2
+few-tries : (net : NetPlan) (h : List RingEntry) (n : ℕ) → IsOnRing net h n
+    → (part net h n).tries ≤ 2
 few-tries net h n on = (legal-follows net h n on).node.part.tries_few
 
 -- others before an entry leave the node's part
-part-between : {Q : Type 0} (side : RingSideIs Q) (alone : Bool) (n : ℕ) (ring : List RingEntry) (e : RingEntry) (ring' : List
-    RingEntry) → IsOwnTurn side ring n → IsLegal side.net ring' → (w : WentOn alone (is_of n) ring (e ∷ []) ring') → part_at side.net n (ring ++ w.between) ≡ part_at side.net n ring
+part-between : {Q : Type 0} (side : RingSideIs Q) (alone : Bool) (n : ℕ) (ring : List RingEntry)
+    (e : RingEntry) (ring' : List
+    RingEntry) → IsOwnTurn side ring n → IsLegal side.net ring'
+    → (w : WentOn alone (is_of n) ring (e ∷ []) ring')
+    → part_at side.net n (ring ++ w.between) ≡ part_at side.net n ring
 part-between side alone n ring e ring' t legal w =
-    let parts = legal-parts side.net (ring ++ w.between) (e ∷ []) (subst (IsLegal side.net) w.after_is legal) in
+    let parts = legal-parts side.net (ring ++ w.between) (e ∷ [])
+    (subst (IsLegal side.net) w.after_is legal) in
     (found-at side.net n ring w.between parts.0 w.others t.free).part_is
 
-pub sent-next : {Q : Type 0} (side : RingSideIs Q) (alone : Bool) (n : ℕ) (ring : List RingEntry) (heard : Heard) (ring' : List
+pub sent-next : {Q : Type 0} (side : RingSideIs Q) (alone : Bool) (n : ℕ) (ring : List RingEntry)
+    (heard : Heard) (ring' : List
     RingEntry) → IsOwnTurn side ring n → Holds side.net ring n → IsLegal side.net ring'
-    → WentOn alone (is_of n) ring (Send n heard ∷ []) ring' → SentNext alone side.net n heard ring ring'
+    → WentOn alone (is_of n) ring (Send n heard ∷ []) ring'
+    → SentNext alone side.net n heard ring ring'
 sent-next side alone n ring heard ring' t holds legal w =
     let m = own-moved side alone n ring (Send n heard) ring' refl t legal w in
     let s = sent-one side.net n ring heard ring' holds m in
@@ -167,7 +192,8 @@ sent-next side alone n ring heard ring' t holds legal w =
       kept = record {
         free = s.free;
         holds = s.holds;
-        inbox = ap (λ (c : NodeIs). c.inbox) s.part_is ∙ heard-inbox (part side.net ring n) s.f.kind s.f.id s.there heard;
+        inbox = ap (λ (c : NodeIs). c.inbox) s.part_is ∙ heard-inbox (part side.net ring n) s.f.kind
+            s.f.id s.there heard;
       };
       less = subst (λ (c : NodeIs). sends_of c < sends_left side.net ring n) (sym s.part_is)
           (sends-fall (part side.net ring n) s.f.kind s.f.id s.there heard s.f s.fs s.box few);
@@ -182,18 +208,23 @@ sent-next side alone n ring heard ring' t holds legal w =
 
 -- nothing to send
 empty-box : (here holds : Bool) (other : ℕ) (out : List Frame)
-    → or_no (if here then (if holds then None else Some (NotHolder other)) else Some NotMember) (empty_no out) ≡ Some NothingToSend → out ≡ []
+    → or_no (if here then (if holds then None else Some (NotHolder other)) else Some NotMember)
+    (empty_no out) ≡ Some NothingToSend → out ≡ []
 empty-box false holds other out is = absurd cc
 empty-box true false other out is = absurd cc
 empty-box true true other [] is = refl
 empty-box true true other (f ∷ out) is = absurd cc
 
-pub kept-found : (net : NetPlan) (n : ℕ) (ring ring' : List RingEntry) → Found net n ring ring' → KeepsInbox net n ring ring'
-kept-found net n ring ring' f = record { free = f.free; holds = f.holds; inbox = ap (λ (c : NodeIs). c.inbox) f.part_is }
+pub kept-found : (net : NetPlan) (n : ℕ) (ring ring' : List RingEntry) → Found net n ring ring'
+    → KeepsInbox net n ring ring'
+kept-found net n ring ring' f = record
+    { free = f.free; holds = f.holds; inbox = ap (λ (c : NodeIs). c.inbox) f.part_is }
 
-pub all-sent : {Q : Type 0} (side : RingSideIs Q) (alone : Bool) (n : ℕ) (ring ring' : List RingEntry) (why : RingNo) → IsOwnTurn
+pub all-sent : {Q : Type 0} (side : RingSideIs Q) (alone : Bool) (n : ℕ)
+    (ring ring' : List RingEntry) (why : RingNo) → IsOwnTurn
     side ring n → IsLegal side.net ring'
-    → WentOn alone (is_of n) ring [] ring' → (send_no (ring_after side.net ring') n ≡ Some why) ⊎ ((why ≡ NoMemory) × (send_no
+    → WentOn alone (is_of n) ring [] ring'
+    → (send_no (ring_after side.net ring') n ≡ Some why) ⊎ ((why ≡ NoMemory) × (send_no
     (ring_after side.net ring') n ≡ None)) → why ≡ NothingToSend
     → AllSent alone side.net n ring ring'
 all-sent side alone n ring ring' why t legal w refused is =
@@ -203,7 +234,8 @@ all-sent side alone n ring ring' why t legal w refused is =
       grew = grew-one alone (is_of n) ring [] ring' refl w;
       kept = kept-found side.net n ring ring' found;
       empty = elim refused [
-        | inl no' ↦ empty-box (ring_node r n).here (r.holder == n) r.holder (ring_node r n).outbox (no' ∙ ap Some is)
+        | inl no' ↦ empty-box (ring_node r n).here (r.holder == n) r.holder (ring_node r n).outbox
+            (no' ∙ ap Some is)
         | inr short ↦ let wrong : NothingToSend ≡ NoMemory = sym is ∙ short.0 in absurd cc
       ];
       part_is = found.part_is;
@@ -219,37 +251,47 @@ second-some : (a b : Option RingNo) (why : RingNo) → a ≡ None → or_no a b 
 second-some None b why none e = e
 second-some (Some x) b why none e = absurd (cc)
 
-pub gave-up : {Q : Type 0} (side : RingSideIs Q) (alone : Bool) (id : CallId) (word : ℕ) (ring ring' : List RingEntry) → IsOwnTurn
+pub gave-up : {Q : Type 0} (side : RingSideIs Q) (alone : Bool) (id : CallId) (word : ℕ)
+    (ring ring' : List RingEntry) → IsOwnTurn
     side ring id.node → IsLegal side.net ring'
-    → WentOn alone (is_of id.node) ring (GiveUp id word ∷ []) ring' → GaveUp alone side.net id ring ring' (Some word)
+    → WentOn alone (is_of id.node) ring (GiveUp id word ∷ []) ring'
+    → GaveUp alone side.net id ring ring' (Some word)
 gave-up side alone id word ring ring' t legal w =
     let n = id.node in
     let m = own-moved side alone n ring (GiveUp id word) ring' refl t legal w in
     let wrote = after-give_up side.net n ring id word ring' refl m in
     let c = part side.net ring n in
     record {
-      grew = grew-one alone (is_of n) ring (GiveUp id word ∷ []) ring' (mine n (GiveUp id word) refl) w;
+      grew = grew-one alone (is_of n) ring (GiveUp id word ∷ []) ring'
+          (mine n (GiveUp id word) refl) w;
       kept = kept-by side.net n ring ring' _ refl wrote;
-      less = subst (λ (x : NodeIs). sends_of x ≤ sends_left side.net ring n) (sym wrote.part_is) (sends-no-more id c.outbox
+      less = subst (λ (x : NodeIs). sends_of x ≤ sends_left side.net ring n) (sym wrote.part_is)
+          (sends-no-more id c.outbox
           c.tries (few-tries side.net ring n t.on));
       left = λ gone. ap (λ (x : NodeIs). x.here) wrote.part_is ∙ gone;
       may = λ v e. subst (λ (x : NodeIs). part_no side.net x id ≡ None) m.found.part_is
-          (second-none (free_no (ring_after side.net m.past) n) (part_no side.net (part_at side.net n m.past) id) m.step.1.0);
+          (second-none (free_no (ring_after side.net m.past) n)
+          (part_no side.net (part_at side.net n m.past) id) m.step.1.0);
       never = λ e. absurd (let bad : Some word ≡ None = e in cc);
       part_is = wrote.part_is;
       each = each-went alone n (IsThisGiveUp side.net id ring) ring (GiveUp id word) ring' w
           (word, (refl, part-between side alone n ring (GiveUp id word) ring' t legal w));
     }
 
-pub gave-not : {Q : Type 0} (side : RingSideIs Q) (alone : Bool) (id : CallId) (ring ring' : List RingEntry) → IsOwnTurn side ring
+pub gave-not : {Q : Type 0} (side : RingSideIs Q) (alone : Bool) (id : CallId)
+    (ring ring' : List RingEntry) → IsOwnTurn side ring
     id.node → IsLegal side.net ring'
-    → WentOn alone (is_of id.node) ring [] ring' → (why : RingNo) → (why ≡ NoMemory → ⊥) → (give_up_no side.net (ring_after
-    side.net ring') id ≡ Some why) ⊎ ((why ≡ NoMemory) × (give_up_no side.net (ring_after side.net ring') id ≡ None)) → GaveUp alone
+    → WentOn alone (is_of id.node) ring [] ring' → (why : RingNo) → (why ≡ NoMemory → ⊥)
+    → (give_up_no side.net (ring_after
+    side.net ring') id ≡ Some why) ⊎
+    ((why ≡ NoMemory) × (give_up_no side.net (ring_after side.net ring') id ≡ None))
+    → GaveUp alone
     side.net id ring ring' None
 gave-not side alone id ring ring' t legal w why other refused =
     let n = id.node in
     let found = unmoved side.net n alone ring ring' (on-ring side ring ring' n t legal) w t.free in
-    let same : sends_left side.net ring' n ≡ sends_left side.net ring n = ap sends_of found.part_is in
+    let same : sends_left side.net ring' n ≡ sends_left side.net ring n = ap sends_of found.part_is
+    in
     record {
       grew = grew-one alone (is_of n) ring [] ring' refl w;
       kept = kept-found side.net n ring ring' found;
@@ -259,7 +301,8 @@ gave-not side alone id ring ring' t legal w why other refused =
       never = λ e. (
         why,
         subst (λ (x : NodeIs). part_no side.net x id ≡ Some why) found.part_is
-            (second-some (free_no (ring_after side.net ring') n) (part_no side.net (part_at side.net n ring') id) why
+            (second-some (free_no (ring_after side.net ring') n)
+            (part_no side.net (part_at side.net n ring') id) why
             (free-none side.net ring' n found.free) said),
       );
       part_is = found.part_is;
@@ -268,4 +311,5 @@ gave-not side alone id ring ring' t legal w why other refused =
   where
     said : give_up_no side.net (ring_after side.net ring') id ≡ Some why
     said = ⊎_elim (λ (x : give_up_no side.net (ring_after side.net ring') id ≡ Some why). x)
-        (λ (x : (why ≡ NoMemory) × (give_up_no side.net (ring_after side.net ring') id ≡ None)). absurd (other x.0)) refused
+        (λ (x : (why ≡ NoMemory) × (give_up_no side.net (ring_after side.net ring') id ≡ None)).
+        absurd (other x.0)) refused

@@ -37,25 +37,36 @@ fresh-path p = each-same (λ (x : Path). NotFailed x.awaits) path_places p no_pa
 fresh-rests : (here : Bool) → RestsIn (fresh here)
 fresh-rests here = (refl, fresh-path)
 
-pub put-each : (P : NodeIs → Type 0) (nodes : List NodeIs) (m k : ℕ) (c : NodeIs) → P c → P (part_of nodes k) → P (part_of (set nodes m c) k)
+pub put-each : (P : NodeIs → Type 0) (nodes : List NodeIs) (m k : ℕ) (c : NodeIs) → P c
+    → P (part_of nodes k) → P (part_of (set nodes m c) k)
 put-each P [] m k c new old = old
 put-each P (x ∷ nodes) zero zero c new old = new
 put-each P (x ∷ nodes) zero (suc k) c new old = old
 put-each P (x ∷ nodes) (suc m) zero c new old = old
 put-each P (x ∷ nodes) (suc m) (suc k) c new old = put-each P nodes m k c new old
 
-opening-rests : (nodes : List NodeIs) (members : List ℕ) (k : ℕ) → RestsIn (part_of nodes k) → RestsIn (part_of (with_members nodes members) k)
+opening-rests : (nodes : List NodeIs) (members : List ℕ) (k : ℕ) → RestsIn (part_of nodes k)
+    → RestsIn (part_of (with_members nodes members) k)
 opening-rests nodes [] k it = it
-opening-rests nodes (m ∷ ms) k it = opening-rests (set nodes m (fresh true)) ms k (put-each RestsIn nodes m k (fresh true) (fresh-rests true) it)
+opening-rests nodes (m ∷ ms) k it = opening-rests (set nodes m (fresh true)) ms k
+    (put-each RestsIn nodes m k (fresh true) (fresh-rests true) it)
 
 pub start-rests : (net : NetPlan) (n : ℕ) → IsAtRest net n []
 start-rests net n =
-    let k = opening-rests (replicate addresses (fresh false)) net.members n (each-same RestsIn addresses n (fresh false) (fresh-rests false)) in
+    let k = opening-rests (replicate addresses (fresh false)) net.members n
+    (each-same RestsIn addresses n (fresh false) (fresh-rests false)) in
     record { all_sent = k.0; none_failed = k.1 }
 
-scans : (known more : List Entry) → filter is_ours more ≡ [] → items_of (known ++ more) ≡ items_of known
+scans : (known more : List Entry) → filter is_ours more ≡ []
+    → items_of (known ++ more) ≡ items_of known
 scans known more none = items-same false known (known ++ more)
-    (record { between = more; others = none; none_alone = λ e. absurd (let bad : false ≡ true = e in cc); after_is = sym (append-nil (known ++ more)) })
+    (record {
+      between = more;
+      others = none;
+      none_alone = λ e. absurd
+          (let bad : false ≡ true = e in cc);
+      after_is = sym (append-nil (known ++ more));
+    })
 
 abbrev no-ask : Option Frame
 no-ask = None
@@ -75,9 +86,16 @@ nothing-tied : Tied AController no_items []
 nothing-tied = record { asks = refl; peers = refl; port = refl; replies = refl; ends = refl }
 
 -- a new worker, a controller that has scanned at most, and a ring on which nothing has happened
-pub standing-new : {P Q : Type 0} (n : ℕ) (net : NetPlan) (budget : Bool) (ram : RamSideIs P) (known : List Entry) (side : RingSideIs Q) → ram.fixed.plan.node ≡ n
+pub standing-new : {P Q : Type 0} (n : ℕ) (net : NetPlan) (budget : Bool) (ram : RamSideIs P)
+    (known : List Entry) (side : RingSideIs Q) → ram.fixed.plan.node ≡ n
     → side.net ≡ net → MayWrite side.writer n → filter is_ours known ≡ []
-    → Standing (record { node = n; net = net; budget = budget; waiting = replicate path_places None }) ram known side []
+    → Standing (record {
+      node = n;
+      net = net;
+      budget = budget;
+      waiting = replicate path_places
+          None;
+    }) ram known side []
 standing-new n net budget ram known side node same serves none =
     let is : items_of known ≡ no_items = scans [] known none in
     record {
@@ -86,14 +104,16 @@ standing-new n net budget ram known side node same serves none =
       serves = serves;
       legal = tt;
       tied = subst (λ (a : Items). Tied AController a []) (sym is) nothing-tied;
-      waits = subst (λ (a : Items). AreWaiting n a [] (replicate path_places None)) (sym is) (none-waits n);
+      waits = subst (λ (a : Items). AreWaiting n a [] (replicate path_places None)) (sym is)
+          (none-waits n);
       rest = start-rests side.net n;
     }
 
 -- ---- while others go on
 
 -- the controller scanned
-pub standing-scans : {P Q : Type 0} (w : WorkerIs) (ram : RamSideIs P) (known more : List Entry) (side : RingSideIs Q) (ring : List RingEntry) → filter is_ours more ≡ []
+pub standing-scans : {P Q : Type 0} (w : WorkerIs) (ram : RamSideIs P) (known more : List Entry)
+    (side : RingSideIs Q) (ring : List RingEntry) → filter is_ours more ≡ []
     → Standing w ram known side ring → Standing w ram (known ++ more) side ring
 standing-scans w ram known more side ring none s =
     let is = scans known more none in
@@ -103,19 +123,28 @@ standing-scans w ram known more side ring none s =
       serves = s.serves;
       legal = s.legal;
       tied = subst (λ (a : Items). Tied AController a (own w.node ring)) (sym is) s.tied;
-      waits = subst (λ (a : Items). AreWaiting w.node a (own w.node ring) w.waiting) (sym is) s.waits;
+      waits = subst (λ (a : Items). AreWaiting w.node a (own w.node ring) w.waiting) (sym is)
+          s.waits;
       rest = s.rest;
     }
 
 -- other nodes went on
-pub standing-others : {P Q : Type 0} (w : WorkerIs) (ram : RamSideIs P) (known : List Entry) (side : RingSideIs Q) (ring more : List RingEntry) → IsOnRing side.net (ring ++ more)
-    w.node → own w.node more ≡ [] → Standing w ram known side ring → Standing w ram known side (ring ++ more)
+pub standing-others : {P Q : Type 0} (w : WorkerIs) (ram : RamSideIs P) (known : List Entry)
+    (side : RingSideIs Q) (ring more : List RingEntry) → IsOnRing side.net (ring ++ more)
+    w.node → own w.node more ≡ [] → Standing w ram known side ring
+    → Standing w ram known side (ring ++ more)
 standing-others w ram known side ring more on none s =
     let is : own w.node (ring ++ more) ≡ own w.node ring = own-found w.node ring more none in
     let adds : Adds false (is_of w.node) IsEnding ring (ring ++ more) = record {
       added = [];
       sort = tt;
-      grew = record { more = more; after_is = refl; ours_are = none; all_alone = λ e. absurd (let bad : false ≡ true = e in cc) };
+      grew = record {
+        more = more;
+        after_is = refl;
+        ours_are = none;
+        all_alone = λ e. absurd
+            (let bad : false ≡ true = e in cc);
+      };
     } in
     record {
       node = s.node;
@@ -123,15 +152,23 @@ standing-others w ram known side ring more on none s =
       serves = s.serves;
       legal = on.legal;
       tied = subst (Tied AController (items_of known)) (sym is) s.tied;
-      waits = subst (λ (b : List RingEntry). AreWaiting w.node (items_of known) b w.waiting) (sym is) s.waits;
-      rest = rest-through false side.net w.node ring (ring ++ more) (record { members = on.members; legal = s.legal; member = on.member }) on.legal adds s.rest;
+      waits = subst (λ (b : List RingEntry). AreWaiting w.node (items_of known) b w.waiting)
+          (sym is) s.waits;
+      rest = rest-through false side.net w.node ring (ring ++ more)
+          (record { members = on.members; legal = s.legal; member = on.member }) on.legal adds
+          s.rest;
     }
 
 -- a member is there at the start
-keep-here : (nodes : List NodeIs) (members : List ℕ) (k : ℕ) → (part_of nodes k).here ≡ true → (part_of (with_members nodes members) k).here ≡ true
+keep-here : (nodes : List NodeIs) (members : List ℕ) (k : ℕ) → (part_of nodes k).here ≡ true
+    → (part_of (with_members nodes members) k).here ≡ true
 keep-here nodes [] k it = it
-keep-here nodes (m ∷ ms) k it = keep-here (set nodes m (fresh true)) ms k (put-each (λ c. c.here ≡ true) nodes m k (fresh true) refl it)
+keep-here nodes (m ∷ ms) k it = keep-here (set nodes m (fresh true)) ms k
+    (put-each (λ c. c.here ≡ true) nodes m k (fresh true) refl it)
 
-pub first-here : (n : ℕ) (members : List ℕ) → n < addresses → (part_of (with_members (replicate addresses (fresh false)) (n ∷ members)) n).here ≡ true
-first-here n members low = keep-here (set (replicate addresses (fresh false)) n (fresh true)) members n
-    (ap (λ (c : NodeIs). c.here) (get_or-set_same (replicate addresses (fresh false)) n (fresh true) (fresh false) (let s = length-replicate addresses (fresh false) in omega (arith, s, low))))
+pub first-here : (n : ℕ) (members : List ℕ) → n < addresses
+    → (part_of (with_members (replicate addresses (fresh false)) (n ∷ members)) n).here ≡ true
+first-here n members low = keep-here (set (replicate addresses (fresh false)) n (fresh true))
+    members n
+    (ap (λ (c : NodeIs). c.here) (get_or-set_same (replicate addresses (fresh false)) n (fresh true)
+    (fresh false) (let s = length-replicate addresses (fresh false) in omega (arith, s, low))))

@@ -37,7 +37,8 @@ use Rattle.comm_port.specs.Giving.{part_at, is_chosen, AsksAreOn, NonePathFailed
 use Rattle.comm_port.specs.Order.{IsServing, IsCalling}
 
 -- a path of the paths after a write
-pub paths-put : (P : Await → Type 0) (ps : List Path) (p q : ℕ) (v : Path) → P v.awaits → P (get_or ps q no_path).awaits → P (get_or (set ps p v) q no_path).awaits
+pub paths-put : (P : Await → Type 0) (ps : List Path) (p q : ℕ) (v : Path) → P v.awaits
+    → P (get_or ps q no_path).awaits → P (get_or (set ps p v) q no_path).awaits
 paths-put P [] p q v new old = old
 paths-put P (x ∷ ps) zero zero v new old = new
 paths-put P (x ∷ ps) zero (suc q) v new old = old
@@ -47,7 +48,8 @@ paths-put P (x ∷ ps) (suc p) (suc q) v new old = paths-put P ps p q v new old
 abbrev pub NotFailed : Await → Type 0
 NotFailed a = (seq word : ℕ) → a ≡ Failed seq word → ⊥
 
-pub not-failed-put : (ps : List Path) (p q : ℕ) (v : Path) → NotFailed v.awaits → NotFailed (get_or ps q no_path).awaits → NotFailed (get_or (set ps p v) q no_path).awaits
+pub not-failed-put : (ps : List Path) (p q : ℕ) (v : Path) → NotFailed v.awaits
+    → NotFailed (get_or ps q no_path).awaits → NotFailed (get_or (set ps p v) q no_path).awaits
 not-failed-put ps p q v new old = paths-put NotFailed ps p q v new old
 
 pub nothing-not-failed : NotFailed Nothing
@@ -60,7 +62,8 @@ pub arrived-not-failed : (s : ℕ) → NotFailed (Arrived s)
 arrived-not-failed s seq word e = cc
 
 -- a node's own entry, whatever is known before it
-pub own-moves : (net : NetPlan) (n : ℕ) (past : List RingEntry) (e : RingEntry) → maker e ≡ n → IsOnRing net past n → IsFree net past n → IsRingStep
+pub own-moves : (net : NetPlan) (n : ℕ) (past : List RingEntry) (e : RingEntry) → maker e ≡ n
+    → IsOnRing net past n → IsFree net past n → IsRingStep
     net past e → Moved net n past e (past ++ e ∷ [])
 own-moves net n past e mine on free step = record {
   past = past;
@@ -72,38 +75,49 @@ own-moves net n past e mine on free step = record {
 }
 
 abbrev pub Keeps : NetPlan → ℕ → (RingEntry → Type 0) → (NodeIs → Type 0) → Type 0
-Keeps net n Sort Q = (past after' : List RingEntry) (e : RingEntry) → maker e ≡ n → Moved net n past e after' → Sort e → Q (part_at net n past)
+Keeps net n Sort Q = (past after' : List RingEntry) (e : RingEntry) → maker e ≡ n
+    → Moved net n past e after' → Sort e → Q (part_at net n past)
     → IsFree net after' n × Q (part_at net n after')
 
-run-through : (net : NetPlan) (n : ℕ) (Sort : RingEntry → Type 0) (Q : NodeIs → Type 0) → Keeps net n Sort Q → (past more : List RingEntry)
-    → IsOnRing net past n → IsLegal net (past ++ more) → Each Sort (own n more) → IsFree net past n → Q (part_at net n past) → Q (part_at net n (past ++ more))
-run-through net n Sort Q keeps past [] on legal sorts free it = subst (λ (l : List RingEntry). Q (part_at net n l)) (sym (append-nil past)) it
+run-through : (net : NetPlan) (n : ℕ) (Sort : RingEntry → Type 0) (Q : NodeIs → Type 0)
+    → Keeps net n Sort Q → (past more : List RingEntry)
+    → IsOnRing net past n → IsLegal net (past ++ more) → Each Sort (own n more) → IsFree net past n
+    → Q (part_at net n past) → Q (part_at net n (past ++ more))
+run-through net n Sort Q keeps past [] on legal sorts free it = subst
+    (λ (l : List RingEntry). Q (part_at net n l)) (sym (append-nil past)) it
 run-through net n Sort Q keeps past (e ∷ es) on legal sorts free it =
     let join = append_assoc past (e ∷ []) es in
     let run = (legal-parts net past (e ∷ es) legal).1 in
     let legal' : IsLegal net ((past ++ e ∷ []) ++ es) = subst (IsLegal net) (sym join) legal in
     let near = (legal-parts net (past ++ e ∷ []) es legal').0 in
-    let on' : IsOnRing net (past ++ e ∷ []) n = record { members = on.members; legal = near; member = on.member } in
+    let on' : IsOnRing net (past ++ e ∷ []) n = record
+    { members = on.members; legal = near; member = on.member } in
     subst (λ (l : List RingEntry). Q (part_at net n l)) join
     (⊎_elim
     (λ (mine : is_of n e ≡ true).
-    let sorts' : Each Sort (e ∷ own n es) = subst (λ (b : Bool). Each Sort (cond b (e ∷ own n es) (own n es))) mine sorts in
+    let sorts' : Each Sort (e ∷ own n es) = subst
+    (λ (b : Bool). Each Sort (cond b (e ∷ own n es) (own n es))) mine sorts in
     let k = keeps past (past ++ e ∷ []) e (eqb-true (maker e) n mine) (own-moves net n past e
     (eqb-true (maker e) n mine) on free run.0) sorts'.0 it in
     run-through net n Sort Q keeps (past ++ e ∷ []) es on' legal' sorts'.1 k.0 k.1)
     (λ (other : is_of n e ≡ false).
-    let sorts' : Each Sort (own n es) = subst (λ (b : Bool). Each Sort (cond b (e ∷ own n es) (own n es))) other sorts in
+    let sorts' : Each Sort (own n es) = subst
+    (λ (b : Bool). Each Sort (cond b (e ∷ own n es) (own n es))) other sorts in
     let none : own n (e ∷ []) ≡ [] = ap (λ (b : Bool). cond b (e ∷ []) []) other in
     let f = found-at net n past (e ∷ []) near none free in
-    run-through net n Sort Q keeps (past ++ e ∷ []) es on' legal' sorts' f.free (subst Q (sym f.part_is) it))
+    run-through net n Sort Q keeps (past ++ e ∷ []) es on' legal' sorts' f.free
+    (subst Q (sym f.part_is) it))
     (cases_Bool (is_of n e)))
 
-pub through : (alone : Bool) (net : NetPlan) (n : ℕ) (Sort : RingEntry → Type 0) (Q : NodeIs → Type 0) (ring ring' : List RingEntry) → Keeps net n Sort Q
-    → IsOnRing net ring n → IsLegal net ring' → IsFree net ring n → Adds alone (is_of n) Sort ring ring' → Q (part_at net n ring) → Q (part_at net n ring')
+pub through : (alone : Bool) (net : NetPlan) (n : ℕ) (Sort : RingEntry → Type 0)
+    (Q : NodeIs → Type 0) (ring ring' : List RingEntry) → Keeps net n Sort Q
+    → IsOnRing net ring n → IsLegal net ring' → IsFree net ring n
+    → Adds alone (is_of n) Sort ring ring' → Q (part_at net n ring) → Q (part_at net n ring')
 through alone net n Sort Q ring ring' keeps on legal free adds it =
     let g = adds.grew in
     subst (λ (l : List RingEntry). Q (part_at net n l)) (sym g.after_is)
-    (run-through net n Sort Q keeps ring g.more on (subst (IsLegal net) g.after_is legal) (subst (Each Sort) (sym g.ours_are) adds.sort) free it)
+    (run-through net n Sort Q keeps ring g.more on (subst (IsLegal net) g.after_is legal)
+    (subst (Each Sort) (sym g.ours_are) adds.sort) free it)
 
 -- ---- serving leaves no Request in the outbox and no path failed
 
@@ -113,24 +127,29 @@ NoAsks c = NonePathFailed c × Each (λ (f : Frame). f.kind ≡ Reply) c.outbox
 take-none : (c : NodeIs) (kind : FrameKind) (id : CallId) → NoAsks c → NoAsks (took c kind id)
 take-none c Request id q = q
 take-none c Reply id q = (
-  λ p. not-failed-put c.paths id.path p (record { awaits = Nothing; posted = (path_of c id.path).posted }) nothing-not-failed (q.0 p),
+  λ p. not-failed-put c.paths id.path p
+      (record { awaits = Nothing; posted = (path_of c id.path).posted }) nothing-not-failed (q.0 p),
   q.1,
 )
 
-post-none : (c : NodeIs) (f : Frame) (kind : FrameKind) → f.kind ≡ kind → kind ≡ Reply → NoAsks c → NonePathFailed (record c { paths = asked c kind f.id f.to; outbox = c.outbox ++ f ∷ [] })
+post-none : (c : NodeIs) (f : Frame) (kind : FrameKind) → f.kind ≡ kind → kind ≡ Reply → NoAsks c
+    → NonePathFailed (record c { paths = asked c kind f.id f.to; outbox = c.outbox ++ f ∷ [] })
     × Each (λ (f : Frame). f.kind ≡ Reply) (c.outbox ++ f ∷ [])
 post-none c f Request is reply q = absurd (let bad : Request ≡ Reply = reply in cc)
 post-none c f Reply is reply q = (q.0, each-push (λ (g : Frame). g.kind ≡ Reply) c.outbox f q.1 is)
 
 pub serving-keeps : (net : NetPlan) (n : ℕ) → Keeps net n (IsServing n) NoAsks
 serving-keeps net n past after' (Take m f) mine move sort q =
-    let w = after-take net n past f after' (subst (λ (k : ℕ). Moved net n past (Take k f) after') mine move) in
+    let w = after-take net n past f after'
+    (subst (λ (k : ℕ). Moved net n past (Take k f) after') mine move) in
     (w.free, subst NoAsks (sym w.part_is) (take-none (part_at net n past) f.kind f.id q))
 serving-keeps net n past after' (Local m id op result) mine move sort q =
-    let w = after-local net n past id op result after' (subst (λ (k : ℕ). Moved net n past (Local k id op result) after') mine move) in
+    let w = after-local net n past id op result after'
+    (subst (λ (k : ℕ). Moved net n past (Local k id op result) after') mine move) in
     (w.free, subst NoAsks (sym w.part_is) q)
 serving-keeps net n past after' (Post m f) mine move sort q =
-    let w = after-post net n past f after' (subst (λ (k : ℕ). Moved net n past (Post k f) after') mine move) in
+    let w = after-post net n past f after'
+    (subst (λ (k : ℕ). Moved net n past (Post k f) after') mine move) in
     (w.free, subst NoAsks (sym w.part_is) (post-none (part_at net n past) f f.kind refl sort q))
 serving-keeps net n past after' (Send m heard) mine move sort q = absurd sort
 serving-keeps net n past after' (GiveUp id word) mine move sort q = absurd sort
@@ -144,7 +163,8 @@ pub record Asks (chosen : List Bool) (answer : ℕ) (c : NodeIs) : Type 0 where
   pub none_failed : NonePathFailed c
   pub young : (path : ℕ) → is_chosen chosen path ≡ true → passes_of (path_of c path).awaits < answer
   pub asks : AsksAreOn chosen c.outbox
-  pub taken : (path : ℕ) → path < 5 → is_chosen chosen path ≡ false → (path_of c path).awaits ≡ Nothing → ⊥
+  pub taken : (path : ℕ) → path < 5 → is_chosen chosen path ≡ false
+      → (path_of c path).awaits ≡ Nothing → ⊥
 
 taken-free : (a : Await) → taken_no a ≡ None → a ≡ Nothing
 taken-free Nothing e = refl
@@ -156,38 +176,59 @@ after-none : (a b : Option RingNo) → or_no a b ≡ None → b ≡ None
 after-none None b e = e
 after-none (Some x) b e = absurd (cc)
 
-young-put : (answer : ℕ) (ps : List Path) (p q : ℕ) (v : Path) → passes_of v.awaits < answer → passes_of (get_or ps q no_path).awaits < answer →
+young-put : (answer : ℕ) (ps : List Path) (p q : ℕ) (v : Path) → passes_of v.awaits < answer
+    → passes_of (get_or ps q no_path).awaits < answer →
     passes_of (get_or (set ps p v) q no_path).awaits < answer
 young-put answer ps p q v new old = paths-put (λ (a : Await). passes_of a < answer) ps p q v new old
 
-calls-more : (chosen : List Bool) (answer n : ℕ) (c : NodeIs) (f : Frame) (kind : FrameKind) → 0 < answer → f.kind ≡ kind → kind ≡ Request → IsFrom n kind f
-    → path_no c kind f.id.path ≡ None → Asks chosen answer c → Asks chosen answer (record c { paths = asked c kind f.id f.to; outbox = c.outbox ++ f ∷ [] })
-calls-more chosen answer n c f Reply wait is ask from free q = absurd (let bad : Reply ≡ Request = ask in cc)
+calls-more : (chosen : List Bool) (answer n : ℕ) (c : NodeIs) (f : Frame) (kind : FrameKind)
+    → 0 < answer → f.kind ≡ kind → kind ≡ Request → IsFrom n kind f
+    → path_no c kind f.id.path ≡ None → Asks chosen answer c
+    → Asks chosen answer (record c {
+      paths = asked c kind f.id f.to;
+      outbox = c.outbox ++ f
+          ∷ [];
+    })
+calls-more chosen answer n c f Reply wait is ask from free q = absurd
+    (let bad : Reply ≡ Request = ask in cc)
 calls-more chosen answer n c f Request wait is ask from free q =
     let p = f.id.path in
     let v : Path = record { awaits = Out f.id.seq f.to 0; posted = f.id.seq } in
     let none : (path_of c p).awaits ≡ Nothing = taken-free (path_of c p).awaits free in
     let low : p < 5 = let k = from.2.1 in omega (arith, k) in
-    let on : is_chosen chosen p ≡ true = ⊎_elim (λ (y : is_chosen chosen p ≡ true). y) (λ (off : is_chosen chosen p ≡ false). absurd
+    let on : is_chosen chosen p ≡ true = ⊎_elim (λ (y : is_chosen chosen p ≡ true). y)
+    (λ (off : is_chosen chosen p ≡ false). absurd
     (q.taken p low off none)) (cases_Bool (is_chosen chosen p)) in
     record {
-      none_failed = λ k. not-failed-put c.paths p k v (out-not-failed f.id.seq f.to 0) (q.none_failed k);
+      none_failed = λ k. not-failed-put c.paths p k v (out-not-failed f.id.seq f.to 0)
+          (q.none_failed k);
       young = λ k y. young-put answer c.paths p k v wait (q.young k y);
-      asks = each-push (λ (g : Frame). g.kind ≡ Request → is_chosen chosen g.id.path ≡ true) c.outbox f q.asks (λ _. on);
+      asks = each-push (λ (g : Frame). g.kind ≡ Request → is_chosen chosen g.id.path ≡ true)
+          c.outbox f q.asks (λ _. on);
       taken = λ k below off is'. ⊎_elim
-          (λ (e : k ≡ p). let bad : true ≡ false = sym on ∙ (ap (is_chosen chosen) (sym e) ∙ off) in absurd cc)
-          (λ (o : k ≡ p → ⊥). q.taken k below off (sym (ap (λ (x : Path). x.awaits) (get_or-set_other c.paths p k v no_path o)) ∙ is')) (cases_eq k p);
+          (λ (e : k ≡ p). let bad : true ≡ false = sym on ∙ (ap (is_chosen chosen) (sym e) ∙ off) in
+          absurd cc)
+          (λ (o : k ≡ p → ⊥). q.taken k below off
+          (sym (ap (λ (x : Path). x.awaits) (get_or-set_other c.paths p k v no_path o)) ∙ is'))
+          (cases_eq k p);
     }
 
-pub calling-keeps : (net : NetPlan) (n : ℕ) (chosen : List Bool) → 0 < net.answer → Keeps net n (IsCalling n) (Asks chosen net.answer)
+pub calling-keeps : (net : NetPlan) (n : ℕ) (chosen : List Bool) → 0 < net.answer
+    → Keeps net n (IsCalling n) (Asks chosen net.answer)
 calling-keeps net n chosen wait past after' (Post m f) mine move sort q =
     let move' = subst (λ (k : ℕ). Moved net n past (Post k f) after') mine move in
     let w = after-post net n past f after' move' in
     let free = subst (λ (c : NodeIs). path_no c f.kind f.id.path ≡ None) move'.found.part_is
-    (after-none (free_no (ring_after net move'.past) n) (path_no (part_at net n move'.past) f.kind f.id.path) move'.step.1.1) in
-    (w.free, subst (Asks chosen net.answer) (sym w.part_is) (calls-more chosen net.answer n (part_at net n past) f f.kind wait refl sort move'.step.0.1 free q))
+    (after-none (free_no (ring_after net move'.past) n)
+    (path_no (part_at net n move'.past) f.kind f.id.path) move'.step.1.1) in (
+      w.free,
+      subst (Asks chosen net.answer) (sym w.part_is)
+          (calls-more chosen net.answer n (part_at net n past) f f.kind wait refl sort move'.step.0.1
+          free q),
+    )
 calling-keeps net n chosen wait past after' (Local m id op result) mine move sort q =
-    let w = after-local net n past id op result after' (subst (λ (k : ℕ). Moved net n past (Local k id op result) after') mine move) in
+    let w = after-local net n past id op result after'
+    (subst (λ (k : ℕ). Moved net n past (Local k id op result) after') mine move) in
     (w.free, subst (Asks chosen net.answer) (sym w.part_is) q)
 calling-keeps net n chosen wait past after' (Take m f) mine move sort q = absurd sort
 calling-keeps net n chosen wait past after' (Send m heard) mine move sort q = absurd sort
@@ -200,10 +241,13 @@ calling-keeps net n chosen wait past after' (Leave m cause) mine move sort q = a
 abbrev pub RestsIn : NodeIs → Type 0
 RestsIn c = (c.outbox ≡ []) × NonePathFailed c
 
-rest-came : (c : NodeIs) (f : Frame) (kind : FrameKind) → RestsIn c → RestsIn (with_frame c (fell c kind f.id) f)
-rest-came c f Request q = cond_both (is_repeat c f.id) _ _ (λ x. RestsIn (with_frame c x f)) (λ _. q)
+rest-came : (c : NodeIs) (f : Frame) (kind : FrameKind) → RestsIn c
+    → RestsIn (with_frame c (fell c kind f.id) f)
+rest-came c f Request q = cond_both (is_repeat c f.id) _ _ (λ x. RestsIn (with_frame c x f))
+    (λ _. q)
     (λ _. cond_both (is_full c) _ _ (λ x. RestsIn (with_frame c x f)) (λ _. q) (λ _. q))
-rest-came c f Reply q = cond_both (waits_for (path_of c f.id.path).awaits f.id.seq) _ _ (λ x. RestsIn (with_frame c x f))
+rest-came c f Reply q = cond_both (waits_for (path_of c f.id.path).awaits f.id.seq) _ _
+    (λ x. RestsIn (with_frame c x f))
     (λ _. (
       q.0,
       λ p. not-failed-put c.paths f.id.path p (record {
@@ -212,36 +256,43 @@ rest-came c f Reply q = cond_both (waits_for (path_of c f.id.path).awaits f.id.s
       }) (arrived-not-failed f.id.seq) (q.1 p),
     )) (λ _. q)
 
-at-other : (nodes : List NodeIs) (m n : ℕ) (c : NodeIs) → (m ≡ n → ⊥) → part_of (set nodes m c) n ≡ part_of nodes n
+at-other : (nodes : List NodeIs) (m n : ℕ) (c : NodeIs) → (m ≡ n → ⊥)
+    → part_of (set nodes m c) n ≡ part_of nodes n
 at-other nodes m n c other = get_or-set_other nodes m n c (fresh false) (λ e. other (sym e))
 
 abbrev If : ℕ → ℕ → NodeIs → Type 0
 If n k c = k ≡ n → RestsIn c
 
-rest-sent : (net : NetPlan) (n m : ℕ) (r : RingIs) (box : List Frame) → (m ≡ n → ⊥) → RestsIn (ring_node r n) → RestsIn (ring_node (sent_head net r m box) n)
+rest-sent : (net : NetPlan) (n m : ℕ) (r : RingIs) (box : List Frame) → (m ≡ n → ⊥)
+    → RestsIn (ring_node r n) → RestsIn (ring_node (sent_head net r m box) n)
 rest-sent net n m r [] other q = q
 rest-sent net n m r (f ∷ fs) other q =
     let fate = fate_at net.fates r.sent in
     let nodes = arrived r.nodes f (arrival r.nodes fate f) in
     let mine : If n n (part_of nodes n) = arrived-part r.nodes f fate (If n)
     (λ k e. subst (λ (x : ℕ). RestsIn (part_of r.nodes x)) (sym e) q)
-    (λ here e. rest-came (part_of r.nodes f.to) f f.kind (subst (λ (x : ℕ). RestsIn (part_of r.nodes x)) (sym e) q)) n in
+    (λ here e. rest-came (part_of r.nodes f.to) f f.kind
+    (subst (λ (x : ℕ). RestsIn (part_of r.nodes x)) (sym e) q)) n in
     subst RestsIn (sym (at-other nodes m n _ other)) (mine refl)
 
-pub rest-other : (net : NetPlan) (n : ℕ) (r : RingIs) (e : RingEntry) → (maker e ≡ n → ⊥) → RestsIn (ring_node r n) → RestsIn (ring_node (after net r e) n)
+pub rest-other : (net : NetPlan) (n : ℕ) (r : RingIs) (e : RingEntry) → (maker e ≡ n → ⊥)
+    → RestsIn (ring_node r n) → RestsIn (ring_node (after net r e) n)
 rest-other net n r (Post m f) other q = subst RestsIn (sym (at-other r.nodes m n _ other)) q
 rest-other net n r (Send m heard) other q = rest-sent net n m r (ring_node r m).outbox other q
 rest-other net n r (Take m f) other q = subst RestsIn (sym (at-other r.nodes m n _ other)) q
 rest-other net n r (Local m id op result) other q = q
-rest-other net n r (GiveUp id word) other q = subst RestsIn (sym (at-other r.nodes id.node n _ other)) q
-rest-other net n r (Pass m done words) other q = subst RestsIn (sym (at-other r.nodes m n _ other)) q
+rest-other net n r (GiveUp id word) other q = subst RestsIn
+    (sym (at-other r.nodes id.node n _ other)) q
+rest-other net n r (Pass m done words) other q = subst RestsIn (sym (at-other r.nodes m n _ other))
+    q
 rest-other net n r (Leave m cause) other q = subst RestsIn (sym (at-other r.nodes m n _ other)) q
 
 -- and while the node gives calls up, passes the token on or leaves
 rest-given : (c : NodeIs) (id : CallId) → RestsIn c → RestsIn (gave_up c id)
 rest-given c id q = (
   ap (filter (λ f. not (asks_for id f))) q.0,
-  λ p. not-failed-put c.paths id.path p (record { awaits = Nothing; posted = (path_of c id.path).posted }) nothing-not-failed (q.1 p),
+  λ p. not-failed-put c.paths id.path p
+      (record { awaits = Nothing; posted = (path_of c id.path).posted }) nothing-not-failed (q.1 p),
 )
 
 aged-fails : (a : Await) → NotFailed a → NotFailed (aged_await a)
@@ -250,7 +301,8 @@ aged-fails (Out s to k) q seq word e = out-not-failed s to (k + 1) seq word e
 aged-fails (Arrived s) q seq word e = q seq word e
 aged-fails (Failed s w) q seq word e = q seq word e
 
-aged-rest : (ps : List Path) (p : ℕ) → NotFailed (get_or ps p no_path).awaits → NotFailed (get_or (map aged ps) p no_path).awaits
+aged-rest : (ps : List Path) (p : ℕ) → NotFailed (get_or ps p no_path).awaits
+    → NotFailed (get_or (map aged ps) p no_path).awaits
 aged-rest [] p q = q
 aged-rest (x ∷ ps) zero q = aged-fails x.awaits q
 aged-rest (x ∷ ps) (suc p) q = aged-rest ps p q
@@ -261,47 +313,65 @@ IsEnding (Pass n done words) = Unit {0}
 IsEnding (Leave n cause) = Unit {0}
 IsEnding _ = ⊥
 
-put-rest : (r : RingIs) (n m : ℕ) (c : NodeIs) → length r.nodes ≡ addresses → n < addresses → m ≡ n → RestsIn c → RestsIn (part_of (set r.nodes m c) n)
-put-rest r n m c size low mine q = subst RestsIn (sym (subst (λ (k : ℕ). part_of (set r.nodes k c) n ≡ c) (sym mine) (at-same r.nodes n c size low))) q
+put-rest : (r : RingIs) (n m : ℕ) (c : NodeIs) → length r.nodes ≡ addresses → n < addresses → m ≡ n
+    → RestsIn c → RestsIn (part_of (set r.nodes m c) n)
+put-rest r n m c size low mine q = subst RestsIn
+    (sym (subst (λ (k : ℕ). part_of (set r.nodes k c) n ≡ c) (sym mine)
+    (at-same r.nodes n c size low))) q
 
-pub rest-own : (net : NetPlan) (n : ℕ) (r : RingIs) (e : RingEntry) → length r.nodes ≡ addresses → n < addresses → maker e ≡ n → IsEnding e → RestsIn
+pub rest-own : (net : NetPlan) (n : ℕ) (r : RingIs) (e : RingEntry) → length r.nodes ≡ addresses
+    → n < addresses → maker e ≡ n → IsEnding e → RestsIn
     (ring_node r n) → RestsIn (ring_node (after net r e) n)
-rest-own net n r (GiveUp id word) size low mine sort q = put-rest r n id.node _ size low mine (rest-given (ring_node r id.node) id (subst (λ (k : ℕ). RestsIn (ring_node r k)) (sym mine) q))
+rest-own net n r (GiveUp id word) size low mine sort q = put-rest r n id.node _ size low mine
+    (rest-given (ring_node r id.node) id (subst (λ (k : ℕ). RestsIn (ring_node r k)) (sym mine) q))
 rest-own net n r (Pass m done words) size low mine sort q =
     let q' : RestsIn (ring_node r m) = subst (λ (k : ℕ). RestsIn (ring_node r k)) (sym mine) q in
     put-rest r n m _ size low mine (q'.0, λ p. aged-rest (ring_node r m).paths p (q'.1 p))
-rest-own net n r (Leave m cause) size low mine sort q = put-rest r n m _ size low mine (subst (λ (k : ℕ). RestsIn (ring_node r k)) (sym mine) q)
+rest-own net n r (Leave m cause) size low mine sort q = put-rest r n m _ size low mine
+    (subst (λ (k : ℕ). RestsIn (ring_node r k)) (sym mine) q)
 rest-own net n r (Post m f) size low mine sort q = absurd sort
 rest-own net n r (Send m heard) size low mine sort q = absurd sort
 rest-own net n r (Take m f) size low mine sort q = absurd sort
 rest-own net n r (Local m id op result) size low mine sort q = absurd sort
 
-rest-run : (net : NetPlan) (n : ℕ) (past more : List RingEntry) → IsOnRing net past n → IsLegal net (past ++ more) → Each IsEnding (own n more)
+rest-run : (net : NetPlan) (n : ℕ) (past more : List RingEntry) → IsOnRing net past n
+    → IsLegal net (past ++ more) → Each IsEnding (own n more)
     → RestsIn (part_at net n past) → RestsIn (part_at net n (past ++ more))
-rest-run net n past [] on legal sorts q = subst (λ (l : List RingEntry). RestsIn (part_at net n l)) (sym (append-nil past)) q
+rest-run net n past [] on legal sorts q = subst (λ (l : List RingEntry). RestsIn (part_at net n l))
+    (sym (append-nil past)) q
 rest-run net n past (e ∷ es) on legal sorts q =
     let join = append_assoc past (e ∷ []) es in
     let legal' : IsLegal net ((past ++ e ∷ []) ++ es) = subst (IsLegal net) (sym join) legal in
     let near = (legal-parts net (past ++ e ∷ []) es legal').0 in
-    let on' : IsOnRing net (past ++ e ∷ []) n = record { members = on.members; legal = near; member = on.member } in
+    let on' : IsOnRing net (past ++ e ∷ []) n = record
+    { members = on.members; legal = near; member = on.member } in
     let r = ring_after net past in
     let size = (legal-follows net past n on).size in
-    let low : n < addresses = All-contains (λ m. m < addresses) net.members n on.members on.member in
-    let to : ring_node (after net r e) n ≡ part_at net n (past ++ e ∷ []) = ap (λ (x : RingIs). ring_node x n) (sym (next-ring net past e)) in
+    let low : n < addresses = All-contains (λ m. m < addresses) net.members n on.members on.member
+    in
+    let to : ring_node (after net r e) n ≡ part_at net n (past ++ e ∷ []) = ap
+    (λ (x : RingIs). ring_node x n) (sym (next-ring net past e)) in
     subst (λ (l : List RingEntry). RestsIn (part_at net n l)) join
     (⊎_elim
     (λ (mine : is_of n e ≡ true).
-    let sorts' : Each IsEnding (e ∷ own n es) = subst (λ (b : Bool). Each IsEnding (cond b (e ∷ own n es) (own n es))) mine sorts in
-    rest-run net n (past ++ e ∷ []) es on' legal' sorts'.1 (subst RestsIn to (rest-own net n r e size low (eqb-true (maker e) n mine) sorts'.0 q)))
+    let sorts' : Each IsEnding (e ∷ own n es) = subst
+    (λ (b : Bool). Each IsEnding (cond b (e ∷ own n es) (own n es))) mine sorts in
+    rest-run net n (past ++ e ∷ []) es on' legal' sorts'.1
+    (subst RestsIn to (rest-own net n r e size low (eqb-true (maker e) n mine) sorts'.0 q)))
     (λ (other : is_of n e ≡ false).
-    let sorts' : Each IsEnding (own n es) = subst (λ (b : Bool). Each IsEnding (cond b (e ∷ own n es) (own n es))) other sorts in
-    rest-run net n (past ++ e ∷ []) es on' legal' sorts' (subst RestsIn to (rest-other net n r e (λ is. let bad : true ≡ false = sym (eq-eqb (maker e) n is) ∙ other in absurd cc) q)))
+    let sorts' : Each IsEnding (own n es) = subst
+    (λ (b : Bool). Each IsEnding (cond b (e ∷ own n es) (own n es))) other sorts in
+    rest-run net n (past ++ e ∷ []) es on' legal' sorts'
+    (subst RestsIn to (rest-other net n r e
+    (λ is. let bad : true ≡ false = sym (eq-eqb (maker e) n is) ∙ other in absurd cc) q)))
     (cases_Bool (is_of n e)))
 
-pub rest-through : (alone : Bool) (net : NetPlan) (n : ℕ) (ring ring' : List RingEntry) → IsOnRing net ring n → IsLegal net ring' → Adds alone (is_of n) IsEnding
+pub rest-through : (alone : Bool) (net : NetPlan) (n : ℕ) (ring ring' : List RingEntry)
+    → IsOnRing net ring n → IsLegal net ring' → Adds alone (is_of n) IsEnding
     ring ring' → IsAtRest net n ring → IsAtRest net n ring'
 rest-through alone net n ring ring' on legal adds q =
     let g = adds.grew in
     let k = subst (λ (l : List RingEntry). RestsIn (part_at net n l)) (sym g.after_is)
-    (rest-run net n ring g.more on (subst (IsLegal net) g.after_is legal) (subst (Each IsEnding) (sym g.ours_are) adds.sort) (q.all_sent, q.none_failed)) in
+    (rest-run net n ring g.more on (subst (IsLegal net) g.after_is legal)
+    (subst (Each IsEnding) (sym g.ours_are) adds.sort) (q.all_sent, q.none_failed)) in
     record { all_sent = k.0; none_failed = k.1 }

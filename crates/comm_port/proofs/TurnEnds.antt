@@ -37,15 +37,18 @@ use Rattle.comm_port.proofs.RingTurns.{mine, on-ring}
 
 -- ---- what others leave of a node that holds the token
 
-pub stays-between : (net : NetPlan) (n : ℕ) (alone : Bool) (before added after' : List RingEntry) → IsLegal net after' → (w :
+pub stays-between : (net : NetPlan) (n : ℕ) (alone : Bool) (before added after' : List RingEntry)
+    → IsLegal net after' → (w :
     WentOn alone (is_of n) before added after')
     → Holds net before n → Stays (ring_after net before) (ring_after net (before ++ w.between)) n
 stays-between net n alone before added after' legal w holds =
     let all = subst (IsLegal net) w.after_is legal in
     let front = (legal-parts net (before ++ w.between) added all).0 in
-    holder-stays net before w.between n (legal-parts net before w.between front).1 holds.holder (none-by n w.between w.others)
+    holder-stays net before w.between n (legal-parts net before w.between front).1 holds.holder
+    (none-by n w.between w.others)
 
-pub stood-still : (net : NetPlan) (n : ℕ) (alone : Bool) (before after' : List RingEntry) → IsLegal net after' → WentOn alone (is_of n) before [] after'
+pub stood-still : (net : NetPlan) (n : ℕ) (alone : Bool) (before after' : List RingEntry)
+    → IsLegal net after' → WentOn alone (is_of n) before [] after'
     → Holds net before n → StoodStill alone net n before after'
 stood-still net n alone before after' legal w holds =
     let is : after' ≡ before ++ w.between = w.after_is ∙ append-nil (before ++ w.between) in
@@ -54,22 +57,27 @@ stood-still net n alone before after' legal w holds =
     record {
       grew = grew-one alone (is_of n) before [] after' refl w;
       holds = record {
-        holder = ap (λ (h : List RingEntry). (ring_after net h).holder) is ∙ s.holder ∙ holds.holder;
-        here = ap (λ (h : List RingEntry). (ring_node (ring_after net h) n).here) is ∙ ap (λ (c : NodeIs). c.here) s.part ∙ holds.here;
+        holder = ap (λ (h : List RingEntry). (ring_after net h).holder) is ∙ s.holder
+            ∙ holds.holder;
+        here = ap (λ (h : List RingEntry). (ring_node (ring_after net h) n).here) is ∙ ap
+            (λ (c : NodeIs). c.here) s.part ∙ holds.here;
       };
       part = ap (λ (h : List RingEntry). ring_node (ring_after net h) n) is ∙ s.part;
       quiet = ap (λ (h : List RingEntry). quiet_for (ring_after net h) n) is ∙ s.quiet;
     }
 
 -- a cause holds as long as before
-held-as : (r s : RingIs) (n : ℕ) (cause : LeaveCause) → ring_node s n ≡ ring_node r n → quiet_for s n ≡ quiet_for r n → cause_held
+held-as : (r s : RingIs) (n : ℕ) (cause : LeaveCause) → ring_node s n ≡ ring_node r n
+    → quiet_for s n ≡ quiet_for r n → cause_held
     s n cause ≡ cause_held r n cause
 held-as r s n Ended part quiet = quiet
 held-as r s n Spent part quiet = ap (λ (c : NodeIs). c.passes) part
 
-pub due-as : (net : NetPlan) (r s : RingIs) (n : ℕ) (cause : LeaveCause) → ring_node s n ≡ ring_node r n → quiet_for s n ≡
+pub due-as : (net : NetPlan) (r s : RingIs) (n : ℕ) (cause : LeaveCause)
+    → ring_node s n ≡ ring_node r n → quiet_for s n ≡
     quiet_for r n → is_due net s n cause ≡ is_due net r n cause
-due-as net r s n cause part quiet = ap (nat_le (needed_of net cause)) (held-as r s n cause part quiet)
+due-as net r s n cause part quiet = ap (nat_le (needed_of net cause))
+    (held-as r s n cause part quiet)
 
 -- ---- when a Leave is due
 
@@ -80,18 +88,22 @@ second-none (Some why) b is = absurd cc
 not-early : (held needed : ℕ) → due_no held needed ≡ None → needed ≤ held
 not-early held needed is = elim (cases_Bool (nat_lt held needed)) [
   | inl low ↦
-      let none : Some (NotDue held needed) ≡ None = sym (ap (λ b. if b then Some (NotDue held needed) else None) low) ∙ is in
+      let none : Some (NotDue held needed) ≡ None = sym
+      (ap (λ b. if b then Some (NotDue held needed) else None) low) ∙ is in
       absurd cc
   | inr high ↦ ltb-false held needed high
 ]
 
-pub leave-due : (net : NetPlan) (r : RingIs) (n : ℕ) (cause : LeaveCause) → leave_no net r n cause ≡ None → true ≡ is_due net r n cause
+pub leave-due : (net : NetPlan) (r : RingIs) (n : ℕ) (cause : LeaveCause)
+    → leave_no net r n cause ≡ None → true ≡ is_due net r n cause
 leave-due net r n cause is =
-    sym (le-leb (needed_of net cause) (cause_held r n cause) (not-early (cause_held r n cause) (needed_of net cause) (second-none (pass_no r n) _ is)))
+    sym (le-leb (needed_of net cause) (cause_held r n cause)
+    (not-early (cause_held r n cause) (needed_of net cause) (second-none (pass_no r n) _ is)))
 
 -- no other reason is that it's early
 other-reason : (held needed : ℕ) (here holds : Bool) (other : ℕ) (out box : List Frame)
-    → or_no (if here then (if holds then None else Some (NotHolder other)) else Some NotMember) (or_no (unsent_no out) (untaken_no
+    → or_no (if here then (if holds then None else Some (NotHolder other)) else Some NotMember)
+    (or_no (unsent_no out) (untaken_no
     box)) ≡ Some (NotDue held needed) → ⊥
 other-reason held needed false holds other out box is = cc
 other-reason held needed true false other out box is = cc
@@ -103,41 +115,56 @@ early : (held needed h k : ℕ) → due_no held needed ≡ Some (NotDue h k) →
 early held needed h k is = elim (cases_Bool (nat_lt held needed)) [
   | inl low ↦ ltb-true held needed low
   | inr high ↦
-      let none : None ≡ Some (NotDue h k) = sym (ap (λ b. if b then Some (NotDue held needed) else None) high) ∙ is in
+      let none : None ≡ Some (NotDue h k) = sym
+      (ap (λ b. if b then Some (NotDue held needed) else None) high) ∙ is in
       absurd cc
 ]
 
-late-or : (r : RingIs) (n held needed h k : ℕ) (p : Option RingNo) → p ≡ pass_no r n → or_no p (due_no held needed) ≡ Some (NotDue h k) → held < needed
+late-or : (r : RingIs) (n held needed h k : ℕ) (p : Option RingNo) → p ≡ pass_no r n
+    → or_no p (due_no held needed) ≡ Some (NotDue h k) → held < needed
 late-or r n held needed h k None p is = early held needed h k is
 late-or r n held needed h k (Some why) p is =
-    absurd (other-reason h k (ring_node r n).here (r.holder == n) r.holder (ring_node r n).outbox (ring_node r n).inbox (sym p ∙ is))
+    absurd (other-reason h k (ring_node r n).here (r.holder == n) r.holder (ring_node r n).outbox
+    (ring_node r n).inbox (sym p ∙ is))
 
-pub leave-early : (net : NetPlan) (r : RingIs) (n : ℕ) (cause : LeaveCause) (h k : ℕ) → leave_no net r n cause ≡ Some (NotDue h k)
+pub leave-early : (net : NetPlan) (r : RingIs) (n : ℕ) (cause : LeaveCause) (h k : ℕ)
+    → leave_no net r n cause ≡ Some (NotDue h k)
     → false ≡ is_due net r n cause
 leave-early net r n cause h k is =
-    sym (lt-leb (needed_of net cause) (cause_held r n cause) (late-or r n (cause_held r n cause) (needed_of net cause) h k (pass_no r n) refl is))
+    sym (lt-leb (needed_of net cause) (cause_held r n cause)
+    (late-or r n (cause_held r n cause) (needed_of net cause) h k (pass_no r n) refl is))
 
 -- ---- the two ends of an attempt
 
-pub did-leave : (net : NetPlan) (n : ℕ) (cause : LeaveCause) (alone : Bool) (before after' : List RingEntry) → IsOnRing net before
+pub did-leave : (net : NetPlan) (n : ℕ) (cause : LeaveCause) (alone : Bool)
+    (before after' : List RingEntry) → IsOnRing net before
     n → IsLegal net after' → Holds net before n
-    → WentOn alone (is_of n) before (Leave n cause ∷ []) after' → (true ≡ is_due net (ring_after net before) n cause) × LeftRing alone net n cause before after'
+    → WentOn alone (is_of n) before (Leave n cause ∷ []) after'
+    → (true ≡ is_due net (ring_after net before) n cause) × LeftRing alone net n cause before
+    after'
 did-leave net n cause alone before after' on legal holds w =
-    let now : IsOnRing net after' n = record { members = on.members; legal = legal; member = on.member } in
+    let now : IsOnRing net after' n = record
+    { members = on.members; legal = legal; member = on.member } in
     let m = moved net n alone before (Leave n cause) after' refl now w (inl holds) in
     let s = stays-between net n alone before (Leave n cause ∷ []) after' legal w holds in
     let past = before ++ w.between in
-    let step = (legal-parts net past (Leave n cause ∷ []) (subst (IsLegal net) w.after_is legal)).1.0 in (
-      leave-due net (ring_after net past) n cause step.1 ∙ due-as net (ring_after net before) (ring_after net past) n cause s.part s.quiet,
+    let step = (legal-parts net past (Leave n cause ∷ [])
+    (subst (IsLegal net) w.after_is legal)).1.0 in (
+      leave-due net (ring_after net past) n cause step.1 ∙ due-as net (ring_after net before)
+          (ring_after net past) n cause s.part s.quiet,
       record {
-        grew = grew-one alone (is_of n) before (Leave n cause ∷ []) after' (mine n (Leave n cause) refl) w;
+        grew = grew-one alone (is_of n) before (Leave n cause ∷ []) after'
+            (mine n (Leave n cause) refl) w;
         gone = after-leave net n before cause after' m;
       },
     )
 
-pub did-not : (net : NetPlan) (n : ℕ) (cause : LeaveCause) (alone : Bool) (before after' : List RingEntry) (why : RingNo) (h k :
+pub did-not : (net : NetPlan) (n : ℕ) (cause : LeaveCause) (alone : Bool)
+    (before after' : List RingEntry) (why : RingNo) (h k :
     ℕ) → IsLegal net after' → Holds net before n
-    → WentOn alone (is_of n) before [] after' → (why ≡ NoMemory) ⊎ (leave_no net (ring_after net after') n cause ≡ Some why) → why ≡ NotDue h k
+    → WentOn alone (is_of n) before [] after'
+    → (why ≡ NoMemory) ⊎ (leave_no net (ring_after net after') n cause ≡ Some why)
+    → why ≡ NotDue h k
     → (false ≡ is_due net (ring_after net before) n cause) × StoodStill alone net n before after'
 did-not net n cause alone before after' why h k legal holds w refused is =
     let s = stood-still net n alone before after' legal w holds in
@@ -166,88 +193,124 @@ apart-put n put (GiveUp id word) is = refl
 apart-put n put (Pass node done words) is = refl
 apart-put n put (Leave node cause) is = refl
 
-put-own : (n : ℕ) (put : List ℕ) (es : List RingEntry) → put_after n put es ≡ put_after n put (own n es)
+put-own : (n : ℕ) (put : List ℕ) (es : List RingEntry)
+    → put_after n put es ≡ put_after n put (own n es)
 put-own n put [] = refl
 put-own n put (e ∷ es) = elim (cases_Bool (maker e == n)) [
-  | inl ours ↦ put-own n (put_with n put e) es ∙ ap (λ b. put_after n put (cond b (e ∷ own n es) (own n es))) (sym ours)
+  | inl ours ↦ put-own n (put_with n put e) es ∙ ap
+      (λ b. put_after n put (cond b (e ∷ own n es) (own n es))) (sym ours)
   | inr other ↦
       ap (λ p. put_after n p es) (apart-put n put e other) ∙ put-own n put es
       ∙ ap (λ b. put_after n put (cond b (e ∷ own n es) (own n es))) (sym other)
 ]
 
-pub words-as : (n : ℕ) (one other : List RingEntry) → own n one ≡ own n other → words_put n one ≡ words_put n other
+pub words-as : (n : ℕ) (one other : List RingEntry) → own n one ≡ own n other
+    → words_put n one ≡ words_put n other
 words-as n one other same = put-own n [] one ∙ ap (put_after n []) same ∙ sym (put-own n [] other)
 
-pub still-own : (alone : Bool) (net : NetPlan) (n : ℕ) (old new : List RingEntry) → StoodStill alone net n old new → own n new ≡ own n old
-still-own alone net n old new s = grew-ours alone (is_of n) old [] new s.grew ∙ append-nil (own n old)
+pub still-own : (alone : Bool) (net : NetPlan) (n : ℕ) (old new : List RingEntry)
+    → StoodStill alone net n old new → own n new ≡ own n old
+still-own alone net n old new s = grew-ours alone (is_of n) old [] new s.grew ∙ append-nil
+    (own n old)
 
 -- ---- a turn whose node stays
 
-nothing-due : (spent ended : Bool) → spent ≡ false → ended ≡ false → (if spent then Some Spent else (if ended then Some Ended else None)) ≡ None
-nothing-due spent ended one two = ap (λ b. if b then Some Spent else (if ended then Some Ended else None)) one ∙ ap (λ b. if b then Some Ended else None) two
+nothing-due : (spent ended : Bool) → spent ≡ false → ended ≡ false
+    → (if spent then Some Spent else (if ended then Some Ended else None)) ≡ None
+nothing-due spent ended one two = ap
+    (λ b. if b then Some Spent else (if ended then Some Ended else None)) one ∙ ap
+    (λ b. if b then Some Ended else None) two
 
-stood : (net : NetPlan) (n : ℕ) (cause : LeaveCause) (alone : Bool) (old new : List RingEntry) (left : Bool) → left ≡ false →
+stood : (net : NetPlan) (n : ℕ) (cause : LeaveCause) (alone : Bool) (old new : List RingEntry)
+    (left : Bool) → left ≡ false →
     LeftOrStood alone net n cause old new left → StoodStill alone net n old new
 stood net n cause alone old new true is did = absurd cc
 stood net n cause alone old new false is did = did
 
-passed-at : (net : NetPlan) (n : ℕ) (done budget alone : Bool) (a b c d : List RingEntry) (spent ended : Bool)
-    → spent ≡ (budget && is_due net (ring_after net a) n Spent) → LeftOrStood alone net n Spent a b spent → spent ≡ false
-    → ended ≡ (done && is_due net (ring_after net b) n Ended) → LeftOrStood alone net n Ended b c ended → ended ≡ false
+passed-at : (net : NetPlan) (n : ℕ) (done budget alone : Bool) (a b c d : List RingEntry)
+    (spent ended : Bool)
+    → spent ≡ (budget && is_due net (ring_after net a) n Spent)
+    → LeftOrStood alone net n Spent a b spent → spent ≡ false
+    → ended ≡ (done && is_due net (ring_after net b) n Ended)
+    → LeftOrStood alone net n Ended b c ended → ended ≡ false
     → WentOn alone (is_of n) c (Pass n done (words_put n c) ∷ []) d → IsOnRing net d n
     → HandedOn alone net n done (words_put n a) (cause_due net (ring_after net a) n done budget) a d
 passed-at net n done budget alone a b c d spent ended one did_one not_one two did_two not_two w on =
     let s = stood net n Spent alone a b spent not_one did_one in
     let t = stood net n Ended alone b c ended not_two did_two in
     let second : (done && is_due net (ring_after net a) n Ended) ≡ false =
-    ap (λ x. done && x) (sym (due-as net (ring_after net a) (ring_after net b) n Ended s.part s.quiet)) ∙ sym two ∙ not_two in
-    let none : cause_due net (ring_after net a) n done budget ≡ None = nothing-due _ _ (sym one ∙ not_one) second in
-    let words : words_put n c ≡ words_put n a = words-as n c a (still-own alone net n b c t ∙ still-own alone net n a b s) in
+    ap (λ x. done && x) (sym (due-as net (ring_after net a) (ring_after net b) n Ended s.part
+    s.quiet)) ∙ sym two ∙ not_two in
+    let none : cause_due net (ring_after net a) n done budget ≡ None = nothing-due _ _
+    (sym one ∙ not_one) second in
+    let words : words_put n c ≡ words_put n a = words-as n c a
+    (still-own alone net n b c t ∙ still-own alone net n a b s) in
     let e : RingEntry = Pass n done (words_put n c) in
     let last = grew-one alone (is_of n) c (e ∷ []) d (mine n e refl) w in
     let still = grew-more alone (is_of n) a b c [] [] s.grew t.grew in
-    let all : Grew alone (is_of n) a (Pass n done (words_put n c) ∷ []) d = grew-more alone (is_of n) a c d [] (e ∷ []) still last in
+    let all : Grew alone (is_of n) a (Pass n done (words_put n c) ∷ []) d = grew-more alone
+    (is_of n) a c d [] (e ∷ []) still last in
     record {
-      grew = subst (λ o. Grew alone (is_of n) a (last_entry n done (words_put n a) o ∷ []) d) (sym none)
+      grew = subst (λ o. Grew alone (is_of n) a (last_entry n done (words_put n a) o ∷ []) d)
+          (sym none)
           (subst (λ l. Grew alone (is_of n) a (Pass n done l ∷ []) d) words all);
       gone = λ why is. let no' : None ≡ Some why = sym none ∙ is in absurd cc;
-      stays = λ is. after-pass net n c done (words_put n c) d (moved net n alone c e d refl on w (inl t.holds)) t.holds;
+      stays = λ is. after-pass net n c done (words_put n c) d
+          (moved net n alone c e d refl on w (inl t.holds)) t.holds;
     }
 
 -- the same, where the second attempt speaks of a side that stayed the same
-pub passed-on : {Q : Type 0} (side side' side'' : RingSideIs Q) (n : ℕ) (done budget alone : Bool) (a b c d : List RingEntry)
+pub passed-on : {Q : Type 0} (side side' side'' : RingSideIs Q) (n : ℕ) (done budget alone : Bool)
+    (a b c d : List RingEntry)
     (spent ended : Bool) → side' ≡ side → side'' ≡ side'
-    → spent ≡ (budget && is_due side.net (ring_after side.net a) n Spent) → LeftOrStood alone side.net n Spent a b spent → spent ≡ false
-    → ended ≡ (done && is_due side'.net (ring_after side'.net b) n Ended) → LeftOrStood alone side'.net n Ended b c ended → ended ≡ false
-    → WentOn alone (is_of n) c (Pass n done (words_put n c) ∷ []) d → IsOwnTurn side a n → IsLegal side''.net d
-    → HandedOn alone side.net n done (words_put n a) (cause_due side.net (ring_after side.net a) n done budget) a d
-passed-on {Q} side side' side'' n done budget alone a b c d spent ended same next_same one did_one not_one two did_two not_two w turn legal =
+    → spent ≡ (budget && is_due side.net (ring_after side.net a) n Spent)
+    → LeftOrStood alone side.net n Spent a b spent → spent ≡ false
+    → ended ≡ (done && is_due side'.net (ring_after side'.net b) n Ended)
+    → LeftOrStood alone side'.net n Ended b c ended → ended ≡ false
+    → WentOn alone (is_of n) c (Pass n done (words_put n c) ∷ []) d → IsOwnTurn side a n
+    → IsLegal side''.net d
+    → HandedOn alone side.net n done (words_put n a)
+    (cause_due side.net (ring_after side.net a) n done budget) a d
+passed-on {Q} side side' side'' n done budget alone a b c d spent ended same next_same one did_one
+    not_one two did_two not_two w turn legal =
     passed-at side.net n done budget alone a b c d spent ended one did_one not_one
-    (subst (λ (s : RingSideIs Q). ended ≡ (done && is_due s.net (ring_after s.net b) n Ended)) same two)
+    (subst (λ (s : RingSideIs Q). ended ≡ (done && is_due s.net (ring_after s.net b) n Ended)) same
+    two)
     (subst (λ (s : RingSideIs Q). LeftOrStood alone s.net n Ended b c ended) same did_two) not_two w
-    (on-ring side a d n turn (subst (λ (s : RingSideIs Q). IsLegal s.net d) (next_same ∙ same) legal))
+    (on-ring side a d n turn (subst (λ (s : RingSideIs Q). IsLegal s.net d) (next_same ∙ same)
+    legal))
 
 -- ---- a turn whose node leaves since it is done
 
-ended-due : (spent ended : Bool) → spent ≡ false → ended ≡ true → (if spent then Some Spent else (if ended then Some Ended else None)) ≡ Some Ended
-ended-due spent ended one two = ap (λ b. if b then Some Spent else (if ended then Some Ended else None)) one ∙ ap (λ b. if b then Some Ended else None) two
+ended-due : (spent ended : Bool) → spent ≡ false → ended ≡ true
+    → (if spent then Some Spent else (if ended then Some Ended else None)) ≡ Some Ended
+ended-due spent ended one two = ap
+    (λ b. if b then Some Spent else (if ended then Some Ended else None)) one ∙ ap
+    (λ b. if b then Some Ended else None) two
 
-left : (net : NetPlan) (n : ℕ) (cause : LeaveCause) (alone : Bool) (old new : List RingEntry) (gone : Bool) → gone ≡ true →
+left : (net : NetPlan) (n : ℕ) (cause : LeaveCause) (alone : Bool) (old new : List RingEntry)
+    (gone : Bool) → gone ≡ true →
     LeftOrStood alone net n cause old new gone → LeftRing alone net n cause old new
 left net n cause alone old new true is did = did
 left net n cause alone old new false is did = absurd cc
 
-ended-at : (net : NetPlan) (n : ℕ) (done budget alone : Bool) (words : List ℕ) (a b c : List RingEntry) (spent ended : Bool)
-    → spent ≡ (budget && is_due net (ring_after net a) n Spent) → LeftOrStood alone net n Spent a b spent → spent ≡ false
-    → ended ≡ (done && is_due net (ring_after net b) n Ended) → LeftOrStood alone net n Ended b c ended → ended ≡ true
+ended-at : (net : NetPlan) (n : ℕ) (done budget alone : Bool) (words : List ℕ)
+    (a b c : List RingEntry) (spent ended : Bool)
+    → spent ≡ (budget && is_due net (ring_after net a) n Spent)
+    → LeftOrStood alone net n Spent a b spent → spent ≡ false
+    → ended ≡ (done && is_due net (ring_after net b) n Ended)
+    → LeftOrStood alone net n Ended b c ended → ended ≡ true
     → HandedOn alone net n done words (cause_due net (ring_after net a) n done budget) a c
 ended-at net n done budget alone words a b c spent ended one did_one not_one two did_two is_two =
     let s = stood net n Spent alone a b spent not_one did_one in
     let l = left net n Ended alone b c ended is_two did_two in
     let second : (done && is_due net (ring_after net a) n Ended) ≡ true =
-    ap (λ x. done && x) (sym (due-as net (ring_after net a) (ring_after net b) n Ended s.part s.quiet)) ∙ sym two ∙ is_two in
-    let why : cause_due net (ring_after net a) n done budget ≡ Some Ended = ended-due _ _ (sym one ∙ not_one) second in
-    let all : Grew alone (is_of n) a (Leave n Ended ∷ []) c = grew-more alone (is_of n) a b c [] (Leave n Ended ∷ []) s.grew l.grew in
+    ap (λ x. done && x) (sym (due-as net (ring_after net a) (ring_after net b) n Ended s.part
+    s.quiet)) ∙ sym two ∙ is_two in
+    let why : cause_due net (ring_after net a) n done budget ≡ Some Ended = ended-due _ _
+    (sym one ∙ not_one) second in
+    let all : Grew alone (is_of n) a (Leave n Ended ∷ []) c = grew-more alone (is_of n) a b c []
+    (Leave n Ended ∷ []) s.grew l.grew in
     record {
       grew = subst (λ o. Grew alone (is_of n) a (last_entry n done words o ∷ []) c) (sym why) all;
       gone = λ _ _. l.gone;
@@ -255,12 +318,18 @@ ended-at net n done budget alone words a b c spent ended one did_one not_one two
     }
 
 -- the same, where the second attempt speaks of a side that stayed the same
-pub ended-on : {Q : Type 0} (side side' : RingSideIs Q) (n : ℕ) (done budget alone : Bool) (words : List ℕ) (a b c : List RingEntry)
+pub ended-on : {Q : Type 0} (side side' : RingSideIs Q) (n : ℕ) (done budget alone : Bool)
+    (words : List ℕ) (a b c : List RingEntry)
     (spent ended : Bool) → side' ≡ side
-    → spent ≡ (budget && is_due side.net (ring_after side.net a) n Spent) → LeftOrStood alone side.net n Spent a b spent → spent ≡ false
-    → ended ≡ (done && is_due side'.net (ring_after side'.net b) n Ended) → LeftOrStood alone side'.net n Ended b c ended → ended ≡ true
-    → HandedOn alone side.net n done words (cause_due side.net (ring_after side.net a) n done budget) a c
-ended-on {Q} side side' n done budget alone words a b c spent ended same one did_one not_one two did_two is_two =
+    → spent ≡ (budget && is_due side.net (ring_after side.net a) n Spent)
+    → LeftOrStood alone side.net n Spent a b spent → spent ≡ false
+    → ended ≡ (done && is_due side'.net (ring_after side'.net b) n Ended)
+    → LeftOrStood alone side'.net n Ended b c ended → ended ≡ true
+    → HandedOn alone side.net n done words
+    (cause_due side.net (ring_after side.net a) n done budget) a c
+ended-on {Q} side side' n done budget alone words a b c spent ended same one did_one not_one two
+    did_two is_two =
     ended-at side.net n done budget alone words a b c spent ended one did_one not_one
-    (subst (λ (s : RingSideIs Q). ended ≡ (done && is_due s.net (ring_after s.net b) n Ended)) same two)
+    (subst (λ (s : RingSideIs Q). ended ≡ (done && is_due s.net (ring_after s.net b) n Ended)) same
+    two)
     (subst (λ (s : RingSideIs Q). LeftOrStood alone s.net n Ended b c ended) same did_two) is_two

@@ -16,66 +16,95 @@ pub record Grown {E : Type 0} (alone : Bool) (ours : E → Bool) (old new : List
   pub added : List E
   pub grew : Grew alone ours old added new
 
-grown-both : {E : Type 0} (alone : Bool) (ours : E → Bool) (a b c : List E) → Grown alone ours a b → Grown alone ours b c → Grown alone ours a c
-grown-both alone ours a b c x y = record { added = x.added ++ y.added; grew = grew-more alone ours a b c x.added y.added x.grew y.grew }
+grown-both : {E : Type 0} (alone : Bool) (ours : E → Bool) (a b c : List E) → Grown alone ours a b
+    → Grown alone ours b c → Grown alone ours a c
+grown-both alone ours a b c x y = record
+    { added = x.added ++ y.added; grew = grew-more alone ours a b c x.added y.added x.grew y.grew }
 
 any-each : {E : Type 0} (xs : List E) → Each (λ (e : E). Unit {0}) xs
 any-each [] = tt
 any-each (x ∷ xs) = (tt, any-each xs)
 
-adds-any : {E : Type 0} (alone : Bool) (ours : E → Bool) (a b : List E) → Grown alone ours a b → Adds alone ours (λ (e : E). Unit {0}) a b
+adds-any : {E : Type 0} (alone : Bool) (ours : E → Bool) (a b : List E) → Grown alone ours a b
+    → Adds alone ours (λ (e : E). Unit {0}) a b
 adds-any alone ours a b g = record { added = g.added; sort = any-each g.added; grew = g.grew }
 
 still : (alone : Bool) (a b : List Entry) → WentOn alone is_ours a [] b → Grown alone is_ours a b
 still alone a b w = record { added = []; grew = grew-one alone is_ours a [] b refl w }
 
-collects-grown : (alone alone' : Bool) (fixed : Fixed) (n : ℕ) (Due : Call → List Entry → List RingEntry → Type 0) (k k' : List Entry) (r r' : List RingEntry) → Collects
+collects-grown : (alone alone' : Bool) (fixed : Fixed) (n : ℕ)
+    (Due : Call → List Entry → List RingEntry → Type 0) (k k' : List Entry) (r r' : List RingEntry)
+    → Collects
     alone alone' fixed n Due k k' r r' → Grown alone is_ours k k' × Grown alone' (is_of n) r r'
 collects-grown alone alone' fixed n Due k k' r r' c = (
-  grown-both alone is_ours k c.asked k' (still alone k c.asked c.asks) (record { added = c.goes.noted; grew = c.goes.station }),
+  grown-both alone is_ours k c.asked k' (still alone k c.asked c.asks)
+      (record { added = c.goes.noted; grew = c.goes.station }),
   record { added = c.goes.done; grew = c.goes.node },
 )
 
-ends-grown : (alone alone' : Bool) (fixed : Fixed) (net : NetPlan) (n : ℕ) (budget : Bool) (k k' : List Entry) (r r' : List RingEntry) (left : Bool) → Ends alone alone'
+ends-grown : (alone alone' : Bool) (fixed : Fixed) (net : NetPlan) (n : ℕ) (budget : Bool)
+    (k k' : List Entry) (r r' : List RingEntry) (left : Bool) → Ends alone alone'
     fixed net n budget k k' r r' left → Grown alone is_ours k k' × Grown alone' (is_of n) r r'
 ends-grown alone alone' fixed net n budget k k' r r' left e = (
-  grown-both alone is_ours k e.asked_known k' (grown-both alone is_ours k e.asked.at_end e.asked_known (still alone k e.asked.at_end e.asked.first)
-      (still alone e.asked.at_end e.asked_known e.asked.then_on)) (record { added = e.gives_up.noted; grew = e.gives_up.station }),
-  grown-both alone' (is_of n) r e.handed_ring r' (record { added = _; grew = e.handed.grew }) (record { added = e.gives_up.done; grew = e.gives_up.node }),
+  grown-both alone is_ours k e.asked_known k'
+      (grown-both alone is_ours k e.asked.at_end e.asked_known
+      (still alone k e.asked.at_end e.asked.first)
+      (still alone e.asked.at_end e.asked_known e.asked.then_on))
+      (record { added = e.gives_up.noted; grew = e.gives_up.station }),
+  grown-both alone' (is_of n) r e.handed_ring r' (record { added = _; grew = e.handed.grew })
+      (record { added = e.gives_up.done; grew = e.gives_up.node }),
 )
 
-pub turn-grown : (alone alone' : Bool) (fixed : Fixed) (net : NetPlan) (n : ℕ) (budget : Bool) (k k' : List Entry) (r r' : List RingEntry) (left : Bool) → HoldsTurn
-    alone alone' fixed net n budget k k' r r' left → Grown alone is_ours k k' × Grown alone' (is_of n) r r'
+pub turn-grown : (alone alone' : Bool) (fixed : Fixed) (net : NetPlan) (n : ℕ) (budget : Bool)
+    (k k' : List Entry) (r r' : List RingEntry) (left : Bool) → HoldsTurn
+    alone alone' fixed net n budget k k' r r' left
+    → Grown alone is_ours k k' × Grown alone' (is_of n) r r'
 turn-grown alone alone' fixed net n budget k k' r r' left t =
-    let c = collects-grown alone alone' fixed n _ t.served_known t.called_known t.served_ring t.called_ring t.calls in
-    let e = ends-grown alone alone' fixed net n budget t.given_known k' t.given_ring r' left t.ends in (
-      grown-both alone is_ours k t.served_known k' (record { added = t.serves.noted; grew = t.serves.station })
+    let c = collects-grown alone alone' fixed n _ t.served_known t.called_known t.served_ring
+    t.called_ring t.calls in
+    let e = ends-grown alone alone' fixed net n budget t.given_known k' t.given_ring r' left t.ends
+    in (
+      grown-both alone is_ours k t.served_known k'
+          (record { added = t.serves.noted; grew = t.serves.station })
           (grown-both alone is_ours t.served_known t.called_known k' c.0
-          (grown-both alone is_ours t.called_known t.sent_known k' (record { added = _; grew = t.sends.finishes })
-          (grown-both alone is_ours t.sent_known t.given_known k' (record { added = t.gives_up.noted; grew = t.gives_up.station }) e.0))),
-      grown-both alone' (is_of n) r t.served_ring r' (record { added = t.serves.done; grew = t.serves.node })
+          (grown-both alone is_ours t.called_known t.sent_known k'
+          (record { added = _; grew = t.sends.finishes })
+          (grown-both alone is_ours t.sent_known t.given_known k'
+          (record { added = t.gives_up.noted; grew = t.gives_up.station }) e.0))),
+      grown-both alone' (is_of n) r t.served_ring r'
+          (record { added = t.serves.done; grew = t.serves.node })
           (grown-both alone' (is_of n) t.served_ring t.called_ring r' c.1
-          (grown-both alone' (is_of n) t.called_ring t.sent_ring r' (record { added = t.sends.done; grew = t.sends.grew })
-          (grown-both alone' (is_of n) t.sent_ring t.given_ring r' (record { added = t.gives_up.done; grew = t.gives_up.node }) e.1))),
+          (grown-both alone' (is_of n) t.called_ring t.sent_ring r'
+          (record { added = t.sends.done; grew = t.sends.grew })
+          (grown-both alone' (is_of n) t.sent_ring t.given_ring r'
+          (record { added = t.gives_up.done; grew = t.gives_up.node }) e.1))),
     )
 
 -- the ring went on by entries of the node
-pub turn-adds : (alone alone' : Bool) (fixed : Fixed) (net : NetPlan) (n : ℕ) (budget : Bool) (k k' : List Entry) (r r' : List RingEntry) (left : Bool) → HoldsTurn
-    alone alone' fixed net n budget k k' r r' left → Adds alone' (is_of n) (λ (e : RingEntry). Unit {0}) r r'
+pub turn-adds : (alone alone' : Bool) (fixed : Fixed) (net : NetPlan) (n : ℕ) (budget : Bool)
+    (k k' : List Entry) (r r' : List RingEntry) (left : Bool) → HoldsTurn
+    alone alone' fixed net n budget k k' r r' left
+    → Adds alone' (is_of n) (λ (e : RingEntry). Unit {0}) r r'
 turn-adds alone alone' fixed net n budget k k' r r' left t =
     adds-any alone' (is_of n) r r' (turn-grown alone alone' fixed net n budget k k' r r' left t).1
 
 -- the controller's list went on by events of its communication
-pub turn-notes : (alone alone' : Bool) (fixed : Fixed) (net : NetPlan) (n : ℕ) (budget : Bool) (k k' : List Entry) (r r' : List RingEntry) (left : Bool) → HoldsTurn
-    alone alone' fixed net n budget k k' r r' left → Adds alone is_ours (λ (e : Entry). Unit {0}) k k'
+pub turn-notes : (alone alone' : Bool) (fixed : Fixed) (net : NetPlan) (n : ℕ) (budget : Bool)
+    (k k' : List Entry) (r r' : List RingEntry) (left : Bool) → HoldsTurn
+    alone alone' fixed net n budget k k' r r' left
+    → Adds alone is_ours (λ (e : Entry). Unit {0}) k k'
 turn-notes alone alone' fixed net n budget k k' r r' left t =
     adds-any alone is_ours k k' (turn-grown alone alone' fixed net n budget k k' r r' left t).0
 
 -- and so in a visit
-pub visit-adds : (alone alone' : Bool) (fixed : Fixed) (net : NetPlan) (n : ℕ) (k k' : List Entry) (r r' : List RingEntry) → VisitsEnd alone alone' fixed net n k k' r r'
+pub visit-adds : (alone alone' : Bool) (fixed : Fixed) (net : NetPlan) (n : ℕ) (k k' : List Entry)
+    (r r' : List RingEntry) → VisitsEnd alone alone' fixed net n k k' r r'
     → Adds alone' (is_of n) (λ (e : RingEntry). Unit {0}) r r'
-visit-adds alone alone' fixed net n k k' r r' v = adds-any alone' (is_of n) r r' (collects-grown alone alone' fixed n _ k k' r r' v.calls).1
+visit-adds alone alone' fixed net n k k' r r' v = adds-any alone' (is_of n) r r'
+    (collects-grown alone alone' fixed n _ k k' r r' v.calls).1
 
-pub visit-notes : (alone alone' : Bool) (fixed : Fixed) (net : NetPlan) (n : ℕ) (k k' : List Entry) (r r' : List RingEntry) → VisitsEnd alone alone' fixed net n k k' r r'
+pub visit-notes : (alone alone' : Bool) (fixed : Fixed) (net : NetPlan) (n : ℕ) (k k' : List Entry)
+    (r r' : List RingEntry) → VisitsEnd alone alone' fixed net n k k' r r'
     → Adds alone is_ours (λ (e : Entry). Unit {0}) k k'
-visit-notes alone alone' fixed net n k k' r r' v = adds-any alone is_ours k k' (collects-grown alone alone' fixed n _ k k' r r' v.calls).0
+visit-notes alone alone' fixed net n k k' r r' v = adds-any alone is_ours k k'
+    (collects-grown alone alone' fixed n _ k k' r r' v.calls).0

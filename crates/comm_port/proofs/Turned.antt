@@ -30,35 +30,48 @@ no-asks : (c : NodeIs) → c.outbox ≡ [] → NonePathFailed c → NoAsks c
 no-asks c sent none = (none, subst (Each _) (sym sent) tt)
 
 -- after the first two parts the node may send
-pub sends-next : {P Q : Type 0} (alone : Bool) (n : ℕ) (ram : RamSideIs P) (known : List Entry) (side : RingSideIs Q) (ring served called : List RingEntry) (w :
-    List (Option Frame)) → 0 < side.net.answer → IsAtRest side.net n ring → IsOnRing side.net ring n → IsFree side.net ring n → Adds alone (is_of n) (IsServing n)
-    ring served → Turning n [] ram known side served w → Adds alone (is_of n) (IsCalling n) served called → IsLegal side.net called
+pub sends-next : {P Q : Type 0} (alone : Bool) (n : ℕ) (ram : RamSideIs P) (known : List Entry)
+    (side : RingSideIs Q) (ring served called : List RingEntry) (w :
+    List (Option Frame)) → 0 < side.net.answer → IsAtRest side.net n ring → IsOnRing side.net ring n
+    → IsFree side.net ring n → Adds alone (is_of n) (IsServing n)
+    ring served → Turning n [] ram known side served w
+    → Adds alone (is_of n) (IsCalling n) served called → IsLegal side.net called
     → MaySend side.net n (free_paths w) (part_at side.net n called)
 sends-next alone n ram known side ring served called w wait rest on free one t two legal =
     let net = side.net in
-    let q = through alone net n (IsServing n) NoAsks ring served (serving-keeps net n) on t.own_turn.on.legal free one
+    let q = through alone net n (IsServing n) NoAsks ring served (serving-keeps net n) on
+    t.own_turn.on.legal free one
     (no-asks (part_at net n ring) rest.all_sent rest.none_failed) in
     let start = asks-start n ram known side served w wait t q in
-    may-send net n (free_paths w) (part_at net n called) (through alone net n (IsCalling n) (Asks (free_paths w) net.answer) served called
+    may-send net n (free_paths w) (part_at net n called)
+    (through alone net n (IsCalling n) (Asks (free_paths w) net.answer) served called
     (calling-keeps net n (free_paths w) wait) t.own_turn.on legal t.own_turn.free two start)
 
 -- after the third the node is at rest
-pub rest-sent : (alone alone' : Bool) (net : NetPlan) (n : ℕ) (known known' : List Entry) (ring ring' : List RingEntry) → SendsAll alone alone' net n known known' ring
+pub rest-sent : (alone alone' : Bool) (net : NetPlan) (n : ℕ) (known known' : List Entry)
+    (ring ring' : List RingEntry) → SendsAll alone alone' net n known known' ring
     ring' → IsAtRest net n ring'
-rest-sent alone alone' net n known known' ring ring' s = record { all_sent = s.all_sent; none_failed = paths-of-none net n ring' s.none_failed }
+rest-sent alone alone' net n known known' ring ring' s = record
+    { all_sent = s.all_sent; none_failed = paths-of-none net n ring' s.none_failed }
 
 -- and so after the fourth
-pub rest-given : (alone : Bool) (net : NetPlan) (n : ℕ) (ring ring' : List RingEntry) → IsOnRing net ring n → IsLegal net ring' → Adds alone (is_of n) IsGivingUp
+pub rest-given : (alone : Bool) (net : NetPlan) (n : ℕ) (ring ring' : List RingEntry)
+    → IsOnRing net ring n → IsLegal net ring' → Adds alone (is_of n) IsGivingUp
     ring ring' → IsAtRest net n ring → IsAtRest net n ring'
 rest-given alone net n ring ring' on legal adds q =
-    rest-through alone net n ring ring' on legal (adds-weaker alone (is_of n) IsGivingUp IsEnding ring ring' ending-too adds) q
+    rest-through alone net n ring ring' on legal
+    (adds-weaker alone (is_of n) IsGivingUp IsEnding ring ring' ending-too adds) q
 
-pub given-over : (alone alone' : Bool) (net : NetPlan) (n : ℕ) (known known' : List Entry) (ring ring' : List RingEntry) → Holds net ring n → IsAtRest net n ring
-    → PartOf alone alone' is_ours n (InOrder IsGivenUp (due_calls net n ring network_paths)) known known' ring ring'
+pub given-over : (alone alone' : Bool) (net : NetPlan) (n : ℕ) (known known' : List Entry)
+    (ring ring' : List RingEntry) → Holds net ring n → IsAtRest net n ring
+    → PartOf alone alone' is_ours n (InOrder IsGivenUp (due_calls net n ring network_paths)) known
+    known' ring ring'
     → PartOf alone alone' is_ours n (InOrder IsGivenUp (overdue net n ring)) known known' ring ring'
 given-over alone alone' net n known known' ring ring' h q p =
-    subst (λ (l : List CallId). PartOf alone alone' is_ours n (InOrder IsGivenUp l) known known' ring ring') (overdue-is net n ring h.here q.none_failed) p
+    subst (λ (l : List CallId). PartOf alone alone' is_ours n (InOrder IsGivenUp l) known known'
+    ring ring') (overdue-is net n ring h.here q.none_failed) p
 
-pub inbox-kept : (net : NetPlan) (n : ℕ) (a b c d : List RingEntry) → inbox_of net n a ≡ [] → KeepsInbox net n a b → KeepsInbox net n b c → KeepsInbox net n c d → inbox_of
+pub inbox-kept : (net : NetPlan) (n : ℕ) (a b c d : List RingEntry) → inbox_of net n a ≡ []
+    → KeepsInbox net n a b → KeepsInbox net n b c → KeepsInbox net n c d → inbox_of
     net n d ≡ []
 inbox-kept net n a b c d empty x y z = z.inbox ∙ (y.inbox ∙ (x.inbox ∙ empty))

@@ -27,20 +27,27 @@ use Rattle.comm_port.proofs.Made.{ram-still}
 use Rattle.comm_port.proofs.Served.{waiting-as}
 
 -- the last entry says nothing to the laws
-last-tied : (n : ℕ) (done : Bool) (words : List ℕ) (cause : Option LeaveCause) (a : Items) (b : List RingEntry) → TiedBut
+last-tied : (n : ℕ) (done : Bool) (words : List ℕ) (cause : Option LeaveCause) (a : Items)
+    (b : List RingEntry) → TiedBut
     AController [] a b → TiedBut AController [] a (b ++ last_entry n done words cause ∷ [])
-last-tied n done words None a b t = tied-quiet AController [] a b (Pass n done words) refl refl refl refl refl t
-last-tied n done words (Some cause) a b t = tied-quiet AController [] a b (Leave n cause) refl refl refl refl refl t
+last-tied n done words None a b t = tied-quiet AController [] a b (Pass n done words) refl refl refl
+    refl refl t
+last-tied n done words (Some cause) a b t = tied-quiet AController [] a b (Leave n cause) refl refl
+    refl refl refl t
 
-last-waits : (n : ℕ) (done : Bool) (words : List ℕ) (cause : Option LeaveCause) (b : List RingEntry) (p : ℕ) → waits_on p (b ++
+last-waits : (n : ℕ) (done : Bool) (words : List ℕ) (cause : Option LeaveCause) (b : List RingEntry)
+    (p : ℕ) → waits_on p (b ++
     last_entry n done words cause ∷ []) ≡ waits_on p b
 last-waits n done words None b p = waiting-push p b (Pass n done words)
 last-waits n done words (Some cause) b p = waiting-push p b (Leave n cause)
 
-pub handed-lead : {P Q : Type 0} (alone : Bool) (n : ℕ) (done : Bool) (words : List ℕ) (cause : Option LeaveCause) (ram :
-    RamSideIs P) (known : List Entry) (side side' : RingSideIs Q) (ring ring' : List RingEntry) (w : List (Option Frame)) → side'
+pub handed-lead : {P Q : Type 0} (alone : Bool) (n : ℕ) (done : Bool) (words : List ℕ)
+    (cause : Option LeaveCause) (ram :
+    RamSideIs P) (known : List Entry) (side side' : RingSideIs Q) (ring ring' : List RingEntry)
+    (w : List (Option Frame)) → side'
     ≡ side → IsLegal side.net ring'
-    → HandedOn alone side.net n done words cause ring ring' → Turning n [] ram known side ring w → Rested n ram known side' ring' w
+    → HandedOn alone side.net n done words cause ring ring' → Turning n [] ram known side ring w
+    → Rested n ram known side' ring' w
 handed-lead {P} {Q} alone n done words cause ram known side side' ring ring' w same legal h t =
     let e = last_entry n done words cause in
     let own_is = grew-ours alone (is_of n) ring (e ∷ []) ring' h.grew in
@@ -48,16 +55,20 @@ handed-lead {P} {Q} alone n done words cause ram known side side' ring ring' w s
       node = t.node;
       serves = t.own_turn.serves;
       on = on-ring side ring ring' n t.own_turn legal;
-      tied = subst (Tied AController (items_of known)) (sym own_is) (tied-all AController (items_of known) (own n ring ++ e ∷ [])
+      tied = subst (Tied AController (items_of known)) (sym own_is)
+          (tied-all AController (items_of known) (own n ring ++ e ∷ [])
           (last-tied n done words cause (items_of known) (own n ring) t.tied));
       waits = subst (λ (l : List RingEntry). AreWaiting n (items_of known) l w) (sym own_is)
-          (waiting-as n (items_of known) (items_of known) (own n ring) (own n ring ++ e ∷ []) w (last-waits n done words cause
+          (waiting-as n (items_of known) (items_of known) (own n ring) (own n ring ++ e ∷ []) w
+          (last-waits n done words cause
           (own n ring)) (λ id out. out) t.waits);
     })
 
 -- a node that left goes on by itself
-pub left-lead : {P Q : Type 0} (n : ℕ) (ram : RamSideIs P) (known : List Entry) (side : RingSideIs Q) (ring : List RingEntry) (w :
-    List (Option Frame)) → HasLeft side.net ring n → Rested n ram known side ring w → Turning n [] ram known side ring w
+pub left-lead : {P Q : Type 0} (n : ℕ) (ram : RamSideIs P) (known : List Entry)
+    (side : RingSideIs Q) (ring : List RingEntry) (w :
+    List (Option Frame)) → HasLeft side.net ring n → Rested n ram known side ring w
+    → Turning n [] ram known side ring w
 left-lead n ram known side ring w gone r = record {
   node = r.node;
   own_turn = record { serves = r.serves; on = r.on; free = inr gone };
@@ -69,14 +80,19 @@ pub some-of : {X : Type 0} (o : Option X) → is_some o ≡ true → (x : X) × 
 some-of None e = absurd (let no' : false ≡ true = e in cc)
 some-of (Some x) e = (x, refl)
 
-pub left-at : {Q : Type 0} (side side' : RingSideIs Q) (ring : List RingEntry) (n : ℕ) → side' ≡ side → HasLeft side.net ring n → HasLeft side'.net ring n
-left-at {Q} side side' ring n same gone = subst (λ (s : RingSideIs Q). HasLeft s.net ring n) (sym same) gone
+pub left-at : {Q : Type 0} (side side' : RingSideIs Q) (ring : List RingEntry) (n : ℕ)
+    → side' ≡ side → HasLeft side.net ring n → HasLeft side'.net ring n
+left-at {Q} side side' ring n same gone = subst (λ (s : RingSideIs Q). HasLeft s.net ring n)
+    (sym same) gone
 
 -- after the questions
-pub asked-lead : {P Q : Type 0} (alone : Bool) (n : ℕ) (fixed : Fixed) (done : Bool) (ram ram' : RamSideIs P) (known known' : List
-    Entry) (side : RingSideIs Q) (ring : List RingEntry) (w : List (Option Frame)) → ram' ≡ ram → AsksIfDone alone fixed (IsIdle w) known
+pub asked-lead : {P Q : Type 0} (alone : Bool) (n : ℕ) (fixed : Fixed) (done : Bool)
+    (ram ram' : RamSideIs P) (known known' : List
+    Entry) (side : RingSideIs Q) (ring : List RingEntry) (w : List (Option Frame)) → ram' ≡ ram
+    → AsksIfDone alone fixed (IsIdle w) known
     known' done → Turning n [] ram known side ring w
     → Turning n [] ram' known' side ring w
 asked-lead alone n fixed done ram ram' known known' side ring w same asked t =
-    ram-still alone n [] ram ram' asked.at_end known' side ring w same asked.then_on (ram-still alone n [] ram ram known
+    ram-still alone n [] ram ram' asked.at_end known' side ring w same asked.then_on
+    (ram-still alone n [] ram ram known
     asked.at_end side ring w refl asked.first t)

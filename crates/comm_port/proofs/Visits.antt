@@ -57,7 +57,8 @@ pub record Alone (n : ℕ) (more : List RingEntry) (e : RingEntry) : Type 0 wher
   pub none_later : own n later ≡ []
   pub mine : is_of n e ≡ true
 
-alone-at : (n : ℕ) (x : RingEntry) (more : List RingEntry) (e : RingEntry) (b : Bool) → is_of n x ≡ b → (own n more ≡ e ∷ [] → Alone n more e) → cond b (x ∷ own n
+alone-at : (n : ℕ) (x : RingEntry) (more : List RingEntry) (e : RingEntry) (b : Bool)
+    → is_of n x ≡ b → (own n more ≡ e ∷ [] → Alone n more e) → cond b (x ∷ own n
     more) (own n more) ≡ e ∷ [] → Alone n (x ∷ more) e
 alone-at n x more e true mine rec is =
     let h : x ≡ e = head-of x e (own n more) is in
@@ -81,7 +82,8 @@ alone-at n x more e false other rec is =
       before = x ∷ k.before;
       later = k.later;
       is = ap (λ (l : List RingEntry). x ∷ l) k.is;
-      none_before = ap (λ (b : Bool). cond b (x ∷ own n k.before) (own n k.before)) other ∙ k.none_before;
+      none_before = ap (λ (b : Bool). cond b (x ∷ own n k.before) (own n k.before)) other
+          ∙ k.none_before;
       none_later = k.none_later;
       mine = k.mine;
     }
@@ -90,18 +92,22 @@ alone-in : (n : ℕ) (more : List RingEntry) (e : RingEntry) → own n more ≡ 
 alone-in n [] e is = absurd (let bad : [] ≡ e ∷ [] = is in cc)
 alone-in n (x ∷ more) e is = alone-at n x more e (is_of n x) refl (alone-in n more e) is
 
-pub record OneEntry (net : NetPlan) (n : ℕ) (ring : List RingEntry) (e : RingEntry) (ring' : List RingEntry) : Type 0 where
+pub record OneEntry (net : NetPlan) (n : ℕ) (ring : List RingEntry) (e : RingEntry)
+    (ring' : List RingEntry) : Type 0 where
   pub mid : List RingEntry
   pub moved : Moved net n ring e mid
   pub later : IsFree net mid n → part_at net n ring' ≡ part_at net n mid
 
-pub one-entry : (alone : Bool) (net : NetPlan) (n : ℕ) (ring : List RingEntry) (e : RingEntry) (ring' : List RingEntry) → IsOnRing net ring n → IsLegal net ring' →
+pub one-entry : (alone : Bool) (net : NetPlan) (n : ℕ) (ring : List RingEntry) (e : RingEntry)
+    (ring' : List RingEntry) → IsOnRing net ring n → IsLegal net ring' →
     IsFree net ring n → Grew alone (is_of n) ring (e ∷ []) ring' → OneEntry net n ring e ring'
 one-entry alone net n ring e ring' on legal free g =
     let k = alone-in n g.more e g.ours_are in
     let past = ring ++ k.before in
     let mid = past ++ e ∷ [] in
-    let all : ring' ≡ mid ++ k.later = g.after_is ∙ (ap (λ l. ring ++ l) k.is ∙ (sym (append_assoc ring k.before (e ∷ k.later)) ∙ sym (append_assoc past (e ∷ []) k.later))) in
+    let all : ring' ≡ mid ++ k.later = g.after_is
+    ∙ (ap (λ l. ring ++ l) k.is ∙ (sym (append_assoc ring k.before (e ∷ k.later)) ∙ sym
+    (append_assoc past (e ∷ []) k.later))) in
     let legal' : IsLegal net (mid ++ k.later) = subst (IsLegal net) all legal in
     let near = (legal-parts net mid k.later legal').0 in
     let parts = legal-parts net past (e ∷ []) near in
@@ -123,7 +129,8 @@ one-entry alone net n ring e ring' on legal free g =
 
 -- ---- after the Post
 
-pub record Posted (net : NetPlan) (n : ℕ) (ring : List RingEntry) (f : Frame) (ring' : List RingEntry) : Type 0 where
+pub record Posted (net : NetPlan) (n : ℕ) (ring : List RingEntry) (f : Frame)
+    (ring' : List RingEntry) : Type 0 where
   pub part_is : part_at net n ring' ≡ posted (part_at net n ring) f
   pub free_path : path_no (part_at net n ring) f.kind f.id.path ≡ None
   pub own_is : own n ring' ≡ own n ring ++ Post n f ∷ []
@@ -132,7 +139,8 @@ second-none : (a b : Option RingNo) → or_no a b ≡ None → b ≡ None
 second-none None b e = e
 second-none (Some x) b e = absurd (cc)
 
-pub posted-at : (alone : Bool) (net : NetPlan) (n : ℕ) (ring : List RingEntry) (f : Frame) (ring' : List RingEntry) → IsOnRing net ring n → IsLegal net ring' → IsFree
+pub posted-at : (alone : Bool) (net : NetPlan) (n : ℕ) (ring : List RingEntry) (f : Frame)
+    (ring' : List RingEntry) → IsOnRing net ring n → IsLegal net ring' → IsFree
     net ring n → Grew alone (is_of n) ring (Post n f ∷ []) ring' → Posted net n ring f ring'
 posted-at alone net n ring f ring' on legal free g =
     let o = one-entry alone net n ring (Post n f) ring' on legal free g in
@@ -140,23 +148,29 @@ posted-at alone net n ring f ring' on legal free g =
     record {
       part_is = o.later w.free ∙ w.part_is;
       free_path = subst (λ (c : NodeIs). path_no c f.kind f.id.path ≡ None) o.moved.found.part_is
-          (second-none (free_no (ring_after net o.moved.past) n) (path_no (part_at net n o.moved.past) f.kind f.id.path) o.moved.step.1.1);
+          (second-none (free_no (ring_after net o.moved.past) n)
+          (path_no (part_at net n o.moved.past) f.kind f.id.path) o.moved.step.1.1);
       own_is = grew-ours alone (is_of n) ring (Post n f ∷ []) ring' g;
     }
 
-pub local-at : (alone : Bool) (net : NetPlan) (n : ℕ) (ring : List RingEntry) (id : CallId) (op : LocalOp) (r : MstrResult) (ring' : List RingEntry) → IsOnRing net ring
-    n → IsLegal net ring' → IsFree net ring n → Grew alone (is_of n) ring (Local n id op r ∷ []) ring' → part_at net n ring' ≡ part_at net n ring
+pub local-at : (alone : Bool) (net : NetPlan) (n : ℕ) (ring : List RingEntry) (id : CallId)
+    (op : LocalOp) (r : MstrResult) (ring' : List RingEntry) → IsOnRing net ring
+    n → IsLegal net ring' → IsFree net ring n
+    → Grew alone (is_of n) ring (Local n id op r ∷ []) ring'
+    → part_at net n ring' ≡ part_at net n ring
 local-at alone net n ring id op r ring' on legal free g =
     let o = one-entry alone net n ring (Local n id op r) ring' on legal free g in
     let w = after-local net n ring id op r o.mid o.moved in
     o.later w.free ∙ w.part_is
 
-pub waits-posted : (n : ℕ) (f : Frame) (ring ring' : List RingEntry) → f.kind ≡ Request → own n ring' ≡ own n ring ++ Post n f ∷ [] → WaitsFor n f.id ring'
+pub waits-posted : (n : ℕ) (f : Frame) (ring ring' : List RingEntry) → f.kind ≡ Request
+    → own n ring' ≡ own n ring ++ Post n f ∷ [] → WaitsFor n f.id ring'
 waits-posted n f ring ring' kind is = (
   f,
   ap (waits_on f.id.path) is ∙ (waiting-push f.id.path (own n ring) (Post n f)
       ∙ (ap (λ k. waits_posted f.id.path (waits_on f.id.path (own n ring)) k f) kind
-      ∙ cond-true (f.id.path == f.id.path) (Some f) (waits_on f.id.path (own n ring)) (eq-eqb f.id.path f.id.path refl))),
+      ∙ cond-true (f.id.path == f.id.path) (Some f) (waits_on f.id.path (own n ring))
+      (eq-eqb f.id.path f.id.path refl))),
   refl,
 )
 
@@ -172,10 +186,14 @@ waits-none : (a : Await) (o : Option Frame) → a ≡ Nothing → AwaitsThis a o
 waits-none a None is w = refl
 waits-none a (Some f) is w = absurd (subst (λ (x : Await). AwaitsThis x (Some f)) is w)
 
-pub as-before : (net : NetPlan) (n : ℕ) (f : Frame) (word : ℕ) (ring ring' ring'' : List RingEntry) → f.kind ≡ Request → IsOnRing net ring n → path_no (part_at net n
-    ring) f.kind f.id.path ≡ None → own n ring' ≡ own n ring ++ Post n f ∷ [] → own n ring'' ≡ own n ring' ++ GiveUp f.id word ∷ [] → calls_waiting n ring'' ≡ calls_waiting n ring
+pub as-before : (net : NetPlan) (n : ℕ) (f : Frame) (word : ℕ) (ring ring' ring'' : List RingEntry)
+    → f.kind ≡ Request → IsOnRing net ring n → path_no (part_at net n
+    ring) f.kind f.id.path ≡ None → own n ring' ≡ own n ring ++ Post n f ∷ []
+    → own n ring'' ≡ own n ring' ++ GiveUp f.id word ∷ []
+    → calls_waiting n ring'' ≡ calls_waiting n ring
 as-before net n f word ring ring' ring'' kind on free one two =
-    four-same (λ p. id_of (waits_on p (own n ring''))) (λ p. id_of (waits_on p (own n ring))) (ap id_of (at 1)) (ap id_of (at 2)) (ap id_of (at 3)) (ap id_of (at 4))
+    four-same (λ p. id_of (waits_on p (own n ring''))) (λ p. id_of (waits_on p (own n ring)))
+    (ap id_of (at 1)) (ap id_of (at 2)) (ap id_of (at 3)) (ap id_of (at 4))
   where
     p0 : ℕ
     p0 = f.id.path
@@ -183,7 +201,8 @@ as-before net n f word ring ring' ring'' kind on free one two =
     now : ℕ → Option Frame
     now p = waits_on p (own n ring)
 
-    later : (p : ℕ) → waits_on p (own n ring'') ≡ cond (p0 == p) None (cond (p0 == p) (Some f) (now p))
+    later : (p : ℕ) → waits_on p (own n ring'') ≡ cond (p0 == p) None
+        (cond (p0 == p) (Some f) (now p))
     later p = ap (waits_on p) (two ∙ ap (λ l. l ++ GiveUp f.id word ∷ []) one)
         ∙ (waiting-push p (own n ring ++ Post n f ∷ []) (GiveUp f.id word)
         ∙ ap (λ (o : Option Frame). cond (p0 == p) None o) (waiting-push p (own n ring) (Post n f)
@@ -191,124 +210,184 @@ as-before net n f word ring ring' ring'' kind on free one two =
 
     was : now p0 ≡ None
     was = waits-none (path_of (part_at net n ring) p0).awaits (now p0)
-        (taken-free (path_of (part_at net n ring) p0).awaits (subst (λ k. path_no (part_at net n ring) k p0 ≡ None) kind free))
+        (taken-free (path_of (part_at net n ring) p0).awaits
+        (subst (λ k. path_no (part_at net n ring) k p0 ≡ None) kind free))
         ((legal-follows net ring n on).node.part.paths p0)
 
     at : (p : ℕ) → waits_on p (own n ring'') ≡ now p
     at p = later p ∙ ⊎_elim
-        (λ (e : p0 ≡ p). cond-true (p0 == p) None (cond (p0 == p) (Some f) (now p)) (eq-eqb p0 p e) ∙ (sym was ∙ ap now e))
-        (λ (o : p0 ≡ p → ⊥). cond-false (p0 == p) None (cond (p0 == p) (Some f) (now p)) (ne_eqb p0 p o) ∙ cond-false (p0 == p) (Some f) (now p) (ne_eqb p0 p o))
+        (λ (e : p0 ≡ p). cond-true (p0 == p) None (cond (p0 == p) (Some f) (now p)) (eq-eqb p0 p e)
+        ∙ (sym was ∙ ap now e))
+        (λ (o : p0 ≡ p → ⊥). cond-false (p0 == p) None (cond (p0 == p) (Some f) (now p))
+        (ne_eqb p0 p o) ∙ cond-false (p0 == p) (Some f) (now p) (ne_eqb p0 p o))
         (cases_eq p0 p)
 
-pub local-before : (n : ℕ) (id : CallId) (op : LocalOp) (r : MstrResult) (ring ring' : List RingEntry) → own n ring' ≡ own n ring ++ Local n id op r ∷ [] → calls_waiting n ring'
+pub local-before : (n : ℕ) (id : CallId) (op : LocalOp) (r : MstrResult)
+    (ring ring' : List RingEntry) → own n ring' ≡ own n ring ++ Local n id op r ∷ []
+    → calls_waiting n ring'
     ≡ calls_waiting n ring
 local-before n id op r ring ring' is =
-    four-same (λ p. id_of (waits_on p (own n ring'))) (λ p. id_of (waits_on p (own n ring))) (at 1) (at 2) (at 3) (at 4)
+    four-same (λ p. id_of (waits_on p (own n ring'))) (λ p. id_of (waits_on p (own n ring))) (at 1)
+    (at 2) (at 3) (at 4)
   where
     at : (p : ℕ) → id_of (waits_on p (own n ring')) ≡ id_of (waits_on p (own n ring))
     at p = ap id_of (ap (waits_on p) is ∙ waiting-push p (own n ring) (Local n id op r))
 
 -- ---- nothing is left to be sent, and nothing failed
 
-rests : (c : NodeIs) (id : CallId) (to : ℕ) (pdu : List ℕ) → RestsIn c → RestsIn (gave_up (posted c (request_frame id to pdu)) id)
+rests : (c : NodeIs) (id : CallId) (to : ℕ) (pdu : List ℕ) → RestsIn c
+    → RestsIn (gave_up (posted c (request_frame id to pdu)) id)
 rests c id to pdu q =
     let f = request_frame id to pdu in
-    let drop' : filter (λ g. not (asks_for id g)) (f ∷ []) ≡ [] = cond-false (not (asks_for id f)) (f ∷ []) [] (ap not (is_itself id)) in (
+    let drop' : filter (λ g. not (asks_for id g)) (f ∷ []) ≡ [] = cond-false (not (asks_for id f))
+    (f ∷ []) [] (ap not (is_itself id)) in (
       ap (λ (l : List Frame). filter (λ g. not (asks_for id g)) (l ++ f ∷ [])) q.0 ∙ drop',
-      λ p. not-failed-put (set c.paths id.path (record { awaits = Out id.seq to 0; posted = id.seq })) id.path p
-          (record { awaits = Nothing; posted = (path_of (posted c f) id.path).posted }) nothing-not-failed
-          (not-failed-put c.paths id.path p (record { awaits = Out id.seq to 0; posted = id.seq }) (out-not-failed id.seq to 0) (q.1 p)),
+      λ p. not-failed-put (set c.paths id.path
+          (record { awaits = Out id.seq to 0; posted = id.seq })) id.path p
+          (record { awaits = Nothing; posted = (path_of (posted c f) id.path).posted })
+          nothing-not-failed
+          (not-failed-put c.paths id.path p (record { awaits = Out id.seq to 0; posted = id.seq })
+          (out-not-failed id.seq to 0) (q.1 p)),
     )
 
-pub rests-again : (net : NetPlan) (n : ℕ) (id : CallId) (to : ℕ) (pdu : List ℕ) (ring ring' ring'' : List RingEntry) → part_at net n ring' ≡ posted (part_at net n ring)
-    (request_frame id to pdu) → GivesCall net n id ring' ring'' → IsAtRest net n ring → IsAtRest net n ring''
+pub rests-again : (net : NetPlan) (n : ℕ) (id : CallId) (to : ℕ) (pdu : List ℕ)
+    (ring ring' ring'' : List RingEntry) → part_at net n ring' ≡ posted (part_at net n ring)
+    (request_frame id to pdu) → GivesCall net n id ring' ring'' → IsAtRest net n ring
+    → IsAtRest net n ring''
 rests-again net n id to pdu ring ring' ring'' one two q =
-    let k = subst RestsIn (sym (two ∙ ap (λ (c : NodeIs). gave_up c id) one)) (rests (part_at net n ring) id to pdu (q.all_sent, q.none_failed)) in
+    let k = subst RestsIn (sym (two ∙ ap (λ (c : NodeIs). gave_up c id) one))
+    (rests (part_at net n ring) id to pdu (q.all_sent, q.none_failed)) in
     record { all_sent = k.0; none_failed = k.1 }
 
-pub rests-same : (net : NetPlan) (n : ℕ) (ring ring' : List RingEntry) → part_at net n ring' ≡ part_at net n ring → IsAtRest net n ring → IsAtRest net n ring'
-rests-same net n ring ring' is q = record { all_sent = ap (λ (c : NodeIs). c.outbox) is ∙ q.all_sent; none_failed = subst NonePathFailed (sym is) q.none_failed }
+pub rests-same : (net : NetPlan) (n : ℕ) (ring ring' : List RingEntry)
+    → part_at net n ring' ≡ part_at net n ring → IsAtRest net n ring → IsAtRest net n ring'
+rests-same net n ring ring' is q = record {
+  all_sent = ap (λ (c : NodeIs). c.outbox) is ∙ q.all_sent;
+  none_failed = subst NonePathFailed
+      (sym is) q.none_failed;
+}
 
 -- ---- what was made of the call at a place
 
-same-call : (calls : List Call) (at : ℕ) (c d : Call) → at < length calls → c ≡ get_or calls at c → d ≡ get_or calls at d → d ≡ c
+same-call : (calls : List Call) (at : ℕ) (c d : Call) → at < length calls → c ≡ get_or calls at c
+    → d ≡ get_or calls at d → d ≡ c
 same-call calls at c d low one two = two ∙ (get_or_default calls at d c low ∙ sym one)
 
-net-made : (n : ℕ) (c : Call) (to : ℕ) (pdu : List ℕ) (noted : List Entry) (done : List RingEntry) → c.kind ≡ kinds.Net to pdu → IsMade n c noted done
+net-made : (n : ℕ) (c : Call) (to : ℕ) (pdu : List ℕ) (noted : List Entry) (done : List RingEntry)
+    → c.kind ≡ kinds.Net to pdu → IsMade n c noted done
     → (noted ≡ []) × (done ≡ Post n (request_frame c.id to pdu) ∷ [])
 net-made n c to pdu noted done is m = subst (λ (k : CallKind). MadeAs k n c.id noted done) is m
 
-pub made-net-at : (alone alone' : Bool) (n : ℕ) (calls : List Call) (at : ℕ) (c : Call) (to : ℕ) (pdu : List ℕ) (known known' : List Entry) (ring ring' : List RingEntry)
-    → at < length calls → c ≡ get_or calls at c → c.kind ≡ kinds.Net to pdu → PartOf alone alone' is_ours n (IsDueAt (IsMade n) calls at) known known' ring ring'
-    → Grew alone is_ours known [] known' × Grew alone' (is_of n) ring (Post n (request_frame c.id to pdu) ∷ []) ring'
+pub made-net-at : (alone alone' : Bool) (n : ℕ) (calls : List Call) (at : ℕ) (c : Call) (to : ℕ)
+    (pdu : List ℕ) (known known' : List Entry) (ring ring' : List RingEntry)
+    → at < length calls → c ≡ get_or calls at c → c.kind ≡ kinds.Net to pdu
+    → PartOf alone alone' is_ours n (IsDueAt (IsMade n) calls at) known known' ring ring'
+    → Grew alone is_ours known [] known' × Grew alone' (is_of n) ring
+    (Post n (request_frame c.id to pdu) ∷ []) ring'
 made-net-at alone alone' n calls at c to pdu known known' ring ring' low one kind p =
-    let m = subst (λ (d : Call). IsMade n d p.noted p.done) (same-call calls at c p.due.0 low one p.due.1) p.due.2 in
-    let k = net-made n c to pdu p.noted p.done kind m in
-    (subst (λ (l : List Entry). Grew alone is_ours known l known') k.0 p.station, subst (λ (l : List RingEntry). Grew alone' (is_of n) ring l ring') k.1 p.node)
+    let m = subst (λ (d : Call). IsMade n d p.noted p.done)
+    (same-call calls at c p.due.0 low one p.due.1) p.due.2 in
+    let k = net-made n c to pdu p.noted p.done kind m in (
+      subst (λ (l : List Entry). Grew alone is_ours known l known') k.0 p.station,
+      subst
+          (λ (l : List RingEntry). Grew alone' (is_of n) ring l ring') k.1 p.node,
+    )
 
-pub made-local-at : (alone alone' : Bool) (n : ℕ) (calls : List Call) (at : ℕ) (c : Call) (op : LocalOp) (known known' : List Entry) (ring ring' : List RingEntry)
-    → at < length calls → c ≡ get_or calls at c → c.kind ≡ kinds.Local op → PartOf alone alone' is_ours n (IsDueAt (IsMade n) calls at) known known' ring ring'
+pub made-local-at : (alone alone' : Bool) (n : ℕ) (calls : List Call) (at : ℕ) (c : Call)
+    (op : LocalOp) (known known' : List Entry) (ring ring' : List RingEntry)
+    → at < length calls → c ≡ get_or calls at c → c.kind ≡ kinds.Local op
+    → PartOf alone alone' is_ours n (IsDueAt (IsMade n) calls at) known known' ring ring'
     → (r : MstrResult) × Grew alone' (is_of n) ring (Local n c.id op r ∷ []) ring'
 made-local-at alone alone' n calls at c op known known' ring ring' low one kind p =
-    let m = subst (λ (d : Call). IsMade n d p.noted p.done) (same-call calls at c p.due.0 low one p.due.1) p.due.2 in
+    let m = subst (λ (d : Call). IsMade n d p.noted p.done)
+    (same-call calls at c p.due.0 low one p.due.1) p.due.2 in
     let k = subst (λ (k : CallKind). MadeAs k n c.id p.noted p.done) kind m in
     (k.0, subst (λ (l : List RingEntry). Grew alone' (is_of n) ring l ring') k.2 p.node)
 
-pub ended-net : (alone alone' : Bool) (n : ℕ) (calls : List Call) (at : ℕ) (c : Call) (to : ℕ) (pdu : List ℕ) (known known' known'' : List Entry) (ring ring' ring'' : List
-    RingEntry) → at < length calls → c ≡ get_or calls at c → c.kind ≡ kinds.Net to pdu → PartOf alone alone' is_ours n (IsDueAt (IsMade n) calls at) known known' ring ring'
-    → PartOf alone alone' is_ours n (IsGivenUp c.id) known' known'' ring' ring'' → PartOf alone alone' is_ours n (IsDueAt (IsEnded n) calls at) known known'' ring ring''
+pub ended-net : (alone alone' : Bool) (n : ℕ) (calls : List Call) (at : ℕ) (c : Call) (to : ℕ)
+    (pdu : List ℕ) (known known' known'' : List Entry) (ring ring' ring'' : List
+    RingEntry) → at < length calls → c ≡ get_or calls at c → c.kind ≡ kinds.Net to pdu
+    → PartOf alone alone' is_ours n (IsDueAt (IsMade n) calls at) known known' ring ring'
+    → PartOf alone alone' is_ours n (IsGivenUp c.id) known' known'' ring' ring''
+    → PartOf alone alone' is_ours n (IsDueAt (IsEnded n) calls at) known known'' ring ring''
 ended-net alone alone' n calls at c to pdu known known' known'' ring ring' ring'' low one kind a b =
-    part-both alone alone' is_ours n (IsDueAt (IsMade n) calls at) (IsGivenUp c.id) (IsDueAt (IsEnded n) calls at) known known' known'' ring ring' ring''
+    part-both alone alone' is_ours n (IsDueAt (IsMade n) calls at) (IsGivenUp c.id)
+    (IsDueAt (IsEnded n) calls at) known known' known'' ring ring' ring''
     (λ noted noted' done done' x y.
-    let m = subst (λ (d : Call). IsMade n d noted done) (same-call calls at c x.0 low one x.1) x.2 in
+    let m = subst (λ (d : Call). IsMade n d noted done) (same-call calls at c x.0 low one x.1) x.2
+    in
     let k = net-made n c to pdu noted done kind m in
     let ended : EndedAs (kinds.Net to pdu) n c.id (noted ++ noted') (done ++ done') =
-    (y.0, ap (λ l. l ++ noted') k.0 ∙ y.1, (λ i. k.1 i ++ y.2 i)) in
-    (c, one, subst (λ (k : CallKind). EndedAs k n c.id (noted ++ noted') (done ++ done')) (sym kind) ended)) a b
+    (y.0, ap (λ l. l ++ noted') k.0 ∙ y.1, (λ i. k.1 i ++ y.2 i)) in (
+      c,
+      one,
+      subst (λ (k : CallKind). EndedAs k n c.id (noted ++ noted') (done ++ done')) (sym kind)
+          ended,
+    )) a b
 
-pub ended-local : (alone alone' : Bool) (n : ℕ) (calls : List Call) (at : ℕ) (c : Call) (op : LocalOp) (known known' : List Entry) (ring ring' : List RingEntry)
-    → at < length calls → c ≡ get_or calls at c → c.kind ≡ kinds.Local op → PartOf alone alone' is_ours n (IsDueAt (IsMade n) calls at) known known' ring ring'
+pub ended-local : (alone alone' : Bool) (n : ℕ) (calls : List Call) (at : ℕ) (c : Call)
+    (op : LocalOp) (known known' : List Entry) (ring ring' : List RingEntry)
+    → at < length calls → c ≡ get_or calls at c → c.kind ≡ kinds.Local op
+    → PartOf alone alone' is_ours n (IsDueAt (IsMade n) calls at) known known' ring ring'
     → PartOf alone alone' is_ours n (IsDueAt (IsEnded n) calls at) known known' ring ring'
 ended-local alone alone' n calls at c op known known' ring ring' low one kind p =
-    part-as alone alone' is_ours n (IsDueAt (IsMade n) calls at) (IsDueAt (IsEnded n) calls at) known known' ring ring'
+    part-as alone alone' is_ours n (IsDueAt (IsMade n) calls at) (IsDueAt (IsEnded n) calls at)
+    known known' ring ring'
     (λ noted done x.
-    let m = subst (λ (d : Call). IsMade n d noted done) (same-call calls at c x.0 low one x.1) x.2 in
-    let k : MadeAs (kinds.Local op) n c.id noted done = subst (λ (k : CallKind). MadeAs k n c.id noted done) kind m in
+    let m = subst (λ (d : Call). IsMade n d noted done) (same-call calls at c x.0 low one x.1) x.2
+    in
+    let k : MadeAs (kinds.Local op) n c.id noted done = subst
+    (λ (k : CallKind). MadeAs k n c.id noted done) kind m in
     (c, one, subst (λ (k : CallKind). EndedAs k n c.id noted done) (sym kind) k)) p
 
 -- ---- the same, of sides that are the same
 
-pub net-posted : {Q : Type 0} (alone alone' : Bool) (n : ℕ) (calls : List Call) (at : ℕ) (c : Call) (to : ℕ) (pdu : List ℕ) (known known' : List Entry) (side side' :
-    RingSideIs Q) (ring ring' : List RingEntry) → at < length calls → c ≡ get_or calls at c → c.kind ≡ kinds.Net to pdu → side' ≡ side → IsOwnTurn side ring n → IsLegal
-    side'.net ring' → PartOf alone alone' is_ours n (IsDueAt (IsMade n) calls at) known known' ring ring' → Posted side.net n ring (request_frame c.id to pdu) ring'
-net-posted alone alone' n calls at c to pdu known known' side side' ring ring' low one kind same t legal p =
-    posted-at alone' side.net n ring (request_frame c.id to pdu) ring' t.on (net-as (λ (m : NetPlan). IsLegal m ring') side side' same legal) t.free
+pub net-posted : {Q : Type 0} (alone alone' : Bool) (n : ℕ) (calls : List Call) (at : ℕ) (c : Call)
+    (to : ℕ) (pdu : List ℕ) (known known' : List Entry) (side side' :
+    RingSideIs Q) (ring ring' : List RingEntry) → at < length calls → c ≡ get_or calls at c
+    → c.kind ≡ kinds.Net to pdu → side' ≡ side → IsOwnTurn side ring n → IsLegal
+    side'.net ring' → PartOf alone alone' is_ours n (IsDueAt (IsMade n) calls at) known known' ring
+    ring' → Posted side.net n ring (request_frame c.id to pdu) ring'
+net-posted alone alone' n calls at c to pdu known known' side side' ring ring' low one kind same t
+    legal p =
+    posted-at alone' side.net n ring (request_frame c.id to pdu) ring' t.on
+    (net-as (λ (m : NetPlan). IsLegal m ring') side side' same legal) t.free
     (made-net-at alone alone' n calls at c to pdu known known' ring ring' low one kind p).1
 
 pub record AsItWas (net : NetPlan) (n : ℕ) (ring ring' : List RingEntry) : Type 0 where
   pub part_is : part_at net n ring' ≡ part_at net n ring
   pub waits : calls_waiting n ring' ≡ calls_waiting n ring
 
-pub local-done : {Q : Type 0} (alone alone' : Bool) (n : ℕ) (calls : List Call) (at : ℕ) (c : Call) (op : LocalOp) (known known' : List Entry) (side side' : RingSideIs Q)
-    (ring ring' : List RingEntry) → at < length calls → c ≡ get_or calls at c → c.kind ≡ kinds.Local op → side' ≡ side → IsOwnTurn side ring n → IsLegal side'.net ring'
-    → PartOf alone alone' is_ours n (IsDueAt (IsMade n) calls at) known known' ring ring' → AsItWas side.net n ring ring'
-local-done alone alone' n calls at c op known known' side side' ring ring' low one kind same t legal p =
+pub local-done : {Q : Type 0} (alone alone' : Bool) (n : ℕ) (calls : List Call) (at : ℕ) (c : Call)
+    (op : LocalOp) (known known' : List Entry) (side side' : RingSideIs Q)
+    (ring ring' : List RingEntry) → at < length calls → c ≡ get_or calls at c
+    → c.kind ≡ kinds.Local op → side' ≡ side → IsOwnTurn side ring n → IsLegal side'.net ring'
+    → PartOf alone alone' is_ours n (IsDueAt (IsMade n) calls at) known known' ring ring'
+    → AsItWas side.net n ring ring'
+local-done alone alone' n calls at c op known known' side side' ring ring' low one kind same t legal
+    p =
     let k = made-local-at alone alone' n calls at c op known known' ring ring' low one kind p in
     record {
-      part_is = local-at alone' side.net n ring c.id op k.0 ring' t.on (net-as (λ (m : NetPlan). IsLegal m ring') side side' same legal) t.free k.1;
-      waits = local-before n c.id op k.0 ring ring' (grew-ours alone' (is_of n) ring (Local n c.id op k.0 ∷ []) ring' k.1);
+      part_is = local-at alone' side.net n ring c.id op k.0 ring' t.on
+          (net-as (λ (m : NetPlan). IsLegal m ring') side side' same legal) t.free k.1;
+      waits = local-before n c.id op k.0 ring ring'
+          (grew-ours alone' (is_of n) ring (Local n c.id op k.0 ∷ []) ring' k.1);
     }
 
 -- both entries of a Request that is given up at once
-pub ended-before : (alone alone' : Bool) (net : NetPlan) (n : ℕ) (id : CallId) (to : ℕ) (pdu : List ℕ) (known known' : List Entry) (ring ring' ring'' : List RingEntry)
-    → IsOnRing net ring n → Posted net n ring (request_frame id to pdu) ring' → PartOf alone alone' is_ours n (IsGivenUp id) known known' ring' ring''
+pub ended-before : (alone alone' : Bool) (net : NetPlan) (n : ℕ) (id : CallId) (to : ℕ)
+    (pdu : List ℕ) (known known' : List Entry) (ring ring' ring'' : List RingEntry)
+    → IsOnRing net ring n → Posted net n ring (request_frame id to pdu) ring'
+    → PartOf alone alone' is_ours n (IsGivenUp id) known known' ring' ring''
     → calls_waiting n ring'' ≡ calls_waiting n ring
 ended-before alone alone' net n id to pdu known known' ring ring' ring'' on a b =
     as-before net n (request_frame id to pdu) b.due.0 ring ring' ring'' refl on a.free_path a.own_is
     (grew-ours alone' (is_of n) ring' b.done ring'' b.node ∙ ap (λ l. own n ring' ++ l) b.due.2)
 
-pub gone-posted : (net : NetPlan) (n : ℕ) (f : Frame) (ring ring' : List RingEntry) → HasLeft net ring n → Posted net n ring f ring' → HasLeft net ring' n
+pub gone-posted : (net : NetPlan) (n : ℕ) (f : Frame) (ring ring' : List RingEntry)
+    → HasLeft net ring n → Posted net n ring f ring' → HasLeft net ring' n
 gone-posted net n f ring ring' gone a = ap (λ (c : NodeIs). c.here) a.part_is ∙ gone
 
-pub gone-given : (net : NetPlan) (n : ℕ) (id : CallId) (ring ring' : List RingEntry) → HasLeft net ring n → GivesCall net n id ring ring' → HasLeft net ring' n
+pub gone-given : (net : NetPlan) (n : ℕ) (id : CallId) (ring ring' : List RingEntry)
+    → HasLeft net ring n → GivesCall net n id ring ring' → HasLeft net ring' n
 gone-given net n id ring ring' gone a = ap (λ (c : NodeIs). c.here) a ∙ gone

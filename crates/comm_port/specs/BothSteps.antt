@@ -1,6 +1,6 @@
 -- What a part of a controller's turn stands on and does, by the two sides that it is lent: that of
 -- the controller and that of the ring. This project's own.
-use Rattle.std.specs.Prelude.{ℕ, Bool, List, [], ◌∷◌, Option}
+use Rattle.std.specs.Prelude.{◌≡◌, ℕ, Bool, List, [], ◌∷◌, Option}
 use Rattle.mstr_block.specs.declared.call.CallId.{CallId}
 use Rattle.controller_core.specs.declared.call.Call.{Call}
 use Rattle.controller_core.specs.declared.entry.Entry.{Entry}
@@ -17,8 +17,10 @@ use Rattle.comm_port.specs.HoldTurn.{IsServed, IsMade, IsEnded, IsGivenUp, Colle
 use Rattle.comm_port.specs.HoldTurn.{SendsAll, Ends, HoldsTurn, VisitsEnd}
 use Rattle.comm_port.specs.Making.{DoesAtHome, Owing, calls_from}
 use Rattle.comm_port.specs.Parts.{InOrder, PartOf}
+use Rattle.comm_port.specs.RingSteps.{RingStep}
 use Rattle.comm_port.specs.Serving.{IsAnswered}
-use Rattle.comm_port.specs.Stands.{RamStands, BothStand}
+use Rattle.comm_port.specs.Sides.{KeepsRoom}
+use Rattle.comm_port.specs.Stands.{RamStands}
 use Rattle.comm_port.specs.Turns.{Turning, Taking, Rested}
 use Rattle.comm_port.specs.Waiting.{IsIdle}
 use Rattle.comm_port.specs.Worker.{WorkerIs, Standing}
@@ -29,6 +31,13 @@ module _ {M P : Type 0} (m : ram_sides.Ghosts M P) where
   -- The controller's list went on by calls of its worker, and is legal if it was.
   abbrev pub RamStandsOver : M → M → Type 0
   RamStandsOver old new = RamStands m.alone (m.side old).fixed (m.known old) (m.known new)
+
+  -- A step at the controller, whatever it answers: the side and what is kept for a scan stay, and
+  -- the list went on by calls of the worker, and is legal if it was.
+  pub record RamStep (old new : M) : Type 0 where
+    pub same : m.side new ≡ m.side old
+    pub kept : KeepsRoom m.alone (m.reserved old) (m.reserved new)
+    pub stands : RamStandsOver old new
 
   -- A turn asked whether the controller is done.
   abbrev pub AsksDoneOver : List (Option Frame) → M → M → Bool → Type 0
@@ -63,10 +72,10 @@ module _ {M P R Q : Type 0} (m : ram_sides.Ghosts M P) (r : ring_sides.Ghosts R 
   StandingBetween w ram ring =
       Standing w (m.side ram) (m.known ram) (r.side ring) (r.known ring)
 
-  -- Both lists stand, whatever was answered.
-  abbrev pub BothStandOver : ℕ → M → M → R → R → Type 0
-  BothStandOver n ram ram' ring ring' = BothStand m.alone r.alone (m.side ram).fixed
-      (r.side ring).net n (m.known ram) (m.known ram') (r.known ring) (r.known ring')
+  -- A step at both, whatever it answers.
+  pub record BothStep (n : ℕ) (ram ram' : M) (ring ring' : R) : Type 0 where
+    pub station : RamStep m ram ram'
+    pub node : RingStep r n ring ring'
 
   -- Both lists went on by what is due.
   abbrev pub PartOver : ℕ → (List Entry → List RingEntry → Type 0) → M → M → R → R → Type 0

@@ -1,16 +1,18 @@
 -- What a part of a host's turn stands on and does, by the host and the side of the ring that it is
 -- lent. This project's own.
-use Rattle.std.specs.Prelude.{ℕ, Bool, List, Option}
+use Rattle.std.specs.Prelude.{◌≡◌, ℕ, Bool, List, ◌++◌, Option}
+use Rattle.host_port.specs.declared.entry.HostEntry.{HostEntry}
 use Rattle.host_port.specs.Host.{HostIs, host_is_done}
+use Rattle.host_port.specs.Legal.{IsHostHistory}
 use Rattle.ring_core.specs.declared.frame.Frame.{Frame}
 use Rattle.tied_lists.specs.Own.{own}
 use Rattle.comm_port.specs.declared.ring_side.RingSide as ring_sides
 use Rattle.comm_port.specs.Giving.{chosen_paths, is_chosen}
-use Rattle.comm_port.specs.HostAndRing.{HostAndRingStand}
 use Rattle.comm_port.specs.HostTurns.{AskedAll, AskedNext, EndsHostTurn}
 use Rattle.comm_port.specs.HostTurns.{EndsWithPass, GivesUpDue, HoldsHostTurn, HostTaking}
 use Rattle.comm_port.specs.HostTurns.{HostTies, HostTurning, HostWorkerIs, Sends, SendsOut}
 use Rattle.comm_port.specs.HostTurns.{ServesInbox, ServesTaken, wanted_path}
+use Rattle.comm_port.specs.RingSteps.{RingStep}
 
 module _ {R Q : Type 0} (r : ring_sides.Ghosts R Q) where
   -- ---- What a part stands on.
@@ -41,10 +43,14 @@ module _ {R Q : Type 0} (r : ring_sides.Ghosts R Q) where
 
   -- ---- What a step does.
 
-  -- The host's list and the ring's stand, whatever was answered.
-  abbrev pub HostStandsOver : ℕ → HostIs → HostIs → R → R → Type 0
-  HostStandsOver n host host' ring ring' = HostAndRingStand r.alone (r.side ring).net n
-      host.history host'.history (r.known ring) (r.known ring')
+  -- A step of a host, whatever it answers: its plan stays, its list, which nobody else writes, went
+  -- on and is legal, and a step was made at the ring.
+  pub record HostStep (n : ℕ) (host host' : HostIs) (ring ring' : R) : Type 0 where
+    pub plan : host'.plan ≡ host.plan
+    pub legal_list : IsHostHistory host'.plan host'.history
+    pub noted : List HostEntry
+    pub list : host'.history ≡ host.history ++ noted
+    pub node : RingStep r n ring ring'
 
   -- What is due to a frame that was taken was done.
   abbrev pub HostMeets : ℕ → Frame → HostIs → HostIs → R → R → Type 0

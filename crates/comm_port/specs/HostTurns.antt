@@ -124,16 +124,16 @@ hold_of n ring = 1 + count_by is_pass (own n ring)
 
 -- What a host notes of a frame that its node took: a Reply is the answer to its call, a Request is
 -- refused, and of one for statistics the host knows nothing.
-abbrev pub notes_of_request : Bool → Frame → List HostEntry
-notes_of_request true f = []
-notes_of_request false f = Served f.id f.pdu (refusal_to f.pdu) ∷ []
+abbrev pub host_notes_of_request : Bool → Frame → List HostEntry
+host_notes_of_request true f = []
+host_notes_of_request false f = Served f.id f.pdu (refusal_to f.pdu) ∷ []
 
-abbrev pub notes_of_kind : FrameKind → Frame → List HostEntry
-notes_of_kind Reply f = Answer f.id (results.Reply f.pdu) ∷ []
-notes_of_kind Request f = notes_of_request (is_stats f.pdu) f
+abbrev pub host_notes_of_kind : FrameKind → Frame → List HostEntry
+host_notes_of_kind Reply f = Answer f.id (results.Reply f.pdu) ∷ []
+host_notes_of_kind Request f = host_notes_of_request (is_stats f.pdu) f
 
-abbrev pub notes_of : Frame → List HostEntry
-notes_of f = notes_of_kind f.kind f
+abbrev pub host_notes_of : Frame → List HostEntry
+host_notes_of f = host_notes_of_kind f.kind f
 
 -- A Request for statistics was taken, and replied to with what the port's operation came to.
 pub record TellsTaken (n : ℕ) (f : Frame) (entries : List RingEntry) : Type 0 where
@@ -162,7 +162,7 @@ pub record ServesTaken (alone : Bool) (n : ℕ) (f : Frame) (list new_list : Lis
   pub rest : List RingEntry
   pub serves : ServesFrame n f (Take n f ∷ rest)
   pub grew : Grew alone (is_of n) ring rest new_ring
-  pub notes : new_list ≡ list ++ notes_of f
+  pub notes : new_list ≡ list ++ host_notes_of f
 
 -- These frames were served in their order.
 pub record ServesFrames (alone : Bool) (n : ℕ) (frames : List Frame)
@@ -170,7 +170,7 @@ pub record ServesFrames (alone : Bool) (n : ℕ) (frames : List Frame)
   pub parts : List (List RingEntry)
   pub serves : AllZip (ServesFrame n) frames parts
   pub grew : Grew alone (is_of n) ring (flat_map (λ part. part) parts) new_ring
-  pub notes : new_list ≡ list ++ flat_map notes_of frames
+  pub notes : new_list ≡ list ++ flat_map host_notes_of frames
 
 -- All that lay in the inbox was served, and nothing lies there any more.
 pub record ServesInbox (alone : Bool) (net : NetPlan) (n : ℕ)

@@ -10,7 +10,6 @@ pub mod Worker
 pub mod Stands
 pub mod HostTurns
 pub mod HostStands
-pub mod HostAndRing
 pub mod Order
 pub mod Parts
 pub mod HoldTurn

@@ -18,6 +18,7 @@ use Rattle.comm_port.specs.Leaving.{cause_due, is_due, IsHere, LeftOrStood, Hand
 use Rattle.comm_port.specs.Parts.{calls_waiting}
 use Rattle.comm_port.specs.Replies.{TellsStatistics}
 use Rattle.comm_port.specs.Sending.{sends_left, SentOrAll, GaveUp}
+use Rattle.comm_port.specs.Sides.{KeepsForOne}
 use Rattle.comm_port.specs.Stands.{RingStands}
 use Rattle.comm_port.specs.Turns.{IsOwnTurn, KeepsInbox}
 use Rattle.comm_port.specs.Visiting.{GivesCall}
@@ -111,6 +112,13 @@ module _ {R Q : Type 0} (r : ring_sides.Ghosts R Q) where
   abbrev pub RingStandsOver : ℕ → R → R → Type 0
   RingStandsOver n old new =
       RingStands r.alone (r.side old).net n (r.known old) (r.known new)
+
+  -- A step at the ring, whatever it answers: the side stays, memory is asked for one entry at most,
+  -- and the list went on by calls of this node, and is legal.
+  pub record RingStep (n : ℕ) (old new : R) : Type 0 where
+    pub same : r.side new ≡ r.side old
+    pub kept : KeepsForOne r.alone (r.room old) (r.room new)
+    pub stands : RingStandsOver n old new
 
   -- Entries of others came, and then these of the node.
   abbrev pub WentOnBy : ℕ → List RingEntry → R → R → Type 0

@@ -57,9 +57,9 @@ SentOrAll alone net n old new (Some heard) = SentNext alone net n heard old new
 SentOrAll alone net n old new None = AllSent alone net n old new
 
 -- The entry of a call that was given up; none where it was not.
-abbrev pub given_up : CallId → Option ℕ → List RingEntry
-given_up id (Some word) = GiveUp id word ∷ []
-given_up id None = []
+abbrev pub give_up_entries : CallId → Option ℕ → List RingEntry
+give_up_entries id (Some word) = GiveUp id word ∷ []
+give_up_entries id None = []
 
 -- The entry of a GiveUp was added while its node's part was as it had been.
 abbrev pub IsThisGiveUp : NetPlan → CallId → List RingEntry → List RingEntry → RingEntry → Type 0
@@ -68,7 +68,7 @@ IsThisGiveUp net id old past e = (word : ℕ) × IsThis net id.node (GiveUp id w
 -- A call was given up, exactly where the ring lets it.
 pub record GaveUp (alone : Bool) (net : NetPlan) (id : CallId) (old new : List RingEntry)
     (word : Option ℕ) : Type 0 where
-  pub grew : Grew alone (is_of id.node) old (given_up id word) new
+  pub grew : Grew alone (is_of id.node) old (give_up_entries id word) new
   pub kept : KeepsInbox net id.node old new
   pub less : sends_left net new id.node ≤ sends_left net old id.node
   pub left : HasLeft net old id.node → HasLeft net new id.node

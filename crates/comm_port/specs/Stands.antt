@@ -25,9 +25,3 @@ pub record RingStands (alone : Bool) (net : NetPlan) (n : ℕ) (before after : L
 pub record RamStands (alone : Bool) (fixed : Fixed) (before after : List Entry) : Type 0 where
   pub grown : HasGrown alone is_ours before after
   pub legal : IsLegalRam fixed before → IsLegalRam fixed after
-
--- Both lists that a worker of this node is lent stand.
-pub record BothStand (alone alone' : Bool) (fixed : Fixed) (net : NetPlan) (n : ℕ)
-    (known known' : List Entry) (ring ring' : List RingEntry) : Type 0 where
-  pub station : RamStands alone fixed known known'
-  pub node : RingStands alone' net n ring ring'

@@ -5,7 +5,7 @@ ghost use Rattle.ring_core.specs.Legal.{IsFrom, IsNextNumber, IsPath, HasRoom};
 ghost use Rattle.ring_core.specs.Refusals.{path_no};
 ghost use Rattle.ring_core.specs.declared.entry.RingEntry.TheVariants.{Post, Local, GiveUp};
 ghost use Rattle.comm_port.specs.RingSteps.{HoldsAt, MayGiveUpAt, OwnTurnAt, PassesOver};
-ghost use Rattle.comm_port.specs.RingSteps.{RingStandsOver, WentOnBy, node_at};
+ghost use Rattle.comm_port.specs.RingSteps.{RingStep, WentOnBy, node_at};
 
 use crate::ring_side::RingSide;
 use crate::short::Short;
@@ -19,8 +19,7 @@ pub(crate) fn post_frame<R: RingSide>(node: u8, frame: Frame, ring: &mut R) -> R
     requires next { IsNextNumber (node_at R.RingSide node ring.old) frame.kind frame.id }
     requires free { path_no (node_at R.RingSide node ring.old) frame.kind frame.id.path ≡ None }
     ensures went { OnOk result (WentOnBy R.RingSide node (Post node frame ∷ []) ring.old ring.new) }
-    ensures same { R.side ring.new ≡ R.side ring.old }
-    ensures stands { RingStandsOver R.RingSide node ring.old ring.new }
+    ensures step { RingStep R.RingSide node ring.old ring.new }
 {
     match ring.post(node, frame) {
         Ok(()) => Ok(()),
@@ -39,8 +38,7 @@ pub(crate) fn do_local<R: RingSide>(
     requires room { HasRoom op }
     ensures went { IfOk result
         (λ got. WentOnBy R.RingSide node (Local node id op got ∷ []) ring.old ring.new) }
-    ensures same { R.side ring.new ≡ R.side ring.old }
-    ensures stands { RingStandsOver R.RingSide node ring.old ring.new }
+    ensures step { RingStep R.RingSide node ring.old ring.new }
 {
     match ring.local(node, id, op) {
         Ok(given) => Ok(given),
@@ -55,8 +53,7 @@ pub(crate) fn pass_on<R: RingSide>(node: u8, done: bool, ring: &mut R) -> Result
     requires sent { (node_at R.RingSide node ring.old).outbox ≡ [] }
     requires taken { (node_at R.RingSide node ring.old).inbox ≡ [] }
     ensures went { OnOk result (PassesOver R.RingSide node done ring.old ring.new) }
-    ensures same { R.side ring.new ≡ R.side ring.old }
-    ensures stands { RingStandsOver R.RingSide node ring.old ring.new }
+    ensures step { RingStep R.RingSide node ring.old ring.new }
 {
     match ring.pass(node, done) {
         Ok(()) => Ok(()),
@@ -71,8 +68,7 @@ pub(crate) fn give_up_now<R: RingSide>(id: CallId, ring: &mut R) -> Result<u16, 
     requires may { MayGiveUpAt R.RingSide id ring.old }
     ensures went { IfOk result
         (λ word. WentOnBy R.RingSide id.node (GiveUp id word ∷ []) ring.old ring.new) }
-    ensures same { R.side ring.new ≡ R.side ring.old }
-    ensures stands { RingStandsOver R.RingSide id.node ring.old ring.new }
+    ensures step { RingStep R.RingSide id.node ring.old ring.new }
 {
     match ring.give_up(id) {
         Ok(word) => Ok(word),

@@ -10,8 +10,8 @@ ghost use Rattle.comm_port.specs.Order.{IsCalling};
 ghost use Rattle.joint_history.specs.Reading.{items_of};
 ghost use Rattle.comm_port.specs.Making.{request_frame};
 ghost use Rattle.comm_port.specs.RingSteps.{AddsOver, GrewBy, KeepsInboxOver, OwnTurnAt};
-ghost use Rattle.comm_port.specs.RingSteps.{RingStandsOver, node_at};
-ghost use Rattle.comm_port.specs.BothSteps.{BothStandOver, DoesOver, Makes, MakesAll, Owes};
+ghost use Rattle.comm_port.specs.RingSteps.{RingStep, node_at};
+ghost use Rattle.comm_port.specs.BothSteps.{BothStep, DoesOver, Makes, MakesAll, Owes};
 ghost use Rattle.comm_port.specs.BothSteps.{TurningBetween};
 
 use crate::asking::{do_local, post_frame};
@@ -54,8 +54,7 @@ pub(crate) fn post_call<R: RingSide>(
     ensures grew { OnOk result (GrewBy R.RingSide node (Post node frame ∷ []) ring.old ring.new) }
     ensures kept { OnOk result (KeepsInboxOver R.RingSide node ring.old ring.new) }
     ensures waits { OnOk result (waiting.new ≡ set waiting.old frame.id.path (Some frame)) }
-    ensures same { R.side ring.new ≡ R.side ring.old }
-    ensures stands { RingStandsOver R.RingSide node ring.old ring.new }
+    ensures step { RingStep R.RingSide node ring.old ring.new }
 {
     let kept = frame.copied(alloc)?;
     post_frame(node, frame, ring)?;
@@ -77,9 +76,7 @@ fn do_call<M: RamSide, R: RingSide>(
     ensures did { OnOk result
         (DoesOver M.RamSide R.RingSide node id op ram.old ram.new ring.old ring.new) }
     ensures kept { OnOk result (KeepsInboxOver R.RingSide node ring.old ring.new) }
-    ensures ram_same { M.side ram.new ≡ M.side ram.old }
-    ensures ring_same { R.side ring.new ≡ R.side ring.old }
-    ensures stands { BothStandOver M.RamSide R.RingSide node ram.old ram.new ring.old ring.new }
+    ensures step { BothStep M.RamSide R.RingSide node ram.old ram.new ring.old ring.new }
 {
     let outcome = do_local(node, id, op, ring)?;
     ram.finish(id, outcome)?;
@@ -101,12 +98,10 @@ pub(crate) fn make_call<M: RamSide, R: RingSide>(
     ensures owing { OnOk result
         (Owes M.RamSide R.RingSide node calls.now (at + 1) ram.new ring.new waiting.new) }
     ensures kept { OnOk result (KeepsInboxOver R.RingSide node ring.old ring.new) }
-    ensures ram_same { M.side ram.new ≡ M.side ram.old }
-    ensures ring_same { R.side ring.new ≡ R.side ring.old }
     ensures ring_adds { OnOk result (AddsOver R.RingSide node (IsCalling node) ring.old ring.new) }
     ensures made { OnOk result
         (Makes M.RamSide R.RingSide node calls.now at ram.old ram.new ring.old ring.new) }
-    ensures stands { BothStandOver M.RamSide R.RingSide node ram.old ram.new ring.old ring.new }
+    ensures step { BothStep M.RamSide R.RingSide node ram.old ram.new ring.old ring.new }
 {
     let call = &calls[at];
     match &call.kind {
@@ -131,12 +126,10 @@ pub(crate) fn make_calls<M: RamSide, R: RingSide>(
     ensures turning { OnOk result
         (TurningBetween M.RamSide R.RingSide node ram.new ring.new waiting.new) }
     ensures kept { OnOk result (KeepsInboxOver R.RingSide node ring.old ring.new) }
-    ensures ram_same { M.side ram.new ≡ M.side ram.old }
-    ensures ring_same { R.side ring.new ≡ R.side ring.old }
     ensures ring_adds { OnOk result (AddsOver R.RingSide node (IsCalling node) ring.old ring.new) }
     ensures made { OnOk result
         (MakesAll M.RamSide R.RingSide node ram.old ram.new ring.old ring.new) }
-    ensures stands { BothStandOver M.RamSide R.RingSide node ram.old ram.new ring.old ring.new }
+    ensures step { BothStep M.RamSide R.RingSide node ram.old ram.new ring.old ring.new }
 {
     if !ram.has_started() {
         return Ok(());

@@ -19,6 +19,8 @@ impl RamSide for Controller {
 
     ghost alone = { true };
 
+    ghost reserved = { λ c. c.reserved };
+
     fn collect(&mut self) -> Result<List<Call>, AllocError> {
         segments_keep_calls();
         calls_are_taken_in_order();

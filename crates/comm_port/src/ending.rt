@@ -1,6 +1,6 @@
 //! The last part of a controller's turn: it is asked whether it is done, and the token goes on.
 ghost use Rattle.std.specs.Prelude.{◌≡◌, [], OnOk, IfOk};
-ghost use Rattle.comm_port.specs.BothSteps.{AsksDoneOver, BothStandOver, EndsOver, RamStandsOver};
+ghost use Rattle.comm_port.specs.BothSteps.{AsksDoneOver, BothStep, EndsOver, RamStep};
 ghost use Rattle.comm_port.specs.BothSteps.{RestedBetween, TurningBetween};
 ghost use Rattle.comm_port.specs.RingSteps.{HoldsAt, RestsAfter, RestsAt, node_at};
 
@@ -15,8 +15,7 @@ use crate::waiting::Waiting;
 /// Whether the scans have ended, nothing is uncollected and no call waits; asked in this order.
 fn is_done<M: RamSide>(waiting: &Waiting, ram: &mut M) -> bool
     ensures asked { AsksDoneOver M.RamSide waiting.now ram.old ram.new result }
-    ensures same { M.side ram.new ≡ M.side ram.old }
-    ensures stands { RamStandsOver M.RamSide ram.old ram.new }
+    ensures step { RamStep M.RamSide ram.old ram.new }
 {
     if !ram.has_ended() {
         return false;
@@ -44,9 +43,7 @@ pub(crate) fn end_turn<M: RamSide, R: RingSide>(
     ensures rest { OnOk result (RestsAfter R.RingSide node ring.old ring.new) }
     ensures ends { IfOk result
         (EndsOver M.RamSide R.RingSide node budget ram.old ram.new ring.old ring.new) }
-    ensures ram_same { M.side ram.new ≡ M.side ram.old }
-    ensures ring_same { R.side ring.new ≡ R.side ring.old }
-    ensures stands { BothStandOver M.RamSide R.RingSide node ram.old ram.new ring.old ring.new }
+    ensures step { BothStep M.RamSide R.RingSide node ram.old ram.new ring.old ring.new }
 {
     let done = is_done(waiting, ram);
     let left = hand_on(node, done, budget, ring)?;

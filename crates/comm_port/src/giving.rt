@@ -4,16 +4,16 @@ ghost use Rattle.ring_core.specs.Legal.{IsPath};
 ghost use Rattle.comm_port.specs.Order.{IsGivingUp};
 ghost use Rattle.comm_port.specs.RingSteps.{AddsOver, GivesOnPathOver, GivesWhereOver, HoldsAt};
 ghost use Rattle.comm_port.specs.RingSteps.{KeepsInboxOver, MaySendAt, SendsNoMore};
-ghost use Rattle.comm_port.specs.BothSteps.{BothStandOver, GivesUp, GivesUpOn, SendsAllOver};
+ghost use Rattle.comm_port.specs.BothSteps.{BothStep, GivesUp, GivesUpOn, SendsAllOver};
 ghost use Rattle.comm_port.specs.BothSteps.{TurningBetween};
 
-use crate::paths::PATH_PLACES;
 use crate::ram_side::RamSide;
 use crate::ring_side::RingSide;
 use crate::sending::{give_up_on, send_next};
 use crate::short::Short;
 use crate::waiting::Waiting;
 use mstr_block::MstrResult;
+use plant_types::PATH_PLACES;
 use ring_core::Heard;
 
 /// Gives up the call that a path waits for, where that is due, and ends it.
@@ -30,13 +30,11 @@ pub(crate) fn give_up_path<M: RamSide, R: RingSide>(
         (TurningBetween M.RamSide R.RingSide node ram.new ring.new waiting.new) }
     ensures kept { OnOk result (KeepsInboxOver R.RingSide node ring.old ring.new) }
     ensures less { OnOk result (SendsNoMore R.RingSide node ring.old ring.new) }
-    ensures ram_same { M.side ram.new ≡ M.side ram.old }
-    ensures ring_same { R.side ring.new ≡ R.side ring.old }
     ensures ring_adds { OnOk result (AddsOver R.RingSide node IsGivingUp ring.old ring.new) }
     ensures given { OnOk result
         (GivesUpOn M.RamSide R.RingSide node path ram.old ram.new ring.old ring.new) }
     ensures part { OnOk result (GivesOnPathOver R.RingSide node path ring.old ring.new) }
-    ensures stands { BothStandOver M.RamSide R.RingSide node ram.old ram.new ring.old ring.new }
+    ensures step { BothStep M.RamSide R.RingSide node ram.old ram.new ring.old ring.new }
 {
     let Some(id) = waiting.id_on(path) else {
         return Ok(());
@@ -62,13 +60,11 @@ pub(crate) fn give_up_where<M: RamSide, R: RingSide>(
         (TurningBetween M.RamSide R.RingSide node ram.new ring.new waiting.new) }
     ensures kept { OnOk result (KeepsInboxOver R.RingSide node ring.old ring.new) }
     ensures less { OnOk result (SendsNoMore R.RingSide node ring.old ring.new) }
-    ensures ram_same { M.side ram.new ≡ M.side ram.old }
-    ensures ring_same { R.side ring.new ≡ R.side ring.old }
     ensures ring_adds { OnOk result (AddsOver R.RingSide node IsGivingUp ring.old ring.new) }
     ensures given { OnOk result
         (GivesUp M.RamSide R.RingSide node chosen.now ram.old ram.new ring.old ring.new) }
     ensures part { OnOk result (GivesWhereOver R.RingSide node chosen.now ring.old ring.new) }
-    ensures stands { BothStandOver M.RamSide R.RingSide node ram.old ram.new ring.old ring.new }
+    ensures step { BothStep M.RamSide R.RingSide node ram.old ram.new ring.old ring.new }
 {
     for path in 1..5 {
         if !chosen[path as usize] {
@@ -95,11 +91,9 @@ pub(crate) fn send_all<M: RamSide, R: RingSide>(
     ensures turning { OnOk result
         (TurningBetween M.RamSide R.RingSide node ram.new ring.new waiting.new) }
     ensures kept { OnOk result (KeepsInboxOver R.RingSide node ring.old ring.new) }
-    ensures ram_same { M.side ram.new ≡ M.side ram.old }
-    ensures ring_same { R.side ring.new ≡ R.side ring.old }
     ensures sent { OnOk result
         (SendsAllOver M.RamSide R.RingSide node ram.old ram.new ring.old ring.new) }
-    ensures stands { BothStandOver M.RamSide R.RingSide node ram.old ram.new ring.old ring.new }
+    ensures step { BothStep M.RamSide R.RingSide node ram.old ram.new ring.old ring.new }
 {
     while let Some(heard) = send_next(node, ring)? {
         if heard == Heard::Acked {

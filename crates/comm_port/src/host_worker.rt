@@ -8,7 +8,7 @@ ghost use Rattle.comm_port.specs.HostTurns.{after_turn, CountsPasses, AreRecent,
 ghost use Rattle.comm_port.specs.HostTurns.{looked_at};
 ghost use Rattle.comm_port.specs.HostSteps.{AskedAllOver, AskedNextOver, EndsHostOver, GivesUpBy};
 ghost use Rattle.comm_port.specs.HostSteps.{GivesUpIf, GivesUpWhich, HoldsHostBy, HoldsHostOver};
-ghost use Rattle.comm_port.specs.HostSteps.{HostMeets, HostStandsOver, HostTakingAt, HostTiesAfter};
+ghost use Rattle.comm_port.specs.HostSteps.{HostMeets, HostStep, HostTakingAt, HostTiesAfter};
 ghost use Rattle.comm_port.specs.HostSteps.{HostTiesAt, HostTurningAfter, HostTurningAt, PassedAt};
 ghost use Rattle.comm_port.specs.HostSteps.{SendsOutOver, SendsOver, ServesInboxOver};
 ghost use Rattle.comm_port.specs.RingSteps.{HasLeftAfter, HasLeftAt, HoldsAfter, HoldsAt};
@@ -16,7 +16,7 @@ ghost use Rattle.comm_port.specs.RingSteps.{IsHereAfter, KeepsInboxOver, SendsFe
 ghost use Rattle.comm_port.specs.RingSteps.{StaysAway, node_after, node_at, outbox_after, IsHereAt};
 
 use crate::leaving::hand_on;
-use crate::paths::{ALL_PATHS, NETWORK_PATHS, PATH_PLACES};
+use crate::paths::ALL_PATHS;
 use crate::replies::{post_reply, tell_statistics};
 use crate::ring_side::RingSide;
 use crate::sending::{give_up_on, send_next};
@@ -24,7 +24,7 @@ use crate::short::Short;
 use crate::taking::take_next;
 use host_port::{Host, HostResult};
 use mstr_block::CallId;
-use plant_types::NetPlan;
+use plant_types::{NETWORK_PATHS, NetPlan, PATH_PLACES};
 use ring_core::{Frame, FrameKind, Heard, is_stats};
 use std::alloc::{AllocError, Global};
 use std::marker::Model;
@@ -36,9 +36,7 @@ fn end_call<R: RingSide>(node: u8, reply: Frame, host: &mut Host, ring: &R) -> R
     ensures turning { OnOk result (HostTurningAt R.RingSide node host.new ring.now) }
     ensures served { OnOk result
         (HostMeets R.RingSide node reply host.old host.new ring.now ring.now) }
-    ensures stands { HostStandsOver R.RingSide node host.old host.new ring.now ring.now }
-    ensures legal_list { IsHostHistory host.new.plan host.new.history }
-    ensures plan { host.new.plan ≡ host.old.plan }
+    ensures step { HostStep R.RingSide node host.old host.new ring.now ring.now }
 {
     host.answer(reply.id, HostResult::Reply(reply.pdu))?;
     Ok(())
@@ -58,10 +56,7 @@ fn answer_request<R: RingSide>(
     ensures kept { OnOk result (KeepsInboxOver R.RingSide node ring.old ring.new) }
     ensures served { OnOk result
         (HostMeets R.RingSide node request.now host.old host.new ring.old ring.new) }
-    ensures stands { HostStandsOver R.RingSide node host.old host.new ring.old ring.new }
-    ensures legal_list { IsHostHistory host.new.plan host.new.history }
-    ensures plan { host.new.plan ≡ host.old.plan }
-    ensures same { R.side ring.new ≡ R.side ring.old }
+    ensures step { HostStep R.RingSide node host.old host.new ring.old ring.new }
 {
     let reply = host.serve(request.id, &request.pdu)?;
     post_reply(node, request.id, reply, ring)?;
@@ -83,8 +78,7 @@ fn answer_port<R: RingSide>(
     ensures kept { OnOk result (KeepsInboxOver R.RingSide node ring.old ring.new) }
     ensures served { OnOk result
         (HostMeets R.RingSide node request.now host.now host.now ring.old ring.new) }
-    ensures stands { HostStandsOver R.RingSide node host.now host.now ring.old ring.new }
-    ensures same { R.side ring.new ≡ R.side ring.old }
+    ensures step { HostStep R.RingSide node host.now host.now ring.old ring.new }
 {
     tell_statistics(alloc, node, request, ring)?;
     Ok(())
@@ -103,10 +97,7 @@ fn serve<R: RingSide>(
     ensures kept { OnOk result (KeepsInboxOver R.RingSide node ring.old ring.new) }
     ensures served { OnOk result
         (HostMeets R.RingSide node frame host.old host.new ring.old ring.new) }
-    ensures stands { HostStandsOver R.RingSide node host.old host.new ring.old ring.new }
-    ensures legal_list { IsHostHistory host.new.plan host.new.history }
-    ensures plan { host.new.plan ≡ host.old.plan }
-    ensures same { R.side ring.new ≡ R.side ring.old }
+    ensures step { HostStep R.RingSide node host.old host.new ring.old ring.new }
 {
     match frame.kind {
         FrameKind::Reply => end_call(node, frame, host, ring),
@@ -133,10 +124,7 @@ fn serve_inbox<R: RingSide>(
     ensures holds { OnOk result (HoldsAfter R.RingSide node ring.old ring.new) }
     ensures served { OnOk result
         (ServesInboxOver R.RingSide node host.old host.new ring.old ring.new) }
-    ensures stands { HostStandsOver R.RingSide node host.old host.new ring.old ring.new }
-    ensures legal_list { IsHostHistory host.new.plan host.new.history }
-    ensures plan { host.new.plan ≡ host.old.plan }
-    ensures same { R.side ring.new ≡ R.side ring.old }
+    ensures step { HostStep R.RingSide node host.old host.new ring.old ring.new }
 {
     while let Some(frame) = take_next(node, ring)? {
         serve(alloc, node, frame, host, ring)?;
@@ -157,10 +145,7 @@ fn ask_next<R: RingSide>(
     ensures kept { OnOk result (KeepsInboxOver R.RingSide node ring.old ring.new) }
     ensures asked { IfOk result
         (AskedNextOver R.RingSide node hold host.old host.new ring.old ring.new) }
-    ensures stands { HostStandsOver R.RingSide node host.old host.new ring.old ring.new }
-    ensures legal_list { IsHostHistory host.new.plan host.new.history }
-    ensures plan { host.new.plan ≡ host.old.plan }
-    ensures same { R.side ring.new ≡ R.side ring.old }
+    ensures step { HostStep R.RingSide node host.old host.new ring.old ring.new }
 {
     let Some(frame) = host.ask(hold)? else {
         return Ok(None);
@@ -185,10 +170,7 @@ fn ask_all<R: RingSide>(
     ensures holds { OnOk result (HoldsAfter R.RingSide node ring.old ring.new) }
     ensures asked { IfOk result
         (AskedAllOver R.RingSide node hold host.old host.new ring.old ring.new) }
-    ensures stands { HostStandsOver R.RingSide node host.old host.new ring.old ring.new }
-    ensures legal_list { IsHostHistory host.new.plan host.new.history }
-    ensures plan { host.new.plan ≡ host.old.plan }
-    ensures same { R.side ring.new ≡ R.side ring.old }
+    ensures step { HostStep R.RingSide node host.old host.new ring.old ring.new }
 {
     let mut fresh = [false; PATH_PLACES];
     while let Some(path) = ask_next(node, hold, host, ring)? {
@@ -207,10 +189,7 @@ fn give_up_path<R: RingSide>(node: u8, path: u8, host: &mut Host, ring: &mut R) 
     ensures left { OnOk result (StaysAway R.RingSide node ring.old ring.new) }
     ensures gives_up { OnOk result
         (GivesUpBy R.RingSide node (path ∷ []) host.old host.new ring.old ring.new) }
-    ensures stands { HostStandsOver R.RingSide node host.old host.new ring.old ring.new }
-    ensures legal_list { IsHostHistory host.new.plan host.new.history }
-    ensures plan { host.new.plan ≡ host.old.plan }
-    ensures same { R.side ring.new ≡ R.side ring.old }
+    ensures step { HostStep R.RingSide node host.old host.new ring.old ring.new }
 {
     let seq = ring.awaits(node, path);
     if seq == 0 {
@@ -240,10 +219,7 @@ fn give_up_if<R: RingSide>(
     ensures left { OnOk result (StaysAway R.RingSide node ring.old ring.new) }
     ensures gives_up { OnOk result
         (GivesUpIf R.RingSide node wanted path host.old host.new ring.old ring.new) }
-    ensures stands { HostStandsOver R.RingSide node host.old host.new ring.old ring.new }
-    ensures legal_list { IsHostHistory host.new.plan host.new.history }
-    ensures plan { host.new.plan ≡ host.old.plan }
-    ensures same { R.side ring.new ≡ R.side ring.old }
+    ensures step { HostStep R.RingSide node host.old host.new ring.old ring.new }
 {
     if wanted {
         give_up_path(node, path, host, ring)
@@ -266,10 +242,7 @@ fn give_up_where<R: RingSide>(
     ensures left { OnOk result (StaysAway R.RingSide node ring.old ring.new) }
     ensures gives_up { OnOk result
         (GivesUpWhich R.RingSide node which host.old host.new ring.old ring.new) }
-    ensures stands { HostStandsOver R.RingSide node host.old host.new ring.old ring.new }
-    ensures legal_list { IsHostHistory host.new.plan host.new.history }
-    ensures plan { host.new.plan ≡ host.old.plan }
-    ensures same { R.side ring.new ≡ R.side ring.old }
+    ensures step { HostStep R.RingSide node host.old host.new ring.old ring.new }
 {
     for path in NETWORK_PATHS {
         give_up_if(node, path, which[usize::from(path)], host, ring)?;
@@ -307,10 +280,7 @@ fn send_one<R: RingSide>(
         (AreRecent (is_chosen fresh) (node_after R.RingSide node ring.old ring.new)) }
     ensures empty { IfOk result
         (λ sent. sent ≡ false → outbox_after R.RingSide node ring.old ring.new ≡ []) }
-    ensures stands { HostStandsOver R.RingSide node host.old host.new ring.old ring.new }
-    ensures legal_list { IsHostHistory host.new.plan host.new.history }
-    ensures plan { host.new.plan ≡ host.old.plan }
-    ensures same { R.side ring.new ≡ R.side ring.old }
+    ensures step { HostStep R.RingSide node host.old host.new ring.old ring.new }
 {
     let Some(heard) = send_next(node, ring)? else {
         return Ok(false);
@@ -333,10 +303,7 @@ fn send_all<R: RingSide>(
     ensures holds { OnOk result (HoldsAfter R.RingSide node ring.old ring.new) }
     ensures sends { OnOk result
         (SendsOutOver R.RingSide node fresh host.old host.new ring.old ring.new) }
-    ensures stands { HostStandsOver R.RingSide node host.old host.new ring.old ring.new }
-    ensures legal_list { IsHostHistory host.new.plan host.new.history }
-    ensures plan { host.new.plan ≡ host.old.plan }
-    ensures same { R.side ring.new ≡ R.side ring.old }
+    ensures step { HostStep R.RingSide node host.old host.new ring.old ring.new }
 {
     while send_one(node, fresh, host, ring)? {}
     Ok(())
@@ -361,10 +328,7 @@ fn end_turn<R: RingSide>(
         (EndsHostOver R.RingSide node budget host.old host.new ring.old ring.new) }
     ensures stays { IfOk result
         (λ left. left ≡ false → IsHereAfter R.RingSide node ring.old ring.new) }
-    ensures stands { HostStandsOver R.RingSide node host.old host.new ring.old ring.new }
-    ensures legal_list { IsHostHistory host.new.plan host.new.history }
-    ensures plan { host.new.plan ≡ host.old.plan }
-    ensures same { R.side ring.new ≡ R.side ring.old }
+    ensures step { HostStep R.RingSide node host.old host.new ring.old ring.new }
 {
     let done = host.is_done();
     let left = hand_on(node, done, budget, ring)?;
@@ -396,10 +360,7 @@ fn turn<R: RingSide>(
         (HoldsHostOver R.RingSide node budget host.old host.new ring.old ring.new) }
     ensures stays { IfOk result
         (λ left. left ≡ false → IsHereAfter R.RingSide node ring.old ring.new) }
-    ensures stands { HostStandsOver R.RingSide node host.old host.new ring.old ring.new }
-    ensures legal_list { IsHostHistory host.new.plan host.new.history }
-    ensures plan { host.new.plan ≡ host.old.plan }
-    ensures same { R.side ring.new ≡ R.side ring.old }
+    ensures step { HostStep R.RingSide node host.old host.new ring.old ring.new }
 {
     let _ = host.history();
     serve_inbox(alloc, node, host, ring)?;
@@ -465,12 +426,7 @@ impl HostWorker {
             (λ left. left ≡ false → IsHereAt R.RingSide self.old.node ring.new) }
         ensures held { IfOk result
             (HoldsHostBy R.RingSide self.old host.old host.new ring.old ring.new) }
-        ensures stands { HostStandsOver R.RingSide self.old.node host.old host.new ring.old
-            ring.new }
-        ensures legal { IsLegal (R.side ring.old).net (R.known ring.new) }
-        ensures legal_list { IsHostHistory host.new.plan host.new.history }
-        ensures plan { host.new.plan ≡ host.old.plan }
-        ensures same { R.side ring.new ≡ R.side ring.old }
+        ensures step { HostStep R.RingSide self.old.node host.old host.new ring.old ring.new }
     {
         let hold = self.passes.saturating_add(1);
         let Ok(left) = turn(self.alloc, self.node, hold, self.budget, host, ring) else {

@@ -1,7 +1,7 @@
 //! The end of a turn: the node leaves where that is due, else it passes the token on.
 ghost use Rattle.std.specs.Prelude.{◌≡◌, ◌&&◌, [], is_some, OnOk, IfOk};
 ghost use Rattle.comm_port.specs.RingSteps.{HandedOnOver, HoldsAt, LeftOrStoodOver, OwnTurnAt};
-ghost use Rattle.comm_port.specs.RingSteps.{RingStandsOver, cause_at, is_due_at, node_at};
+ghost use Rattle.comm_port.specs.RingSteps.{RingStep, cause_at, is_due_at, node_at};
 
 use crate::asking::pass_on;
 use crate::ring_side::RingSide;
@@ -16,8 +16,7 @@ fn leave_if_due<R: RingSide>(node: u8, cause: LeaveCause, ring: &mut R) -> Resul
     requires taken { (node_at R.RingSide node ring.old).inbox ≡ [] }
     ensures due { IfOk result (λ left. left ≡ is_due_at R.RingSide node cause ring.old) }
     ensures did { IfOk result (LeftOrStoodOver R.RingSide node cause ring.old ring.new) }
-    ensures same { R.side ring.new ≡ R.side ring.old }
-    ensures stands { RingStandsOver R.RingSide node ring.old ring.new }
+    ensures step { RingStep R.RingSide node ring.old ring.new }
 {
     match ring.leave(node, cause) {
         Ok(()) => Ok(true),
@@ -41,8 +40,7 @@ fn leave_if<R: RingSide>(
     requires taken { (node_at R.RingSide node ring.old).inbox ≡ [] }
     ensures due { IfOk result (λ left. left ≡ (wants && is_due_at R.RingSide node cause ring.old)) }
     ensures did { IfOk result (LeftOrStoodOver R.RingSide node cause ring.old ring.new) }
-    ensures same { R.side ring.new ≡ R.side ring.old }
-    ensures stands { RingStandsOver R.RingSide node ring.old ring.new }
+    ensures step { RingStep R.RingSide node ring.old ring.new }
 {
     if wants {
         leave_if_due(node, cause, ring)
@@ -66,8 +64,7 @@ pub(crate) fn hand_on<R: RingSide>(
     ensures left { IfOk result
         (λ left. left ≡ is_some (cause_at R.RingSide node done budget ring.old)) }
     ensures handed { OnOk result (HandedOnOver R.RingSide node done budget ring.old ring.new) }
-    ensures same { R.side ring.new ≡ R.side ring.old }
-    ensures stands { RingStandsOver R.RingSide node ring.old ring.new }
+    ensures step { RingStep R.RingSide node ring.old ring.new }
 {
     let spent = leave_if(node, budget, LeaveCause::Spent, ring)?;
     if spent {

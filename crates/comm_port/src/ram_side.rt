@@ -14,7 +14,7 @@ use std::alloc::AllocError;
 /// The calls of a controller that its communication makes. A contract sees its fixed part and its
 /// history as far as it is known here; each call goes on from there with events of the scan, none
 /// where nobody else writes, and then with its own one. Each question is answered by the history
-/// known then.
+/// known then. None of them reserves memory.
 pub trait RamSide {
     ghost use Rattle.comm_port.specs.Sides.{RamSideIs};
     ghost use Rattle.controller_core.specs.declared.entry.Entry.{Entry};
@@ -31,11 +31,14 @@ pub trait RamSide {
     /// Whether nobody else writes.
     ghost alone: { Bool };
 
+    /// Whether the memory of a scan's steps is kept; told only where nobody else writes.
+    ghost reserved: { Self → Bool };
+
     /// All calls that were started and not yet collected, in the order of their blocks. Each is
     /// new.
     fn collect(&mut self) -> Result<List<Call>, AllocError>
         requires { has_started_at (side self.old).fixed (known self.old) ≡ true }
-        ensures went { CallNotes alone known self.old self.new result
+        ensures went { CallNotes alone known reserved self.old self.new result
             (λ calls. Collect calls ∷ []) }
         ensures fresh { IfOk result
             (λ calls. AreStarted (side self.old).fixed (known self.old) calls) }
@@ -44,7 +47,7 @@ pub trait RamSide {
 
     /// Answers a request of another node.
     fn peer(&mut self, id: CallId, request: &Pdu) -> Result<Pdu, AllocError>
-        ensures went { CallNotes alone known self.old self.new result
+        ensures went { CallNotes alone known reserved self.old self.new result
             (λ reply. Peer id request.now reply ∷ []) }
         ensures legal { IsLegal (side self.old).fixed (known self.new) }
         ensures same { side self.new ≡ side self.old };
@@ -52,7 +55,7 @@ pub trait RamSide {
     /// Ends a call that was collected and has not ended.
     fn finish(&mut self, id: CallId, outcome: MstrResult) -> Result<(), AllocError>
         requires { IsOut (items_of (known self.old)) id }
-        ensures went { CallNotes alone known self.old self.new result
+        ensures went { CallNotes alone known reserved self.old self.new result
             (λ _. Finish id outcome ∷ []) }
         ensures legal { IsLegal (side self.old).fixed (known self.new) }
         ensures same { side self.new ≡ side self.old };
@@ -60,14 +63,14 @@ pub trait RamSide {
     /// Whether a call was started and not yet collected.
     fn has_started(&mut self) -> bool
         ensures answer { result ≡ has_started_at (side self.old).fixed (known self.new) }
-        ensures went { NotesNothing alone known self.old self.new }
+        ensures went { NotesNothing alone known reserved self.old self.new }
         ensures legal { IsLegal (side self.old).fixed (known self.new) }
         ensures same { side self.new ≡ side self.old };
 
     /// Whether all scans are done, or the controller has stopped.
     fn has_ended(&mut self) -> bool
         ensures answer { result ≡ has_ended_at (side self.old).fixed (known self.new) }
-        ensures went { NotesNothing alone known self.old self.new }
+        ensures went { NotesNothing alone known reserved self.old self.new }
         ensures legal { IsLegal (side self.old).fixed (known self.new) }
         ensures same { side self.new ≡ side self.old };
 }

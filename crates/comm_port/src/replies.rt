@@ -6,7 +6,7 @@ ghost use Rattle.ring_core.specs.declared.entry.RingEntry.TheVariants.{Post};
 ghost use Rattle.ring_core.specs.Statistics.{is_stats};
 ghost use Rattle.tied_lists.specs.Items.{request_of, words_told};
 ghost use Rattle.comm_port.specs.Replies.{reply_frame};
-ghost use Rattle.comm_port.specs.RingSteps.{GrewBy, KeepsInboxOver, OwnTurnAt, RingStandsOver};
+ghost use Rattle.comm_port.specs.RingSteps.{GrewBy, KeepsInboxOver, OwnTurnAt, RingStep};
 ghost use Rattle.comm_port.specs.RingSteps.{TellsOver};
 ghost use Rattle.modbus_pdu.specs.declared.reply.Reply.TheVariants as replies;
 
@@ -42,8 +42,7 @@ pub(crate) fn post_reply<R: RingSide>(
     ensures grew { OnOk result
         (GrewBy R.RingSide node (Post node (reply_frame id pdu) ∷ []) ring.old ring.new) }
     ensures kept { OnOk result (KeepsInboxOver R.RingSide node ring.old ring.new) }
-    ensures same { R.side ring.new ≡ R.side ring.old }
-    ensures stands { RingStandsOver R.RingSide node ring.old ring.new }
+    ensures step { RingStep R.RingSide node ring.old ring.new }
 {
     post_frame(node, reply_frame(id, pdu), ring)?;
     Ok(())
@@ -92,8 +91,7 @@ pub(crate) fn tell_statistics<R: RingSide>(
     requires stats { is_stats request.now.pdu ≡ true }
     ensures told { OnOk result (TellsOver R.RingSide node request.now ring.old ring.new) }
     ensures kept { OnOk result (KeepsInboxOver R.RingSide node ring.old ring.new) }
-    ensures same { R.side ring.new ≡ R.side ring.old }
-    ensures stands { RingStandsOver R.RingSide node ring.old ring.new }
+    ensures step { RingStep R.RingSide node ring.old ring.new }
 {
     let op = operation_for(&request.pdu);
     let result = do_local(node, request.id, op, ring)?;

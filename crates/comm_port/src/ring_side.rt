@@ -4,9 +4,9 @@ ghost use Rattle.ring_core.specs.Machine.{ring_after};
 ghost use Rattle.ring_core.specs.Refusals.{post_no, send_no, turn_no, free_no, pass_no, quiet_for};
 ghost use Rattle.ring_core.specs.Legal.{IsMember, IsPath, IsFrom, IsNextNumber, HasRoom, IsLegal};
 ghost use Rattle.ring_core.specs.declared.entry.RingEntry.TheVariants.{Post, Send, Local, GiveUp};
-ghost use Rattle.ring_core.specs.declared.entry.RingEntry.TheVariants.{Leave};
 ghost use Rattle.comm_port.specs.Sides.{MayWrite, IsRefusedFor, IsRefusedOrShort, taken_entries};
-ghost use Rattle.comm_port.specs.Sides.{CallAdds, AddsNothing, PassAdds, give_up_no_at};
+ghost use Rattle.comm_port.specs.Sides.{CallAdds, AddsNothing, LeaveAdds, PassAdds};
+ghost use Rattle.comm_port.specs.Sides.{give_up_no_at};
 ghost use Rattle.comm_port.specs.Sides.{leave_no_at, number_awaited};
 ghost use Rattle.comm_port.specs.Giving.{inbox_of, part_at};
 
@@ -15,7 +15,8 @@ use ring_core::{Frame, Heard, LeaveCause, LocalOp, Ring, RingNo};
 
 /// The calls of a ring. A contract sees its plan and its history as far as it is known here; each
 /// call goes on from there with entries of others, none where nobody else writes, and then with its
-/// own one. What it answers, also a refusal, is that of the ring there.
+/// own one. What it answers, also a refusal, is that of the ring there. None reserves memory but a
+/// Leave.
 pub trait RingSide {
     ghost use Rattle.comm_port.specs.Sides.{RingSideIs};
     ghost use Rattle.ring_core.specs.declared.entry.RingEntry.{RingEntry};
@@ -32,13 +33,16 @@ pub trait RingSide {
     /// Whether nobody else writes.
     ghost alone: { Bool };
 
+    /// For how many entries it keeps memory; told only where nobody else writes.
+    ghost room: { Self → ℕ };
+
     fn post(&mut self, node: u8, frame: Frame) -> Result<(), RingNo>
         requires serves { MayWrite (side self.old).writer node }
         requires member { IsMember (side self.old).net node }
         requires from { IsFrom node frame.kind frame }
         requires next { IsNextNumber
             (part_at (side self.old).net node (known self.old)) frame.kind frame.id }
-        ensures went { CallAdds alone known node self.old self.new result
+        ensures went { CallAdds alone known room node self.old self.new result
             (λ _. Post node frame ∷ []) }
         ensures legal { IsLegal (side self.old).net (known self.new) }
         ensures refused { IsRefusedFor
@@ -48,7 +52,7 @@ pub trait RingSide {
     fn send(&mut self, node: u8) -> Result<Heard, RingNo>
         requires serves { MayWrite (side self.old).writer node }
         requires member { IsMember (side self.old).net node }
-        ensures went { CallAdds alone known node self.old self.new result
+        ensures went { CallAdds alone known room node self.old self.new result
             (λ heard. Send node heard ∷ []) }
         ensures legal { IsLegal (side self.old).net (known self.new) }
         ensures refused { IsRefusedFor
@@ -59,7 +63,8 @@ pub trait RingSide {
     fn take(&mut self, node: u8) -> Result<Option<Frame>, RingNo>
         requires serves { MayWrite (side self.old).writer node }
         requires member { IsMember (side self.old).net node }
-        ensures went { CallAdds alone known node self.old self.new result (taken_entries node) }
+        ensures went { CallAdds alone known room node self.old self.new result
+            (taken_entries node) }
         ensures empty { IfOk result
             (λ took. took ≡ None → inbox_of (side self.old).net node (known self.new) ≡ []) }
         ensures legal { IsLegal (side self.old).net (known self.new) }
@@ -71,7 +76,7 @@ pub trait RingSide {
         requires serves { MayWrite (side self.old).writer node }
         requires member { IsMember (side self.old).net node }
         requires room { HasRoom op }
-        ensures went { CallAdds alone known node self.old self.new result
+        ensures went { CallAdds alone known room node self.old self.new result
             (λ given. Local node id op given ∷ []) }
         ensures legal { IsLegal (side self.old).net (known self.new) }
         ensures refused { IsRefusedFor
@@ -82,7 +87,7 @@ pub trait RingSide {
         requires serves { MayWrite (side self.old).writer id.node }
         requires member { IsMember (side self.old).net id.node }
         requires path { IsPath id.path }
-        ensures went { CallAdds alone known id.node self.old self.new result
+        ensures went { CallAdds alone known room id.node self.old self.new result
             (λ word. GiveUp id word ∷ []) }
         ensures legal { IsLegal (side self.old).net (known self.new) }
         ensures refused { IsRefusedFor
@@ -95,7 +100,7 @@ pub trait RingSide {
         requires member { IsMember (side self.old).net node }
         requires path { IsPath path }
         ensures answer { result ≡ number_awaited (side self.old).net (known self.new) node path }
-        ensures went { AddsNothing alone known node self.old self.new }
+        ensures went { AddsNothing alone known room node self.old self.new }
         ensures legal { IsLegal (side self.old).net (known self.new) }
         ensures same { side self.new ≡ side self.old };
 
@@ -103,7 +108,7 @@ pub trait RingSide {
     fn holder(&mut self) -> u8
         ensures answer { result ≡ (ring_after (side self.old).net (known self.new)).holder }
         ensures went { (n : ℕ)
-            → MayWrite (side self.old).writer n → AddsNothing alone known n self.old self.new }
+            → MayWrite (side self.old).writer n → AddsNothing alone known room n self.old self.new }
         ensures legal { IsLegal (side self.old).net (known self.new) }
         ensures same { side self.new ≡ side self.old };
 
@@ -112,25 +117,24 @@ pub trait RingSide {
         requires serves { MayWrite (side self.old).writer node }
         requires member { IsMember (side self.old).net node }
         ensures answer { result ≡ quiet_for (ring_after (side self.old).net (known self.new)) node }
-        ensures went { AddsNothing alone known node self.old self.new }
+        ensures went { AddsNothing alone known room node self.old self.new }
         ensures legal { IsLegal (side self.old).net (known self.new) }
         ensures same { side self.new ≡ side self.old };
 
     fn pass(&mut self, node: u8, done: bool) -> Result<(), RingNo>
         requires serves { MayWrite (side self.old).writer node }
         requires member { IsMember (side self.old).net node }
-        ensures went { PassAdds alone known node done self.old self.new result }
+        ensures went { PassAdds alone known room node done self.old self.new result }
         ensures legal { IsLegal (side self.old).net (known self.new) }
         ensures refused { IsRefusedFor
             (pass_no (ring_after (side self.old).net (known self.new)) node) result }
         ensures same { side self.new ≡ side self.old };
 
-    /// Reserves one entry first, so that it may run out of memory.
+    /// Reserves one entry first, and no more, so that it may run out of memory.
     fn leave(&mut self, node: u8, cause: LeaveCause) -> Result<(), RingNo>
         requires serves { MayWrite (side self.old).writer node }
         requires member { IsMember (side self.old).net node }
-        ensures went { CallAdds alone known node self.old self.new result
-            (λ _. Leave node cause ∷ []) }
+        ensures went { LeaveAdds alone known room node cause self.old self.new result }
         ensures legal { IsLegal (side self.old).net (known self.new) }
         ensures refused { IsRefusedOrShort
             (leave_no_at (side self.old).net (known self.new) node cause) result }
@@ -145,6 +149,8 @@ impl RingSide for Ring {
     ghost known = { λ r. r.history };
 
     ghost alone = { true };
+
+    ghost room = { λ r. r.spare };
 
     fn post(&mut self, node: u8, frame: Frame) -> Result<(), RingNo> {
         let answer = Ring::post(self, node, frame);

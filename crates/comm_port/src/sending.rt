@@ -2,7 +2,7 @@
 ghost use Rattle.std.specs.Prelude.{◌≡◌, ◌↔◌, true, None, IfOk};
 ghost use Rattle.ring_core.specs.Legal.{IsPath};
 ghost use Rattle.comm_port.specs.RingSteps.{GaveUpOver, HoldsAt, OwnTurnAt, RefusesGiveUp};
-ghost use Rattle.comm_port.specs.RingSteps.{RingStandsOver, SentOrAllOver};
+ghost use Rattle.comm_port.specs.RingSteps.{RingStep, SentOrAllOver};
 
 use crate::ring_side::RingSide;
 use crate::short::Short;
@@ -14,8 +14,7 @@ pub(crate) fn send_next<R: RingSide>(node: u8, ring: &mut R) -> Result<Option<He
     requires turn { OwnTurnAt R.RingSide node ring.old }
     requires holds { HoldsAt R.RingSide node ring.old }
     ensures sent { IfOk result (SentOrAllOver R.RingSide node ring.old ring.new) }
-    ensures same { R.side ring.new ≡ R.side ring.old }
-    ensures stands { RingStandsOver R.RingSide node ring.old ring.new }
+    ensures step { RingStep R.RingSide node ring.old ring.new }
 {
     match ring.send(node) {
         Ok(heard) => Ok(Some(heard)),
@@ -38,10 +37,9 @@ pub(crate) fn give_up_on<R: RingSide>(id: CallId, ring: &mut R) -> Result<Option
     requires turn { OwnTurnAt R.RingSide id.node ring.old }
     requires path { IsPath id.path }
     ensures given { IfOk result (GaveUpOver R.RingSide id ring.old ring.new) }
-    ensures same { R.side ring.new ≡ R.side ring.old }
     ensures not_due { IfOk result
         (λ word. word ≡ None → RefusesGiveUp R.RingSide id ring.old ring.new) }
-    ensures stands { RingStandsOver R.RingSide id.node ring.old ring.new }
+    ensures step { RingStep R.RingSide id.node ring.old ring.new }
 {
     match ring.give_up(id) {
         Ok(word) => Ok(Some(word)),

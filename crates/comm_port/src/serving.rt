@@ -2,9 +2,9 @@
 ghost use Rattle.std.specs.Prelude.{◌≡◌, [], true, false, OnOk};
 ghost use Rattle.ring_core.specs.Statistics.{is_stats};
 ghost use Rattle.comm_port.specs.Order.{IsServing};
-ghost use Rattle.comm_port.specs.RingSteps.{AddsOver, HoldsAt, KeepsInboxOver, RingStandsOver};
+ghost use Rattle.comm_port.specs.RingSteps.{AddsOver, HoldsAt, KeepsInboxOver, RingStep};
 ghost use Rattle.comm_port.specs.RingSteps.{inbox_after};
-ghost use Rattle.comm_port.specs.BothSteps.{BothStandOver, Meets, RamStandsOver, ServesAll};
+ghost use Rattle.comm_port.specs.BothSteps.{BothStep, Meets, RamStep, ServesAll};
 ghost use Rattle.comm_port.specs.BothSteps.{TakingBetween, TurningBetween};
 
 use crate::ram_side::RamSide;
@@ -30,10 +30,9 @@ fn end_call<M: RamSide, R: RingSide>(
     requires kind { reply.now.kind ≡ FrameKind.Reply }
     ensures turning { OnOk result
         (TurningBetween M.RamSide R.RingSide node ram.new ring.now waiting.new) }
-    ensures same { M.side ram.new ≡ M.side ram.old }
     ensures served { OnOk result
         (Meets M.RamSide R.RingSide node reply.now ram.old ram.new ring.now ring.now) }
-    ensures stands { RamStandsOver M.RamSide ram.old ram.new }
+    ensures step { RamStep M.RamSide ram.old ram.new }
 {
     let ask = waiting.end(reply.id.path).unwrap();
     ram.finish(reply.id, result_of(&ask.pdu, &reply.pdu))?;
@@ -55,12 +54,10 @@ fn answer_request<M: RamSide, R: RingSide>(
     ensures turning { OnOk result
         (TurningBetween M.RamSide R.RingSide node ram.new ring.new waiting.now) }
     ensures kept { OnOk result (KeepsInboxOver R.RingSide node ring.old ring.new) }
-    ensures ram_same { M.side ram.new ≡ M.side ram.old }
-    ensures ring_same { R.side ring.new ≡ R.side ring.old }
     ensures ring_adds { OnOk result (AddsOver R.RingSide node (IsServing node) ring.old ring.new) }
     ensures served { OnOk result
         (Meets M.RamSide R.RingSide node request.now ram.old ram.new ring.old ring.new) }
-    ensures stands { BothStandOver M.RamSide R.RingSide node ram.old ram.new ring.old ring.new }
+    ensures step { BothStep M.RamSide R.RingSide node ram.old ram.new ring.old ring.new }
 {
     let reply = ram.peer(request.id, &request.pdu)?;
     post_reply(node, request.id, reply, ring)?;
@@ -83,11 +80,10 @@ fn answer_port<M: RamSide, R: RingSide>(
     ensures turning { OnOk result
         (TurningBetween M.RamSide R.RingSide node ram.now ring.new waiting.now) }
     ensures kept { OnOk result (KeepsInboxOver R.RingSide node ring.old ring.new) }
-    ensures same { R.side ring.new ≡ R.side ring.old }
     ensures ring_adds { OnOk result (AddsOver R.RingSide node (IsServing node) ring.old ring.new) }
     ensures served { OnOk result
         (Meets M.RamSide R.RingSide node request.now ram.now ram.now ring.old ring.new) }
-    ensures stands { RingStandsOver R.RingSide node ring.old ring.new }
+    ensures step { RingStep R.RingSide node ring.old ring.new }
 {
     tell_statistics(alloc, node, request, ring)?;
     Ok(())
@@ -108,12 +104,10 @@ fn serve<M: RamSide, R: RingSide>(
     ensures turning { OnOk result
         (TurningBetween M.RamSide R.RingSide node ram.new ring.new waiting.new) }
     ensures kept { OnOk result (KeepsInboxOver R.RingSide node ring.old ring.new) }
-    ensures ram_same { M.side ram.new ≡ M.side ram.old }
-    ensures ring_same { R.side ring.new ≡ R.side ring.old }
     ensures ring_adds { OnOk result (AddsOver R.RingSide node (IsServing node) ring.old ring.new) }
     ensures served { OnOk result
         (Meets M.RamSide R.RingSide node frame.now ram.old ram.new ring.old ring.new) }
-    ensures stands { BothStandOver M.RamSide R.RingSide node ram.old ram.new ring.old ring.new }
+    ensures step { BothStep M.RamSide R.RingSide node ram.old ram.new ring.old ring.new }
 {
     match frame.kind {
         FrameKind::Reply => end_call(node, waiting, frame, ram, ring)?,
@@ -141,13 +135,11 @@ pub(crate) fn serve_inbox<M: RamSide, R: RingSide>(
     ensures turning { OnOk result
         (TurningBetween M.RamSide R.RingSide node ram.new ring.new waiting.new) }
     ensures holds { OnOk result (HoldsAt R.RingSide node ring.new) }
-    ensures ram_same { M.side ram.new ≡ M.side ram.old }
-    ensures ring_same { R.side ring.new ≡ R.side ring.old }
     ensures ring_adds { OnOk result (AddsOver R.RingSide node (IsServing node) ring.old ring.new) }
     ensures served { OnOk result
         (ServesAll M.RamSide R.RingSide node ram.old ram.new ring.old ring.new) }
     ensures empty { OnOk result (inbox_after R.RingSide node ring.old ring.new ≡ []) }
-    ensures stands { BothStandOver M.RamSide R.RingSide node ram.old ram.new ring.old ring.new }
+    ensures step { BothStep M.RamSide R.RingSide node ram.old ram.new ring.old ring.new }
 {
     while let Some(frame) = take_next(node, ring)? {
         serve(alloc, node, waiting, &frame, ram, ring)?;

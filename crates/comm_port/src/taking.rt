@@ -2,7 +2,7 @@
 ghost use Rattle.std.specs.Prelude.{◌≡◌, None, [], IfOk};
 ghost use Rattle.tied_lists.specs.Own.{added_if};
 ghost use Rattle.comm_port.specs.Sides.{taken_entries};
-ghost use Rattle.comm_port.specs.RingSteps.{HoldsAt, OwnTurnAt, RingStandsOver, WentOnBy};
+ghost use Rattle.comm_port.specs.RingSteps.{HoldsAt, OwnTurnAt, RingStep, WentOnBy};
 ghost use Rattle.comm_port.specs.RingSteps.{inbox_after};
 
 use crate::ring_side::RingSide;
@@ -17,8 +17,7 @@ pub(crate) fn take_next<R: RingSide>(node: u8, ring: &mut R) -> Result<Option<Fr
         (taken_entries node)) ring.old ring.new }
     ensures empty { IfOk result
         (λ took. took ≡ None → inbox_after R.RingSide node ring.old ring.new ≡ []) }
-    ensures same { R.side ring.new ≡ R.side ring.old }
-    ensures stands { RingStandsOver R.RingSide node ring.old ring.new }
+    ensures step { RingStep R.RingSide node ring.old ring.new }
 {
     match ring.take(node) {
         Ok(taken) => Ok(taken),

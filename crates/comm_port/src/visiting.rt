@@ -1,7 +1,7 @@
 //! A controller that has left still starts calls: each ends at once.
 ghost use Rattle.std.specs.Prelude.{◌≡◌, ◌<◌, ◌+◌, length, OnOk};
 ghost use Rattle.comm_port.specs.Visiting.{WaitsFor};
-ghost use Rattle.comm_port.specs.BothSteps.{BothStandOver, GivesUpCall, Owes, TurningBetween};
+ghost use Rattle.comm_port.specs.BothSteps.{BothStep, GivesUpCall, Owes, TurningBetween};
 ghost use Rattle.comm_port.specs.BothSteps.{Visits, Voids};
 ghost use Rattle.comm_port.specs.RingSteps.{GivesCallOver, HasLeftAfter, HasLeftAt, RestsAfter};
 ghost use Rattle.comm_port.specs.RingSteps.{RestsAt, WaitAsBefore};
@@ -34,9 +34,7 @@ fn give_up_between<M: RamSide, R: RingSide>(
     ensures given { OnOk result
         (GivesUpCall M.RamSide R.RingSide node id ram.old ram.new ring.old ring.new) }
     ensures part { OnOk result (GivesCallOver R.RingSide node id ring.old ring.new) }
-    ensures ram_same { M.side ram.new ≡ M.side ram.old }
-    ensures ring_same { R.side ring.new ≡ R.side ring.old }
-    ensures stands { BothStandOver M.RamSide R.RingSide node ram.old ram.new ring.old ring.new }
+    ensures step { BothStep M.RamSide R.RingSide node ram.old ram.new ring.old ring.new }
 {
     let _ = calls;
     let _ = next;
@@ -67,9 +65,7 @@ fn end_call<M: RamSide, R: RingSide>(
     ensures ended { OnOk result
         (Voids M.RamSide R.RingSide node calls.now at ram.old ram.new ring.old ring.new) }
     ensures as_before { OnOk result (WaitAsBefore R.RingSide node ring.old ring.new) }
-    ensures ram_same { M.side ram.new ≡ M.side ram.old }
-    ensures ring_same { R.side ring.new ≡ R.side ring.old }
-    ensures stands { BothStandOver M.RamSide R.RingSide node ram.old ram.new ring.old ring.new }
+    ensures step { BothStep M.RamSide R.RingSide node ram.old ram.new ring.old ring.new }
 {
     make_call(alloc, node, waiting, calls, at, ram, ring)?;
     let call = &calls[at];
@@ -98,9 +94,7 @@ pub(crate) fn visit<M: RamSide, R: RingSide>(
     ensures rest { OnOk result (RestsAfter R.RingSide node ring.old ring.new) }
     ensures visited { OnOk result
         (Visits M.RamSide R.RingSide node ram.old ram.new ring.old ring.new) }
-    ensures ram_same { M.side ram.new ≡ M.side ram.old }
-    ensures ring_same { R.side ring.new ≡ R.side ring.old }
-    ensures stands { BothStandOver M.RamSide R.RingSide node ram.old ram.new ring.old ring.new }
+    ensures step { BothStep M.RamSide R.RingSide node ram.old ram.new ring.old ring.new }
 {
     if !ram.has_started() {
         return Ok(());

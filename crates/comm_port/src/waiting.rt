@@ -4,8 +4,8 @@ ghost use Rattle.std.specs.Prelude.{is_none};
 ghost use Rattle.ring_core.specs.Machine.{path_places};
 ghost use Rattle.comm_port.specs.Waiting.{id_on, free_paths, IsIdle};
 
-use crate::paths::PATH_PLACES;
 use mstr_block::CallId;
+use plant_types::PATH_PLACES;
 use ring_core::Frame;
 use std::alloc::{AllocError, Global};
 use std::marker::Model;

@@ -2,7 +2,7 @@
 ghost use Rattle.std.specs.Prelude.{◌≡◌, ◌<◌, All, OnOk, IfOk};
 ghost use Rattle.ring_core.specs.Machine.{addresses};
 ghost use Rattle.ring_core.specs.Legal.{IsMember};
-ghost use Rattle.comm_port.specs.BothSteps.{BothStandOver, HoldsOver, HoldsTurnBy, RestedBetween};
+ghost use Rattle.comm_port.specs.BothSteps.{BothStep, HoldsOver, HoldsTurnBy, RestedBetween};
 ghost use Rattle.comm_port.specs.BothSteps.{StandingBetween, TurningBetween, Visits};
 ghost use Rattle.comm_port.specs.RingSteps.{HasLeftAt, HoldsAt, RestsAfter, RestsAt};
 ghost use Rattle.comm_port.specs.Worker.{new_worker};
@@ -68,9 +68,7 @@ fn turn<M: RamSide, R: RingSide>(
     ensures rest { OnOk result (RestsAfter R.RingSide node ring.old ring.new) }
     ensures held { IfOk result
         (HoldsOver M.RamSide R.RingSide node budget ram.old ram.new ring.old ring.new) }
-    ensures ram_same { M.side ram.new ≡ M.side ram.old }
-    ensures ring_same { R.side ring.new ≡ R.side ring.old }
-    ensures stands { BothStandOver M.RamSide R.RingSide node ram.old ram.new ring.old ring.new }
+    ensures step { BothStep M.RamSide R.RingSide node ram.old ram.new ring.old ring.new }
 {
     serve_inbox(alloc, node, waiting, ram, ring)?;
     let posted = waiting.free_paths();
@@ -122,9 +120,7 @@ impl CommWorker {
         ensures held { IfOk result
             (HoldsTurnBy M.RamSide R.RingSide self.old ram.old ram.new ring.old ring.new) }
         ensures worker { self.new ≡ record self.old { waiting = self.new.waiting } }
-        ensures ram_same { M.side ram.new ≡ M.side ram.old }
-        ensures ring_same { R.side ring.new ≡ R.side ring.old }
-        ensures stands { BothStandOver M.RamSide R.RingSide self.old.node ram.old ram.new ring.old
+        ensures step { BothStep M.RamSide R.RingSide self.old.node ram.old ram.new ring.old
             ring.new }
     {
         let waiting = &mut self.waiting;
@@ -149,9 +145,7 @@ impl CommWorker {
         ensures visited { OnOk result
             (Visits M.RamSide R.RingSide self.old.node ram.old ram.new ring.old ring.new) }
         ensures worker { self.new ≡ record self.old { waiting = self.new.waiting } }
-        ensures ram_same { M.side ram.new ≡ M.side ram.old }
-        ensures ring_same { R.side ring.new ≡ R.side ring.old }
-        ensures stands { BothStandOver M.RamSide R.RingSide self.old.node ram.old ram.new ring.old
+        ensures step { BothStep M.RamSide R.RingSide self.old.node ram.old ram.new ring.old
             ring.new }
     {
         match visit(self.alloc, self.node, &mut self.waiting, ram, ring) {

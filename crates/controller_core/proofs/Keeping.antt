@@ -79,7 +79,8 @@ solved_ended segments (Some row) s = either_ended (control_is_on s.solving.map r
     either_ended true = refl
     either_ended false = refl
 
-ended_made : (f : Fixed) (s : State) (step : ScanStep) → (apply f s (entry_of f s step)).ended ≡ ended_after step s.ended
+-- a step ends a scan or none
+pub ended_made : (f : Fixed) (s : State) (step : ScanStep) → (apply f s (entry_of f s step)).ended ≡ ended_after step s.ended
 ended_made f s steps.Begin = refl
 ended_made f s (steps.In row) = read_ended f.plan.drops _ s
 ended_made f s (steps.Solve row) = solved_ended f.plan.segments (row_of f.plan row) s
@@ -142,8 +143,13 @@ watched_at (steps.Solve row) m watched = watched
 watched_at (steps.Out row) m watched = watched
 watched_at steps.End m watched = tt
 
+-- the step that is next behind a place, in the scan behind those that have ended
+abbrev pub IsNext : Fixed → Machine → ScanPlace → ScanStep → Type 0
+IsNext f m at step =
+    due_after f.plan (m.ended + 1) at ≡ step ∷ rest_after f.plan (m.ended + 1) step
+
 -- what is due at a place is watched there
-due_watched : (f : Fixed) (m : Machine) (at : ScanPlace) (step : ScanStep) → due_after f.plan at ≡ step ∷ rest_after f.plan step → m.stop ≡ 0
+due_watched : (f : Fixed) (m : Machine) (at : ScanPlace) (step : ScanStep) → IsNext f m at step → m.stop ≡ 0
     → IsWatched at m → WasWatched step (state_is m)
 due_watched f m places.Start step next goes watched = subst (λ (x : ScanStep). WasWatched x (state_is m)) (first_same next) tt
 due_watched f m places.Began step next goes watched = was_of step (state_is m) (watched goes)
@@ -151,7 +157,7 @@ due_watched f m (places.DidIn row) step next goes watched = was_of step (state_i
 due_watched f m (places.DidSolve row) step next goes watched = was_of step (state_is m) (watched goes)
 due_watched f m (places.DidOut row) step next goes watched = was_of step (state_is m) (watched goes)
 
-pub can_solve : (f : Fixed) (m : Machine) (at : ScanPlace) (step : ScanStep) → due_after f.plan at ≡ step ∷ rest_after f.plan step → m.stop ≡ 0
+pub can_solve : (f : Fixed) (m : Machine) (at : ScanPlace) (step : ScanStep) → IsNext f m at step → m.stop ≡ 0
     → IsWatched at m → CanSolve step m
 can_solve f m at steps.Begin next goes watched = tt
 can_solve f m at (steps.In row) next goes watched = tt
@@ -163,7 +169,7 @@ can_solve f m at steps.End next goes watched = tt
 
 -- behind a step is left what was left behind its place
 after_step : (f : Fixed) (ended : ℕ) (step : ScanStep) → remaining f (ended_after step ended) (place_after step)
-    ≡ rest_after f.plan step ++ scans_from f (ended + 1 + 1) (f.scans - suc ended)
+    ≡ rest_after f.plan (ended + 1) step ++ scans_from f (ended + 1 + 1) (f.scans - suc ended)
 after_step f ended steps.Begin = refl
 after_step f ended (steps.In row) = refl
 after_step f ended (steps.Solve row) = refl
@@ -172,7 +178,7 @@ after_step f ended steps.End = let e : f.scans - (ended + 1) ≡ f.scans - suc e
 
 -- where a scan is due, what is left begins with what is due behind the place
 remains : (f : Fixed) (ended : ℕ) (at : ScanPlace) → ended < f.scans → remaining f ended at
-    ≡ due_after f.plan at ++ scans_from f (ended + 1 + 1) (f.scans - suc ended)
+    ≡ due_after f.plan (ended + 1) at ++ scans_from f (ended + 1 + 1) (f.scans - suc ended)
 remains f ended places.Start lt = let e : f.scans - ended ≡ suc (f.scans - suc ended) = omega arith in ap (scans_from f (ended + 1)) e
 remains f ended places.Began lt = refl
 remains f ended (places.DidIn row) lt = refl
@@ -181,18 +187,18 @@ remains f ended (places.DidOut row) lt = refl
 
 -- the steps so far, the due step in front of what is left behind it
 in_front : (f : Fixed) (m : Machine) (h : List Entry) (at : ScanPlace) (step : ScanStep) → IsKept f m h at → m.ended < f.scans
-    → due_after f.plan at ≡ step ∷ rest_after f.plan step
-    → scan_steps h ++ (step ∷ (rest_after f.plan step ++ scans_from f (m.ended + 1 + 1) (f.scans - suc m.ended))) ≡ all_due f
+    → IsNext f m at step
+    → scan_steps h ++ (step ∷ (rest_after f.plan (m.ended + 1) step ++ scans_from f (m.ended + 1 + 1) (f.scans - suc m.ended))) ≡ all_due f
 in_front f m h at step k lt next =
     let later = scans_from f (m.ended + 1 + 1) (f.scans - suc m.ended) in
     ap (λ (l : List ScanStep). scan_steps h ++ l) (sym (remains f m.ended at lt ∙ ap (λ (l : List ScanStep). l ++ later) next)) ∙ k.steps
 
 pub due_first : (f : Fixed) (m : Machine) (h : List Entry) (at : ScanPlace) (step : ScanStep) → IsKept f m h at → m.ended < f.scans
-    → due_after f.plan at ≡ step ∷ rest_after f.plan step → first_of (drop (length (scan_steps h)) (all_due f)) ≡ Some step
+    → IsNext f m at step → first_of (drop (length (scan_steps h)) (all_due f)) ≡ Some step
 due_first f m h at step k lt next =
     let later = scans_from f (m.ended + 1 + 1) (f.scans - suc m.ended) in
     ap (λ (l : List ScanStep). first_of (drop (length (scan_steps h)) l)) (sym (in_front f m h at step k lt next))
-    ∙ ap first_of (drop-append_seam (scan_steps h) (step ∷ (rest_after f.plan step ++ later)))
+    ∙ ap first_of (drop-append_seam (scan_steps h) (step ∷ (rest_after f.plan (m.ended + 1) step ++ later)))
 
 due_none : (f : Fixed) (m : Machine) (h : List Entry) → IsKept f m h places.Start → m.ended ≡ f.scans
     → first_of (drop (length (scan_steps h)) (all_due f)) ≡ None
@@ -211,7 +217,7 @@ within_after (steps.Out row) ended scans lt = omega arith
 within_after steps.End ended scans lt = omega arith
 
 pub kept_step : (f : Fixed) (m n : Machine) (h : List Entry) (at : ScanPlace) (step : ScanStep) → IsKept f m h at → m.stop ≡ 0 → m.ended < f.scans
-    → due_after f.plan at ≡ step ∷ rest_after f.plan step → IsStep f.plan step → Does (entry_of f (state_is m) step) m n
+    → IsNext f m at step → IsStep f.plan step → Does (entry_of f (state_is m) step) m n
     → IsKept f n (h ++ entry_of f (state_is m) step ∷ []) (place_after step)
 kept_step f m n h at step k goes lt next is does =
     let s = state_is m in
@@ -229,8 +235,8 @@ kept_step f m n h at step k goes lt next is does =
       state = now ∙ ap (λ (t : State). apply f t e) k.state ∙ sym (replay_more f (start f.plan) h e);
       steps = ap (λ x. scan_steps (h ++ e ∷ []) ++ remaining f x (place_after step)) ended
           ∙ ap (λ (l : List ScanStep). scan_steps (h ++ e ∷ []) ++ l) (after_step f m.ended step)
-          ∙ ap (λ (l : List ScanStep). l ++ (rest_after f.plan step ++ later)) more
-          ∙ append_assoc (scan_steps h) (step ∷ []) (rest_after f.plan step ++ later)
+          ∙ ap (λ (l : List ScanStep). l ++ (rest_after f.plan (m.ended + 1) step ++ later)) more
+          ∙ append_assoc (scan_steps h) (step ∷ []) (rest_after f.plan (m.ended + 1) step ++ later)
           ∙ in_front f m h at step k lt next;
       place = is;
       watched = watched_at step n (λ stop. subst (λ x. 0 < x) (sym (ap (λ (t : State). t.solving.left) now))
@@ -336,7 +342,7 @@ not_done scans (places.DidOut row) ended within not = omega arith
 
 -- what a step leaves is kept, in what its calls answer
 pub kept_made : (f : Fixed) (m n : Machine) (h l : List Entry) (at to : ScanPlace) (step : ScanStep) → IsKept f m h at → m.stop ≡ 0 → m.ended < f.scans
-    → due_after f.plan at ≡ step ∷ rest_after f.plan step → IsStep f.plan step → Does (entry_of f (state_is m) step) m n
+    → IsNext f m at step → IsStep f.plan step → Does (entry_of f (state_is m) step) m n
     → l ≡ h ++ entry_of f (state_is m) step ∷ [] → to ≡ place_after step → IsKept n.fixed n l to
 kept_made f m n h l at to step k goes lt next is does items place =
     let after = kept_step f m n h at step k goes lt next is does in
@@ -402,7 +408,7 @@ goes_due f m h at r k goes =
 
 pub step_made : (f : Fixed) (m n : Machine) (h : List Entry) (at : ScanPlace) (r : Bool) (step : ScanStep) (v : ControllerIs)
     → record { fixed = f; history = h; reserved = r } ≡ v → IsKept f m h at → m.stop ≡ 0 → m.ended < f.scans
-    → due_after f.plan at ≡ step ∷ rest_after f.plan step → state_is n ≡ apply f (state_is m) (entry_of f (state_is m) step)
+    → IsNext f m at step → state_is n ≡ apply f (state_is m) (entry_of f (state_is m) step)
     → (stepped v ≡ record { fixed = f; history = h ++ entry_of f (state_is m) step ∷ []; reserved = r && not (closes_scan step n.stop) })
     × (step_end v ≡ ends.Did step) × (has_ended v ≡ false)
 step_made f m n h at r step v is k goes lt next after =
@@ -442,7 +448,7 @@ not_over scans at ended false is = absurd cc
 
 pub due_is : (f : Fixed) (m : Machine) (h : List Entry) (at : ScanPlace) (r : Bool) (v : ControllerIs) (step : ScanStep)
     → record { fixed = f; history = h; reserved = r } ≡ v → IsKept f m h at → is_over m.stop f.scans at m.ended ≡ false
-    → due_after f.plan at ≡ step ∷ rest_after f.plan step → due_step v ≡ Some step
+    → IsNext f m at step → due_step v ≡ Some step
 due_is f m h at r v step is k over next =
     let two = not_over f.scans at m.ended (m.stop == 0) over in
     let none : m.stop ≡ 0 = let e = two.0 in grind arith in
@@ -488,18 +494,19 @@ behind_some [] ys some = some
 behind_some (x ∷ xs) ys some = (x, xs ++ ys, refl)
 
 -- something is due at each place
-some_due : (plan : ControllerPlan) (at : ScanPlace) → (x : ScanStep) × (rest : List ScanStep) × (due_after plan at ≡ x ∷ rest)
-some_due plan places.Start = (steps.Begin, rows_from plan 1, refl)
-some_due plan places.Began = rows_some plan 1
-some_due plan (places.DidIn row) = (steps.Solve row, output_steps plan row ++ rows_from plan (row + 1), refl)
-some_due plan (places.DidSolve row) = behind_some (output_steps plan row) (rows_from plan (row + 1)) (rows_some plan (row + 1))
-some_due plan (places.DidOut row) = rows_some plan (row + 1)
+some_due : (plan : ControllerPlan) (scan : ℕ) (at : ScanPlace)
+    → (x : ScanStep) × (rest : List ScanStep) × (due_after plan scan at ≡ x ∷ rest)
+some_due plan scan places.Start = (steps.Begin, rows_from plan 1, refl)
+some_due plan scan places.Began = rows_some plan 1
+some_due plan scan (places.DidIn row) = (steps.Solve row, output_steps plan row ++ rows_from plan (row + 1), refl)
+some_due plan scan (places.DidSolve row) = behind_some (output_steps plan row) (rows_from plan (row + 1)) (rows_some plan (row + 1))
+some_due plan scan (places.DidOut row) = rows_some plan (row + 1)
 
 goes_on : (f : Fixed) (m : Machine) (h : List Entry) (at : ScanPlace) → IsKept f m h at → m.ended < f.scans
     → is_none (first_of (drop (length (scan_steps h)) (all_due f))) ≡ false
 goes_on f m h at k lt =
     let later = scans_from f (m.ended + 1 + 1) (f.scans - suc m.ended) in
-    let some = some_due f.plan at in
+    let some = some_due f.plan (m.ended + 1) at in
     let front : scan_steps h ++ (some.0 ∷ (some.1 ++ later)) ≡ all_due f =
     ap (λ (l : List ScanStep). scan_steps h ++ l) (sym (remains f m.ended at lt ∙ ap (λ (l : List ScanStep). l ++ later) some.2)) ∙ k.steps in
     ap (λ (l : List ScanStep). is_none (first_of (drop (length (scan_steps h)) l))) (sym front)
@@ -532,14 +539,17 @@ ended_is f m h at r v is k =
     let P : ControllerIs → Type 0 = λ u. is_over m.stop f.scans at m.ended ≡ has_ended u in
     subst P is (ended_by f m h at r k (m.stop == 0) refl)
 
-pub room_step : (r : Bool) (plan : ControllerPlan) (at : ScanPlace) (step : ScanStep) (stop : ℕ) → (r && not (closes_scan step stop)) ≡ true
-    → due_after plan at ≡ step ∷ rest_after plan step → (r ≡ true) × (length (due_after plan at) ≡ suc (length (due_after plan (place_after step))))
-room_step false plan at step stop is next = cc
-room_step true plan at steps.Begin stop is next = (refl, ap length next)
-room_step true plan at (steps.In row) stop is next = (refl, ap length next)
-room_step true plan at (steps.Solve row) stop is next = (refl, ap length next)
-room_step true plan at (steps.Out row) stop is next = (refl, ap length next)
-room_step true plan at steps.End stop is next = cc
+-- a step that does not close its scan leaves one step less of it
+pub room_step : (r : Bool) (f : Fixed) (m : Machine) (at : ScanPlace) (step : ScanStep) (stop : ℕ)
+    → (r && not (closes_scan step stop)) ≡ true → IsNext f m at step → (r ≡ true)
+    × (length (due_after f.plan (m.ended + 1) at)
+    ≡ suc (length (due_after f.plan (ended_after step m.ended + 1) (place_after step))))
+room_step false f m at step stop is next = cc
+room_step true f m at steps.Begin stop is next = (refl, ap length next)
+room_step true f m at (steps.In row) stop is next = (refl, ap length next)
+room_step true f m at (steps.Solve row) stop is next = (refl, ap length next)
+room_step true f m at (steps.Out row) stop is next = (refl, ap length next)
+room_step true f m at steps.End stop is next = cc
 
 -- a controller when it starts
 pub kept_new : (f : Fixed) (m : Machine) (h : List Entry) → m.fixed ≡ f → state_is m ≡ start f.plan → h ≡ [] → IsTimely m 0

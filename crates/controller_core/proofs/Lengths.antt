@@ -47,12 +47,13 @@ output_few plan row =
     omega arith
 
 -- what is due in a scan fits the room of a whole scan
-pub fits_room : (plan : ControllerPlan) (at : ScanPlace) → IsPlace plan at → length (due_after plan at) ≤ 3 * length plan.orders + 2
-fits_room plan places.Start is = let e = rows_from-few plan 1 in omega arith
-fits_room plan places.Began is = let e = rows_from-few plan 1 in omega arith
-fits_room plan (places.DidIn row) is = let e = output_few plan row in let a = is.0 in let b = is.1 in omega arith
-fits_room plan (places.DidSolve row) is = let e = output_few plan row in let a = is.0 in let b = is.1 in omega arith
-fits_room plan (places.DidOut row) is = let e = rows_from-few plan (row + 1) in let a = is.0 in let b = is.1 in omega arith
+pub fits_room : (plan : ControllerPlan) (scan : ℕ) (at : ScanPlace) → IsPlace plan at
+    → length (due_after plan scan at) ≤ 3 * length plan.orders + 2
+fits_room plan scan places.Start is = let e = rows_from-few plan 1 in omega arith
+fits_room plan scan places.Began is = let e = rows_from-few plan 1 in omega arith
+fits_room plan scan (places.DidIn row) is = let e = output_few plan row in let a = is.0 in let b = is.1 in omega arith
+fits_room plan scan (places.DidSolve row) is = let e = output_few plan row in let a = is.0 in let b = is.1 in omega arith
+fits_room plan scan (places.DidOut row) is = let e = rows_from-few plan (row + 1) in let a = is.0 in let b = is.1 in omega arith
 
 -- and what is due in so many scans is bounded
 pub scans_few : (fixed : Fixed) (scan n : ℕ) → length fixed.plan.orders ≤ 32 → length (scans_from fixed scan n) ≤ 98 * n

@@ -39,5 +39,5 @@ pub record IsWhole (machine : Machine) (history : List Entry) (at : ScanPlace) (
     (capacity : ℕ) (values : List ℕ) (values_capacity : ℕ) : Type 0 where
   pub kept : IsKept machine.fixed machine history at
   pub room : reserved ≡ true
-      → length history + length (due_after machine.fixed.plan at) ≤ capacity
+      → length history + length (due_after machine.fixed.plan (machine.ended + 1) at) ≤ capacity
   pub noted : IsNoted machine.fixed history reserved values values_capacity

@@ -22,7 +22,8 @@ all_due fixed = scans_from fixed 1 fixed.scans
 abbrev pub remaining : Fixed → ℕ → ScanPlace → List ScanStep
 remaining fixed ended places.Start = scans_from fixed (ended + 1) (fixed.scans - ended)
 remaining fixed ended at =
-    due_after fixed.plan at ++ scans_from fixed (ended + 1 + 1) (fixed.scans - suc ended)
+    due_after fixed.plan (ended + 1) at
+    ++ scans_from fixed (ended + 1 + 1) (fixed.scans - suc ended)
 
 -- The scans that have begun. This project's own.
 abbrev pub scans_at : ScanPlace → ℕ → ℕ

@@ -272,7 +272,8 @@ impl Controller {
         if is_over(self.machine.stop, scans, self.at, self.machine.ended) {
             return None;
         }
-        Some(next_due(&self.machine.fixed.plan, self.at))
+        let scan = self.machine.ended + 1;
+        Some(next_due(&self.machine.fixed.plan, scan, self.at))
     }
 
     /// Whether the words of an Output are those that its row gives now.
@@ -318,7 +319,8 @@ impl Controller {
         if is_done(self.machine.fixed.scans, self.at, self.machine.ended) {
             return StepEnd::Ended;
         }
-        let step = next_due(&self.machine.fixed.plan, self.at);
+        let scan = self.machine.ended + 1;
+        let step = next_due(&self.machine.fixed.plan, scan, self.at);
         let entry = self.machine.perform(step);
         let at = place_after(step);
         let reserved = keeps_room(self.reserved, step, self.machine.stop);

@@ -6,13 +6,10 @@ ghost use Rattle.controller_core.specs.Parts.{ArePartsOf, AreStoresOf, IsSolverO
 use grid_compile::grids_of;
 use ladder_solver::{Ladder, grids_ask_no_more};
 use mstr_block::MstrBank;
-use plant_types::{ControllerPlan, checked_plans_find_all};
+use plant_types::{ControllerPlan, DROP_LIMIT, checked_plans_find_all};
 use state_ram::PackedRam;
 use std::alloc::{AllocError, Global};
 use traffic_cop::Cop;
-
-/// The drops of a controller have numbers from 1 to this.
-const DROP_LIMIT: usize = 32;
 
 /// The ladder of a plan, and the table of its message blocks.
 #[derive(Drop)]

@@ -49,7 +49,8 @@ pub record FitItems (a : Items) : Type 0 where
 
 -- ---- calls
 
-ask-is : (own : ℕ) (ask : MstrAsk) → IsAsk own ask → (to : ℕ) (pdu : List ℕ) → sort_of (kind_of ask) ≡ OverNet to pdu → NetAsk pdu
+ask-is : (own : ℕ) (ask : MstrAsk) → IsAsk own ask → (to : ℕ) (pdu : List ℕ)
+    → sort_of (kind_of ask) ≡ OverNet to pdu → NetAsk pdu
 ask-is own (asks.Write other start words) is to pdu e =
     let same : spelling_of (requests.WriteRegisters (start - 1) words) ≡ pdu = cc in
     to_write (start - 1) words is.1.1 is.1.2 (sym same)
@@ -65,7 +66,8 @@ ask-is own (asks.RemoteStats other) is to pdu e =
 ask-is own (asks.ClearRemote other) is to pdu e =
     let same : spelling_of (requests.Stats true) ≡ pdu = cc in for_statistics true (sym same)
 
-running-ask : (n : ℕ) (numbers : List ℕ) (r : Running) (call : MstrCall) (o : Option MstrAsk) → r.ask ≡ o → IsRunning n numbers r
+running-ask : (n : ℕ) (numbers : List ℕ) (r : Running) (call : MstrCall) (o : Option MstrAsk)
+    → r.ask ≡ o → IsRunning n numbers r
     → option_map (λ ask. record { id = r.id; ask = ask }) o ≡ Some call → IsAsk n call.ask
 running-ask n numbers r call None asked is e = absurd cc
 running-ask n numbers r call (Some ask) asked is e =
@@ -73,26 +75,31 @@ running-ask n numbers r call (Some ask) asked is e =
     let same : this ≡ call = cc in
     subst (IsAsk n) (ap (λ (c : MstrCall). c.ask) same) (is.ask ask asked).0
 
-untaken-ask : (n : ℕ) (numbers : List ℕ) (b : BlockState) (call : MstrCall) → IsStateOf n numbers b → untaken b ≡ Some call → IsAsk n call.ask
+untaken-ask : (n : ℕ) (numbers : List ℕ) (b : BlockState) (call : MstrCall) → IsStateOf n numbers b
+    → untaken b ≡ Some call → IsAsk n call.ask
 untaken-ask n numbers Idle call is e = absurd cc
 untaken-ask n numbers Waiting call is e = absurd cc
 untaken-ask n numbers (Active r) call is e = running-ask n numbers r call r.ask refl is e
 untaken-ask n numbers (Aborted r) call is e = running-ask n numbers r call r.ask refl is e
 untaken-ask n numbers (Ready kept result) call is e = absurd cc
 
-blocks-ask : (n : ℕ) (numbers : List ℕ) (bs : List BlockState) → ((place : ℕ) → IsStateOf n numbers (get_or bs place Idle))
+blocks-ask : (n : ℕ) (numbers : List ℕ) (bs : List BlockState)
+    → ((place : ℕ) → IsStateOf n numbers (get_or bs place Idle))
     → Each IsAskOf (map called_of (map call_of (filter_map untaken bs)))
 blocks-ask n numbers [] states = tt
-blocks-ask n numbers (b ∷ bs) states = at (untaken b) refl (blocks-ask n numbers bs (λ place. states (suc place)))
+blocks-ask n numbers (b ∷ bs) states =
+    at (untaken b) refl (blocks-ask n numbers bs (λ place. states (suc place)))
   where
-    at : (o : Option MstrCall) → untaken b ≡ o → Each IsAskOf (map called_of (map call_of (filter_map untaken bs)))
+    at : (o : Option MstrCall) → untaken b ≡ o
+        → Each IsAskOf (map called_of (map call_of (filter_map untaken bs)))
         → Each IsAskOf (map called_of (map call_of (cons_option o (filter_map untaken bs))))
     at None is rest = rest
     at (Some call) is rest = (ask-is n call.ask (untaken-ask n numbers b call (states 0) is), rest)
 
 -- ---- what a controller keeps
 
-fit-next : CallLaws → (fixed : Fixed) (h : List Entry) (e : Entry) → IsLegal fixed h → Fits fixed (replay fixed h) e → FitItems (items_of h)
+fit-next : CallLaws → (fixed : Fixed) (h : List Entry) (e : Entry) → IsLegal fixed h
+    → Fits fixed (replay fixed h) e → FitItems (items_of h)
     → FitItems (item_next (items_of h) e)
 fit-next laws fixed h entries.Begin legal fits f = f
 fit-next laws fixed h (entries.Input row) legal fits f = f
@@ -104,7 +111,8 @@ fit-next laws fixed h (entries.Collect calls) legal fits f =
     let follows = history-follows laws fixed h legal in
     record {
       asks = all_append IsAskOf (items_of h).calls (map called_of calls) f.asks
-          (subst (λ (l : List Call). Each IsAskOf (map called_of l)) (sym fits.1) (blocks-ask T.node T.numbers T.blocks follows.table.states));
+          (subst (λ (l : List Call). Each IsAskOf (map called_of l)) (sym fits.1)
+          (blocks-ask T.node T.numbers T.blocks follows.table.states));
       answers = f.answers;
     }
 fit-next laws fixed h (entries.Peer id request reply) legal fits f = record {
@@ -116,15 +124,20 @@ fit-next laws fixed h (entries.Peer id request reply) legal fits f = record {
     last ask is net =
         let same : request ≡ ask = cc in
         subst (λ (l : List ℕ). Fitting l reply) same
-        (subst (λ (l : List ℕ). Fitting request l) (sym fits) (answer-fits request (replay fixed h).solving.map (subst NetAsk (sym same) net)))
-fit-next laws fixed h (entries.Finish id result) legal fits f = record { asks = f.asks; answers = f.answers }
+        (subst (λ (l : List ℕ). Fitting request l) (sym fits)
+        (answer-fits request (replay fixed h).solving.map (subst NetAsk (sym same) net)))
+fit-next laws fixed h (entries.Finish id result) legal fits f =
+    record { asks = f.asks; answers = f.answers }
 
-pub controller-fits : CallLaws → (fixed : Fixed) (h : List Entry) → IsLegal fixed h → FitItems (items_of h)
-controller-fits laws fixed h legal = by-entries fixed FitItems (record { asks = tt; answers = tt }) (fit-next laws fixed) h legal
+pub controller-fits : CallLaws → (fixed : Fixed) (h : List Entry) → IsLegal fixed h
+    → FitItems (items_of h)
+controller-fits laws fixed h legal =
+    by-entries fixed FitItems (record { asks = tt; answers = tt }) (fit-next laws fixed) h legal
 
 -- ---- what a host keeps
 
-host-next : (plan : HostPlan) (before : List HostEntry) (e : HostEntry) (h : List HostEntry) (a : Items) → IsHostHistory plan (before ++ e ∷ h)
+host-next : (plan : HostPlan) (before : List HostEntry) (e : HostEntry) (h : List HostEntry)
+    (a : Items) → IsHostHistory plan (before ++ e ∷ h)
     → Each IsFitAnswer a.answers → Each IsFitAnswer (host_item_next a e).answers
 host-next plan before (host_entries.Ask id to pdu) h a legal all = all
 host-next plan before (host_entries.Answer id result) h a legal all = all
@@ -133,16 +146,20 @@ host-next plan before (host_entries.Served id request reply) h a legal all =
     all_append IsFitAnswer a.answers _ all (
       (λ ask is net.
           let same : request ≡ ask = cc in
-          subst (λ (l : List ℕ). Fitting l reply) same (subst (λ (l : List ℕ). Fitting request l) (sym told) (refusal-fits request))),
+          subst (λ (l : List ℕ). Fitting l reply) same
+          (subst (λ (l : List ℕ). Fitting request l) (sym told) (refusal-fits request))),
       tt,
     )
 
-host-from : (plan : HostPlan) (before h : List HostEntry) (a : Items) → IsHostHistory plan (before ++ h) → Each IsFitAnswer a.answers
+host-from : (plan : HostPlan) (before h : List HostEntry) (a : Items)
+    → IsHostHistory plan (before ++ h) → Each IsFitAnswer a.answers
     → Each IsFitAnswer (host_items_after a h).answers
 host-from plan before [] a legal all = all
 host-from plan before (e ∷ h) a legal all =
-    host-from plan (before ++ e ∷ []) h (host_item_next a e) (subst (IsHostHistory plan) (sym (append_assoc before (e ∷ []) h)) legal)
+    host-from plan (before ++ e ∷ []) h (host_item_next a e)
+    (subst (IsHostHistory plan) (sym (append_assoc before (e ∷ []) h)) legal)
     (host-next plan before e h a legal all)
 
-pub host-fits : (plan : HostPlan) (h : List HostEntry) → IsHostHistory plan h → Each IsFitAnswer (host_items_of h).answers
+pub host-fits : (plan : HostPlan) (h : List HostEntry) → IsHostHistory plan h
+    → Each IsFitAnswer (host_items_of h).answers
 host-fits plan h legal = host-from plan [] h no_items legal tt

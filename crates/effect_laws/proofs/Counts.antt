@@ -9,22 +9,26 @@ use Rattle.ring_core.specs.declared.entry.RingEntry.{RingEntry}
 use Rattle.ring_core.specs.Words.{maker}
 use Rattle.tied_lists.specs.Own.{own}
 
-pub sum_cons : {X : Type 0} (f : X → ℕ) (x : X) (xs : List X) → sum_by f (x ∷ xs) ≡ f x + sum_by f xs
+pub sum_cons : {X : Type 0} (f : X → ℕ) (x : X) (xs : List X)
+    → sum_by f (x ∷ xs) ≡ f x + sum_by f xs
 sum_cons f x xs =
     let first : sum_by f (x ∷ []) ≡ f x = omega arith in
     sum_by-append f (x ∷ []) xs ∙ ap (λ n. n + sum_by f xs) first
 
-pub count_cons : {X : Type 0} (p : X → Bool) (x : X) (xs : List X) → count_by p (x ∷ xs) ≡ cond (p x) 1 0 + count_by p xs
+pub count_cons : {X : Type 0} (p : X → Bool) (x : X) (xs : List X)
+    → count_by p (x ∷ xs) ≡ cond (p x) 1 0 + count_by p xs
 count_cons p x xs = sum_cons (λ y. cond (p y) 1 0) x xs
 
-pub skip : {X : Type 0} (p : X → Bool) (x : X) (xs : List X) → p x ≡ false → count_by p (x ∷ xs) ≡ count_by p xs
+pub skip : {X : Type 0} (p : X → Bool) (x : X) (xs : List X) → p x ≡ false
+    → count_by p (x ∷ xs) ≡ count_by p xs
 skip p x xs off = count_cons p x xs ∙ nothing (p x) (count_by p xs) off where
   nothing : (b : Bool) (k : ℕ) → b ≡ false → cond b 1 0 + k ≡ k
   nothing true k e = absurd (true≢false e)
   nothing false k e = omega arith
 
 -- a count by whether its first passes
-zero_of : (b : Bool) (rest total : ℕ) → total ≡ cond b 1 0 + rest → b ≡ false → rest ≡ 0 → total ≡ 0
+zero_of : (b : Bool) (rest total : ℕ) → total ≡ cond b 1 0 + rest → b ≡ false → rest ≡ 0
+    → total ≡ 0
 zero_of true rest total is off none = absurd (true≢false off)
 zero_of false rest total is off none = omega arith
 
@@ -37,41 +41,52 @@ more_of true rest total is some = omega arith
 more_of false rest total is some = omega arith
 
 -- no number of a list that lies above
-none_above : (m : ℕ) (ys : List ℕ) → ((j d : ℕ) → j < length ys → m < slice_index_or ys j d) → count_by (λ n. m == n) ys ≡ 0
+none_above : (m : ℕ) (ys : List ℕ) → ((j d : ℕ) → j < length ys → m < slice_index_or ys j d)
+    → count_by (λ n. m == n) ys ≡ 0
 none_above m [] above = refl
 none_above m (y ∷ ys) above =
     let more = above 0 0 (omega arith) in
-    zero_of (m == y) (count_by (λ n. m == n) ys) (count_by (λ n. m == n) (y ∷ ys)) (count_cons (λ n. m == n) y ys)
+    zero_of (m == y) (count_by (λ n. m == n) ys) (count_by (λ n. m == n) (y ∷ ys))
+    (count_cons (λ n. m == n) y ys)
     (ne_eqb m y (λ h. omega arith)) (none_above m ys (λ j d within. above (suc j) d (omega arith)))
 
 -- a number stands at most once in a list that rises
-once_by : (m : ℕ) (x : ℕ) (rest : ℕ) (b : Bool) → (m == x) ≡ b → (m ≡ x → rest ≡ 0) → rest ≤ 1 → cond b 1 0 + rest ≤ 1
+once_by : (m : ℕ) (x : ℕ) (rest : ℕ) (b : Bool) → (m == x) ≡ b → (m ≡ x → rest ≡ 0) → rest ≤ 1
+    → cond b 1 0 + rest ≤ 1
 once_by m x rest true e none some = let zero_rest = none (eqb-true m x e) in omega arith
 once_by m x rest false e none some = omega arith
 
-pub once_rising : (m : ℕ) (xs : List ℕ) → AllPairs (λ x y. x < y) xs → count_by (λ n. m == n) xs ≤ 1
+pub once_rising : (m : ℕ) (xs : List ℕ) → AllPairs (λ x y. x < y) xs
+    → count_by (λ n. m == n) xs ≤ 1
 once_rising m [] pairs = omega arith
 once_rising m (x ∷ xs) pairs =
-    subst (λ (k : ℕ). k ≤ 1) (sym (count_cons (λ n. m == n) x xs)) (once_by m x (count_by (λ n. m == n) xs) (m == x) refl
-    (λ same. none_above m xs (λ j d within. subst (λ (n : ℕ). n < slice_index_or xs j d) (sym same) (pairs 0 (suc j) d (omega arith) (omega arith))))
+    subst (λ (k : ℕ). k ≤ 1) (sym (count_cons (λ n. m == n) x xs))
+    (once_by m x (count_by (λ n. m == n) xs) (m == x) refl
+    (λ same. none_above m xs (λ j d within. subst (λ (n : ℕ). n < slice_index_or xs j d) (sym same)
+    (pairs 0 (suc j) d (omega arith) (omega arith))))
     (once_rising m xs (λ i j d less within. pairs (suc i) (suc j) d (omega arith) (omega arith))))
 
 -- a number that a list has is counted
-pub some_there : (m : ℕ) (xs : List ℕ) (k : ℕ) → k < length xs → slice_index_or xs k m ≡ m → 1 ≤ count_by (λ n. m == n) xs
+pub some_there : (m : ℕ) (xs : List ℕ) (k : ℕ) → k < length xs → slice_index_or xs k m ≡ m
+    → 1 ≤ count_by (λ n. m == n) xs
 some_there m [] k within is = absurd (omega arith)
 some_there m (x ∷ xs) zero within is =
-    one_of (m == x) (count_by (λ n. m == n) xs) (count_by (λ n. m == n) (x ∷ xs)) (count_cons (λ n. m == n) x xs) (eq-eqb m x (sym is))
+    one_of (m == x) (count_by (λ n. m == n) xs) (count_by (λ n. m == n) (x ∷ xs))
+    (count_cons (λ n. m == n) x xs) (eq-eqb m x (sym is))
 some_there m (x ∷ xs) (suc k) within is =
-    more_of (m == x) (count_by (λ n. m == n) xs) (count_by (λ n. m == n) (x ∷ xs)) (count_cons (λ n. m == n) x xs) (some_there m xs k (omega arith) is)
+    more_of (m == x) (count_by (λ n. m == n) xs) (count_by (λ n. m == n) (x ∷ xs))
+    (count_cons (λ n. m == n) x xs) (some_there m xs k (omega arith) is)
 
 module _ (p : RingEntry → Bool) where
   -- the count of a node's own entries, with one entry more
   own_more : (n : ℕ) (e : RingEntry) (es : List RingEntry) (b : Bool)
-      → count_by p (cond b (e ∷ own n es) (own n es)) ≡ count_by p (own n es) + cond b (cond (p e) 1 0) 0
+      → count_by p (cond b (e ∷ own n es) (own n es))
+      ≡ count_by p (own n es) + cond b (cond (p e) 1 0) 0
   own_more n e es true = let step = count_cons p e (own n es) in omega arith
   own_more n e es false = omega arith
 
-  share : (b here : Bool) (rest : ℕ) → cond b (cond here 1 0 + rest) 0 ≡ cond b rest 0 + cond here (cond b 1 0) 0
+  share : (b here : Bool) (rest : ℕ)
+      → cond b (cond here 1 0 + rest) 0 ≡ cond b rest 0 + cond here (cond b 1 0) 0
   share true true rest = omega arith
   share true false rest = omega arith
   share false true rest = refl
@@ -94,19 +109,23 @@ module _ (p : RingEntry → Bool) where
       let step_rest = sum_cons (λ k. count_by p (own k es)) n ns in
       let step_one = ap (λ c. cond (p e) c 0) (count_cons (λ k. maker e == k) n ns) in
       omega arith where
-        turned : (b here : Bool) → cond {A = ℕ} here (cond {A = ℕ} b 1 0) 0 ≡ cond {A = ℕ} b (cond {A = ℕ} here 1 0) 0
+        turned : (b here : Bool) → cond {A = ℕ} here (cond {A = ℕ} b 1 0) 0
+            ≡ cond {A = ℕ} b (cond {A = ℕ} here 1 0) 0
         turned true true = refl
         turned true false = refl
         turned false true = refl
         turned false false = refl
 
   -- nodes that differ count no entry twice
-  pub at_most_all : (ns : List ℕ) → ((m : ℕ) → count_by (λ n. m == n) ns ≤ 1) → (es : List RingEntry)
+  pub at_most_all : (ns : List ℕ) → ((m : ℕ) → count_by (λ n. m == n) ns ≤ 1)
+      → (es : List RingEntry)
       → sum_by (λ n. count_by p (own n es)) ns ≤ count_by p es
   at_most_all ns once [] = zero_sum ns where
     zero_sum : (ks : List ℕ) → sum_by (λ n. count_by p (own n [])) ks ≤ 0
     zero_sum [] = omega arith
-    zero_sum (k ∷ ks) = let rest = zero_sum ks in let step = sum_cons (λ n. count_by p (own n [])) k ks in omega arith
+    zero_sum (k ∷ ks) =
+        let rest = zero_sum ks in let step = sum_cons (λ n. count_by p (own n [])) k ks in
+        omega arith
   at_most_all ns once (e ∷ es) =
       let more = sum_more e es ns in
       let rest = at_most_all ns once es in
@@ -118,7 +137,8 @@ module _ (p : RingEntry → Bool) where
         bounded false k h = omega arith
 
   -- nodes of which each entry has one count each entry
-  pub all_at_most : (ns : List ℕ) (es : List RingEntry) → All (λ e. 1 ≤ count_by (λ n. maker e == n) ns) es
+  pub all_at_most : (ns : List ℕ) (es : List RingEntry)
+      → All (λ e. 1 ≤ count_by (λ n. maker e == n) ns) es
       → count_by p es ≤ sum_by (λ n. count_by p (own n es)) ns
   all_at_most ns [] there = omega arith
   all_at_most ns (e ∷ es) there =

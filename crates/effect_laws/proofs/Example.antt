@@ -1,6 +1,7 @@
--- A host asks a controller for an echo, and then for what it doesn't serve, as a legal joint history
--- tells it. The first call reports success; each took effect once.
-use Rattle.std.proofs.Common.{◌≡◌, ℕ, zero, suc, true, false, List, [], ◌∷◌, ◌++◌, refl, inl, inr, arith}
+-- A host asks a controller for an echo, and then for what it doesn't serve, as a legal joint
+-- history tells it. The first call reports success; each took effect once.
+use Rattle.std.proofs.Common.{◌≡◌, ℕ, zero, suc, true, false, List, [], ◌∷◌, ◌++◌, refl, inl, inr}
+use Rattle.std.proofs.Common.{arith}
 use Rattle.std.specs.List.{All, AllByRecursion as Each}
 use Rattle.std.specs.List.Sorted.{IsStrictlyIncreasing}
 use Rattle.std.proofs.lemmas.List.Sorted.{IsPermutation-refl}
@@ -66,14 +67,29 @@ controller = record {
 abbrev host : HostPlan
 host = record {
   node = 5;
-  requests = record { hold = 1; to = 1; pdu = echo } ∷ record { hold = 1; to = 1; pdu = unknown } ∷ [];
+  requests =
+      record { hold = 1; to = 1; pdu = echo } ∷ record { hold = 1; to = 1; pdu = unknown } ∷ [];
 }
 
 abbrev net : NetPlan
-net = record { members = 1 ∷ 5 ∷ []; fates = D ∷ []; answer = 2; rotations = 1; rounds = 1; holds = 9 }
+net = record {
+  members = 1 ∷ 5 ∷ [];
+  fates = D ∷ [];
+  answer = 2;
+  rotations = 1;
+  rounds = 1;
+  holds = 9;
+}
 
 abbrev plant : Plant
-plant = record { scan_time = 10; watchdog = 1; net = net; controllers = controller ∷ []; hosts = host ∷ [] }
+plant =
+    record {
+      scan_time = 10;
+      watchdog = 1;
+      net = net;
+      controllers = controller ∷ [];
+      hosts = host ∷ [];
+    }
 
 all-from : {X : Type 0} (P : X → Type 0) (xs : List X) → Each P xs → All P xs
 all-from P [] e k d within = absurd (omega (arith, within))
@@ -178,22 +194,33 @@ joint = record {
 
 target-legal : IsLegal (fixed_of plant 1 controller) target
 unfolding EachFits
-target-legal = record { each = (refl, (refl, tt)); due = (all_due (fixed_of plant 1 controller), refl) }
+target-legal =
+    record { each = (refl, (refl, tt)); due = (all_due (fixed_of plant 1 controller), refl) }
 
 asker-legal : IsHostHistory host asker
 asker-legal =
-    let first = may_of (record { plan = host; history = [] }) (Ask (id 1) 1 echo) (kept_new host).legal (refl, refl) in
-    let second = may_of (record { plan = host; history = Ask (id 1) 1 echo ∷ [] }) (Ask (id 2) 1 unknown) first (refl, refl) in
-    let third = may_of (record { plan = host; history = asked }) (Answer (id 1) (results.Reply echo)) second refl in
-    may_of (record { plan = host; history = answered }) (Answer (id 2) (results.Reply refused)) third refl
+    let first = may_of (record { plan = host; history = [] }) (Ask (id 1) 1 echo)
+    (kept_new host).legal (refl, refl) in
+    let second = may_of (record { plan = host; history = Ask (id 1) 1 echo ∷ [] })
+    (Ask (id 2) 1 unknown) first (refl, refl) in
+    let third = may_of (record { plan = host; history = asked })
+    (Answer (id 1) (results.Reply echo)) second refl in
+    may_of (record { plan = host; history = answered }) (Answer (id 2) (results.Reply refused))
+    third refl
 
 ring-legal : IsLegalRing net ring
 ring-legal = (
   ((0, omega arith, refl), (refl, refl)),
   (
-    (((1, omega arith, refl), (refl, (λ e. omega (arith, e)), (omega arith, omega arith))), (omega arith, refl)),
     (
-      (((1, omega arith, refl), (refl, (λ e. omega (arith, e)), (omega arith, omega arith))), (omega arith, refl)),
+      ((1, omega arith, refl), (refl, (λ e. omega (arith, e)), (omega arith, omega arith))),
+      (omega arith, refl),
+    ),
+    (
+      (
+        ((1, omega arith, refl), (refl, (λ e. omega (arith, e)), (omega arith, omega arith))),
+        (omega arith, refl),
+      ),
       (
         ((1, omega arith, refl), (refl, refl)),
         (
@@ -233,7 +260,12 @@ ring-legal = (
 )
 
 is-legal : IsLegalJoint plant 1 joint
-is-legal = record { controllers = ((refl, target-legal), tt); hosts = ((refl, asker-legal), tt); ring = ring-legal }
+is-legal =
+    record {
+      controllers = ((refl, target-legal), tt);
+      hosts = ((refl, asker-legal), tt);
+      ring = ring-legal;
+    }
 
 is-joint : IsJoint joint
 is-joint = record {
@@ -246,7 +278,12 @@ is-joint = record {
 -- ---- its calls
 
 succeeds : ReportsSuccess joint (id 1)
-succeeds = inr (record { node = 5; entries = asker }, (0, omega arith, refl), (echo, (2, omega arith, refl), refl))
+succeeds =
+    inr (
+      record { node = 5; entries = asker },
+      (0, omega arith, refl),
+      (echo, (2, omega arith, refl), refl),
+    )
 
 no-success : is_exception_reply refused ≡ true
 no-success = refl
@@ -263,5 +300,11 @@ answer-is = record {
   to = 1;
   request = unknown;
   asked = (1, omega arith, refl);
-  given = inl (record { node = 1; entries = target }, (0, omega arith, refl), refl, (1, omega arith, refl));
+  given =
+      inl (
+        record { node = 1; entries = target },
+        (0, omega arith, refl),
+        refl,
+        (1, omega arith, refl),
+      );
 }

@@ -43,7 +43,8 @@ use Rattle.reply_laws.specs.Result.{tells_bytes, told_bytes, writes_registers}
 pub data NetAsk (pdu : List ℕ) : Type 0 where
   to_write : (address : ℕ) (words : List ℕ) → 1 ≤ length words → length words ≤ 100
       → pdu ≡ spelling_of (requests.WriteRegisters address words) → NetAsk pdu
-  to_read : (address count : ℕ) → 1 ≤ count → count ≤ 100 → pdu ≡ spelling_of (requests.ReadRegisters address count) → NetAsk pdu
+  to_read : (address count : ℕ) → 1 ≤ count → count ≤ 100
+      → pdu ≡ spelling_of (requests.ReadRegisters address count) → NetAsk pdu
   for_statistics : (clear : Bool) → pdu ≡ spelling_of (requests.Stats clear) → NetAsk pdu
 
 -- a reply fits a request, as far as the word 3000 goes
@@ -56,19 +57,23 @@ good-bad : (words : List ℕ) (word : ℕ) → Good words ≢ Bad word
 good-bad words word is = cc
 
 bad-code : (code : ℕ) → 1 ≤ code → Bad (0x3000 + code) ≢ Bad 0x3000
-bad-code code some is = let same : (◌≡◌) {A = ℕ} (0x3000 + code) 0x3000 = cc in omega (arith, some, same)
+bad-code code some is =
+    let same : (◌≡◌) {A = ℕ} (0x3000 + code) 0x3000 = cc in omega (arith, some, same)
 
 good-told : (bytes : List ℕ) → length bytes ≤ 200 → good (Some bytes) ≢ Bad 0x3000
 good-told bytes few is =
     good-bad (words_in bytes) 0x3000
-    (sym (ap (λ b. if b then Good (words_in bytes) else Bad 0x3000) (le-leb (length bytes) 200 few)) ∙ is)
+    (sym (ap (λ b. if b then Good (words_in bytes) else Bad 0x3000)
+    (le-leb (length bytes) 200 few)) ∙ is)
 
 -- an exception reply of the request's function
-pub exception-fits : (ask : List ℕ) (code : ℕ) → 1 ≤ code → Fitting ask (exception_code (function_in ask) ∷ code ∷ [])
+pub exception-fits : (ask : List ℕ) (code : ℕ) → 1 ≤ code
+    → Fitting ask (exception_code (function_in ask) ∷ code ∷ [])
 exception-fits ask code some is =
     let same = eq-eqb (exception_code (function_in ask)) (exception_code (function_in ask)) refl in
     bad-code code some
-    (sym (ap (λ b. or_good (if b then Some code else None) (told_bytes ask (exception_code (function_in ask) ∷ code ∷ []))) same) ∙ is)
+    (sym (ap (λ b. or_good (if b then Some code else None)
+    (told_bytes ask (exception_code (function_in ask) ∷ code ∷ []))) same) ∙ is)
 
 pub refusal-fits : (ask : List ℕ) → Fitting ask (refusal_to ask)
 refusal-fits ask = exception-fits ask illegal_function (omega arith)
@@ -76,7 +81,8 @@ refusal-fits ask = exception-fits ask illegal_function (omega arith)
 -- ---- a write
 
 write-fits : (address : ℕ) (words : List ℕ) → 1 ≤ length words → length words ≤ 100
-    → Fitting (spelling_of (requests.WriteRegisters address words)) (reply_bytes (replies.Written 16 address (length words)))
+    → Fitting (spelling_of (requests.WriteRegisters address words))
+    (reply_bytes (replies.Written 16 address (length words)))
 write-fits address words some few is =
     let ask = spelling_of (requests.WriteRegisters address words) in
     let reply = reply_bytes (replies.Written 16 address (length words)) in
@@ -88,9 +94,11 @@ write-fits address words some few is =
     let most = le-leb (word_in ask 3) most_registers_written (omega (arith, count, few)) in
     let told = eq-eqb (slice_index ask 5) (2 * word_in ask 3) (omega (arith, count)) in
     let whole = eq-eqb (length ask) (6 + 2 * word_in ask 3) (omega (arith, bytes, count)) in
-    let quantity : is_up_to most_registers_written (word_in ask 3) ≡ true = and_from _ _ least most in
+    let quantity : is_up_to most_registers_written (word_in ask 3)
+    ≡ true = and_from _ _ least most in
     let counted : counts (2 * word_in ask 3) ask ≡ true = and_from _ _ told whole in
-    let writes : writes_registers ask ≡ true = and_from _ _ (and_from _ _ enough quantity) counted in
+    let writes : writes_registers ask
+    ≡ true = and_from _ _ (and_from _ _ enough quantity) counted in
     let same : bytes_eq reply (take 5 ask) ≡ true = (bytes_eq-Decides reply (take 5 ask)).1 refl in
     let plainly : fits_plainly ask reply ≡ true = and_from _ _ writes same in
     good-bad [] 0x3000 (sym (ap (λ b. good (if b then Some [] else None)) plainly) ∙ is)
@@ -102,7 +110,8 @@ told-none count [] = refl
 told-none count (x ∷ rest) = refl
 
 read-fits : (address count : ℕ) (words : List ℕ) → 1 ≤ count → count ≤ 100 → length words ≡ count
-    → Fitting (spelling_of (requests.ReadRegisters address count)) (reply_bytes (replies.Words 3 words))
+    → Fitting (spelling_of (requests.ReadRegisters address count))
+    (reply_bytes (replies.Words 3 words))
 read-fits address count words some few size is =
     let ask = spelling_of (requests.ReadRegisters address count) in
     let reply = reply_bytes (replies.Words 3 words) in
@@ -110,15 +119,20 @@ read-fits address count words some few size is =
     let quantity : word_in ask 3 ≡ count = omega arith in
     let least = le-leb 1 (word_in ask 3) (omega (arith, quantity, some)) in
     let most = le-leb (word_in ask 3) most_registers_read (omega (arith, quantity, few)) in
-    let whole = eq-eqb (length reply) (2 + 2 * word_in ask 3) (omega (arith, long, quantity, size)) in
-    let counted = eq-eqb (slice_index reply 1) (2 * word_in ask 3) (omega (arith, quantity, size)) in
-    let reads : reads_registers ask ≡ true = and_from _ _ refl (and_from _ _ refl (and_from _ _ least most)) in
-    let tells : tells_bytes (2 * word_in ask 3) ask reply ≡ true = and_from _ _ (and_from _ _ whole refl) counted in
+    let whole = eq-eqb (length reply) (2 + 2 * word_in ask 3)
+    (omega (arith, long, quantity, size)) in
+    let counted = eq-eqb (slice_index reply 1) (2 * word_in ask 3)
+    (omega (arith, quantity, size)) in
+    let reads : reads_registers ask
+    ≡ true = and_from _ _ refl (and_from _ _ refl (and_from _ _ least most)) in
+    let tells : tells_bytes (2 * word_in ask 3) ask reply
+    ≡ true = and_from _ _ (and_from _ _ whole refl) counted in
     let fits : fits_words ask reply ≡ true = and_from _ _ (ap (λ b. b || false) reads) tells in
     let short : length (words_bytes words) ≤ 200 = omega (arith, long, size, few) in
     let result : result_of ask reply ≡ good (Some (words_bytes words)) =
     ap (λ o. or_good o (told_bytes ask reply)) (told-none (2 * length words) (words_bytes words))
-    ∙ ap (λ b. good (if b then Some (drop 2 reply) else if fits_statistics ask reply then Some (drop 5 reply)
+    ∙ ap (λ b. good (if b then Some (drop 2 reply) else if fits_statistics ask reply then Some
+    (drop 5 reply)
     else if fits_plainly ask reply then Some [] else None)) fits in
     good-told (words_bytes words) short (sym result ∙ is)
 
@@ -127,10 +141,12 @@ read-fits address count words some few size is =
 abbrev FitsAnswer : List ℕ → Contents → Type 0
 FitsAnswer ask m = Fitting ask (answer_of ask m).reply
 
-write-answer : (address : ℕ) (words : List ℕ) (m : Contents) → 1 ≤ length words → length words ≤ 100
+write-answer : (address : ℕ) (words : List ℕ) (m : Contents) → 1 ≤ length words
+    → length words ≤ 100
     → FitsAnswer (spelling_of (requests.WriteRegisters address words)) m
 write-answer address words m some few =
-    subst (λ (a : Answer). Fitting ask a.reply) (sym (answer_by_function ask m request spells)) (at (has_named_references m request))
+    subst (λ (a : Answer). Fitting ask a.reply) (sym (answer_by_function ask m request spells))
+    (at (has_named_references m request))
   where
     request : Request
     request = requests.WriteRegisters address words
@@ -141,14 +157,18 @@ write-answer address words m some few =
     spells : Spells ask request
     spells = record { range = ((some, omega (arith, few)), tt); form = refl }
 
-    at : (b : Bool) → Fitting ask (answer_with 16 (if b then Ok (record { reply = reply_by request m; stored = stored_by request m })
+    at : (b : Bool) → Fitting ask
+        (answer_with 16 (if b then Ok
+        (record { reply = reply_by request m; stored = stored_by request m })
         else Err illegal_address) m).reply
     at true = write-fits address words some few
     at false = exception-fits ask illegal_address (omega arith)
 
-read-answer : (address count : ℕ) (m : Contents) → 1 ≤ count → count ≤ 100 → FitsAnswer (spelling_of (requests.ReadRegisters address count)) m
+read-answer : (address count : ℕ) (m : Contents) → 1 ≤ count → count ≤ 100
+    → FitsAnswer (spelling_of (requests.ReadRegisters address count)) m
 read-answer address count m some few =
-    subst (λ (a : Answer). Fitting ask a.reply) (sym (answer_by_function ask m request spells)) (at (has_named_references m request))
+    subst (λ (a : Answer). Fitting ask a.reply) (sym (answer_by_function ask m request spells))
+    (at (has_named_references m request))
   where
     request : Request
     request = requests.ReadRegisters address count
@@ -159,7 +179,9 @@ read-answer address count m some few =
     spells : Spells ask request
     spells = record { range = ((some, omega (arith, few)), tt); form = refl }
 
-    at : (b : Bool) → Fitting ask (answer_with 3 (if b then Ok (record { reply = reply_by request m; stored = stored_by request m })
+    at : (b : Bool) → Fitting ask
+        (answer_with 3 (if b then Ok (record
+        { reply = reply_by request m; stored = stored_by request m })
         else Err illegal_address) m).reply
     at true =
         read-fits address count (words_from m (reference_at kinds.Register address) count) some few
@@ -169,18 +191,22 @@ read-answer address count m some few =
 stats-answer : (clear : Bool) (m : Contents) → FitsAnswer (spelling_of (requests.Stats clear)) m
 stats-answer clear m =
     subst (λ (a : Answer). Fitting (spelling_of (requests.Stats clear)) a.reply)
-    (sym (answer_by_function (spelling_of (requests.Stats clear)) m (requests.Stats clear) (record { range = tt; form = refl })))
+    (sym (answer_by_function (spelling_of (requests.Stats clear)) m (requests.Stats clear)
+    (record { range = tt; form = refl })))
     (exception-fits (spelling_of (requests.Stats clear)) illegal_function (omega arith))
 
 pub answer-fits : (ask : List ℕ) (m : Contents) → NetAsk ask → FitsAnswer ask m
 answer-fits ask m (to_write address words some few is) =
     subst (λ (l : List ℕ). FitsAnswer l m) (sym is) (write-answer address words m some few)
-answer-fits ask m (to_read address count some few is) = subst (λ (l : List ℕ). FitsAnswer l m) (sym is) (read-answer address count m some few)
-answer-fits ask m (for_statistics clear is) = subst (λ (l : List ℕ). FitsAnswer l m) (sym is) (stats-answer clear m)
+answer-fits ask m (to_read address count some few is) =
+    subst (λ (l : List ℕ). FitsAnswer l m) (sym is) (read-answer address count m some few)
+answer-fits ask m (for_statistics clear is) =
+    subst (λ (l : List ℕ). FitsAnswer l m) (sym is) (stats-answer clear m)
 
 -- ---- what ports answer
 
-words-fit : (words : List ℕ) → length words ≡ 20 → Fitting get_statistics (reply_bytes (replies.Stats words))
+words-fit : (words : List ℕ) → length words ≡ 20
+    → Fitting get_statistics (reply_bytes (replies.Stats words))
 words-fit words size is =
     let reply = reply_bytes (replies.Stats words) in
     let long = length-words_bytes words in
@@ -191,14 +217,18 @@ words-fit words size is =
     let fits : fits_statistics get_statistics reply ≡ true = and_from _ _ refl tells in
     let short : length (words_bytes words) ≤ 200 = omega (arith, long, size) in
     good-told (words_bytes words) short
-    (sym (ap (λ b. good (if b then Some (drop 5 reply) else if fits_plainly get_statistics reply then Some [] else None)) fits) ∙ is)
+    (sym (ap (λ b. good (if b then Some (drop 5 reply) else if fits_plainly get_statistics reply
+    then Some [] else None)) fits) ∙ is)
 
-pub port-fits : (net : NetPlan) (past : List RingEntry) (n : ℕ) (op : LocalOp) (result : MstrResult) (ask : List ℕ) → request_of op ≡ Some ask
+pub port-fits : (net : NetPlan) (past : List RingEntry) (n : ℕ) (op : LocalOp)
+    (result : MstrResult) (ask : List ℕ) → request_of op ≡ Some ask
     → result ≡ local_result net past n op → Fitting ask (reply_of result)
 port-fits net past n GetStats result ask is told = absurd (let no' : None ≡ Some ask = is in cc)
 port-fits net past n ClearStats result ask is told = absurd (let no' : None ≡ Some ask = is in cc)
-port-fits net past n (PutGlobal words) result ask is told = absurd (let no' : None ≡ Some ask = is in cc)
-port-fits net past n (GetGlobal node size) result ask is told = absurd (let no' : None ≡ Some ask = is in cc)
+port-fits net past n (PutGlobal words) result ask is told =
+    absurd (let no' : None ≡ Some ask = is in cc)
+port-fits net past n (GetGlobal node size) result ask is told =
+    absurd (let no' : None ≡ Some ask = is in cc)
 port-fits net past n RemoteGet result ask is told =
     let same : get_statistics ≡ ask = cc in
     subst (λ (l : List ℕ). Fitting l (reply_of result)) same
@@ -206,17 +236,20 @@ port-fits net past n RemoteGet result ask is told =
 port-fits net past n RemoteClear result ask is told =
     let same : clear_statistics ≡ ask = cc in
     subst (λ (l : List ℕ). Fitting l (reply_of result)) same
-    (subst (λ (x : MstrResult). Fitting clear_statistics (reply_of x)) (sym told) (good-bad [] 0x3000))
+    (subst (λ (x : MstrResult). Fitting clear_statistics (reply_of x)) (sym told)
+    (good-bad [] 0x3000))
 
 heard-good : (heard : List ℕ) (size : ℕ) → global_answer heard size ≢ Bad 0x3000
 heard-good heard size is = at (nat_lt (length heard) size) is
   where
-    at : (b : Bool) → (if b then Bad 0x200a else Good (length heard ∷ take size heard)) ≢ Bad 0x3000
+    at : (b : Bool) → (if b then Bad 0x200a else Good (length heard ∷ take size heard)) ≢ Bad
+        0x3000
     at true same = let word : (◌≡◌) {A = ℕ} 0x200a 0x3000 = cc in omega (arith, word)
     at false same = good-bad _ 0x3000 same
 
 -- what a port did at home came to no 3000 either
-pub port-good : (net : NetPlan) (past : List RingEntry) (n : ℕ) (op : LocalOp) → local_result net past n op ≢ Bad 0x3000
+pub port-good : (net : NetPlan) (past : List RingEntry) (n : ℕ) (op : LocalOp)
+    → local_result net past n op ≢ Bad 0x3000
 port-good net past n GetStats is = good-bad (statistics net past n) 0x3000 is
 port-good net past n ClearStats is = good-bad [] 0x3000 is
 port-good net past n (PutGlobal words) is = good-bad [] 0x3000 is

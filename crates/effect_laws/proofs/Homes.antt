@@ -43,22 +43,29 @@ one-of-both true false = refl
 one-of-both false true = refl
 one-of-both false false = refl
 
-three : (id : CallId) (e : RingEntry) (es : List RingEntry) → cond {A = ℕ} (does_locally id e) 1 0 ≡ cond (serves_another id e) 1 0 + cond (acts_at_home id e) 1 0
-    → count_by (does_locally id) es ≡ count_by (serves_another id) es + count_by (acts_at_home id) es
-    → count_by (does_locally id) (e ∷ es) ≡ count_by (serves_another id) (e ∷ es) + count_by (acts_at_home id) (e ∷ es)
+three : (id : CallId) (e : RingEntry) (es : List RingEntry)
+    → cond {A = ℕ} (does_locally id e) 1 0
+    ≡ cond (serves_another id e) 1 0 + cond (acts_at_home id e) 1 0
+    → count_by (does_locally id) es
+    ≡ count_by (serves_another id) es + count_by (acts_at_home id) es
+    → count_by (does_locally id) (e ∷ es)
+    ≡ count_by (serves_another id) (e ∷ es) + count_by (acts_at_home id) (e ∷ es)
 three id e es here rest =
     let all = count_cons (does_locally id) e es in
     let one = count_cons (serves_another id) e es in
     let two = count_cons (acts_at_home id) e es in
     omega arith
 
-pub both-sorts : (id : CallId) (es : List RingEntry) → count_by (does_locally id) es ≡ count_by (serves_another id) es + count_by (acts_at_home id) es
+pub both-sorts : (id : CallId) (es : List RingEntry)
+    → count_by (does_locally id) es
+    ≡ count_by (serves_another id) es + count_by (acts_at_home id) es
 both-sorts id [] = refl
 both-sorts id (Post n f ∷ es) = three id (Post n f) es refl (both-sorts id es)
 both-sorts id (Send n heard ∷ es) = three id (Send n heard) es refl (both-sorts id es)
 both-sorts id (Take n f ∷ es) = three id (Take n f) es refl (both-sorts id es)
 both-sorts id (Local n name op result ∷ es) =
-    three id (Local n name op result) es (one-of-both (is_same_call name id) (name.node == n)) (both-sorts id es)
+    three id (Local n name op result) es (one-of-both (is_same_call name id) (name.node == n))
+    (both-sorts id es)
 both-sorts id (GiveUp name word ∷ es) = three id (GiveUp name word) es refl (both-sorts id es)
 both-sorts id (Pass n done words ∷ es) = three id (Pass n done words) es refl (both-sorts id es)
 both-sorts id (Leave n cause ∷ es) = three id (Leave n cause) es refl (both-sorts id es)
@@ -66,18 +73,21 @@ both-sorts id (Leave n cause ∷ es) = three id (Leave n cause) es refl (both-so
 -- ---- entries of one node
 
 -- entries that pass a test name this node: they are among its own
-pub counted-own : (p : RingEntry → Bool) (n : ℕ) (es : List RingEntry) → Each (λ e. p e ≡ true → (maker e == n) ≡ true) es
+pub counted-own : (p : RingEntry → Bool) (n : ℕ) (es : List RingEntry)
+    → Each (λ e. p e ≡ true → (maker e == n) ≡ true) es
     → count_by p es ≡ count_by p (own n es)
 counted-own p n [] all = refl
 counted-own p n (e ∷ es) all = at (p e) (maker e == n) refl all.0 (counted-own p n es all.1)
   where
     at : (x y : Bool) → p e ≡ x → (x ≡ true → y ≡ true) → count_by p es ≡ count_by p (own n es)
         → count_by p (e ∷ es) ≡ count_by p (cond y (e ∷ own n es) (own n es))
-    at x true is mine rest = count_cons p e es ∙ ap (λ k. cond (p e) 1 0 + k) rest ∙ sym (count_cons p e (own n es))
+    at x true is mine rest =
+        count_cons p e es ∙ ap (λ k. cond (p e) 1 0 + k) rest ∙ sym (count_cons p e (own n es))
     at true false is mine rest = absurd (true≢false (sym (mine refl)))
     at false false is mine rest = skip p e es is ∙ rest
 
-pub at-home-own : (id : CallId) (e : RingEntry) → acts_at_home id e ≡ true → (maker e == id.node) ≡ true
+pub at-home-own : (id : CallId) (e : RingEntry) → acts_at_home id e ≡ true
+    → (maker e == id.node) ≡ true
 at-home-own id (Post n f) is = absurd cc
 at-home-own id (Send n heard) is = absurd cc
 at-home-own id (Take n f) is = absurd cc
@@ -89,9 +99,12 @@ at-home-own id (GiveUp name word) is = absurd cc
 at-home-own id (Pass n done words) is = absurd cc
 at-home-own id (Leave n cause) is = absurd cc
 
-pub homes-own : (id : CallId) (es : List RingEntry) → count_by (acts_at_home id) es ≡ count_by (acts_at_home id) (own id.node es)
+pub homes-own : (id : CallId) (es : List RingEntry)
+    → count_by (acts_at_home id) es ≡ count_by (acts_at_home id) (own id.node es)
 homes-own id es =
-    counted-own (acts_at_home id) id.node es (all_same (λ (e : RingEntry). acts_at_home id e ≡ true → (maker e == id.node) ≡ true) (at-home-own id) es)
+    counted-own (acts_at_home id) id.node es
+    (all_same (λ (e : RingEntry). acts_at_home id e ≡ true → (maker e == id.node) ≡ true)
+    (at-home-own id) es)
 
 -- ---- their ends
 
@@ -103,7 +116,8 @@ came_home _ _ = false
 abbrev pub is_home_end : CallId → Ended → Bool
 is_home_end id end' = is_same_call end'.id id && came_home end'.outcome end'.kind
 
-no-less : {X : Type 0} (p : X → Bool) (o : Option X) (xs : List X) → count_by p xs ≤ count_by p (cons_option o xs)
+no-less : {X : Type 0} (p : X → Bool) (o : Option X) (xs : List X)
+    → count_by p xs ≤ count_by p (cons_option o xs)
 no-less p None xs = omega arith
 no-less p (Some x) xs = let step = count_cons p x xs in omega arith
 
@@ -124,7 +138,8 @@ homes-end station id asked (Send n heard ∷ b) =
 homes-end station id asked (Take n f ∷ b) =
     let rest = homes-end station id (asked ++ []) b in
     let step = skip (acts_at_home id) (Take n f) b refl in
-    let more = no-less (is_home_end id) (ended_of station asked (Take n f)) (ended_by station (asked ++ []) b) in omega arith
+    let more = no-less (is_home_end id) (ended_of station asked (Take n f))
+    (ended_by station (asked ++ []) b) in omega arith
 homes-end station id asked (Local n name op result ∷ b) =
     let rest = homes-end station id (asked ++ []) b in
     let step = count_cons (acts_at_home id) (Local n name op result) b in
@@ -133,16 +148,22 @@ homes-end station id asked (Local n name op result ∷ b) =
     this : Ended
     this = record { id = name; kind = Some (LocalCall op); outcome = Came result }
 
-    at : (here : Bool) → count_by (acts_at_home id) b ≤ count_by (is_home_end id) (ended_by station (asked ++ []) b)
-        → count_by (acts_at_home id) (Local n name op result ∷ b) ≡ cond (is_same_call name id && here) 1 0 + count_by (acts_at_home id) b
+    at : (here : Bool) → count_by (acts_at_home id) b ≤ count_by (is_home_end id)
+        (ended_by station (asked ++ []) b)
         → count_by (acts_at_home id) (Local n name op result ∷ b)
-        ≤ count_by (is_home_end id) (cons_option (if here then Some this else None) (ended_by station (asked ++ []) b))
-    at true rest step = let more = count_cons (is_home_end id) this (ended_by station (asked ++ []) b) in omega arith
+        ≡ cond (is_same_call name id && here) 1 0 + count_by (acts_at_home id) b
+        → count_by (acts_at_home id) (Local n name op result ∷ b)
+        ≤ count_by (is_home_end id) (cons_option (if here then Some this else None)
+        (ended_by station (asked ++ []) b))
+    at true rest step =
+        let more = count_cons (is_home_end id) this (ended_by station (asked ++ []) b) in
+        omega arith
     at false rest step = let none = none-home (is_same_call name id) in omega arith
 homes-end station id asked (GiveUp name word ∷ b) =
     let rest = homes-end station id (asked ++ []) b in
     let step = skip (acts_at_home id) (GiveUp name word) b refl in
-    let more = no-less (is_home_end id) (ended_of station asked (GiveUp name word)) (ended_by station (asked ++ []) b) in omega arith
+    let more = no-less (is_home_end id) (ended_of station asked (GiveUp name word))
+    (ended_by station (asked ++ []) b) in omega arith
 homes-end station id asked (Pass n done words ∷ b) =
     let rest = homes-end station id (asked ++ []) b in
     let step = skip (acts_at_home id) (Pass n done words) b refl in omega arith
@@ -155,34 +176,45 @@ homes-end station id asked (Leave n cause ∷ b) =
 abbrev pub is_asked : CallId → Asked → Bool
 is_asked id a = is_same_call a.id id
 
-asked-called : (id : CallId) (c : Called) (cs : List Called) → count_by (is_asked id) (filter_map net_ask cs) ≤ count_by (is_called id) cs
+asked-called : (id : CallId) (c : Called) (cs : List Called)
+    → count_by (is_asked id) (filter_map net_ask cs) ≤ count_by (is_called id) cs
     → count_by (is_asked id) (filter_map net_ask (c ∷ cs)) ≤ count_by (is_called id) (c ∷ cs)
 asked-called id c cs rest = at c.sort refl (count_cons (is_called id) c cs)
   where
-    at : (sort : CallSort) → c.sort ≡ sort → count_by (is_called id) (c ∷ cs) ≡ cond (is_same_call c.id id) 1 0 + count_by (is_called id) cs
-        → count_by (is_asked id) (filter_map net_ask (record { id = c.id; sort = sort } ∷ cs)) ≤ count_by (is_called id) (c ∷ cs)
+    at : (sort : CallSort) → c.sort ≡ sort
+        → count_by (is_called id) (c ∷ cs)
+        ≡ cond (is_same_call c.id id) 1 0 + count_by (is_called id) cs
+        → count_by (is_asked id) (filter_map net_ask (record { id = c.id; sort = sort } ∷ cs)) ≤
+        count_by (is_called id) (c ∷ cs)
     at (OverNet to pdu) is step =
         let this : Asked = record { id = c.id; to = to; pdu = pdu } in
         let more = count_cons (is_asked id) this (filter_map net_ask cs) in omega arith
     at (AtHome op) is step = omega arith
 
-fewer-asked : (id : CallId) (cs : List Called) → count_by (is_asked id) (filter_map net_ask cs) ≤ count_by (is_called id) cs
+fewer-asked : (id : CallId) (cs : List Called)
+    → count_by (is_asked id) (filter_map net_ask cs) ≤ count_by (is_called id) cs
 fewer-asked id [] = omega arith
 fewer-asked id (c ∷ cs) = asked-called id c cs (fewer-asked id cs)
 
 abbrev home_asks_none : CallId → LocalOp → List Called → Type 0
-home_asks_none id op cs = kind_in cs id ≡ Some (LocalCall op) → count_by (is_called id) cs ≤ 1 → count_by (is_asked id) (filter_map net_ask cs) ≡ 0
+home_asks_none id op cs =
+    kind_in cs id ≡ Some (LocalCall op) → count_by (is_called id) cs ≤ 1
+    → count_by (is_asked id) (filter_map net_ask cs) ≡ 0
 
-home-first : (id : CallId) (op : LocalOp) (name : CallId) (sort : CallSort) (cs : List Called) → home_asks_none id op cs
+home-first : (id : CallId) (op : LocalOp) (name : CallId) (sort : CallSort) (cs : List Called)
+    → home_asks_none id op cs
     → home_asks_none id op (record { id = name; sort = sort } ∷ cs)
 home-first id op name sort cs rest found once =
-    at sort (is_same_call name id) refl found (count_cons (is_called id) (record { id = name; sort = sort }) cs)
+    at sort (is_same_call name id) refl found
+    (count_cons (is_called id) (record { id = name; sort = sort }) cs)
   where
     at : (s : CallSort) (same : Bool) → is_same_call name id ≡ same
         → (if same then Some (kind_of_sort s) else kind_in cs id) ≡ Some (LocalCall op)
-        → count_by (is_called id) (record { id = name; sort = sort } ∷ cs) ≡ cond same 1 0 + count_by (is_called id) cs
+        → count_by (is_called id) (record { id = name; sort = sort } ∷ cs)
+        ≡ cond same 1 0 + count_by (is_called id) cs
         → count_by (is_asked id) (filter_map net_ask (record { id = name; sort = s } ∷ cs)) ≡ 0
-    at (OverNet to pdu) true is found' step = let no' : Some NetCall ≡ Some (LocalCall op) = found' in absurd cc
+    at (OverNet to pdu) true is found' step =
+        let no' : Some NetCall ≡ Some (LocalCall op) = found' in absurd cc
     at (AtHome other) true is found' step = let fewer = fewer-asked id cs in omega arith
     at (OverNet to pdu) false is found' step =
         let this : Asked = record { id = name; to = to; pdu = pdu } in
@@ -191,7 +223,8 @@ home-first id op name sort cs rest found once =
 
 home-asks-none : (id : CallId) (op : LocalOp) (cs : List Called) → home_asks_none id op cs
 home-asks-none id op [] found once = absurd (let no' : None ≡ Some (LocalCall op) = found in cc)
-home-asks-none id op (c ∷ cs) found once = home-first id op c.id c.sort cs (home-asks-none id op cs) found once
+home-asks-none id op (c ∷ cs) found once =
+    home-first id op c.id c.sort cs (home-asks-none id op cs) found once
 
 -- ---- what stations keep of it
 
@@ -203,7 +236,8 @@ pub record HomeFacts (a : Items) (id : CallId) : Type 0 where
 abbrev pub HomesOnce : Items → Type 0
 HomesOnce a = (id : CallId) → 1 ≤ count_by (is_home_end id) a.ends → HomeFacts a id
 
-home-kind : (outcome : Outcome) (kind : Kind) → came_home outcome (Some kind) ≡ true → (op : LocalOp) × (kind ≡ LocalCall op)
+home-kind : (outcome : Outcome) (kind : Kind) → came_home outcome (Some kind) ≡ true
+    → (op : LocalOp) × (kind ≡ LocalCall op)
 home-kind (Came result) (LocalCall op) is = (op, refl)
 home-kind (Came result) NetCall is = absurd cc
 home-kind (Replied pdu) kind is = absurd cc
@@ -217,7 +251,8 @@ controller-homes a f id some =
     let two = and_parts (is_same_call end'.id id) (came_home end'.outcome end'.kind) found.2 in
     let home = home-kind end'.outcome of.0 (sym (ap (came_home end'.outcome) of.1) ∙ two.1) in
     let kind : kind_in a.calls id ≡ Some (LocalCall home.0) =
-    subst (λ (i : CallId). kind_in a.calls i ≡ Some (LocalCall home.0)) (same-eq end'.id id two.0) (of.2 ∙ ap Some home.1) in
+    subst (λ (i : CallId). kind_in a.calls i ≡ Some (LocalCall home.0)) (same-eq end'.id id two.0)
+    (of.2 ∙ ap Some home.1) in
     let weaker = count-weaker (is_home_end id) (is_ended id) a.ends
     (all_same (λ (e : Ended). is_home_end id e ≡ true → is_ended id e ≡ true)
     (λ e is. (and_parts (is_same_call e.id id) (came_home e.outcome e.kind) is).0) a.ends) in
@@ -231,40 +266,52 @@ and-off : (x : Bool) → (x && false) ≡ false
 and-off true = refl
 and-off false = refl
 
-away-next : (a : Items) (e : HostEntry) → Each is_away a.ends → Each is_away (host_item_next a e).ends
+away-next : (a : Items) (e : HostEntry) → Each is_away a.ends
+    → Each is_away (host_item_next a e).ends
 away-next a (Ask id to pdu) all = all
-away-next a (Answer id (results.Reply pdu)) all = all_append is_away a.ends _ all ((λ other. and-off (is_same_call id other)), tt)
-away-next a (Answer id (results.Bad word)) all = all_append is_away a.ends _ all ((λ other. and-off (is_same_call id other)), tt)
+away-next a (Answer id (results.Reply pdu)) all =
+    all_append is_away a.ends _ all ((λ other. and-off (is_same_call id other)), tt)
+away-next a (Answer id (results.Bad word)) all =
+    all_append is_away a.ends _ all ((λ other. and-off (is_same_call id other)), tt)
 away-next a (Served id request reply) all = all
 
-aways : (a : Items) (h : List HostEntry) → Each is_away a.ends → Each is_away (host_items_after a h).ends
+aways : (a : Items) (h : List HostEntry) → Each is_away a.ends
+    → Each is_away (host_items_after a h).ends
 aways a [] all = all
 aways a (e ∷ h) all = aways (host_item_next a e) h (away-next a e all)
 
 pub host-homes : (h : List HostEntry) → HomesOnce (host_items_of h)
 host-homes h id some =
     let found = count-contains (is_home_end id) (host_items_of h).ends some in
-    let away = each-contains is_away (host_items_of h).ends found.0 (aways no_items h tt) found.1 in
+    let away = each-contains is_away (host_items_of h).ends found.0 (aways no_items h tt)
+    found.1 in
     absurd (true≢false (sym found.2 ∙ away id))
 
 -- ---- what was posted was asked
 
-posted-kind : (id : CallId) (n : ℕ) (kind : FrameKind) (to : ℕ) (name : CallId) (pdu : List ℕ) (b : List RingEntry)
+posted-kind : (id : CallId) (n : ℕ) (kind : FrameKind) (to : ℕ) (name : CallId) (pdu : List ℕ)
+    (b : List RingEntry)
     → count_by (posts id) b ≡ count_by (is_asked id) (asked_by b)
     → count_by (posts id) (Post n (record { kind = kind; to = to; id = name; pdu = pdu }) ∷ b)
-    ≡ count_by (is_asked id) (asked_by (Post n (record { kind = kind; to = to; id = name; pdu = pdu }) ∷ b))
+    ≡ count_by (is_asked id) (asked_by
+    (Post n (record { kind = kind; to = to; id = name; pdu = pdu }) ∷ b))
 posted-kind id n Request to name pdu b rest =
     count_cons (posts id) (Post n (record { kind = Request; to = to; id = name; pdu = pdu })) b
     ∙ ap (λ k. cond (is_same_call name id) 1 0 + k) rest
     ∙ sym (count_cons (is_asked id) (record { id = name; to = to; pdu = pdu }) (asked_by b))
-posted-kind id n Reply to name pdu b rest = skip (posts id) (Post n (record { kind = Reply; to = to; id = name; pdu = pdu })) b refl ∙ rest
+posted-kind id n Reply to name pdu b rest =
+    skip (posts id) (Post n (record { kind = Reply; to = to; id = name; pdu = pdu })) b refl ∙ rest
 
-pub posted-asked : (id : CallId) (b : List RingEntry) → count_by (posts id) b ≡ count_by (is_asked id) (asked_by b)
+pub posted-asked : (id : CallId) (b : List RingEntry)
+    → count_by (posts id) b ≡ count_by (is_asked id) (asked_by b)
 posted-asked id [] = refl
 posted-asked id (Post n f ∷ b) = posted-kind id n f.kind f.to f.id f.pdu b (posted-asked id b)
 posted-asked id (Send n heard ∷ b) = skip (posts id) (Send n heard) b refl ∙ posted-asked id b
 posted-asked id (Take n f ∷ b) = skip (posts id) (Take n f) b refl ∙ posted-asked id b
-posted-asked id (Local n name op result ∷ b) = skip (posts id) (Local n name op result) b refl ∙ posted-asked id b
-posted-asked id (GiveUp name word ∷ b) = skip (posts id) (GiveUp name word) b refl ∙ posted-asked id b
-posted-asked id (Pass n done words ∷ b) = skip (posts id) (Pass n done words) b refl ∙ posted-asked id b
+posted-asked id (Local n name op result ∷ b) =
+    skip (posts id) (Local n name op result) b refl ∙ posted-asked id b
+posted-asked id (GiveUp name word ∷ b) =
+    skip (posts id) (GiveUp name word) b refl ∙ posted-asked id b
+posted-asked id (Pass n done words ∷ b) =
+    skip (posts id) (Pass n done words) b refl ∙ posted-asked id b
 posted-asked id (Leave n cause ∷ b) = skip (posts id) (Leave n cause) b refl ∙ posted-asked id b

@@ -1,5 +1,6 @@
 -- A reply that a host got is the answer of the node that it asked.
-use Rattle.std.proofs.Common.{◌≡◌, ℕ, ◌==◌, Bool, true, false, List, [], ◌∷◌, ◌++◌, map, Some, None}
+use Rattle.std.proofs.Common.{◌≡◌, ℕ, ◌==◌, Bool, true, false, List, [], ◌∷◌, ◌++◌, map, Some}
+use Rattle.std.proofs.Common.{None}
 use Rattle.std.proofs.Common.{refl, sym, ap, ◌∙◌, subst, inl, inr, ◌⊎◌, ⊎_elim, arith}
 use Rattle.std.specs.Prelude.{Contains, if◌then◌else◌}
 use Rattle.std.proofs.lemmas.Bool.{eq-eqb}
@@ -50,17 +51,21 @@ use Rattle.effect_laws.proofs.Sources.{ended-by, in-map, in-none, in-own, of-map
 
 -- an answer of a controller's list is that of an entry
 abbrev IsPeer : Answered → Entry → Type 0
-IsPeer answer e = (request : List ℕ) × (answer.request ≡ Some request) × (e ≡ entries.Peer answer.id request answer.reply)
+IsPeer answer e =
+    (request : List ℕ) × (answer.request ≡ Some request)
+    × (e ≡ entries.Peer answer.id request answer.reply)
 
 record PeerIn (h : List Entry) (answer : Answered) : Type 0 where
   entry : Entry
   there : Contains h entry
   is : IsPeer answer entry
 
-later-peer : (e : Entry) (h : List Entry) (answer : Answered) → PeerIn h answer → PeerIn (e ∷ h) answer
+later-peer : (e : Entry) (h : List Entry) (answer : Answered) → PeerIn h answer
+    → PeerIn (e ∷ h) answer
 later-peer e h answer p = record { entry = p.entry; there = behind e h p.entry p.there; is = p.is }
 
-peer-in : (a : Items) (h : List Entry) (answer : Answered) → Contains (items_after a h).answers answer → Contains a.answers answer ⊎ PeerIn h answer
+peer-in : (a : Items) (h : List Entry) (answer : Answered)
+    → Contains (items_after a h).answers answer → Contains a.answers answer ⊎ PeerIn h answer
 peer-in a [] answer there = inl there
 peer-in a (e ∷ h) answer there =
     ⊎_elim
@@ -68,7 +73,8 @@ peer-in a (e ∷ h) answer there =
     (λ (new : PeerIn h answer). inr (later-peer e h answer new))
     (peer-in (item_next a e) h answer there)
   where
-    last : (x : Entry) → Contains (item_next a x).answers answer → Contains a.answers answer ⊎ PeerIn (x ∷ h) answer
+    last : (x : Entry) → Contains (item_next a x).answers answer
+        → Contains a.answers answer ⊎ PeerIn (x ∷ h) answer
     last entries.Begin old = inl old
     last (entries.Input row) old = inl old
     last (entries.Solve row) old = inl old
@@ -86,21 +92,27 @@ peer-in a (e ∷ h) answer there =
           there = here x h;
           is = (request, refl, refl);
         })))
-        (Contains-push_cases a.answers (record { id = id; request = Some request; reply = reply }) answer old)
+        (Contains-push_cases a.answers (record { id = id; request = Some request; reply = reply })
+        answer old)
 
 -- so is one of a host's
 abbrev IsServed : Answered → HostEntry → Type 0
-IsServed answer e = (request : List ℕ) × (answer.request ≡ Some request) × (e ≡ host_entries.Served answer.id request answer.reply)
+IsServed answer e =
+    (request : List ℕ) × (answer.request ≡ Some request)
+    × (e ≡ host_entries.Served answer.id request answer.reply)
 
 record ServedIn (h : List HostEntry) (answer : Answered) : Type 0 where
   entry : HostEntry
   there : Contains h entry
   is : IsServed answer entry
 
-later-served : (e : HostEntry) (h : List HostEntry) (answer : Answered) → ServedIn h answer → ServedIn (e ∷ h) answer
-later-served e h answer p = record { entry = p.entry; there = behind e h p.entry p.there; is = p.is }
+later-served : (e : HostEntry) (h : List HostEntry) (answer : Answered) → ServedIn h answer
+    → ServedIn (e ∷ h) answer
+later-served e h answer p =
+    record { entry = p.entry; there = behind e h p.entry p.there; is = p.is }
 
-served-in : (a : Items) (h : List HostEntry) (answer : Answered) → Contains (host_items_after a h).answers answer
+served-in : (a : Items) (h : List HostEntry) (answer : Answered)
+    → Contains (host_items_after a h).answers answer
     → Contains a.answers answer ⊎ ServedIn h answer
 served-in a [] answer there = inl there
 served-in a (e ∷ h) answer there =
@@ -109,7 +121,8 @@ served-in a (e ∷ h) answer there =
     (λ (new : ServedIn h answer). inr (later-served e h answer new))
     (served-in (host_item_next a e) h answer there)
   where
-    last : (x : HostEntry) → Contains (host_item_next a x).answers answer → Contains a.answers answer ⊎ ServedIn (x ∷ h) answer
+    last : (x : HostEntry) → Contains (host_item_next a x).answers answer
+        → Contains a.answers answer ⊎ ServedIn (x ∷ h) answer
     last (host_entries.Ask id to pdu) old = inl old
     last (host_entries.Answer id result) old = inl old
     last (host_entries.Served id request reply) old =
@@ -122,16 +135,19 @@ served-in a (e ∷ h) answer there =
           there = here x h;
           is = (request, refl, refl);
         })))
-        (Contains-push_cases a.answers (record { id = id; request = Some request; reply = reply }) answer old)
+        (Contains-push_cases a.answers (record { id = id; request = Some request; reply = reply })
+        answer old)
 
 -- a call of a host's list is that of an entry
 record AskIn (h : List HostEntry) (asked : Asked) : Type 0 where
   there : Contains h (host_entries.Ask asked.id asked.to asked.pdu)
 
-later-ask : (e : HostEntry) (h : List HostEntry) (asked : Asked) → AskIn h asked → AskIn (e ∷ h) asked
+later-ask : (e : HostEntry) (h : List HostEntry) (asked : Asked) → AskIn h asked
+    → AskIn (e ∷ h) asked
 later-ask e h asked p = record { there = behind e h _ p.there }
 
-ask-in : (a : Items) (h : List HostEntry) (c : Called) (asked : Asked) → net_ask c ≡ Some asked → Contains (host_items_after a h).calls c
+ask-in : (a : Items) (h : List HostEntry) (c : Called) (asked : Asked) → net_ask c ≡ Some asked
+    → Contains (host_items_after a h).calls c
     → Contains a.calls c ⊎ AskIn h asked
 ask-in a [] c asked is there = inl there
 ask-in a (e ∷ h) c asked is there =
@@ -140,7 +156,8 @@ ask-in a (e ∷ h) c asked is there =
     (λ (new : AskIn h asked). inr (later-ask e h asked new))
     (ask-in (host_item_next a e) h c asked is there)
   where
-    last : (x : HostEntry) → Contains (host_item_next a x).calls c → Contains a.calls c ⊎ AskIn (x ∷ h) asked
+    last : (x : HostEntry) → Contains (host_item_next a x).calls c
+        → Contains a.calls c ⊎ AskIn (x ∷ h) asked
     last (host_entries.Answer id result) old = inl old
     last (host_entries.Served id request reply) old = inl old
     last (host_entries.Ask id to pdu) old =
@@ -163,14 +180,16 @@ record PortIn (e : RingEntry) (answer : Answered) : Type 0 where
   asked : request_of op ≡ answer.request
   told : reply_of result ≡ answer.reply
 
-port-for : (n : ℕ) (id : CallId) (op : LocalOp) (result : MstrResult) (answer : Answered) → answered_for n id op result ≡ Some answer
+port-for : (n : ℕ) (id : CallId) (op : LocalOp) (result : MstrResult) (answer : Answered)
+    → answered_for n id op result ≡ Some answer
     → PortIn (Local n id op result) answer
 port-for n id op result answer is = at (id.node == n) is
   where
     this : Answered
     this = record { id = id; request = request_of op; reply = reply_of result }
 
-    at : (b : Bool) → (if b then None else Some this) ≡ Some answer → PortIn (Local n id op result) answer
+    at : (b : Bool) → (if b then None else Some this) ≡ Some answer
+        → PortIn (Local n id op result) answer
     at true is' = absurd cc
     at false is' =
         let same : this ≡ answer = cc in
@@ -197,7 +216,8 @@ port-in (Leave n cause) answer is = absurd cc
 some-same : (one other : List ℕ) → Some one ≡ Some other → one ≡ other
 some-same one other is = cc
 
-port-gave : (joint : Joint) (n : ℕ) (answer : Answered) (request : List ℕ) → Contains (port_answers (own n joint.ring)) answer
+port-gave : (joint : Joint) (n : ℕ) (answer : Answered) (request : List ℕ)
+    → Contains (port_answers (own n joint.ring)) answer
     → answer.request ≡ Some request → PortAnswers joint n answer.id request answer.reply
 port-gave joint n answer request there asked =
     let found = of-map answered_of (own n joint.ring) answer there in
@@ -212,7 +232,8 @@ port-gave joint n answer request there asked =
       p.told,
     )
 
-controller-gave : (joint : Joint) (log : ControllerLog) (answer : Answered) (request : List ℕ) → Contains joint.controllers log
+controller-gave : (joint : Joint) (log : ControllerLog) (answer : Answered) (request : List ℕ)
+    → Contains joint.controllers log
     → Contains (items_of log.entries).answers answer → answer.request ≡ Some request
     → ControllerAnswers joint log.node answer.id request answer.reply
 controller-gave joint log answer request there among asked =
@@ -228,7 +249,8 @@ controller-gave joint log answer request there among asked =
     ))
     (peer-in no_items log.entries answer among)
 
-host-gave : (joint : Joint) (log : HostLog) (answer : Answered) (request : List ℕ) → Contains joint.hosts log
+host-gave : (joint : Joint) (log : HostLog) (answer : Answered) (request : List ℕ)
+    → Contains joint.hosts log
     → Contains (host_items_of log.entries).answers answer → answer.request ≡ Some request
     → HostAnswers joint log.node answer.id request answer.reply
 host-gave joint log answer request there among asked =
@@ -239,7 +261,8 @@ host-gave joint log answer request there among asked =
       log,
       there,
       refl,
-      subst (λ (l : List ℕ). Contains log.entries (host_entries.Served answer.id l answer.reply)) same
+      subst (λ (l : List ℕ). Contains log.entries (host_entries.Served answer.id l answer.reply))
+          same
           (subst (λ (e : HostEntry). Contains log.entries e) p.is.2 p.there),
     ))
     (served-in no_items log.entries answer among)
@@ -263,65 +286,85 @@ given-with joint n f a o gives = record {
       (subst (λ (l : List ℕ). NodeAnswers joint n o.answer.id o.request.pdu l) o.told gives);
 }
 
-by-controller : (joint : Joint) (log : ControllerLog) (f : Frame) → Contains joint.controllers log → IsTiedController joint.ring log
+by-controller : (joint : Joint) (log : ControllerLog) (f : Frame) → Contains joint.controllers log
+    → IsTiedController joint.ring log
     → Contains joint.ring (Post log.node f) → f.kind ≡ Reply → Given joint log.node f
 by-controller joint log f there tied posted kind =
     let o = origin-in joint.ring log.node f AController (items_of log.entries) tied posted kind in
     given-with joint log.node f (items_of log.entries) o (⊎_elim
-    (λ (peer : Contains (items_of log.entries).answers o.answer). inl (controller-gave joint log o.answer o.request.pdu there peer o.asked))
-    (λ (port : Contains (port_answers (own log.node joint.ring)) o.answer). inr (inr (port-gave joint log.node o.answer o.request.pdu port o.asked)))
+    (λ (peer : Contains (items_of log.entries).answers o.answer). inl
+    (controller-gave joint log o.answer o.request.pdu there peer o.asked))
+    (λ (port : Contains (port_answers (own log.node joint.ring)) o.answer). inr
+    (inr (port-gave joint log.node o.answer o.request.pdu port o.asked)))
     o.among)
 
-by-host : (joint : Joint) (log : HostLog) (f : Frame) → Contains joint.hosts log → IsTiedHost joint.ring log
+by-host : (joint : Joint) (log : HostLog) (f : Frame) → Contains joint.hosts log
+    → IsTiedHost joint.ring log
     → Contains joint.ring (Post log.node f) → f.kind ≡ Reply → Given joint log.node f
 by-host joint log f there tied posted kind =
     let o = origin-in joint.ring log.node f AHost (host_items_of log.entries) tied posted kind in
     given-with joint log.node f (host_items_of log.entries) o (⊎_elim
-    (λ (peer : Contains (host_items_of log.entries).answers o.answer). inr (inl (host-gave joint log o.answer o.request.pdu there peer o.asked)))
-    (λ (port : Contains (port_answers (own log.node joint.ring)) o.answer). inr (inr (port-gave joint log.node o.answer o.request.pdu port o.asked)))
+    (λ (peer : Contains (host_items_of log.entries).answers o.answer). inr
+    (inl (host-gave joint log o.answer o.request.pdu there peer o.asked)))
+    (λ (port : Contains (port_answers (own log.node joint.ring)) o.answer). inr
+    (inr (port-gave joint log.node o.answer o.request.pdu port o.asked)))
     o.among)
 
-given-by : (plant : Plant) (scans : ℕ) (joint : Joint) (n : ℕ) (f : Frame) → JointOf plant scans joint → Contains joint.ring (Post n f) → f.kind ≡ Reply
+given-by : (plant : Plant) (scans : ℕ) (joint : Joint) (n : ℕ) (f : Frame)
+    → JointOf plant scans joint → Contains joint.ring (Post n f) → f.kind ≡ Reply
     → Given joint n f
 given-by plant scans joint n f j posted kind =
     ⊎_elim
     (λ (c : (log : ControllerLog) × Contains joint.controllers log × (log.node ≡ n)).
-    subst (λ (k : ℕ). Given joint k f) c.2 (by-controller joint c.0 f c.1 (All-contains (IsTiedController joint.ring) joint.controllers c.0 j.tied.controllers c.1)
+    subst (λ (k : ℕ). Given joint k f) c.2
+    (by-controller joint c.0 f c.1
+    (All-contains (IsTiedController joint.ring) joint.controllers c.0 j.tied.controllers c.1)
     (subst (λ (k : ℕ). Contains joint.ring (Post k f)) (sym c.2) posted) kind))
     (λ (h : (log : HostLog) × Contains joint.hosts log × (log.node ≡ n)).
-    subst (λ (k : ℕ). Given joint k f) h.2 (by-host joint h.0 f h.1 (All-contains (IsTiedHost joint.ring) joint.hosts h.0 j.tied.hosts h.1)
+    subst (λ (k : ℕ). Given joint k f) h.2
+    (by-host joint h.0 f h.1 (All-contains (IsTiedHost joint.ring) joint.hosts h.0 j.tied.hosts
+    h.1)
     (subst (λ (k : ℕ). Contains joint.ring (Post k f)) (sym h.2) posted) kind))
     (log-at plant scans joint n j (member-at plant scans joint (Post n f) j posted))
 
 -- ---- the law
 
-asked-own : (joint : Joint) (log : HostLog) (m : ℕ) (request : Frame) → IsTiedHost joint.ring log → m ≡ log.node → request.kind ≡ Request
-    → Contains joint.ring (Post m request) → Contains log.entries (host_entries.Ask request.id request.to request.pdu)
+asked-own : (joint : Joint) (log : HostLog) (m : ℕ) (request : Frame) → IsTiedHost joint.ring log
+    → m ≡ log.node → request.kind ≡ Request
+    → Contains joint.ring (Post m request)
+    → Contains log.entries (host_entries.Ask request.id request.to request.pdu)
 asked-own joint log m request tied node kind posted =
     let n = log.node in
     let b = own n joint.ring in
     let a = host_items_of log.entries in
     let asked : Asked = record { id = request.id; to = request.to; pdu = request.pdu } in
     let mine = in-own n joint.ring (Post m request) (eq-eqb m n node) posted in
-    let among = in-map asked_of b (Post m request) asked (ap (λ (k : FrameKind). asked_in k request) kind) mine in
-    let called = of-map net_ask a.calls asked (subst (λ (l : List Asked). Contains l asked) tied.asks among) in
+    let among = in-map asked_of b (Post m request) asked
+    (ap (λ (k : FrameKind). asked_in k request) kind) mine in
+    let called = of-map net_ask a.calls asked
+    (subst (λ (l : List Asked). Contains l asked) tied.asks among) in
     ⊎_elim
     (λ (none : Contains {X = Called} [] called.0). absurd (in-none called.0 none))
     (λ (p : AskIn log.entries asked). p.there)
     (ask-in no_items log.entries called.0 asked called.2 called.1)
 
-got-answer : CallLaws → (plant : Plant) (scans : ℕ) (joint : Joint) (log : HostLog) (m : ℕ) (f : Frame) → JointOf plant scans joint
-    → Contains joint.hosts log → m ≡ log.node → Contains joint.ring (Take m f) → f.kind ≡ Reply → IsAnswerTo joint log f.id f.pdu
+got-answer : CallLaws → (plant : Plant) (scans : ℕ) (joint : Joint) (log : HostLog) (m : ℕ)
+    (f : Frame) → JointOf plant scans joint
+    → Contains joint.hosts log → m ≡ log.node → Contains joint.ring (Take m f) → f.kind ≡ Reply
+    → IsAnswerTo joint log f.id f.pdu
 got-answer laws plant scans joint log m f j there node taken kind =
     let net = plant.net in
     let ring = joint.ring in
     let history = ring-history plant scans joint j in
-    let a = (reply-by-taker net ring m f history (answers-taken laws plant scans joint j) (inr taken) kind).1 in
+    let a = (reply-by-taker net ring m f history (answers-taken laws plant scans joint j)
+    (inr taken) kind).1 in
     let g = given-by plant scans joint a.by f j a.posted kind in
     let theirs = (only-its-target net ring a.by g.request history (inr g.taken) g.kind).2 in
     let one : Post g.request.id.node g.request ≡ Post m a.request =
-    only-one (posts f.id) ring (Post g.request.id.node g.request) (Post m a.request) (posted-once net ring f.id history)
-    (asks-this f.id g.request g.kind g.same) (asks-this f.id a.request a.kind a.same) theirs a.asked in
+    only-one (posts f.id) ring (Post g.request.id.node g.request) (Post m a.request)
+    (posted-once net ring f.id history)
+    (asks-this f.id g.request g.kind g.same) (asks-this f.id a.request a.kind a.same) theirs
+    a.asked in
     let frames : g.request ≡ a.request = cc in
     let tied = All-contains (IsTiedHost ring) joint.hosts log j.tied.hosts there in
     let asked = asked-own joint log m a.request tied node a.kind a.asked in
@@ -329,7 +372,8 @@ got-answer laws plant scans joint log m f j there node taken kind =
       to = a.by;
       request = a.request.pdu;
       asked = subst (λ (k : ℕ). Contains log.entries (host_entries.Ask f.id k a.request.pdu)) a.to
-          (subst (λ (i : CallId). Contains log.entries (host_entries.Ask i a.request.to a.request.pdu)) a.same asked);
+          (subst (λ (i : CallId). Contains log.entries
+          (host_entries.Ask i a.request.to a.request.pdu)) a.same asked);
       given = subst (λ (x : Frame). NodeAnswers joint a.by f.id x.pdu f.pdu) frames g.given;
     }
 
@@ -348,18 +392,27 @@ host-answers laws plant scans joint is legal tied log id reply there answered =
     let b = own log.node joint.ring in
     let t = All-contains (IsTiedHost joint.ring) joint.hosts log tied.hosts there in
     let told = answer-ends log.entries id (results.Reply reply) answered in
-    let w = end-at AHost [] b told.end' (subst (λ (l : List Ended). Contains l told.end') t.ends told.there) in
-    let at = of-own log.node joint.ring w.entry (subst (λ (l : List RingEntry). Contains l w.entry) (sym w.is)
+    let w = end-at AHost [] b told.end'
+    (subst (λ (l : List Ended). Contains l told.end') t.ends told.there) in
+    let at = of-own log.node joint.ring w.entry
+    (subst (λ (l : List RingEntry). Contains l w.entry) (sym w.is)
     (Contains-append_right w.before (w.entry ∷ w.after) w.entry (0, omega arith, refl))) in
     subst (λ (i : CallId). IsAnswerTo joint log i reply) told.id_is
-    (by j told.end' told.outcome_is ([] ++ asked_by w.before) w.entry at.0 at.1 (ended-by AHost ([] ++ asked_by w.before) w.entry told.end' w.ended))
+    (by j told.end' told.outcome_is ([] ++ asked_by w.before) w.entry at.0 at.1
+    (ended-by AHost ([] ++ asked_by w.before) w.entry told.end' w.ended))
   where
-    by : JointOf plant scans joint → (end' : Ended) → end'.outcome ≡ Replied reply → (asked : List Asked) (e : RingEntry) → Contains joint.ring e
+    by : JointOf plant scans joint → (end' : Ended) → end'.outcome ≡ Replied reply
+        → (asked : List Asked) (e : RingEntry) → Contains joint.ring e
         → maker e ≡ log.node → EndedBy AHost asked e end' → IsAnswerTo joint log end'.id reply
     by j end' out asked e in' node (by_reply m f entry kind name outcome) =
-        let taken : Contains joint.ring (Take m f) = subst (λ (x : RingEntry). Contains joint.ring x) entry in' in
+        let taken : Contains joint.ring (Take m f) = subst
+        (λ (x : RingEntry). Contains joint.ring x) entry in' in
         let here' : m ≡ log.node = ap maker (sym entry) ∙ node in
-        subst (λ (l : List ℕ). IsAnswerTo joint log end'.id l) (replied-same f.pdu reply (outcome ∙ out))
-        (subst (λ (i : CallId). IsAnswerTo joint log i f.pdu) name (got-answer laws plant scans joint log m f j there here' taken kind))
-    by j end' out asked e in' node (by_word word entry outcome) = absurd (word-no_reply word reply (outcome ∙ out))
-    by j end' out asked e in' node (by_port m op result entry mine outcome) = absurd (came-no_reply result reply (outcome ∙ out))
+        subst (λ (l : List ℕ). IsAnswerTo joint log end'.id l)
+        (replied-same f.pdu reply (outcome ∙ out))
+        (subst (λ (i : CallId). IsAnswerTo joint log i f.pdu) name
+        (got-answer laws plant scans joint log m f j there here' taken kind))
+    by j end' out asked e in' node (by_word word entry outcome) =
+        absurd (word-no_reply word reply (outcome ∙ out))
+    by j end' out asked e in' node (by_port m op result entry mine outcome) =
+        absurd (came-no_reply result reply (outcome ∙ out))

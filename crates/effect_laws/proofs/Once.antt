@@ -52,17 +52,21 @@ use Rattle.effect_laws.proofs.Served.{ring-history, services-are_taken}
 
 -- ---- the stations of a joint history
 
-zip-each : {P L : Type 0} (R : P → L → Type 0) (ps : List P) (ls : List L) → AllZip R ps ls → Each (λ l. (p : P) × R p l) ls
+zip-each : {P L : Type 0} (R : P → L → Type 0) (ps : List P) (ls : List L) → AllZip R ps ls
+    → Each (λ l. (p : P) × R p l) ls
 zip-each R [] [] all = tt
 zip-each R [] (l ∷ ls) all = absurd all
 zip-each R (p ∷ ps) [] all = absurd all
 zip-each R (p ∷ ps) (l ∷ ls) all = ((p, all.0), zip-each R ps ls all.1)
 
 -- the list of a controller is a legal one
-pub legal-log : (plant : Plant) (scans : ℕ) (joint : Joint) (log : ControllerLog) → JointOf plant scans joint → Contains joint.controllers log
+pub legal-log : (plant : Plant) (scans : ℕ) (joint : Joint) (log : ControllerLog)
+    → JointOf plant scans joint → Contains joint.controllers log
     → (plan : ControllerPlan) × IsLegalLog plant scans plan log
 legal-log plant scans joint log j there =
-    each-contains _ joint.controllers log (zip-each (IsLegalLog plant scans) plant.controllers joint.controllers j.legal.controllers) there
+    each-contains _ joint.controllers log
+    (zip-each (IsLegalLog plant scans) plant.controllers joint.controllers j.legal.controllers)
+    there
 
 -- a node's station: its list is tied, its calls at home end once, and its answers fit
 pub record Seat (ring : List RingEntry) (n : ℕ) : Type 0 where
@@ -72,7 +76,8 @@ pub record Seat (ring : List RingEntry) (n : ℕ) : Type 0 where
   pub homes : HomesOnce items
   pub answers : Each IsFitAnswer items.answers
 
-counted-map : {L : Type 0} (node : L → ℕ) (n : ℕ) (ls : List L) → count_by (λ k. n == k) (map node ls) ≡ count_by (λ l. n == node l) ls
+counted-map : {L : Type 0} (node : L → ℕ) (n : ℕ) (ls : List L)
+    → count_by (λ k. n == k) (map node ls) ≡ count_by (λ l. n == node l) ls
 counted-map node n [] = refl
 counted-map node n (l ∷ ls) =
     let one = count_cons (λ k. n == k) (node l) (map node ls) in
@@ -80,27 +85,37 @@ counted-map node n (l ∷ ls) =
     one ∙ ap (λ k. cond (n == node l) 1 0 + k) (counted-map node n ls) ∙ sym two
 
 -- a list of this node
-log-of : {L : Type 0} (node : L → ℕ) (n : ℕ) (ls : List L) → 1 ≤ count_by (λ k. n == k) (map node ls) → (l : L) × Contains ls l × (node l ≡ n)
+log-of : {L : Type 0} (node : L → ℕ) (n : ℕ) (ls : List L)
+    → 1 ≤ count_by (λ k. n == k) (map node ls) → (l : L) × Contains ls l × (node l ≡ n)
 log-of node n ls some =
-    let found = count-contains (λ l. n == node l) ls (subst (λ (k : ℕ). 1 ≤ k) (counted-map node n ls) some) in
+    let found = count-contains (λ l. n == node l) ls
+    (subst (λ (k : ℕ). 1 ≤ k) (counted-map node n ls) some) in
     (found.0, found.1, sym (eqb-true n (node found.0) found.2))
 
-controller-seat : CallLaws → (plant : Plant) (scans : ℕ) (joint : Joint) (n : ℕ) (log : ControllerLog) → JointOf plant scans joint
+controller-seat : CallLaws → (plant : Plant) (scans : ℕ) (joint : Joint) (n : ℕ)
+    (log : ControllerLog) → JointOf plant scans joint
     → Contains joint.controllers log → log.node ≡ n → Seat joint.ring n
 controller-seat laws plant scans joint n log j there is =
     let legal = legal-log plant scans joint log j there in
     subst (Seat joint.ring) is (record {
       station = AController;
       items = items_of log.entries;
-      tied = All-contains (IsTiedController joint.ring) joint.controllers log j.tied.controllers there;
-      homes = controller-homes (items_of log.entries) (call-facts laws (fixed_of plant scans legal.0) log.entries legal.1.1);
-      answers = (controller-fits laws (fixed_of plant scans legal.0) log.entries legal.1.1).answers;
+      tied =
+          All-contains (IsTiedController joint.ring) joint.controllers log j.tied.controllers
+          there;
+      homes =
+          controller-homes (items_of log.entries)
+          (call-facts laws (fixed_of plant scans legal.0) log.entries legal.1.1);
+      answers =
+          (controller-fits laws (fixed_of plant scans legal.0) log.entries legal.1.1).answers;
     })
 
-host-seat : (plant : Plant) (scans : ℕ) (joint : Joint) (n : ℕ) (log : HostLog) → JointOf plant scans joint → Contains joint.hosts log
+host-seat : (plant : Plant) (scans : ℕ) (joint : Joint) (n : ℕ) (log : HostLog)
+    → JointOf plant scans joint → Contains joint.hosts log
     → log.node ≡ n → Seat joint.ring n
 host-seat plant scans joint n log j there is =
-    let legal = each-contains (λ (l : HostLog). (p : HostPlan) × IsLegalHostLog p l) joint.hosts log (zip-each IsLegalHostLog plant.hosts joint.hosts j.legal.hosts) there in
+    let legal = each-contains (λ (l : HostLog). (p : HostPlan) × IsLegalHostLog p l) joint.hosts
+    log (zip-each IsLegalHostLog plant.hosts joint.hosts j.legal.hosts) there in
     subst (Seat joint.ring) is (record {
       station = AHost;
       items = host_items_of log.entries;
@@ -110,27 +125,35 @@ host-seat plant scans joint n log j there is =
     })
 
 -- each member has the list of a controller or of a host
-pub log-at : (plant : Plant) (scans : ℕ) (joint : Joint) (n : ℕ) → JointOf plant scans joint → IsMember plant.net n
-    → ((log : ControllerLog) × Contains joint.controllers log × (log.node ≡ n)) ⊎ ((log : HostLog) × Contains joint.hosts log × (log.node ≡ n))
+pub log-at : (plant : Plant) (scans : ℕ) (joint : Joint) (n : ℕ) → JointOf plant scans joint
+    → IsMember plant.net n
+    → ((log : ControllerLog) × Contains joint.controllers log × (log.node ≡ n))
+    ⊎ ((log : HostLog) × Contains joint.hosts log × (log.node ≡ n))
 log-at plant scans joint n j member =
     let some = member-station plant n j.is member in
-    let both = sum_by-append (λ k. cond {A = ℕ} (n == k) 1 0) (controller_nodes plant) (host_nodes plant) in
+    let both = sum_by-append (λ k. cond {A = ℕ} (n == k) 1 0) (controller_nodes plant)
+    (host_nodes plant) in
     ⊎_elim
     (λ (none : count_by (λ k. n == k) (controller_nodes plant) < 1).
     let here : 1 ≤ count_by (λ k. n == k) (host_nodes plant) = omega (arith, some, both, none) in
     inr (log-of (λ (l : HostLog). l.node) n joint.hosts
-    (subst (λ (nodes : List ℕ). 1 ≤ count_by (λ k. n == k) nodes) (sym (host-nodes plant scans joint j.legal)) here)))
+    (subst (λ (nodes : List ℕ). 1 ≤ count_by (λ k. n == k) nodes)
+    (sym (host-nodes plant scans joint j.legal)) here)))
     (λ (here : 1 ≤ count_by (λ k. n == k) (controller_nodes plant)).
     inl (log-of (λ (l : ControllerLog). l.node) n joint.controllers
-    (subst (λ (nodes : List ℕ). 1 ≤ count_by (λ k. n == k) nodes) (sym (controller-nodes plant scans joint j.legal)) here)))
+    (subst (λ (nodes : List ℕ). 1 ≤ count_by (λ k. n == k) nodes)
+    (sym (controller-nodes plant scans joint j.legal)) here)))
     (cases_lt (count_by (λ k. n == k) (controller_nodes plant)) 1)
 
 -- so it has one
-pub seat-at : CallLaws → (plant : Plant) (scans : ℕ) (joint : Joint) (n : ℕ) → JointOf plant scans joint → IsMember plant.net n → Seat joint.ring n
+pub seat-at : CallLaws → (plant : Plant) (scans : ℕ) (joint : Joint) (n : ℕ)
+    → JointOf plant scans joint → IsMember plant.net n → Seat joint.ring n
 seat-at laws plant scans joint n j member =
     ⊎_elim
-    (λ (log : (l : ControllerLog) × Contains joint.controllers l × (l.node ≡ n)). controller-seat laws plant scans joint n log.0 j log.1 log.2)
-    (λ (log : (l : HostLog) × Contains joint.hosts l × (l.node ≡ n)). host-seat plant scans joint n log.0 j log.1 log.2)
+    (λ (log : (l : ControllerLog) × Contains joint.controllers l × (l.node ≡ n)). controller-seat
+    laws plant scans joint n log.0 j log.1 log.2)
+    (λ (log : (l : HostLog) × Contains joint.hosts l × (l.node ≡ n)). host-seat plant scans joint n
+    log.0 j log.1 log.2)
     (log-at plant scans joint n j member)
 
 -- ---- entries of a call
@@ -140,10 +163,12 @@ kind-request Request is = refl
 kind-request Reply is = absurd (true≢false (sym is))
 
 -- the node that posted a Request is the one that its name says
-posted-own : (net : NetPlan) (id : CallId) (e : RingEntry) → IsLawful net e → posts id e ≡ true → (maker e == id.node) ≡ true
+posted-own : (net : NetPlan) (id : CallId) (e : RingEntry) → IsLawful net e → posts id e ≡ true
+    → (maker e == id.node) ≡ true
 posted-own net id (Post n f) law is =
     let two = and_parts (asks f.kind) (is_same_call f.id id) is in
-    let by : IsFrom n Request f = subst (λ (k : FrameKind). IsFrom n k f) (kind-request f.kind two.0) law.1 in
+    let by : IsFrom n Request f = subst (λ (k : FrameKind). IsFrom n k f)
+    (kind-request f.kind two.0) law.1 in
     eq-eqb n id.node (sym by.0 ∙ ap (λ (x : CallId). x.node) (same-eq f.id id two.1))
 posted-own net id (Send n heard) law is = absurd cc
 posted-own net id (Take n f) law is = absurd cc
@@ -155,7 +180,8 @@ posted-own net id (Leave n cause) law is = absurd cc
 pub posted-owns : (net : NetPlan) (past es : List RingEntry) (id : CallId) → IsRun net past es
     → Each (λ e. posts id e ≡ true → (maker e == id.node) ≡ true) es
 posted-owns net past [] id run = tt
-posted-owns net past (e ∷ es) id run = (posted-own net id e run.0.0, posted-owns net (past ++ e ∷ []) es id run.1)
+posted-owns net past (e ∷ es) id run =
+    (posted-own net id e run.0.0, posted-owns net (past ++ e ∷ []) es id run.1)
 
 -- a Request that is taken
 pub record TakenAs (id : CallId) (e : RingEntry) : Type 0 where
@@ -170,17 +196,25 @@ taken-as id (Post n f) is = absurd (true≢false (sym is))
 taken-as id (Send n heard) is = absurd (true≢false (sym is))
 taken-as id (Take n f) is =
     let two = and_parts (asks f.kind) (is_same_call f.id id) is in
-    record { node = n; frame = f; is = refl; kind = kind-request f.kind two.0; same = same-eq f.id id two.1 }
+    record {
+      node = n;
+      frame = f;
+      is = refl;
+      kind = kind-request f.kind two.0;
+      same = same-eq f.id id two.1;
+    }
 taken-as id (Local n name op result) is = absurd (true≢false (sym is))
 taken-as id (GiveUp name word) is = absurd (true≢false (sym is))
 taken-as id (Pass n done words) is = absurd (true≢false (sym is))
 taken-as id (Leave n cause) is = absurd (true≢false (sym is))
 
 pub asks-this : (id : CallId) (f : Frame) → f.kind ≡ Request → f.id ≡ id → asks_for id f ≡ true
-asks-this id f kind same = and_from _ _ (ap asks kind) (ap (λ (x : CallId). is_same_call x id) same ∙ same-refl id)
+asks-this id f kind same =
+    and_from _ _ (ap asks kind) (ap (λ (x : CallId). is_same_call x id) same ∙ same-refl id)
 
 -- what nobody posted, nobody takes
-unposted-untaken : (net : NetPlan) (ring : List RingEntry) (id : CallId) → IsRingHistory net ring → count_by (posts id) ring ≡ 0
+unposted-untaken : (net : NetPlan) (ring : List RingEntry) (id : CallId) → IsRingHistory net ring
+    → count_by (posts id) ring ≡ 0
     → count_by (takes id) ring ≡ 0
 unposted-untaken net ring id is none =
     ⊎_elim
@@ -188,9 +222,11 @@ unposted-untaken net ring id is none =
     (λ (some : 1 ≤ count_by (takes id) ring).
     let found = count-contains (takes id) ring some in
     let taken = taken-as id found.0 found.2 in
-    let there : Contains ring (Take taken.node taken.frame) = subst (λ (e : RingEntry). Contains ring e) taken.is found.1 in
+    let there : Contains ring (Take taken.node taken.frame) = subst
+    (λ (e : RingEntry). Contains ring e) taken.is found.1 in
     let asked = (only-its-target net ring taken.node taken.frame is (inr there) taken.kind).2 in
-    let posted = contains-count (posts id) ring (Post taken.frame.id.node taken.frame) (asks-this id taken.frame taken.kind taken.same) asked in
+    let posted = contains-count (posts id) ring (Post taken.frame.id.node taken.frame)
+    (asks-this id taken.frame taken.kind taken.same) asked in
     omega (arith, none, posted))
     (cases_lt (count_by (takes id) ring) 1)
 
@@ -198,24 +234,29 @@ unposted-untaken net ring id is none =
 home-node : (id : CallId) (e : RingEntry) → acts_at_home id e ≡ true → maker e ≡ id.node
 home-node id e is = eqb-true (maker e) id.node (at-home-own id e is)
 
-pub effects-are : (joint : Joint) (id : CallId) → effects joint id ≡ services joint id + count_by (acts_at_home id) joint.ring
+pub effects-are : (joint : Joint) (id : CallId)
+    → effects joint id ≡ services joint id + count_by (acts_at_home id) joint.ring
 effects-are joint id = let both = both-sorts id joint.ring in omega arith
 
-home-alone : CallLaws → (plant : Plant) (scans : ℕ) (joint : Joint) (id : CallId) → JointOf plant scans joint
+home-alone : CallLaws → (plant : Plant) (scans : ℕ) (joint : Joint) (id : CallId)
+    → JointOf plant scans joint
     → 1 ≤ count_by (acts_at_home id) joint.ring → effects joint id ≤ 1
 home-alone laws plant scans joint id j some =
     let ring = joint.ring in
     let found = count-contains (acts_at_home id) ring some in
     let member = subst (IsMember plant.net) (home-node id found.0 found.2)
-    (All-contains (λ e. IsMember plant.net (maker e)) ring found.0 (members plant.net [] ring j.legal.ring) found.1) in
+    (All-contains (λ e. IsMember plant.net (maker e)) ring found.0
+    (members plant.net [] ring j.legal.ring) found.1) in
     let seat = seat-at laws plant scans joint id.node j member in
     let own_homes = homes-own id ring in
     let ended = homes-end seat.station id [] (own id.node ring) in
     let ends_are = ap (count_by (is_home_end id)) seat.tied.ends in
     let facts = seat.homes id (omega (arith, some, own_homes, ended, ends_are)) in
     let once = facts.once in
-    let asked = posted-asked id (own id.node ring) ∙ ap (count_by (is_asked id)) seat.tied.asks ∙ facts.none in
-    let unposted = counted-own (posts id) id.node ring (posted-owns plant.net [] ring id j.legal.ring) ∙ asked in
+    let asked = posted-asked id (own id.node ring) ∙ ap (count_by (is_asked id)) seat.tied.asks
+    ∙ facts.none in
+    let unposted = counted-own (posts id) id.node ring
+    (posted-owns plant.net [] ring id j.legal.ring) ∙ asked in
     let untaken = unposted-untaken plant.net ring id (ring-history plant scans joint j) unposted in
     let served = services-are_taken plant scans joint id j in
     let all = effects-are joint id in
@@ -229,5 +270,6 @@ at-most-once laws once plant scans joint is legal tied id =
     let all = effects-are joint id in
     ⊎_elim
     (λ (none : count_by (acts_at_home id) joint.ring < 1). omega (arith, none, served, taken, all))
-    (λ (some : 1 ≤ count_by (acts_at_home id) joint.ring). home-alone laws plant scans joint id j some)
+    (λ (some : 1 ≤ count_by (acts_at_home id) joint.ring). home-alone laws plant scans joint id j
+    some)
     (cases_lt (count_by (acts_at_home id) joint.ring) 1)

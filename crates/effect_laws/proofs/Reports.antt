@@ -56,7 +56,8 @@ pub record Told (ends : List Ended) (id : CallId) (outcome : Outcome) : Type 0 w
   pub id_is : end'.id ≡ id
   pub outcome_is : end'.outcome ≡ outcome
 
-ends-grow : (a : Items) (e : Entry) (end' : Ended) → Contains a.ends end' → Contains (item_next a e).ends end'
+ends-grow : (a : Items) (e : Entry) (end' : Ended) → Contains a.ends end'
+    → Contains (item_next a e).ends end'
 ends-grow a entries.Begin end' there = there
 ends-grow a (entries.Input row) end' there = there
 ends-grow a (entries.Solve row) end' there = there
@@ -66,61 +67,75 @@ ends-grow a (entries.Collect calls) end' there = there
 ends-grow a (entries.Peer id request reply) end' there = there
 ends-grow a (entries.Finish id result) end' there = Contains-append_left a.ends _ end' there
 
-ends-stay : (a : Items) (h : List Entry) (end' : Ended) → Contains a.ends end' → Contains (items_after a h).ends end'
+ends-stay : (a : Items) (h : List Entry) (end' : Ended) → Contains a.ends end'
+    → Contains (items_after a h).ends end'
 ends-stay a [] end' there = there
 ends-stay a (e ∷ h) end' there = ends-stay (item_next a e) h end' (ends-grow a e end' there)
 
-finish-told : (a : Items) (h : List Entry) (id : CallId) (result : MstrResult) → Contains h (entries.Finish id result)
+finish-told : (a : Items) (h : List Entry) (id : CallId) (result : MstrResult)
+    → Contains h (entries.Finish id result)
     → Told (items_after a h).ends id (Came result)
 finish-told a [] id result there = absurd (in-none _ there)
 finish-told a (e ∷ h) id result there =
     ⊎_elim
     (λ (is : e ≡ entries.Finish id result).
     let next = item_next a (entries.Finish id result) in
-    subst (λ (x : Entry). Told (items_after (item_next a x) h).ends id (Came result)) (sym is) (record {
+    subst (λ (x : Entry). Told (items_after (item_next a x) h).ends id (Came result)) (sym is)
+    (record {
       end' = _;
       there = ends-stay next h _ (Contains-push a.ends _);
       id_is = refl;
       outcome_is = refl;
     }))
-    (λ (more : Contains h (entries.Finish id result)). finish-told (item_next a e) h id result more)
+    (λ (more : Contains h (entries.Finish id result)). finish-told (item_next a e) h id result
+    more)
     (first-or-behind e h _ there)
 
-pub finish-ends : (h : List Entry) (id : CallId) (result : MstrResult) → Contains h (entries.Finish id result) → Told (items_of h).ends id (Came result)
+pub finish-ends : (h : List Entry) (id : CallId) (result : MstrResult)
+    → Contains h (entries.Finish id result) → Told (items_of h).ends id (Came result)
 finish-ends h id result there = finish-told no_items h id result there
 
-host-ends-grow : (a : Items) (e : HostEntry) (end' : Ended) → Contains a.ends end' → Contains (host_item_next a e).ends end'
+host-ends-grow : (a : Items) (e : HostEntry) (end' : Ended) → Contains a.ends end'
+    → Contains (host_item_next a e).ends end'
 host-ends-grow a (host_entries.Ask id to pdu) end' there = there
-host-ends-grow a (host_entries.Answer id result) end' there = Contains-append_left a.ends _ end' there
+host-ends-grow a (host_entries.Answer id result) end' there =
+    Contains-append_left a.ends _ end' there
 host-ends-grow a (host_entries.Served id request reply) end' there = there
 
-host-ends-stay : (a : Items) (h : List HostEntry) (end' : Ended) → Contains a.ends end' → Contains (host_items_after a h).ends end'
+host-ends-stay : (a : Items) (h : List HostEntry) (end' : Ended) → Contains a.ends end'
+    → Contains (host_items_after a h).ends end'
 host-ends-stay a [] end' there = there
-host-ends-stay a (e ∷ h) end' there = host-ends-stay (host_item_next a e) h end' (host-ends-grow a e end' there)
+host-ends-stay a (e ∷ h) end' there =
+    host-ends-stay (host_item_next a e) h end' (host-ends-grow a e end' there)
 
-answer-told : (a : Items) (h : List HostEntry) (id : CallId) (result : HostResult) → Contains h (host_entries.Answer id result)
+answer-told : (a : Items) (h : List HostEntry) (id : CallId) (result : HostResult)
+    → Contains h (host_entries.Answer id result)
     → Told (host_items_after a h).ends id (outcome_of result)
 answer-told a [] id result there = absurd (in-none _ there)
 answer-told a (e ∷ h) id result there =
     ⊎_elim
     (λ (is : e ≡ host_entries.Answer id result).
     let next = host_item_next a (host_entries.Answer id result) in
-    subst (λ (x : HostEntry). Told (host_items_after (host_item_next a x) h).ends id (outcome_of result)) (sym is) (record {
+    subst (λ (x : HostEntry). Told (host_items_after (host_item_next a x) h).ends id
+    (outcome_of result)) (sym is) (record {
       end' = _;
       there = host-ends-stay next h _ (Contains-push a.ends _);
       id_is = refl;
       outcome_is = refl;
     }))
-    (λ (more : Contains h (host_entries.Answer id result)). answer-told (host_item_next a e) h id result more)
+    (λ (more : Contains h (host_entries.Answer id result)). answer-told (host_item_next a e) h id
+    result more)
     (first-or-behind e h _ there)
 
-pub answer-ends : (h : List HostEntry) (id : CallId) (result : HostResult) → Contains h (host_entries.Answer id result)
+pub answer-ends : (h : List HostEntry) (id : CallId) (result : HostResult)
+    → Contains h (host_entries.Answer id result)
     → Told (host_items_of h).ends id (outcome_of result)
 answer-ends h id result there = answer-told no_items h id result there
 
 -- ---- replies come from those that took the Request
 
-replied-as : (kind : FrameKind) (f : Frame) → kind ≡ Reply → replied_in kind f ≡ Some (f.id, Some f.pdu)
+replied-as : (kind : FrameKind) (f : Frame) → kind ≡ Reply
+    → replied_in kind f ≡ Some (f.id, Some f.pdu)
 replied-as kind f is = ap (λ (k : FrameKind). replied_in k f) is
 
 -- a Reply that a node posted, and the Request that it took
@@ -135,17 +150,21 @@ pub record Origin (items : Items) (ring : List RingEntry) (n : ℕ) (reply : Fra
   pub asked : answer.request ≡ Some request.pdu
   pub named : answer.id ≡ reply.id
 
-pub origin-in : (ring : List RingEntry) (n : ℕ) (f : Frame) (station : Station) (a : Items) → Tied station a (own n ring)
+pub origin-in : (ring : List RingEntry) (n : ℕ) (f : Frame) (station : Station) (a : Items)
+    → Tied station a (own n ring)
     → Contains ring (Post n f) → f.kind ≡ Reply → Origin a ring n f
 origin-in ring n f station a tied there kind =
     let b = own n ring in
     let posted = in-own n ring (Post n f) (eq-eqb n n refl) there in
-    let replied = in-map replied_of b (Post n f) (f.id, Some f.pdu) (replied-as f.kind f kind) posted in
+    let replied = in-map replied_of b (Post n f) (f.id, Some f.pdu) (replied-as f.kind f kind)
+    posted in
     let due = subst (λ (l : List Item). Contains l (f.id, Some f.pdu)) tied.replies replied in
-    let s = source-of (taken_by b) f.id f.pdu a.answers (port_answers b) tied.peers tied.port due in
+    let s = source-of (taken_by b) f.id f.pdu a.answers (port_answers b) tied.peers tied.port
+    due in
     let found = of-map taken_of b s.request s.taken in
     let t = take-of found.0 s.request found.2 in
-    let entry : Contains b (Take t.node t.frame) = subst (λ (e : RingEntry). Contains b e) t.is found.1 in
+    let entry : Contains b (Take t.node t.frame) = subst (λ (e : RingEntry). Contains b e) t.is
+    found.1 in
     let in_ring = of-own n ring (Take t.node t.frame) entry in
     record {
       answer = s.answer;
@@ -159,57 +178,77 @@ origin-in ring n f station a tied there kind =
       named = s.named;
     }
 
-pub origin : (ring : List RingEntry) (n : ℕ) (f : Frame) (seat : Seat ring n) → Contains ring (Post n f) → f.kind ≡ Reply → Origin seat.items ring n f
+pub origin : (ring : List RingEntry) (n : ℕ) (f : Frame) (seat : Seat ring n)
+    → Contains ring (Post n f) → f.kind ≡ Reply → Origin seat.items ring n f
 origin ring n f seat there kind = origin-in ring n f seat.station seat.items seat.tied there kind
 
-pub member-at : (plant : Plant) (scans : ℕ) (joint : Joint) (e : RingEntry) → JointOf plant scans joint → Contains joint.ring e → IsMember plant.net (maker e)
+pub member-at : (plant : Plant) (scans : ℕ) (joint : Joint) (e : RingEntry)
+    → JointOf plant scans joint → Contains joint.ring e → IsMember plant.net (maker e)
 member-at plant scans joint e j there =
-    All-contains (λ x. IsMember plant.net (maker x)) joint.ring e (members plant.net [] joint.ring j.legal.ring) there
+    All-contains (λ x. IsMember plant.net (maker x)) joint.ring e
+    (members plant.net [] joint.ring j.legal.ring) there
 
 -- no node answers what it did not take
-pub answers-taken : CallLaws → (plant : Plant) (scans : ℕ) (joint : Joint) → JointOf plant scans joint → AnswersWhatItTook joint.ring
+pub answers-taken : CallLaws → (plant : Plant) (scans : ℕ) (joint : Joint)
+    → JointOf plant scans joint → AnswersWhatItTook joint.ring
 answers-taken laws plant scans joint j k f there kind =
-    let o = origin joint.ring k f (seat-at laws plant scans joint k j (member-at plant scans joint (Post k f) j there)) there kind in
+    let o = origin joint.ring k f
+    (seat-at laws plant scans joint k j (member-at plant scans joint (Post k f) j there)) there
+    kind in
     record { request = o.request; taken = o.taken; kind = o.kind; same = o.same }
 
 -- ---- an effect behind each end
 
-reply-effect : CallLaws → (plant : Plant) (scans : ℕ) (joint : Joint) (n : ℕ) (f : Frame) → JointOf plant scans joint → Contains joint.ring (Take n f)
+reply-effect : CallLaws → (plant : Plant) (scans : ℕ) (joint : Joint) (n : ℕ) (f : Frame)
+    → JointOf plant scans joint → Contains joint.ring (Take n f)
     → f.kind ≡ Reply → 1 ≤ effects joint f.id
 reply-effect laws plant scans joint n f j there kind =
-    let a = (reply-by-taker plant.net joint.ring n f (ring-history plant scans joint j) (answers-taken laws plant scans joint j) (inr there) kind).1 in
-    let some = contains-count (takes f.id) joint.ring (Take a.by a.request) (asks-this f.id a.request a.kind a.same) a.taken in
+    let a = (reply-by-taker plant.net joint.ring n f (ring-history plant scans joint j)
+    (answers-taken laws plant scans joint j) (inr there) kind).1 in
+    let some = contains-count (takes f.id) joint.ring (Take a.by a.request)
+    (asks-this f.id a.request a.kind a.same) a.taken in
     let served = services-are_taken plant scans joint f.id j in
     let all = effects-are joint f.id in
     omega (arith, some, served, all)
 
-home-effect : (joint : Joint) (n : ℕ) (e : RingEntry) (id : CallId) → Contains joint.ring e → acts_at_home id e ≡ true → 1 ≤ effects joint id
+home-effect : (joint : Joint) (n : ℕ) (e : RingEntry) (id : CallId) → Contains joint.ring e
+    → acts_at_home id e ≡ true → 1 ≤ effects joint id
 home-effect joint n e id there is =
     let some = contains-count (acts_at_home id) joint.ring e is there in
     let all = effects-are joint id in
     omega (arith, some, all)
 
 -- an end is that of a word, or there is an effect
-pub end-effect : CallLaws → (plant : Plant) (scans : ℕ) (joint : Joint) (n : ℕ) (station : Station) (ends : List Ended) (end' : Ended)
-    → JointOf plant scans joint → ends ≡ ended_by station [] (own n joint.ring) → Contains ends end'
+pub end-effect : CallLaws → (plant : Plant) (scans : ℕ) (joint : Joint) (n : ℕ) (station : Station)
+    (ends : List Ended) (end' : Ended)
+    → JointOf plant scans joint → ends ≡ ended_by station [] (own n joint.ring)
+    → Contains ends end'
     → ((word : ℕ) × (outcome_of_word station word ≡ end'.outcome)) ⊎ (1 ≤ effects joint end'.id)
 end-effect laws plant scans joint n station ends end' j tied there =
     let b = own n joint.ring in
     let w = end-at station [] b end' (subst (λ (l : List Ended). Contains l end') tied there) in
-    let entry = (of-own n joint.ring w.entry (subst (λ (l : List RingEntry). Contains l w.entry) (sym w.is) (middle w.before w.entry w.after))).0 in
-    by ([] ++ asked_by w.before) w.entry entry (ended-by station ([] ++ asked_by w.before) w.entry end' w.ended)
+    let entry = (of-own n joint.ring w.entry
+    (subst (λ (l : List RingEntry). Contains l w.entry) (sym w.is)
+    (middle w.before w.entry w.after))).0 in
+    by ([] ++ asked_by w.before) w.entry entry
+    (ended-by station ([] ++ asked_by w.before) w.entry end' w.ended)
   where
-    middle : (xs : List RingEntry) (x : RingEntry) (ys : List RingEntry) → Contains (xs ++ x ∷ ys) x
+    middle : (xs : List RingEntry) (x : RingEntry) (ys : List RingEntry)
+        → Contains (xs ++ x ∷ ys) x
     middle xs x ys = Contains-append_right xs (x ∷ ys) x (0, omega arith, refl)
 
-    by : (asked : List Asked) (e : RingEntry) → Contains joint.ring e → EndedBy station asked e end'
-        → ((word : ℕ) × (outcome_of_word station word ≡ end'.outcome)) ⊎ (1 ≤ effects joint end'.id)
+    by : (asked : List Asked) (e : RingEntry) → Contains joint.ring e
+        → EndedBy station asked e end'
+        → ((word : ℕ) × (outcome_of_word station word ≡ end'.outcome))
+        ⊎ (1 ≤ effects joint end'.id)
     by asked e in' (by_reply m f is kind id outcome) =
         inr (subst (λ (i : CallId). 1 ≤ effects joint i) id
-        (reply-effect laws plant scans joint m f j (subst (λ (x : RingEntry). Contains joint.ring x) is in') kind))
+        (reply-effect laws plant scans joint m f j
+        (subst (λ (x : RingEntry). Contains joint.ring x) is in') kind))
     by asked e in' (by_word word is outcome) = inl (word, outcome)
     by asked e in' (by_port m op result is mine outcome) =
-        inr (home-effect joint m (Local m end'.id op result) end'.id (subst (λ (x : RingEntry). Contains joint.ring x) is in')
+        inr (home-effect joint m (Local m end'.id op result) end'.id
+        (subst (λ (x : RingEntry). Contains joint.ring x) is in')
         (and_from _ _ (same-refl end'.id) mine))
 
 came-good : (word : ℕ) (words : List ℕ) → outcome_of_word AController word ≢ Came (Good words)
@@ -224,17 +263,23 @@ one k most some = omega (arith, most, some)
 pub success-once : CallLaws → TakenOnce → SuccessTakesEffectOnce
 success-once laws once plant scans joint is legal tied id (inl (log, there, (words, finished))) =
     let j : JointOf plant scans joint = record { is = is; legal = legal; tied = tied } in
-    let t = All-contains (IsTiedController joint.ring) joint.controllers log tied.controllers there in
+    let t = All-contains (IsTiedController joint.ring) joint.controllers log tied.controllers
+    there in
     let told = finish-ends log.entries id (Good words) finished in
     one (effects joint id) (at-most-once laws once plant scans joint is legal tied id) (⊎_elim
-    (λ (word : (w : ℕ) × (outcome_of_word AController w ≡ told.end'.outcome)). absurd (came-good word.0 words (word.1 ∙ told.outcome_is)))
-    (λ (some : 1 ≤ effects joint told.end'.id). subst (λ (i : CallId). 1 ≤ effects joint i) told.id_is some)
+    (λ (word : (w : ℕ) × (outcome_of_word AController w ≡ told.end'.outcome)). absurd
+    (came-good word.0 words (word.1 ∙ told.outcome_is)))
+    (λ (some : 1 ≤ effects joint told.end'.id). subst (λ (i : CallId). 1 ≤ effects joint i)
+    told.id_is some)
     (end-effect laws plant scans joint log.node AController _ told.end' j t.ends told.there))
-success-once laws once plant scans joint is legal tied id (inr (log, there, (pdu, answered, plain))) =
+success-once laws once plant scans joint is legal tied id
+    (inr (log, there, (pdu, answered, plain))) =
     let j : JointOf plant scans joint = record { is = is; legal = legal; tied = tied } in
     let t = All-contains (IsTiedHost joint.ring) joint.hosts log tied.hosts there in
     let told = answer-ends log.entries id (results.Reply pdu) answered in
     one (effects joint id) (at-most-once laws once plant scans joint is legal tied id) (⊎_elim
-    (λ (word : (w : ℕ) × (outcome_of_word AHost w ≡ told.end'.outcome)). absurd (replied-word word.0 pdu (word.1 ∙ told.outcome_is)))
-    (λ (some : 1 ≤ effects joint told.end'.id). subst (λ (i : CallId). 1 ≤ effects joint i) told.id_is some)
+    (λ (word : (w : ℕ) × (outcome_of_word AHost w ≡ told.end'.outcome)). absurd
+    (replied-word word.0 pdu (word.1 ∙ told.outcome_is)))
+    (λ (some : 1 ≤ effects joint told.end'.id). subst (λ (i : CallId). 1 ≤ effects joint i)
+    told.id_is some)
     (end-effect laws plant scans joint log.node AHost _ told.end' j t.ends told.there))

@@ -46,10 +46,12 @@ abbrev is_answer : CallId → Answered → Bool
 is_answer id answer = is_same_call answer.id id
 
 -- answers are counted by their items
-by_items : (id : CallId) (answers : List Answered) → count_by (is_answer id) answers ≡ count_by (is_item id) (map item_of answers)
+by_items : (id : CallId) (answers : List Answered)
+    → count_by (is_answer id) answers ≡ count_by (is_item id) (map item_of answers)
 by_items id [] = refl
 by_items id (a ∷ as') =
-    count_cons (is_answer id) a as' ∙ ap (λ n. cond (is_same_call a.id id) 1 0 + n) (by_items id as')
+    count_cons (is_answer id) a as'
+    ∙ ap (λ n. cond (is_same_call a.id id) 1 0 + n) (by_items id as')
     ∙ sym (count_cons (is_item id) (item_of a) (map item_of as'))
 
 -- a Request that was taken is one of the two sorts
@@ -57,7 +59,9 @@ abbrev is_taken : CallId → Taken → Bool
 is_taken id (Plain name pdu) = is_same_call name id
 is_taken id (ForStats name pdu) = is_same_call name id
 
-of_sorts : (id : CallId) (ts : List Taken) → count_by (is_item id) (plain_items ts) + count_by (is_item id) (stats_items ts) ≡ count_by (is_taken id) ts
+of_sorts : (id : CallId) (ts : List Taken)
+    → count_by (is_item id) (plain_items ts) + count_by (is_item id) (stats_items ts)
+    ≡ count_by (is_taken id) ts
 of_sorts id [] = refl
 of_sorts id (Plain name pdu ∷ ts) =
     let rest = of_sorts id ts in
@@ -72,27 +76,37 @@ of_sorts id (ForStats name pdu ∷ ts) =
 
 -- and they are counted in the list of the ring
 taken_at : (id name : CallId) (pdu : List ℕ) (stats : Bool) (ts : List Taken)
-    → count_by (is_taken id) ((if stats then ForStats name pdu else Plain name pdu) ∷ ts) ≡ cond (is_same_call name id) 1 0 + count_by (is_taken id) ts
+    → count_by (is_taken id) ((if stats then ForStats name pdu else Plain name pdu) ∷ ts)
+    ≡ cond (is_same_call name id) 1 0 + count_by (is_taken id) ts
 taken_at id name pdu true ts = count_cons (is_taken id) (ForStats name pdu) ts
 taken_at id name pdu false ts = count_cons (is_taken id) (Plain name pdu) ts
 
-take_case : (id : CallId) (n : ℕ) (kind : FrameKind) (to : ℕ) (name : CallId) (pdu : List ℕ) (b : List RingEntry) → count_by
+take_case : (id : CallId) (n : ℕ) (kind : FrameKind) (to : ℕ) (name : CallId) (pdu : List ℕ)
+    (b : List RingEntry) → count_by
     (is_taken id) (taken_by b) ≡ count_by (takes id) b
-    → count_by (is_taken id) (taken_by (Take n (record { kind = kind; to = to; id = name; pdu = pdu }) ∷ b))
+    → count_by (is_taken id) (taken_by
+    (Take n (record { kind = kind; to = to; id = name; pdu = pdu }) ∷ b))
     ≡ count_by (takes id) (Take n (record { kind = kind; to = to; id = name; pdu = pdu }) ∷ b)
 take_case id n Request to name pdu b rest =
-    taken_at id name pdu (is_stats pdu) (taken_by b) ∙ ap (λ k. cond (is_same_call name id) 1 0 + k) rest
-    ∙ sym (count_cons (takes id) (Take n (record { kind = Request; to = to; id = name; pdu = pdu })) b)
-take_case id n Reply to name pdu b rest = rest ∙ sym (skip (takes id) (Take n (record { kind = Reply; to = to; id = name; pdu = pdu })) b refl)
+    taken_at id name pdu (is_stats pdu) (taken_by b)
+    ∙ ap (λ k. cond (is_same_call name id) 1 0 + k) rest
+    ∙ sym (count_cons (takes id) (Take n
+    (record { kind = Request; to = to; id = name; pdu = pdu })) b)
+take_case id n Reply to name pdu b rest =
+    rest ∙ sym (skip (takes id) (Take n (record { kind = Reply; to = to; id = name; pdu = pdu })) b
+    refl)
 
-in_ring : (id : CallId) (b : List RingEntry) → count_by (is_taken id) (taken_by b) ≡ count_by (takes id) b
+in_ring : (id : CallId) (b : List RingEntry)
+    → count_by (is_taken id) (taken_by b) ≡ count_by (takes id) b
 in_ring id [] = refl
 in_ring id (Post n f ∷ b) = in_ring id b ∙ sym (skip (takes id) (Post n f) b refl)
 in_ring id (Send n heard ∷ b) = in_ring id b ∙ sym (skip (takes id) (Send n heard) b refl)
 in_ring id (Take n f ∷ b) = take_case id n f.kind f.to f.id f.pdu b (in_ring id b)
-in_ring id (Local n name op result ∷ b) = in_ring id b ∙ sym (skip (takes id) (Local n name op result) b refl)
+in_ring id (Local n name op result ∷ b) =
+    in_ring id b ∙ sym (skip (takes id) (Local n name op result) b refl)
 in_ring id (GiveUp name word ∷ b) = in_ring id b ∙ sym (skip (takes id) (GiveUp name word) b refl)
-in_ring id (Pass n done words ∷ b) = in_ring id b ∙ sym (skip (takes id) (Pass n done words) b refl)
+in_ring id (Pass n done words ∷ b) =
+    in_ring id b ∙ sym (skip (takes id) (Pass n done words) b refl)
 in_ring id (Leave n cause ∷ b) = in_ring id b ∙ sym (skip (takes id) (Leave n cause) b refl)
 
 -- what a port answered for others is counted in the list of the ring
@@ -108,9 +122,12 @@ local_at : (id : CallId) (answer : Answered) (here : Bool) (rest : List Answered
     → cond (is_same_call answer.id id && not here) 1 0 + count_by (is_answer id) rest
     ≡ count_by (is_answer id) (cons_option (if here then None else Some answer) rest)
 local_at id answer true rest = own_off (is_same_call answer.id id) (count_by (is_answer id) rest)
-local_at id answer false rest = other_on (is_same_call answer.id id) (count_by (is_answer id) rest) ∙ sym (count_cons (is_answer id) answer rest)
+local_at id answer false rest =
+    other_on (is_same_call answer.id id) (count_by (is_answer id) rest)
+    ∙ sym (count_cons (is_answer id) answer rest)
 
-for_others : (id : CallId) (b : List RingEntry) → count_by (serves_another id) b ≡ count_by (is_answer id) (port_answers b)
+for_others : (id : CallId) (b : List RingEntry)
+    → count_by (serves_another id) b ≡ count_by (is_answer id) (port_answers b)
 for_others id [] = refl
 for_others id (Post n f ∷ b) = skip (serves_another id) (Post n f) b refl ∙ for_others id b
 for_others id (Send n heard ∷ b) = skip (serves_another id) (Send n heard) b refl ∙ for_others id b
@@ -118,25 +135,33 @@ for_others id (Take n f ∷ b) = skip (serves_another id) (Take n f) b refl ∙ 
 for_others id (Local n name op result ∷ b) =
     count_cons (serves_another id) (Local n name op result) b
     ∙ ap (λ k. cond (is_same_call name id && not (name.node == n)) 1 0 + k) (for_others id b)
-    ∙ local_at id (record { id = name; request = request_of op; reply = reply_of result }) (name.node == n) (port_answers b)
-for_others id (GiveUp name word ∷ b) = skip (serves_another id) (GiveUp name word) b refl ∙ for_others id b
-for_others id (Pass n done words ∷ b) = skip (serves_another id) (Pass n done words) b refl ∙ for_others id b
-for_others id (Leave n cause ∷ b) = skip (serves_another id) (Leave n cause) b refl ∙ for_others id b
+    ∙ local_at id (record { id = name; request = request_of op; reply = reply_of result })
+    (name.node == n) (port_answers b)
+for_others id (GiveUp name word ∷ b) =
+    skip (serves_another id) (GiveUp name word) b refl ∙ for_others id b
+for_others id (Pass n done words ∷ b) =
+    skip (serves_another id) (Pass n done words) b refl ∙ for_others id b
+for_others id (Leave n cause ∷ b) =
+    skip (serves_another id) (Leave n cause) b refl ∙ for_others id b
 
 -- a station answered, with its port, as often as its node took the Request
-pub answers_are_taken : (id : CallId) (station : Station) (a : Items) (b : List RingEntry) → Tied station a b
+pub answers_are_taken : (id : CallId) (station : Station) (a : Items) (b : List RingEntry)
+    → Tied station a b
     → answers_to id a + count_by (serves_another id) b ≡ count_by (takes id) b
 answers_are_taken id station a b t =
     let peers = by_items id a.answers ∙ ap (count_by (is_item id)) t.peers in
-    let port = for_others id b ∙ by_items id (port_answers b) ∙ ap (count_by (is_item id)) t.port in
+    let port = for_others id b ∙ by_items id (port_answers b)
+    ∙ ap (count_by (is_item id)) t.port in
     let sorts = of_sorts id (taken_by b) in
     let ring = in_ring id b in
     omega arith
 
 -- over some stations
-sums : {L : Type 0} (p q : RingEntry → Bool) (ring : List RingEntry) (node answers : L → ℕ) (ls : List L)
+sums : {L : Type 0} (p q : RingEntry → Bool) (ring : List RingEntry) (node answers : L → ℕ)
+    (ls : List L)
     → All (λ l. answers l + count_by q (own (node l) ring) ≡ count_by p (own (node l) ring)) ls
-    → sum_by answers ls + sum_by (λ n. count_by q (own n ring)) (map node ls) ≡ sum_by (λ n. count_by p (own n ring)) (map node ls)
+    → sum_by answers ls + sum_by (λ n. count_by q (own n ring)) (map node ls)
+    ≡ sum_by (λ n. count_by p (own n ring)) (map node ls)
 sums p q ring node answers [] all = refl
 sums p q ring node answers (l ∷ ls) all =
     let here = all 0 l (omega arith) in
@@ -147,12 +172,14 @@ sums p q ring node answers (l ∷ ls) all =
     omega arith
 
 -- the nodes of the lists are those of the plant
-nodes_of_logs : {P L : Type 0} (R : P → L → Type 0) (plan_node : P → ℕ) (log_node : L → ℕ) → ((p : P) (l : L) → R p l → log_node l ≡ plan_node p)
+nodes_of_logs : {P L : Type 0} (R : P → L → Type 0) (plan_node : P → ℕ) (log_node : L → ℕ)
+    → ((p : P) (l : L) → R p l → log_node l ≡ plan_node p)
     → (ps : List P) (ls : List L) → AllZip R ps ls → map log_node ls ≡ map plan_node ps
 nodes_of_logs R plan_node log_node same [] [] all = refl
 nodes_of_logs R plan_node log_node same [] (l ∷ ls) all = absurd all
 nodes_of_logs R plan_node log_node same (p ∷ ps) [] all = absurd all
-nodes_of_logs R plan_node log_node same (p ∷ ps) (l ∷ ls) all = λ i. same p l all.0 i ∷ nodes_of_logs R plan_node log_node same ps ls all.1 i
+nodes_of_logs R plan_node log_node same (p ∷ ps) (l ∷ ls) all =
+    λ i. same p l all.0 i ∷ nodes_of_logs R plan_node log_node same ps ls all.1 i
 
 -- each entry's node is a member
 member_of : (net : NetPlan) (e : RingEntry) → IsLawful net e → IsMember net (maker e)
@@ -164,10 +191,12 @@ member_of net (GiveUp id word) law = law.0
 member_of net (Pass n done words) law = law
 member_of net (Leave n cause) law = law
 
-pub members : (net : NetPlan) (past list : List RingEntry) → IsRun net past list → All (λ e. IsMember net (maker e)) list
+pub members : (net : NetPlan) (past list : List RingEntry) → IsRun net past list
+    → All (λ e. IsMember net (maker e)) list
 members net past [] run k d within = absurd (omega arith)
 members net past (e ∷ es) run zero d within = member_of net e run.0.0
-members net past (e ∷ es) run (suc k) d within = members net (past ++ e ∷ []) es run.1 k d (omega arith)
+members net past (e ∷ es) run (suc k) d within =
+    members net (past ++ e ∷ []) es run.1 k d (omega arith)
 
 -- a joint history of a plant
 pub record JointOf (plant : Plant) (scans : ℕ) (joint : Joint) : Type 0 where
@@ -175,37 +204,45 @@ pub record JointOf (plant : Plant) (scans : ℕ) (joint : Joint) : Type 0 where
   pub legal : IsLegalJoint plant scans joint
   pub tied : IsJoint joint
 
-pub ring-history : (plant : Plant) (scans : ℕ) (joint : Joint) → JointOf plant scans joint → IsRingHistory plant.net joint.ring
+pub ring-history : (plant : Plant) (scans : ℕ) (joint : Joint) → JointOf plant scans joint
+    → IsRingHistory plant.net joint.ring
 ring-history plant scans joint j = record {
-  members = λ k d within. (let node = j.is.net.members k d within in let most = node.to in omega arith);
+  members =
+      λ k d within. (let node = j.is.net.members k d within in let most = node.to in omega arith);
   legal = j.legal.ring;
 }
 
 -- the nodes of the stations are the members of the ring
 pub counted-member : (plant : Plant) (m : ℕ) → IsPlant plant
-    → count_by (λ n. m == n) plant.net.members ≡ count_by (λ n. m == n) (controller_nodes plant ++ host_nodes plant)
+    → count_by (λ n. m == n) plant.net.members
+    ≡ count_by (λ n. m == n) (controller_nodes plant ++ host_nodes plant)
 counted-member plant m is =
-    sum_by-IsPermutation (λ n. cond (m == n) 1 0) (controller_nodes plant ++ host_nodes plant) plant.net.members is.members
+    sum_by-IsPermutation (λ n. cond (m == n) 1 0) (controller_nodes plant ++ host_nodes plant)
+    plant.net.members is.members
 
 pub member-station : (plant : Plant) (m : ℕ) → IsPlant plant → IsMember plant.net m
     → 1 ≤ count_by (λ n. m == n) (controller_nodes plant ++ host_nodes plant)
 member-station plant m is at =
-    subst (λ (c : ℕ). 1 ≤ c) (counted-member plant m is) (some_there m plant.net.members at.0 at.1 at.2)
+    subst (λ (c : ℕ). 1 ≤ c) (counted-member plant m is)
+    (some_there m plant.net.members at.0 at.1 at.2)
 
 pub controller-nodes : (plant : Plant) (scans : ℕ) (joint : Joint) → IsLegalJoint plant scans joint
     → map (λ (log : ControllerLog). log.node) joint.controllers ≡ controller_nodes plant
 controller-nodes plant scans joint legal =
-    nodes_of_logs (IsLegalLog plant scans) (λ (plan : ControllerPlan). plan.node) (λ (log : ControllerLog). log.node) (λ plan log r. r.0)
+    nodes_of_logs (IsLegalLog plant scans) (λ (plan : ControllerPlan). plan.node)
+    (λ (log : ControllerLog). log.node) (λ plan log r. r.0)
     plant.controllers joint.controllers legal.controllers
 
 pub host-nodes : (plant : Plant) (scans : ℕ) (joint : Joint) → IsLegalJoint plant scans joint
     → map (λ (log : HostLog). log.node) joint.hosts ≡ host_nodes plant
 host-nodes plant scans joint legal =
-    nodes_of_logs IsLegalHostLog (λ (plan : HostPlan). plan.node) (λ (log : HostLog). log.node) (λ plan log r. r.0)
+    nodes_of_logs IsLegalHostLog (λ (plan : HostPlan). plan.node) (λ (log : HostLog). log.node)
+    (λ plan log r. r.0)
     plant.hosts joint.hosts legal.hosts
 
 -- a call was served as often as its Request was taken
-pub services-are_taken : (plant : Plant) (scans : ℕ) (joint : Joint) (id : CallId) → JointOf plant scans joint
+pub services-are_taken : (plant : Plant) (scans : ℕ) (joint : Joint) (id : CallId)
+    → JointOf plant scans joint
     → services joint id ≡ count_by (takes id) joint.ring
 services-are_taken plant scans joint id j =
     let ring = joint.ring in
@@ -213,21 +250,30 @@ services-are_taken plant scans joint id j =
     let q = serves_another id in
     let ns = controller_nodes plant ++ host_nodes plant in
     let apart : (m : ℕ) → count_by (λ n. m == n) ns ≤ 1 =
-    λ m. subst (λ (k : ℕ). k ≤ 1) (counted-member plant m j.is) (once_rising m plant.net.members (AllPairs-from_increasing plant.net.members j.is.net.rising)) in
+    λ m. subst (λ (k : ℕ). k ≤ 1) (counted-member plant m j.is)
+    (once_rising m plant.net.members
+    (AllPairs-from_increasing plant.net.members j.is.net.rising)) in
     let there : All (λ e. 1 ≤ count_by (λ n. maker e == n) ns) ring =
-    λ k d within. member-station plant (maker (slice_index_or ring k d)) j.is (members plant.net [] ring j.legal.ring k d within) in
-    let controllers = subst (λ (nodes : List ℕ). sum_by (λ (log : ControllerLog). answers_to id (items_of log.entries)) joint.controllers
+    λ k d within. member-station plant (maker (slice_index_or ring k d)) j.is
+    (members plant.net [] ring j.legal.ring k d within) in
+    let controllers = subst (λ (nodes : List ℕ). sum_by
+    (λ (log : ControllerLog). answers_to id (items_of log.entries)) joint.controllers
     + sum_by (λ n. count_by q (own n ring)) nodes ≡ sum_by (λ n. count_by p (own n ring)) nodes)
     (controller-nodes plant scans joint j.legal)
-    (sums p q ring (λ (log : ControllerLog). log.node) (λ (log : ControllerLog). answers_to id (items_of log.entries)) joint.controllers
+    (sums p q ring (λ (log : ControllerLog). log.node)
+    (λ (log : ControllerLog). answers_to id (items_of log.entries)) joint.controllers
     (λ k d within. answers_are_taken id AController _ _ (j.tied.controllers k d within))) in
-    let hosts = subst (λ (nodes : List ℕ). sum_by (λ (log : HostLog). answers_to id (host_items_of log.entries)) joint.hosts
+    let hosts = subst (λ (nodes : List ℕ). sum_by
+    (λ (log : HostLog). answers_to id (host_items_of log.entries)) joint.hosts
     + sum_by (λ n. count_by q (own n ring)) nodes ≡ sum_by (λ n. count_by p (own n ring)) nodes)
     (host-nodes plant scans joint j.legal)
-    (sums p q ring (λ (log : HostLog). log.node) (λ (log : HostLog). answers_to id (host_items_of log.entries)) joint.hosts
+    (sums p q ring (λ (log : HostLog). log.node)
+    (λ (log : HostLog). answers_to id (host_items_of log.entries)) joint.hosts
     (λ k d within. answers_are_taken id AHost _ _ (j.tied.hosts k d within))) in
-    let all_p = sum_by-append (λ n. count_by p (own n ring)) (controller_nodes plant) (host_nodes plant) in
-    let all_q = sum_by-append (λ n. count_by q (own n ring)) (controller_nodes plant) (host_nodes plant) in
+    let all_p = sum_by-append (λ n. count_by p (own n ring)) (controller_nodes plant)
+    (host_nodes plant) in
+    let all_q = sum_by-append (λ n. count_by q (own n ring)) (controller_nodes plant)
+    (host_nodes plant) in
     let most_p = at_most_all p ns apart ring in
     let least_p = all_at_most p ns ring there in
     let most_q = at_most_all q ns apart ring in

@@ -43,15 +43,18 @@ use Rattle.effect_laws.proofs.Sources.{behind, in-own, of-own}
 -- ---- what was served was asked of the node
 
 -- a node took the Request of a call, so it was posted to it
-asked-taken : (plant : Plant) (scans : ℕ) (joint : Joint) (id : CallId) (n : ℕ) → JointOf plant scans joint
+asked-taken : (plant : Plant) (scans : ℕ) (joint : Joint) (id : CallId) (n : ℕ)
+    → JointOf plant scans joint
     → 1 ≤ count_by (takes id) (own n joint.ring) → IsAsked joint.ring id n
 asked-taken plant scans joint id n j some =
     let ring = joint.ring in
     let found = count-contains (takes id) (own n ring) some in
     let taken = taken-as id found.0 found.2 in
     let at = of-own n ring found.0 found.1 in
-    let there : Contains ring (Take taken.node taken.frame) = subst (λ (e : RingEntry). Contains ring e) taken.is at.0 in
-    let target = only-its-target plant.net ring taken.node taken.frame (ring-history plant scans joint j) (inr there) taken.kind in
+    let there : Contains ring (Take taken.node taken.frame) = subst
+    (λ (e : RingEntry). Contains ring e) taken.is at.0 in
+    let target = only-its-target plant.net ring taken.node taken.frame
+    (ring-history plant scans joint j) (inr there) taken.kind in
     let here : taken.node ≡ n = ap maker (sym taken.is) ∙ at.1 in
     record {
       request = taken.frame;
@@ -62,20 +65,24 @@ asked-taken plant scans joint id n j some =
     }
 
 -- a station that answered did so at the target
-served-asked : (plant : Plant) (scans : ℕ) (joint : Joint) (id : CallId) (n : ℕ) (station : Station) (a : Items) → JointOf plant scans joint
+served-asked : (plant : Plant) (scans : ℕ) (joint : Joint) (id : CallId) (n : ℕ)
+    (station : Station) (a : Items) → JointOf plant scans joint
     → Tied station a (own n joint.ring) → 1 ≤ answers_to id a → IsAsked joint.ring id n
 served-asked plant scans joint id n station a j tied some =
     let all = answers_are_taken id station a (own n joint.ring) tied in
     asked-taken plant scans joint id n j (omega (arith, all, some))
 
-controller-asked : (plant : Plant) (scans : ℕ) (joint : Joint) (id : CallId) (n : ℕ) → JointOf plant scans joint → ControllerServes joint id n
+controller-asked : (plant : Plant) (scans : ℕ) (joint : Joint) (id : CallId) (n : ℕ)
+    → JointOf plant scans joint → ControllerServes joint id n
     → IsAsked joint.ring id n
 controller-asked plant scans joint id n j (log, there, is, some) =
     subst (IsAsked joint.ring id) is
     (served-asked plant scans joint id log.node AController (items_of log.entries) j
-    (All-contains (IsTiedController joint.ring) joint.controllers log j.tied.controllers there) some)
+    (All-contains (IsTiedController joint.ring) joint.controllers log j.tied.controllers there)
+    some)
 
-host-asked : (plant : Plant) (scans : ℕ) (joint : Joint) (id : CallId) (n : ℕ) → JointOf plant scans joint → HostServes joint id n
+host-asked : (plant : Plant) (scans : ℕ) (joint : Joint) (id : CallId) (n : ℕ)
+    → JointOf plant scans joint → HostServes joint id n
     → IsAsked joint.ring id n
 host-asked plant scans joint id n j (log, there, is, some) =
     subst (IsAsked joint.ring id) is
@@ -83,41 +90,50 @@ host-asked plant scans joint id n j (log, there, is, some) =
     (All-contains (IsTiedHost joint.ring) joint.hosts log j.tied.hosts there) some)
 
 -- so did a port that answered for another node
-port-asked : CallLaws → (plant : Plant) (scans : ℕ) (joint : Joint) (id : CallId) (n : ℕ) (op : LocalOp) (result : MstrResult)
-    → JointOf plant scans joint → Contains joint.ring (Local n id op result) → id.node ≢ n → IsAsked joint.ring id n
+port-asked : CallLaws → (plant : Plant) (scans : ℕ) (joint : Joint) (id : CallId) (n : ℕ)
+    (op : LocalOp) (result : MstrResult)
+    → JointOf plant scans joint → Contains joint.ring (Local n id op result) → id.node ≢ n
+    → IsAsked joint.ring id n
 port-asked laws plant scans joint id n op result j there other =
     let e = Local n id op result in
     let seat = seat-at laws plant scans joint n j (member-at plant scans joint e j there) in
     let mine = in-own n joint.ring e (eq-eqb n n refl) there in
-    let serves : serves_another id e ≡ true = and_from _ _ (same-refl id) (ap not (ne_eqb id.node n other)) in
+    let serves : serves_another id e
+    ≡ true = and_from _ _ (same-refl id) (ap not (ne_eqb id.node n other)) in
     let some = contains-count (serves_another id) (own n joint.ring) e serves mine in
     let all = answers_are_taken id seat.station seat.items (own n joint.ring) seat.tied in
     asked-taken plant scans joint id n j (omega (arith, all, some))
 
 -- ---- what a call does at home it asks of nobody
 
-home-unasked : CallLaws → (plant : Plant) (scans : ℕ) (joint : Joint) (id : CallId) (op : LocalOp) (result : MstrResult)
-    → JointOf plant scans joint → Contains joint.ring (Local id.node id op result) → count_by (posts id) joint.ring ≡ 0
+home-unasked : CallLaws → (plant : Plant) (scans : ℕ) (joint : Joint) (id : CallId) (op : LocalOp)
+    (result : MstrResult)
+    → JointOf plant scans joint → Contains joint.ring (Local id.node id op result)
+    → count_by (posts id) joint.ring ≡ 0
 home-unasked laws plant scans joint id op result j there =
     let ring = joint.ring in
     let e = Local id.node id op result in
     let seat = seat-at laws plant scans joint id.node j (member-at plant scans joint e j there) in
-    let acts : acts_at_home id e ≡ true = and_from _ _ (same-refl id) (eq-eqb id.node id.node refl) in
+    let acts : acts_at_home id e ≡ true = and_from _ _ (same-refl id)
+    (eq-eqb id.node id.node refl) in
     let some = contains-count (acts_at_home id) ring e acts there in
     let own_homes = homes-own id ring in
     let ended = homes-end seat.station id [] (own id.node ring) in
     let ends_are = ap (count_by (is_home_end id)) seat.tied.ends in
     let facts = seat.homes id (omega (arith, some, own_homes, ended, ends_are)) in
-    let asked = posted-asked id (own id.node ring) ∙ ap (count_by (is_asked id)) seat.tied.asks ∙ facts.none in
+    let asked = posted-asked id (own id.node ring) ∙ ap (count_by (is_asked id)) seat.tied.asks
+    ∙ facts.none in
     counted-own (posts id) id.node ring (posted-owns plant.net [] ring id j.legal.ring) ∙ asked
 
-port-target : CallLaws → (plant : Plant) (scans : ℕ) (joint : Joint) (id : CallId) (n : ℕ) → JointOf plant scans joint → PortActs joint id n
+port-target : CallLaws → (plant : Plant) (scans : ℕ) (joint : Joint) (id : CallId) (n : ℕ)
+    → JointOf plant scans joint → PortActs joint id n
     → IsTarget joint.ring id n
 port-target laws plant scans joint id n j (op, result, there) =
     ⊎_elim
     (λ (home : id.node ≡ n).
     inr (
-      home-unasked laws plant scans joint id op result j (subst (λ (k : ℕ). Contains joint.ring (Local k id op result)) (sym home) there),
+      home-unasked laws plant scans joint id op result j
+          (subst (λ (k : ℕ). Contains joint.ring (Local k id op result)) (sym home) there),
       sym home,
     ))
     (λ (other : id.node ≢ n). inl (port-asked laws plant scans joint id n op result j there other))
@@ -125,28 +141,37 @@ port-target laws plant scans joint id n j (op, result, there) =
 
 effect-target : CallLaws → (plant : Plant) (scans : ℕ) (joint : Joint) → JointOf plant scans joint
     → (id : CallId) (n : ℕ) → TakesEffectAt joint id n → IsTarget joint.ring id n
-effect-target laws plant scans joint j id n (inl controller) = inl (controller-asked plant scans joint id n j controller)
-effect-target laws plant scans joint j id n (inr (inl host)) = inl (host-asked plant scans joint id n j host)
-effect-target laws plant scans joint j id n (inr (inr port)) = port-target laws plant scans joint id n j port
+effect-target laws plant scans joint j id n (inl controller) =
+    inl (controller-asked plant scans joint id n j controller)
+effect-target laws plant scans joint j id n (inr (inl host)) =
+    inl (host-asked plant scans joint id n j host)
+effect-target laws plant scans joint j id n (inr (inr port)) =
+    port-target laws plant scans joint id n j port
 
 -- ---- a call has one target
 
 posted-frame : (n m : ℕ) (f g : Frame) → Post n f ≡ Post m g → f ≡ g
 posted-frame n m f g is = cc
 
-one-target : (plant : Plant) (scans : ℕ) (joint : Joint) → JointOf plant scans joint → (id : CallId) (n other : ℕ)
+one-target : (plant : Plant) (scans : ℕ) (joint : Joint) → JointOf plant scans joint
+    → (id : CallId) (n other : ℕ)
     → IsTarget joint.ring id n → IsTarget joint.ring id other → n ≡ other
 one-target plant scans joint j id n other (inl one) (inl two) =
     let once = posted-once plant.net joint.ring id (ring-history plant scans joint j) in
-    let same = only-one (posts id) joint.ring (Post id.node one.request) (Post id.node two.request) once
-    (asks-this id one.request one.kind one.same) (asks-this id two.request two.kind two.same) one.posted two.posted in
-    sym one.to ∙ ap (λ (f : Frame). f.to) (posted-frame id.node id.node one.request two.request same) ∙ two.to
+    let same = only-one (posts id) joint.ring (Post id.node one.request) (Post id.node two.request)
+    once
+    (asks-this id one.request one.kind one.same) (asks-this id two.request two.kind two.same)
+    one.posted two.posted in
+    sym one.to ∙ ap (λ (f : Frame). f.to)
+    (posted-frame id.node id.node one.request two.request same) ∙ two.to
 one-target plant scans joint j id n other (inl one) (inr two) =
-    let some = contains-count (posts id) joint.ring (Post id.node one.request) (asks-this id one.request one.kind one.same) one.posted in
+    let some = contains-count (posts id) joint.ring (Post id.node one.request)
+    (asks-this id one.request one.kind one.same) one.posted in
     let none = two.0 in
     absurd (omega (arith, some, none))
 one-target plant scans joint j id n other (inr one) (inl two) =
-    let some = contains-count (posts id) joint.ring (Post id.node two.request) (asks-this id two.request two.kind two.same) two.posted in
+    let some = contains-count (posts id) joint.ring (Post id.node two.request)
+    (asks-this id two.request two.kind two.same) two.posted in
     let none = one.0 in
     absurd (omega (arith, some, none))
 one-target plant scans joint j id n other (inr one) (inr two) = one.1 ∙ sym two.1
@@ -154,7 +179,8 @@ one-target plant scans joint j id n other (inr one) (inr two) = one.1 ∙ sym tw
 -- ---- where there are effects, there is a node that has one
 
 -- a sum that is not 0 has a part that is not
-part-of : {X : Type 0} (f : X → ℕ) (xs : List X) → 1 ≤ sum_by f xs → (x : X) × Contains xs x × (1 ≤ f x)
+part-of : {X : Type 0} (f : X → ℕ) (xs : List X) → 1 ≤ sum_by f xs
+    → (x : X) × Contains xs x × (1 ≤ f x)
 part-of f [] some = absurd (omega (arith, some))
 part-of f (x ∷ xs) some =
     let step = sum_cons f x xs in
@@ -176,32 +202,51 @@ acts id (Post n f) is = absurd (true≢false (sym is))
 acts id (Send n heard) is = absurd (true≢false (sym is))
 acts id (Take n f) is = absurd (true≢false (sym is))
 acts id (Local n name op result) is =
-    record { node = n; op = op; result = result; is = ap (λ (i : CallId). Local n i op result) (same-eq name id is) }
+    record {
+      node = n;
+      op = op;
+      result = result;
+      is = ap (λ (i : CallId). Local n i op result) (same-eq name id is);
+    }
 acts id (GiveUp name word) is = absurd (true≢false (sym is))
 acts id (Pass n done words) is = absurd (true≢false (sym is))
 acts id (Leave n cause) is = absurd (true≢false (sym is))
 
-at-controller : (joint : Joint) (id : CallId) → 1 ≤ sum_by (λ (log : ControllerLog). answers_to id (items_of log.entries)) joint.controllers
+at-controller : (joint : Joint) (id : CallId)
+    → 1 ≤ sum_by (λ (log : ControllerLog). answers_to id (items_of log.entries)) joint.controllers
     → (n : ℕ) × TakesEffectAt joint id n
 at-controller joint id some =
-    let found = part-of (λ (log : ControllerLog). answers_to id (items_of log.entries)) joint.controllers some in
+    let found = part-of (λ (log : ControllerLog). answers_to id (items_of log.entries))
+    joint.controllers some in
     (found.0.node, inl (found.0, found.1, refl, found.2))
 
-at-host : (joint : Joint) (id : CallId) → 1 ≤ sum_by (λ (log : HostLog). answers_to id (host_items_of log.entries)) joint.hosts
+at-host : (joint : Joint) (id : CallId)
+    → 1 ≤ sum_by (λ (log : HostLog). answers_to id (host_items_of log.entries)) joint.hosts
     → (n : ℕ) × TakesEffectAt joint id n
 at-host joint id some =
-    let found = part-of (λ (log : HostLog). answers_to id (host_items_of log.entries)) joint.hosts some in
+    let found = part-of (λ (log : HostLog). answers_to id (host_items_of log.entries)) joint.hosts
+    some in
     (found.0.node, inr (inl (found.0, found.1, refl, found.2)))
 
-at-port : (joint : Joint) (id : CallId) → 1 ≤ count_by (does_locally id) joint.ring → (n : ℕ) × TakesEffectAt joint id n
+at-port : (joint : Joint) (id : CallId) → 1 ≤ count_by (does_locally id) joint.ring
+    → (n : ℕ) × TakesEffectAt joint id n
 at-port joint id some =
     let found = count-contains (does_locally id) joint.ring some in
-    let a = acts id found.0 found.2 in
-    (a.node, inr (inr (a.op, a.result, subst (λ (e : RingEntry). Contains joint.ring e) a.is found.1)))
+    let a = acts id found.0 found.2 in (
+      a.node,
+      inr (inr (
+        a.op,
+        a.result,
+        subst (λ (e : RingEntry). Contains joint.ring e) a.is
+            found.1,
+      )),
+    )
 
-effect-at : (joint : Joint) (id : CallId) → effects joint id ≡ 1 → (n : ℕ) × TakesEffectAt joint id n
+effect-at : (joint : Joint) (id : CallId) → effects joint id ≡ 1
+    → (n : ℕ) × TakesEffectAt joint id n
 effect-at joint id one =
-    let c = sum_by (λ (log : ControllerLog). answers_to id (items_of log.entries)) joint.controllers in
+    let c = sum_by (λ (log : ControllerLog). answers_to id (items_of log.entries))
+    joint.controllers in
     let h = sum_by (λ (log : HostLog). answers_to id (host_items_of log.entries)) joint.hosts in
     ⊎_elim
     (λ (none : c < 1).

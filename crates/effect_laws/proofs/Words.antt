@@ -53,7 +53,8 @@ use Rattle.effect_laws.proofs.Sources.{of-own, placed}
 -- ---- ports tell what the ring's history says
 
 abbrev TellsTruly : NetPlan → RingEntry → Type 0
-TellsTruly net (Local n id op result) = (past : List RingEntry) × (result ≡ local_result net past n op)
+TellsTruly net (Local n id op result) =
+    (past : List RingEntry) × (result ≡ local_result net past n op)
 TellsTruly net _ = Unit {0}
 
 truly : (net : NetPlan) (past es : List RingEntry) → IsRun net past es → Each (TellsTruly net) es
@@ -61,14 +62,18 @@ truly net past [] run = tt
 truly net past (Post n f ∷ es) run = (tt, truly net (past ++ Post n f ∷ []) es run.1)
 truly net past (Send n heard ∷ es) run = (tt, truly net (past ++ Send n heard ∷ []) es run.1)
 truly net past (Take n f ∷ es) run = (tt, truly net (past ++ Take n f ∷ []) es run.1)
-truly net past (Local n id op result ∷ es) run = ((past, run.0.1.1), truly net (past ++ Local n id op result ∷ []) es run.1)
+truly net past (Local n id op result ∷ es) run =
+    ((past, run.0.1.1), truly net (past ++ Local n id op result ∷ []) es run.1)
 truly net past (GiveUp id word ∷ es) run = (tt, truly net (past ++ GiveUp id word ∷ []) es run.1)
-truly net past (Pass n done words ∷ es) run = (tt, truly net (past ++ Pass n done words ∷ []) es run.1)
+truly net past (Pass n done words ∷ es) run =
+    (tt, truly net (past ++ Pass n done words ∷ []) es run.1)
 truly net past (Leave n cause ∷ es) run = (tt, truly net (past ++ Leave n cause ∷ []) es run.1)
 
 -- what a port answered fits
-port-for : (net : NetPlan) (n : ℕ) (id : CallId) (op : LocalOp) (result : MstrResult) (answer : Answered) (ask : List ℕ)
-    → TellsTruly net (Local n id op result) → answered_for n id op result ≡ Some answer → answer.request ≡ Some ask → Fitting ask answer.reply
+port-for : (net : NetPlan) (n : ℕ) (id : CallId) (op : LocalOp) (result : MstrResult)
+    (answer : Answered) (ask : List ℕ)
+    → TellsTruly net (Local n id op result) → answered_for n id op result ≡ Some answer
+    → answer.request ≡ Some ask → Fitting ask answer.reply
 port-for net n id op result answer ask true' is asked = at (id.node == n) is
   where
     this : Answered
@@ -79,14 +84,17 @@ port-for net n id op result answer ask true' is asked = at (id.node == n) is
     at false is' =
         let same : this ≡ answer = cc in
         subst (λ (a : Answered). Fitting ask a.reply) same
-        (port-fits net true'.0 n op result ask (ap (λ (a : Answered). a.request) same ∙ asked) true'.1)
+        (port-fits net true'.0 n op result ask (ap (λ (a : Answered). a.request) same ∙ asked)
+        true'.1)
 
-port-of : (net : NetPlan) (e : RingEntry) (answer : Answered) (ask : List ℕ) → TellsTruly net e → answered_of e ≡ Some answer → answer.request ≡ Some ask
+port-of : (net : NetPlan) (e : RingEntry) (answer : Answered) (ask : List ℕ) → TellsTruly net e
+    → answered_of e ≡ Some answer → answer.request ≡ Some ask
     → Fitting ask answer.reply
 port-of net (Post n f) answer ask true' is asked = absurd cc
 port-of net (Send n heard) answer ask true' is asked = absurd cc
 port-of net (Take n f) answer ask true' is asked = absurd cc
-port-of net (Local n id op result) answer ask true' is asked = port-for net n id op result answer ask true' is asked
+port-of net (Local n id op result) answer ask true' is asked =
+    port-for net n id op result answer ask true' is asked
 port-of net (GiveUp id word) answer ask true' is asked = absurd cc
 port-of net (Pass n done words) answer ask true' is asked = absurd cc
 port-of net (Leave n cause) answer ask true' is asked = absurd cc
@@ -100,36 +108,55 @@ record LastOf (id : CallId) (asked : List Asked) (pdu : List ℕ) : Type 0 where
   name : last.id ≡ id
   pdu_is : last.pdu ≡ pdu
 
-later : (id : CallId) (x : Asked) (asked : List Asked) (pdu : List ℕ) → LastOf id asked pdu → LastOf id (x ∷ asked) pdu
-later id x asked pdu w = record { last = w.last; there = behind x asked w.last w.there; name = w.name; pdu_is = w.pdu_is }
+later : (id : CallId) (x : Asked) (asked : List Asked) (pdu : List ℕ) → LastOf id asked pdu
+    → LastOf id (x ∷ asked) pdu
+later id x asked pdu w =
+    record {
+      last = w.last;
+      there = behind x asked w.last w.there;
+      name = w.name;
+      pdu_is = w.pdu_is;
+    }
 
-last-of : (id : CallId) (asked : List Asked) (pdu : List ℕ) → last_asked id asked ≡ Some pdu → LastOf id asked pdu
+last-of : (id : CallId) (asked : List Asked) (pdu : List ℕ) → last_asked id asked ≡ Some pdu
+    → LastOf id asked pdu
 last-of id [] pdu is = absurd cc
 last-of id (x ∷ asked) pdu is = at (last_asked id asked) is (last-of id asked pdu)
   where
-    one : (b : Bool) → is_same_call x.id id ≡ b → (if b then Some x.pdu else None) ≡ Some pdu → LastOf id (x ∷ asked) pdu
+    one : (b : Bool) → is_same_call x.id id ≡ b → (if b then Some x.pdu else None) ≡ Some pdu
+        → LastOf id (x ∷ asked) pdu
     one true same is' =
         let bytes : x.pdu ≡ pdu = cc in
-        record { last = x; there = (0, omega arith, refl); name = same-eq x.id id same; pdu_is = bytes }
+        record {
+          last = x;
+          there = (0, omega arith, refl);
+          name = same-eq x.id id same;
+          pdu_is = bytes;
+        }
     one false same is' = absurd cc
 
-    at : (o : Option (List ℕ)) → or_some o (if is_same_call x.id id then Some x.pdu else None) ≡ Some pdu
+    at : (o : Option (List ℕ)) → or_some o (if is_same_call x.id id then Some x.pdu else None)
+        ≡ Some pdu
         → (o ≡ Some pdu → LastOf id asked pdu) → LastOf id (x ∷ asked) pdu
     at (Some other) is' rest = later id x asked pdu (rest is')
     at None is' rest = one (is_same_call x.id id) refl is'
 
-last-some : (id : CallId) (asked : List Asked) (a : Asked) → Contains asked a → a.id ≡ id → (pdu : List ℕ) × (last_asked id asked ≡ Some pdu)
+last-some : (id : CallId) (asked : List Asked) (a : Asked) → Contains asked a → a.id ≡ id
+    → (pdu : List ℕ) × (last_asked id asked ≡ Some pdu)
 last-some id [] a there name = absurd (in-none a there)
 last-some id (x ∷ asked) a there name =
     ⊎_elim
-    (λ (same : x ≡ a). at (last_asked id asked) (ap (λ (y : Asked). is_same_call y.id id) same ∙ (ap (λ (i : CallId). is_same_call i id) name ∙ same-refl id)))
+    (λ (same : x ≡ a). at (last_asked id asked)
+    (ap (λ (y : Asked). is_same_call y.id id) same
+    ∙ (ap (λ (i : CallId). is_same_call i id) name ∙ same-refl id)))
     (λ (more : Contains asked a).
     let rest = last-some id asked a more name in
     (rest.0, ap (λ o. or_some o (if is_same_call x.id id then Some x.pdu else None)) rest.1))
     (first-or-behind x asked a there)
   where
     at : (o : Option (List ℕ)) → is_same_call x.id id ≡ true
-        → (pdu : List ℕ) × (or_some o (if is_same_call x.id id then Some x.pdu else None) ≡ Some pdu)
+        → (pdu : List ℕ) × (or_some o (if is_same_call x.id id then Some x.pdu else None)
+        ≡ Some pdu)
     at (Some pdu) same = (pdu, refl)
     at None same = (x.pdu, ap (λ b. if b then Some x.pdu else None) same)
 
@@ -168,7 +195,8 @@ post-of (Pass n done words) a is = absurd cc
 post-of (Leave n cause) a is = absurd cc
 
 -- a Reply is taken after its Request was posted
-asked-before : (net : NetPlan) (ring front rest : List RingEntry) (n : ℕ) (f : Frame) → IsRingHistory net ring → ring ≡ front ++ Take n f ∷ rest
+asked-before : (net : NetPlan) (ring front rest : List RingEntry) (n : ℕ) (f : Frame)
+    → IsRingHistory net ring → ring ≡ front ++ Take n f ∷ rest
     → f.kind ≡ Reply → HasAsked front n f.id
 asked-before net ring front rest n f is ring_is kind =
     let whole : IsLegal net ((front ++ Take n f ∷ []) ++ rest) =
@@ -177,7 +205,8 @@ asked-before net ring front rest n f is ring_is kind =
       members = is.members;
       legal = (legal-parts net (front ++ Take n f ∷ []) rest whole).0;
     } in
-    let asked = (reply-to-its-caller net (front ++ Take n f ∷ []) n f history (inr (Contains-push front (Take n f))) kind).2 in
+    let asked = (reply-to-its-caller net (front ++ Take n f ∷ []) n f history
+    (inr (Contains-push front (Take n f))) kind).2 in
     record {
       request = asked.request;
       posted = ⊎_elim
@@ -193,7 +222,8 @@ asked-before net ring front rest n f is ring_is kind =
 net-of : (c : Called) (a : Asked) → IsAskOf c → net_ask c ≡ Some a → NetAsk a.pdu
 net-of c a is of = at c.sort refl of
   where
-    at : (sort : CallSort) → c.sort ≡ sort → net_ask (record { id = c.id; sort = sort }) ≡ Some a → NetAsk a.pdu
+    at : (sort : CallSort) → c.sort ≡ sort → net_ask (record { id = c.id; sort = sort }) ≡ Some a
+        → NetAsk a.pdu
     at (OverNet to pdu) same of' =
         let this : Asked = record { id = c.id; to = to; pdu = pdu } in
         let one : this ≡ a = cc in
@@ -206,8 +236,10 @@ record FitsLast (id : CallId) (before : List RingEntry) (reply : List ℕ) : Typ
   last : last_asked id (asked_by before) ≡ Some ask
   fits : Fitting ask reply
 
-reply-fits : CallLaws → (plant : Plant) (scans : ℕ) (joint : Joint) (log : ControllerLog) (before after : List RingEntry) (m : ℕ) (f : Frame)
-    → JointOf plant scans joint → Contains joint.controllers log → own log.node joint.ring ≡ before ++ Take m f ∷ after → f.kind ≡ Reply
+reply-fits : CallLaws → (plant : Plant) (scans : ℕ) (joint : Joint) (log : ControllerLog)
+    (before after : List RingEntry) (m : ℕ) (f : Frame)
+    → JointOf plant scans joint → Contains joint.controllers log
+    → own log.node joint.ring ≡ before ++ Take m f ∷ after → f.kind ≡ Reply
     → FitsLast f.id before f.pdu
 reply-fits laws plant scans joint log before after m f j there is kind =
     let net = plant.net in
@@ -219,42 +251,60 @@ reply-fits laws plant scans joint log before after m f j there is kind =
     let legal = legal-log plant scans joint log j there in
     let known = controller-fits laws (fixed_of plant scans legal.0) log.entries legal.1.1 in
     let among_own : Contains b (Take m f) =
-    subst (λ (l : List RingEntry). Contains l (Take m f)) (sym is) (Contains-append_right before (Take m f ∷ after) (Take m f) (0, omega arith, refl)) in
+    subst (λ (l : List RingEntry). Contains l (Take m f)) (sym is)
+    (Contains-append_right before (Take m f ∷ after) (Take m f) (0, omega arith, refl)) in
     let taken = of-own n ring (Take m f) among_own in
     let place = placed n ring before (Take m f) after is in
     let earlier = asked-before net ring place.front place.rest m f history place.ring_is kind in
     let asking : Contains before (Post m earlier.request) =
     subst (λ (l : List RingEntry). Contains l (Post m earlier.request)) place.own_is
     (in-own n place.front (Post m earlier.request) (eq-eqb m n taken.1) earlier.posted) in
-    let some = last-some f.id (asked_by before) (record { id = earlier.request.id; to = earlier.request.to; pdu = earlier.request.pdu })
-    (in-map asked_of before (Post m earlier.request) _ (ap (λ (k : FrameKind). asked_in k earlier.request) earlier.kind) asking) earlier.same in
+    let some = last-some f.id (asked_by before)
+    (record { id = earlier.request.id; to = earlier.request.to; pdu = earlier.request.pdu })
+    (in-map asked_of before (Post m earlier.request) _
+    (ap (λ (k : FrameKind). asked_in k earlier.request) earlier.kind) asking) earlier.same in
     let w = last-of f.id (asked_by before) some.0 some.1 in
     let found = of-map asked_of before w.last w.there in
     let post = post-of found.0 w.last found.2 in
     let in_own : Contains b found.0 =
-    subst (λ (l : List RingEntry). Contains l found.0) (sym is) (Contains-append_left before (Take m f ∷ after) found.0 found.1) in
-    let posted : Contains ring (Post post.node post.frame) = subst (λ (e : RingEntry). Contains ring e) post.is (of-own n ring found.0 in_own).0 in
+    subst (λ (l : List RingEntry). Contains l found.0) (sym is)
+    (Contains-append_left before (Take m f ∷ after) found.0 found.1) in
+    let posted : Contains ring (Post post.node post.frame) = subst
+    (λ (e : RingEntry). Contains ring e) post.is (of-own n ring found.0 in_own).0 in
     let called = of-map net_ask (items_of log.entries).calls w.last
-    (subst (λ (l : List Asked). Contains l w.last) t.asks (in-map asked_of b found.0 w.last found.2 in_own)) in
-    let ask = net-of called.0 w.last (each-contains IsAskOf (items_of log.entries).calls called.0 known.asks called.1) called.2 in
-    let a = (reply-by-taker net ring m f history (answers-taken laws plant scans joint j) (inr taken.0) kind).1 in
-    let seat = seat-at laws plant scans joint a.by j (member-at plant scans joint (Post a.by f) j a.posted) in
+    (subst (λ (l : List Asked). Contains l w.last) t.asks
+    (in-map asked_of b found.0 w.last found.2 in_own)) in
+    let ask = net-of called.0 w.last
+    (each-contains IsAskOf (items_of log.entries).calls called.0 known.asks called.1)
+    called.2 in
+    let a = (reply-by-taker net ring m f history (answers-taken laws plant scans joint j)
+    (inr taken.0) kind).1 in
+    let seat = seat-at laws plant scans joint a.by j
+    (member-at plant scans joint (Post a.by f) j a.posted) in
     let o = origin ring a.by f seat a.posted kind in
     let theirs = (only-its-target net ring a.by o.request history (inr o.taken) o.kind).2 in
     let one : Post o.request.id.node o.request ≡ Post post.node post.frame =
-    only-one (posts f.id) ring (Post o.request.id.node o.request) (Post post.node post.frame) (posted-once net ring f.id history)
-    (asks-this f.id o.request o.kind o.same) (asks-this f.id post.frame post.kind (post.id ∙ w.name)) theirs posted in
+    only-one (posts f.id) ring (Post o.request.id.node o.request) (Post post.node post.frame)
+    (posted-once net ring f.id history)
+    (asks-this f.id o.request o.kind o.same)
+    (asks-this f.id post.frame post.kind (post.id ∙ w.name)) theirs posted in
     let frames : o.request ≡ post.frame = cc in
     let bytes : o.request.pdu ≡ w.last.pdu = ap (λ (x : Frame). x.pdu) frames ∙ post.pdu in
     let asked : o.answer.request ≡ Some w.last.pdu = o.asked ∙ ap (λ l. Some l) bytes in
     let fits : Fitting w.last.pdu o.answer.reply = ⊎_elim
-    (λ (peer : Contains seat.items.answers o.answer). each-contains IsFitAnswer seat.items.answers o.answer seat.answers peer w.last.pdu asked ask)
+    (λ (peer : Contains seat.items.answers o.answer). each-contains IsFitAnswer seat.items.answers
+    o.answer seat.answers peer w.last.pdu asked ask)
     (λ (port : Contains (port_answers (own a.by ring)) o.answer).
     let local = of-map answered_of (own a.by ring) o.answer port in
     port-of net local.0 o.answer w.last.pdu
-    (each-contains (TellsTruly net) ring local.0 (truly net [] ring j.legal.ring) (of-own a.by ring local.0 local.1).0) local.2 asked)
+    (each-contains (TellsTruly net) ring local.0 (truly net [] ring j.legal.ring)
+    (of-own a.by ring local.0 local.1).0) local.2 asked)
     o.among in
-    record { ask = w.last.pdu; last = some.1 ∙ ap (λ l. Some l) (sym w.pdu_is); fits = subst (Fitting w.last.pdu) o.told fits }
+    record {
+      ask = w.last.pdu;
+      last = some.1 ∙ ap (λ l. Some l) (sym w.pdu_is);
+      fits = subst (Fitting w.last.pdu) o.told fits;
+    }
 
 -- ---- the law
 
@@ -276,23 +326,32 @@ no-3000 laws plant scans joint is legal tied log id result there finished bad =
     let b = own log.node ring in
     let t = All-contains (IsTiedController ring) joint.controllers log tied.controllers there in
     let told = finish-ends log.entries id result finished in
-    let w = end-at AController [] b told.end' (subst (λ (l : List Ended). Contains l told.end') t.ends told.there) in
-    let in_ring = (of-own log.node ring w.entry (subst (λ (l : List RingEntry). Contains l w.entry) (sym w.is)
+    let w = end-at AController [] b told.end'
+    (subst (λ (l : List Ended). Contains l told.end') t.ends told.there) in
+    let in_ring = (of-own log.node ring w.entry
+    (subst (λ (l : List RingEntry). Contains l w.entry) (sym w.is)
     (Contains-append_right w.before (w.entry ∷ w.after) w.entry (0, omega arith, refl)))).0 in
-    by j told.end' (told.outcome_is ∙ ap (λ (r : MstrResult). Came r) bad) w.before w.after w.entry w.is in_ring
+    by j told.end' (told.outcome_is ∙ ap (λ (r : MstrResult). Came r) bad) w.before w.after w.entry
+    w.is in_ring
     (ended-by AController ([] ++ asked_by w.before) w.entry told.end' w.ended)
   where
-    by : JointOf plant scans joint → (end' : Ended) → end'.outcome ≡ Came (Bad 0x3000) → (before after : List RingEntry) (e : RingEntry)
-        → own log.node joint.ring ≡ before ++ e ∷ after → Contains joint.ring e → EndedBy AController (asked_by before) e end' → ⊥
+    by : JointOf plant scans joint → (end' : Ended) → end'.outcome ≡ Came (Bad 0x3000)
+        → (before after : List RingEntry) (e : RingEntry)
+        → own log.node joint.ring ≡ before ++ e ∷ after → Contains joint.ring e
+        → EndedBy AController (asked_by before) e end' → ⊥
     by j end' out before after e b_is in' (by_reply m f entry kind name outcome) =
         let fit = reply-fits laws plant scans joint log before after m f j there
-        (subst (λ (x : RingEntry). own log.node joint.ring ≡ before ++ x ∷ after) entry b_is) kind in
+        (subst (λ (x : RingEntry). own log.node joint.ring ≡ before ++ x ∷ after) entry b_is)
+        kind in
         fit.fits (sym (ap (λ o. result_for o f.pdu) fit.last) ∙ came-same _ _ (outcome ∙ out))
     by j end' out before after e b_is in' (by_word word entry outcome) =
         let word_is = bad-same word (came-same (Bad word) (Bad 0x3000) (outcome ∙ out)) in
-        fail-word (subst IsFailWord word_is (given-up-word plant.net joint.ring end'.id word (ring-history plant scans joint j)
+        fail-word (subst IsFailWord word_is
+        (given-up-word plant.net joint.ring end'.id word (ring-history plant scans joint j)
         (subst (λ (x : RingEntry). Contains joint.ring x) entry in')))
     by j end' out before after e b_is in' (by_port m op told entry mine outcome) =
-        let true' = each-contains (TellsTruly plant.net) joint.ring (Local m end'.id op told) (truly plant.net [] joint.ring j.legal.ring)
+        let true' = each-contains (TellsTruly plant.net) joint.ring (Local m end'.id op told)
+        (truly plant.net [] joint.ring j.legal.ring)
         (subst (λ (x : RingEntry). Contains joint.ring x) entry in') in
-        port-good plant.net true'.0 m op (sym true'.1 ∙ came-same told (Bad 0x3000) (outcome ∙ out))
+        port-good plant.net true'.0 m op
+        (sym true'.1 ∙ came-same told (Bad 0x3000) (outcome ∙ out))

@@ -35,10 +35,14 @@ record DoesMore (d q : Done) : Type 0 where
   over : d.over ≤ q.over
 
 noting-grows : (s : Noted) (x : Noting) → Grows s (noted_next s x)
-noting-grows s Asks = record { asked = omega arith; asked_port = omega arith; served = omega arith }
-noting-grows s AsksPort = record { asked = omega arith; asked_port = omega arith; served = omega arith }
-noting-grows s Serves = record { asked = omega arith; asked_port = omega arith; served = omega arith }
-noting-grows s Ends = record { asked = omega arith; asked_port = omega arith; served = omega arith }
+noting-grows s Asks =
+    record { asked = omega arith; asked_port = omega arith; served = omega arith }
+noting-grows s AsksPort =
+    record { asked = omega arith; asked_port = omega arith; served = omega arith }
+noting-grows s Serves =
+    record { asked = omega arith; asked_port = omega arith; served = omega arith }
+noting-grows s Ends =
+    record { asked = omega arith; asked_port = omega arith; served = omega arith }
 
 notings-grow : (s : Noted) (xs : List Noting) → Grows s (tally noted_next s xs)
 notings-grow s [] = record { asked = omega arith; asked_port = omega arith; served = omega arith }
@@ -70,7 +74,8 @@ doings-more d (x ∷ xs) =
       over = let a = g.over in let b = h.over in omega (arith, a, b);
     }
 
-both-caused : (s t : Noted) (d q : Done) → Grows s t → DoesMore d q → AreCaused t d → AreCaused s q → AreCaused t q
+both-caused : (s t : Noted) (d q : Done) → Grows s t → DoesMore d q → AreCaused t d → AreCaused s q
+    → AreCaused t q
 both-caused s t d q g h f k = record {
   posts = let a = g.asked in let b = k.posts in omega (arith, a, b);
   port_works = let a = g.asked_port in let b = k.port_works in omega (arith, a, b);
@@ -86,14 +91,18 @@ note-grows : (s : Noted) (e : StationEntry) → Grows s (note s e)
 note-grows s (ByController e) = notings-grow s (notings e)
 note-grows s (ByHost e) = notings-grow s (host_notings e)
 
-pub both : (s : Noted) (d : Done) (e : StationEntry) (r : RingEntry) → AreCaused (note s e) d → AreCaused s (deed d r)
+pub both : (s : Noted) (d : Done) (e : StationEntry) (r : RingEntry) → AreCaused (note s e) d
+    → AreCaused s (deed d r)
     → AreCaused (note s e) (deed d r)
-both s d e r f k = both-caused s (note s e) d (deed d r) (note-grows s e) (doings-more d (doings r)) f k
+both s d e r f k =
+    both-caused s (note s e) d (deed d r) (note-grows s e) (doings-more d (doings r)) f k
 
-pub both-of-entry : (s : Noted) (d : Done) (e : Entry) (r : RingEntry) → AreCaused (note_entry s e) d → AreCaused s (deed d r)
+pub both-of-entry : (s : Noted) (d : Done) (e : Entry) (r : RingEntry)
+    → AreCaused (note_entry s e) d → AreCaused s (deed d r)
     → AreCaused (note_entry s e) (deed d r)
 both-of-entry s d e r f k = both s d (ByController e) r f k
 
-pub both-of-host : (s : Noted) (d : Done) (e : HostEntry) (r : RingEntry) → AreCaused (note_host s e) d → AreCaused s (deed d r)
+pub both-of-host : (s : Noted) (d : Done) (e : HostEntry) (r : RingEntry)
+    → AreCaused (note_host s e) d → AreCaused s (deed d r)
     → AreCaused (note_host s e) (deed d r)
 both-of-host s d e r f k = both s d (ByHost e) r f k

@@ -16,16 +16,22 @@ use Rattle.joint_history.specs.JointLaws.{IsLegalHostLog, IsLegalJoint, IsLegalL
 use Rattle.one_order.specs.Orders.{Log, HaveNodesApart, NotAmong}
 use Rattle.entry_causes.specs.Joint.{controller_log, host_log, logs_of}
 
-not-among : {E : Type 0} (n : ℕ) (logs : List (Log E)) → Each (λ m. eqb n m ≡ false) (map (λ (log : Log E). log.node) logs)
+not-among : {E : Type 0} (n : ℕ) (logs : List (Log E))
+    → Each (λ m. eqb n m ≡ false) (map (λ (log : Log E). log.node) logs)
     → NotAmong n logs
 not-among n [] each = tt
-not-among n (log ∷ logs) each =
-    (λ same. absurd (let a = eq-eqb n log.node (sym same) in let b = each.0 in cc), not-among n logs each.1)
+not-among n (log ∷ logs) each = (
+  λ same. absurd (let a = eq-eqb n log.node (sym same) in let b = each.0 in cc),
+  not-among n
+      logs each.1,
+)
 
-apart : {E : Type 0} (logs : List (Log E)) → IsDistinct eqb (map (λ (log : Log E). log.node) logs) → HaveNodesApart logs
+apart : {E : Type 0} (logs : List (Log E)) → IsDistinct eqb (map (λ (log : Log E). log.node) logs)
+    → HaveNodesApart logs
 apart [] distinct = tt
 apart {E} (log ∷ logs) distinct = (
-  not-among log.node logs (IsDistinct-head eqb log.node (map (λ (l : Log E). l.node) logs) distinct),
+  not-among log.node logs (IsDistinct-head eqb log.node (map (λ (l : Log E). l.node) logs)
+      distinct),
   apart logs (IsDistinct-tail eqb log.node (map (λ (l : Log E). l.node) logs) distinct),
 )
 
@@ -35,26 +41,35 @@ flips x y = ⊎_elim (λ (same : x ≡ y). eq-eqb x y same ∙ sym (eq-eqb y x (
 
 rising-distinct : (xs : List ℕ) → IsStrictlyIncreasing xs → IsDistinct eqb xs
 rising-distinct xs rising = IsDistinct-from_apart eqb xs (λ i j d less low.
-    let l = AllPairs-from_increasing xs rising i j d less low in ne_eqb (get_or xs i d) (get_or xs j d) (omega (arith, l)))
+    let l = AllPairs-from_increasing xs rising i j d less low in
+    ne_eqb (get_or xs i d) (get_or xs j d) (omega (arith, l)))
 
 nodes-are : {P L E : Type 0} (R : P → L → Type 0) (plan_node : P → ℕ) (log_of : L → Log E)
     → ((p : P) (l : L) → R p l → (log_of l).node ≡ plan_node p)
-    → (plans : List P) (logs : List L) → AllZip R plans logs → map (λ (log : Log E). log.node) (map log_of logs) ≡ map plan_node plans
+    → (plans : List P) (logs : List L) → AllZip R plans logs
+    → map (λ (log : Log E). log.node) (map log_of logs) ≡ map plan_node plans
 nodes-are R plan_node log_of same [] [] all = refl
 nodes-are R plan_node log_of same [] (l ∷ logs) all = absurd all
 nodes-are R plan_node log_of same (p ∷ plans) [] all = absurd all
-nodes-are R plan_node log_of same (p ∷ plans) (l ∷ logs) all = λ i. same p l all.0 i ∷ nodes-are R plan_node log_of same plans logs all.1 i
+nodes-are R plan_node log_of same (p ∷ plans) (l ∷ logs) all =
+    λ i. same p l all.0 i ∷ nodes-are R plan_node log_of same plans logs all.1 i
 
 map-both : {X Y : Type 0} (f : X → Y) (xs ys : List X) → map f (xs ++ ys) ≡ map f xs ++ map f ys
 map-both f [] ys = refl
 map-both f (x ∷ xs) ys = ap (λ l. f x ∷ l) (map-both f xs ys)
 
-pub joint-apart : (plant : Plant) (scans : ℕ) (joint : Joint) → IsPlant plant → IsLegalJoint plant scans joint
+pub joint-apart : (plant : Plant) (scans : ℕ) (joint : Joint) → IsPlant plant
+    → IsLegalJoint plant scans joint
     → HaveNodesApart (logs_of joint)
 joint-apart plant scans joint sound legal =
-    let one = nodes-are (IsLegalLog plant scans) (λ plan. plan.node) controller_log (λ p l is. is.0) plant.controllers joint.controllers legal.controllers in
-    let two = nodes-are IsLegalHostLog (λ plan. plan.node) host_log (λ p l is. is.0) plant.hosts joint.hosts legal.hosts in
+    let one = nodes-are (IsLegalLog plant scans) (λ plan. plan.node) controller_log
+    (λ p l is. is.0) plant.controllers joint.controllers legal.controllers in
+    let two = nodes-are IsLegalHostLog (λ plan. plan.node) host_log (λ p l is. is.0) plant.hosts
+    joint.hosts legal.hosts in
     apart (logs_of joint) (subst (IsDistinct eqb)
-    (sym (map-both (λ log. log.node) (map controller_log joint.controllers) (map host_log joint.hosts) ∙ (λ i. one i ++ two i)))
-    (IsDistinct-IsPermutation eqb flips plant.net.members (controller_nodes plant ++ host_nodes plant)
-    (IsPermutation-sym (controller_nodes plant ++ host_nodes plant) plant.net.members sound.members) (rising-distinct plant.net.members sound.net.rising)))
+    (sym (map-both (λ log. log.node) (map controller_log joint.controllers)
+    (map host_log joint.hosts) ∙ (λ i. one i ++ two i)))
+    (IsDistinct-IsPermutation eqb flips plant.net.members
+    (controller_nodes plant ++ host_nodes plant)
+    (IsPermutation-sym (controller_nodes plant ++ host_nodes plant) plant.net.members
+    sound.members) (rising-distinct plant.net.members sound.net.rising)))

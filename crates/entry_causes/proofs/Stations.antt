@@ -9,7 +9,8 @@ use Rattle.entry_causes.specs.InTime.{StationsHaveOneOrder}
 use Rattle.entry_causes.proofs.Counts.{both, none-caused}
 
 pub one-order : StationsHaveOneOrder
-one-order ring logs apart each = has-order maker note deed AreCaused no_notes no_deeds none-caused ring logs apart each
+one-order ring logs apart each =
+    has-order maker note deed AreCaused no_notes no_deeds none-caused ring logs apart each
 
 pub by-fronts : InTimeByFronts
 by-fronts list own = (
@@ -28,4 +29,8 @@ by-fronts list own = (
 )
 
 pub next-first : NextMayComeFirst
-next-first = record { station = noted-step note deed AreCaused both; ring = done-step note deed AreCaused both }
+next-first =
+    record {
+      station = noted-step note deed AreCaused both;
+      ring = done-step note deed AreCaused both;
+    }

@@ -1,13 +1,15 @@
 -- Two journals, worked by hand: a read of two registers is in time; two nodes that each answer the
 -- other before the scan in which they ask, each of whose requests is the other's cause, are not.
-use Rattle.std.proofs.Common.{◌≡◌, ℕ, ◌+◌, ◌≤◌, ◌&&◌, Bool, true, false, List, [], ◌∷◌, refl, arith}
+use Rattle.std.proofs.Common.{◌≡◌, ℕ, ◌+◌, ◌≤◌, ◌&&◌, Bool, true, false, List, [], ◌∷◌, refl}
+use Rattle.std.proofs.Common.{arith}
 use Rattle.std.proofs.Math.Dec.{leb}
 use Rattle.std.proofs.lemmas.Bool.{and_parts, leb-true}
 use Rattle.mstr_block.specs.declared.call.CallId.{CallId}
 use Rattle.mstr_block.specs.declared.call.MstrResult.TheVariants.{Good}
 use Rattle.controller_core.specs.declared.call.CallKind.TheVariants.{Net}
 use Rattle.controller_core.specs.declared.entry.Entry.{Entry}
-use Rattle.controller_core.specs.declared.entry.Entry.TheVariants.{Begin, Solve, End, Collect, Peer}
+use Rattle.controller_core.specs.declared.entry.Entry.TheVariants.{Begin, Solve, End, Collect}
+use Rattle.controller_core.specs.declared.entry.Entry.TheVariants.{Peer}
 use Rattle.controller_core.specs.declared.entry.Entry.TheVariants.{Finish}
 use Rattle.ring_core.specs.declared.frame.Frame.{Frame}
 use Rattle.ring_core.specs.declared.frame.FrameKind.TheVariants.{Request, Reply}
@@ -53,11 +55,15 @@ runs-test s d [] = true
 runs-test s d (AsNoted e ∷ w) = is-caused (note_entry s e) d && runs-test (note_entry s e) d w
 runs-test s d (AsDone r ∷ w) = is-caused s (deed d r) && runs-test s (deed d r) w
 
-runs-by : (s : Noted) (d : Done) (w : List (Merged Entry RingEntry)) → runs-test s d w ≡ true → Runs note_entry deed AreCaused s d w
+runs-by : (s : Noted) (d : Done) (w : List (Merged Entry RingEntry)) → runs-test s d w ≡ true
+    → Runs note_entry deed AreCaused s d w
 runs-by s d [] is = tt
 runs-by s d (AsNoted e ∷ w) is =
-    let p = and_parts (is-caused (note_entry s e) d) _ is in (caused-by (note_entry s e) d p.0, runs-by (note_entry s e) d w p.1)
-runs-by s d (AsDone r ∷ w) is = let p = and_parts (is-caused s (deed d r)) _ is in (caused-by s (deed d r) p.0, runs-by s (deed d r) w p.1)
+    let p = and_parts (is-caused (note_entry s e) d) _ is in
+    (caused-by (note_entry s e) d p.0, runs-by (note_entry s e) d w p.1)
+runs-by s d (AsDone r ∷ w) is =
+    let p = and_parts (is-caused s (deed d r)) _ is in
+    (caused-by s (deed d r) p.0, runs-by s (deed d r) w p.1)
 
 -- ---- a read of two registers: node 2 asks, node 5 answers
 abbrev id-of : ℕ → CallId
@@ -86,13 +92,16 @@ reader = Begin ∷ Solve 1 ∷ End ∷ asks 2 5 ∷ ends 2 ∷ Begin ∷ Solve 1
 
 abbrev reader-did : List RingEntry
 reader-did =
-    Post 2 (request 2 5) ∷ Send 2 Acked ∷ Pass 2 false [] ∷ Take 2 (reply 2) ∷ Pass 2 false [] ∷ Pass 2 true [] ∷ Leave 2 Ended ∷ []
+    Post 2 (request 2 5) ∷ Send 2 Acked ∷ Pass 2 false [] ∷ Take 2 (reply 2) ∷ Pass 2 false []
+    ∷ Pass 2 true [] ∷ Leave 2 Ended ∷ []
 
 reader-is-in-time : InTime reader reader-did
 reader-is-in-time =
     let w : List (Merged Entry RingEntry) =
-    AsNoted Begin ∷ AsNoted (Solve 1) ∷ AsNoted End ∷ AsNoted (asks 2 5) ∷ AsDone (Post 2 (request 2 5)) ∷ AsDone (Send 2 Acked) ∷ AsDone (Pass 2 false [])
-    ∷ AsDone (Take 2 (reply 2)) ∷ AsNoted (ends 2) ∷ AsDone (Pass 2 false []) ∷ AsNoted Begin ∷ AsNoted (Solve 1) ∷ AsNoted End ∷ AsDone (Pass 2 true [])
+    AsNoted Begin ∷ AsNoted (Solve 1) ∷ AsNoted End ∷ AsNoted (asks 2 5) ∷ AsDone
+    (Post 2 (request 2 5)) ∷ AsDone (Send 2 Acked) ∷ AsDone (Pass 2 false [])
+    ∷ AsDone (Take 2 (reply 2)) ∷ AsNoted (ends 2) ∷ AsDone (Pass 2 false []) ∷ AsNoted Begin
+    ∷ AsNoted (Solve 1) ∷ AsNoted End ∷ AsDone (Pass 2 true [])
     ∷ AsDone (Leave 2 Ended) ∷ [] in
     record { merge = w; noted = refl; done = refl; runs = runs-by no_notes no_deeds w refl }
 
@@ -101,13 +110,16 @@ target = Begin ∷ Solve 1 ∷ End ∷ Peer (id-of 2) reads tells ∷ Begin ∷ 
 
 abbrev target-did : List RingEntry
 target-did =
-    Take 5 (request 2 5) ∷ Post 5 (reply 2) ∷ Send 5 Acked ∷ Pass 5 false [] ∷ Pass 5 false [] ∷ Pass 5 true [] ∷ Leave 5 Ended ∷ []
+    Take 5 (request 2 5) ∷ Post 5 (reply 2) ∷ Send 5 Acked ∷ Pass 5 false [] ∷ Pass 5 false []
+    ∷ Pass 5 true [] ∷ Leave 5 Ended ∷ []
 
 target-is-in-time : InTime target target-did
 target-is-in-time =
     let w : List (Merged Entry RingEntry) =
-    AsNoted Begin ∷ AsNoted (Solve 1) ∷ AsNoted End ∷ AsDone (Take 5 (request 2 5)) ∷ AsNoted (Peer (id-of 2) reads tells) ∷ AsDone (Post 5 (reply 2))
-    ∷ AsDone (Send 5 Acked) ∷ AsDone (Pass 5 false []) ∷ AsNoted Begin ∷ AsNoted (Solve 1) ∷ AsNoted End ∷ AsDone (Pass 5 false []) ∷ AsDone (Pass 5 true [])
+    AsNoted Begin ∷ AsNoted (Solve 1) ∷ AsNoted End ∷ AsDone (Take 5 (request 2 5)) ∷ AsNoted
+    (Peer (id-of 2) reads tells) ∷ AsDone (Post 5 (reply 2))
+    ∷ AsDone (Send 5 Acked) ∷ AsDone (Pass 5 false []) ∷ AsNoted Begin ∷ AsNoted (Solve 1)
+    ∷ AsNoted End ∷ AsDone (Pass 5 false []) ∷ AsDone (Pass 5 true [])
     ∷ AsDone (Leave 5 Ended) ∷ [] in
     record { merge = w; noted = refl; done = refl; runs = runs-by no_notes no_deeds w refl }
 
@@ -117,9 +129,13 @@ abbrev crossed : List Entry
 crossed = Peer (id-of 2) reads tells ∷ Begin ∷ Solve 1 ∷ End ∷ asks 1 2 ∷ ends 1 ∷ []
 
 abbrev crossed-did : List RingEntry
-crossed-did = Post 1 (request 1 2) ∷ Send 1 Acked ∷ Pass 1 false [] ∷ Take 1 (request 2 1) ∷ Post 1 (reply 2) ∷ Take 1 (reply 1) ∷ []
+crossed-did =
+    Post 1 (request 1 2) ∷ Send 1 Acked ∷ Pass 1 false [] ∷ Take 1 (request 2 1) ∷ Post 1 (reply 2)
+    ∷ Take 1 (reply 1) ∷ []
 
 crossed-is-not : InTime crossed crossed-did → ⊥
 crossed-is-not =
-    neither-fits note_entry deed AreCaused both-of-entry no_notes no_deeds (Peer (id-of 2) reads tells) (Post 1 (request 1 2)) _ _
-    (λ f. let no' : 1 ≤ 0 = f.answers in absurd (omega (arith, no'))) (λ f. let no' : 1 ≤ 0 = f.posts in absurd (omega (arith, no')))
+    neither-fits note_entry deed AreCaused both-of-entry no_notes no_deeds
+    (Peer (id-of 2) reads tells) (Post 1 (request 1 2)) _ _
+    (λ f. let no' : 1 ≤ 0 = f.answers in absurd (omega (arith, no')))
+    (λ f. let no' : 1 ≤ 0 = f.posts in absurd (omega (arith, no')))

@@ -7,8 +7,8 @@ use Rattle.std.proofs.lemmas.List.Folds.{Any-from_list_any}
 use Rattle.turn_gate.specs.Known.{GateName, PassFacts, own, numbers, is_among, StartsWith, Owns}
 use Rattle.turn_gate.specs.Known.{NamesKept}
 use Rattle.gated_tape.specs.declared.tapes.Mark.{Mark}
-use Rattle.gated_tape.specs.Marks.{node_of, marks_up_to, IsLegal}
-use Rattle.gated_tape.specs.Crews.{count_down, IsWithin, HasGiven, IsGathered, IsGathering}
+use Rattle.gated_tape.specs.Marks.{node_of, marks_up_to, IsLegalTape}
+use Rattle.gated_tape.specs.Crews.{count_down, AreAmong, HasGiven, IsGathered, IsGathering}
 use Rattle.gated_tape.specs.Crews.{HasHeardFull, HasCountsOf, AreByWriters, AreWritten}
 use Rattle.gated_tape.proofs.Gathering.{all_cons, firsts}
 
@@ -28,7 +28,7 @@ module _ (gate : GateName Mark) (p : PassFacts Mark) (opening : gate.opening ≡
   all_made marks made is = is ∙ (ap (λ g. g.opening ++ made) gathered.gate_is ∙ ap (λ l. l ++ made) opening)
 
   -- a mark that names a number of pass 0, and not 0, names a writer
-  names_writer : (writers : ℕ) → IsWithin p.given (count_down writers) → (m : Mark) → is_among m.node (numbers p) ≡ true → eqb m.node 0 ≡ false
+  names_writer : (writers : ℕ) → AreAmong p.given (count_down writers) → (m : Mark) → is_among m.node (numbers p) ≡ true → eqb m.node 0 ≡ false
       → is_among m.node (count_down writers) ≡ true
   names_writer writers within m named other =
       let rest : Bool = is_among m.node (firsts p.joined) in
@@ -37,7 +37,7 @@ module _ (gate : GateName Mark) (p : PassFacts Mark) (opening : gate.opening ≡
       within m.node (ap (is_among m.node) gathered.given_is ∙ later)
 
   -- each mark names a writer, since pass 0 made none
-  pub by_writers : (writers : ℕ) (marks : List Mark) → IsWithin p.given (count_down writers) → NamesKept node_of p marks → Owns node_of p marks
+  pub by_writers : (writers : ℕ) (marks : List Mark) → AreAmong p.given (count_down writers) → NamesKept node_of p marks → Owns node_of p marks
       → AreByWriters writers marks
   by_writers writers marks within named owns k d low =
       let unwritten : own node_of 0 marks ≡ [] =
@@ -47,7 +47,7 @@ module _ (gate : GateName Mark) (p : PassFacts Mark) (opening : gate.opening ≡
       names_writer writers within (slice_index_or marks k d) (kept k d low) (none_names 0 marks unwritten k d low)
 
 -- where a pass that came back had seen a full tape, the closed tape is full
-pub heard_full : (limit : ℕ) (p : PassFacts Mark) (marks : List Mark) → All (StartsWith marks) p.heard → IsLegal limit marks → HasHeardFull limit p
+pub heard_full : (limit : ℕ) (p : PassFacts Mark) (marks : List Mark) → All (StartsWith marks) p.heard → IsLegalTape limit marks → HasHeardFull limit p
     → length marks ≡ limit
 heard_full limit p marks starts legal heard =
     let any = Any-from_list_any (λ s. length s == limit) p.heard heard in

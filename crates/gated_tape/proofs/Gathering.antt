@@ -15,7 +15,7 @@ use Rattle.gated_tape.specs.declared.refusals.PutNo.{PutNo}
 use Rattle.gated_tape.specs.declared.refusals.PutNo.TheVariants.{Full}
 use Rattle.gated_tape.specs.Marks.{node_of, count_of}
 use Rattle.gated_tape.specs.Sides.{Frame, SideFacts, gated_frame}
-use Rattle.gated_tape.specs.Workers.{Ended}
+use Rattle.gated_tape.specs.Workers.{WriterEnded}
 use Rattle.gated_tape.specs.Runs.{Card, card_of, HasEnded}
 use Rattle.gated_tape.specs.Crews.{GatedWriter, count_down, seen_of, cards_of, nodes_of, frame_at}
 use Rattle.gated_tape.specs.Crews.{no_refusal, first_refusal, IsAt, AreDealt, HasHeardFull}
@@ -195,7 +195,7 @@ popped one two count ended writers rest w p q is all_ended all_at gathering =
 -- where the writer's work ended with Full, one of its passes has seen a full tape
 pub full_at : {T : Type 0} (one two : GateFacts Mark ℕ) (count : ℕ) (e : Result T PutNo) (node : ℕ) (first second : SideFacts) (a b : PassFacts Mark)
     → gated_frame first ≡ frame_at one node → gated_frame second ≡ frame_at two node → a.seen ≡ first.seen → b.seen ≡ second.seen
-    → Ended node count e (gated_frame first) first.seen (gated_frame second) second.seen → e ≡ Err Full → (length a.seen ≡ one.fixed) ⊎
+    → WriterEnded node count e (gated_frame first) first.seen (gated_frame second) second.seen → e ≡ Err Full → (length a.seen ≡ one.fixed) ⊎
     (length b.seen ≡ two.fixed)
 full_at one two count e node first second a b at_one at_two seen_one seen_two ended is =
     ⊎_elim

@@ -2,13 +2,13 @@
 use Rattle.std.proofs.Common.{ℕ, Bool, List, ◌++◌, ap, ◌∙◌, append_assoc}
 use Rattle.gated_tape.specs.declared.tapes.Mark.{Mark}
 use Rattle.gated_tape.specs.Marks.{node_of}
-use Rattle.gated_tape.specs.Sides.{WentOn, Frame}
+use Rattle.gated_tape.specs.Sides.{GoesOnBy, Frame}
 use Rattle.gated_tape.specs.Workers.{Worked}
 use Rattle.gated_tape.proofs.Marking.{own-append}
 
 -- a list that went on twice went on by what was added together
 pub went-twice : {E : Type 0} (maker : E → ℕ) (n : ℕ) (alone : Bool) (before mid after one two : List E)
-    → WentOn alone maker n before one mid → WentOn alone maker n mid two after → WentOn alone maker n before (one ++ two) after
+    → GoesOnBy alone maker n before one mid → GoesOnBy alone maker n mid two after → GoesOnBy alone maker n before (one ++ two) after
 went-twice maker n alone before mid after one two p q = record {
   suffix = p.suffix ++ q.suffix;
   after_is = q.after_is ∙ (ap (λ l. l ++ q.suffix) p.after_is ∙ append_assoc before p.suffix q.suffix);

@@ -6,7 +6,7 @@ use Rattle.std.proofs.lemmas.List.{append-nil}
 use Rattle.std.proofs.lemmas.List.Elements.{filter-append}
 use Rattle.turn_gate.specs.Known.{own}
 use Rattle.gated_tape.specs.declared.tapes.Mark.{Mark}
-use Rattle.gated_tape.specs.Marks.{mark, node_of, added_on, count_of, marks_up_to, IsNext, IsLegal}
+use Rattle.gated_tape.specs.Marks.{mark, node_of, added_on, count_of, marks_up_to, IsNext, IsLegalTape}
 
 -- the own entries of two lists together
 pub own-append : {E : Type 0} (maker : E → ℕ) (n : ℕ) (xs ys : List E) → own maker n (xs ++ ys) ≡ own maker n xs ++ own maker n ys
@@ -19,13 +19,13 @@ all_added (Ok x) node word (suc k) d low = absurd (omega arith)
 all_added (Err x) node word k d low = absurd (omega arith)
 
 -- no mark is legal
-pub legal-nil : (limit : ℕ) → IsLegal limit []
+pub legal-nil : (limit : ℕ) → IsLegalTape limit []
 unfolding marks_up_to
 legal-nil limit = record { fits = omega arith; counts_up = λ node. refl }
 
 -- one mark more, whose word is the next
-pub legal-put : (limit node word : ℕ) (marks : List Mark) → length marks < limit → IsNext node word marks → IsLegal limit marks
-    → IsLegal limit (marks ++ mark node word ∷ [])
+pub legal-put : (limit node word : ℕ) (marks : List Mark) → length marks < limit → IsNext node word marks → IsLegalTape limit marks
+    → IsLegalTape limit (marks ++ mark node word ∷ [])
 unfolding marks_up_to
 legal-put limit node word marks low next legal = record {
   fits = let longer : length (marks ++ mark node word ∷ []) ≡ length marks + 1 = length-append marks (mark node word ∷ []) in omega arith;

@@ -59,13 +59,13 @@ first_refusal (Ok x) other = other
 first_refusal (Err x) other = Err x
 
 -- each number of the list stands in the other
-abbrev pub IsWithin : List ℕ → List ℕ → Type 0
-IsWithin numbers others = (n : ℕ) → is_among n numbers ≡ true → is_among n others ≡ true
+abbrev pub AreAmong : List ℕ → List ℕ → Type 0
+AreAmong numbers others = (n : ℕ) → is_among n numbers ≡ true → is_among n others ≡ true
 
 -- pass 0 gave numbers of writers alone, and where the work was done, those of all writers
 pub record HasGiven {T X : Type 0} (writers : ℕ) (ended : Result T X)
     (p : PassFacts Mark) : Type 0 where
-  pub within : IsWithin p.given (count_down writers)
+  pub within : AreAmong p.given (count_down writers)
   pub all : OnOk ended (p.given ≡ count_down writers)
 
 -- pass 0 of a gate, which made no entry and has all passes back that it gave

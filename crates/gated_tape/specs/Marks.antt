@@ -38,7 +38,7 @@ abbrev pub IsNext : ℕ → ℕ → List Mark → Type 0
 IsNext node word marks = count_of node marks ≡ word
 
 -- the marks are no more than the limit, and the words of each node count up from 0, in order
-pub record IsLegal (limit : ℕ) (marks : List Mark) : Type 0 where
+pub record IsLegalTape (limit : ℕ) (marks : List Mark) : Type 0 where
   pub fits : length marks ≤ limit
   pub counts_up : (node : ℕ) → own node_of node marks ≡ marks_up_to node (count_of node marks)
 

@@ -4,7 +4,7 @@ use Rattle.gated_tape.specs.declared.tapes.Mark.{Mark}
 use Rattle.gated_tape.specs.declared.runs.Writer.{Writer}
 use Rattle.gated_tape.specs.Marks.{count_of}
 use Rattle.gated_tape.specs.Sides.{Frame}
-use Rattle.gated_tape.specs.Workers.{Ended}
+use Rattle.gated_tape.specs.Workers.{WriterEnded}
 
 -- what a run leaves of a writer as it is: its node, and the frames of its sides
 pub record Card (P : Type 0) : Type 0 where
@@ -27,7 +27,7 @@ module _ {S P : Type 0} (frame : S → Frame P) (known : S → List Mark) where
   -- the writer knows how its work ended
   abbrev pub HasEnded : ℕ → Writer S → Type 0
   HasEnded count w =
-      Ended w.node count w.ended (frame w.one) (known w.one) (frame w.two) (known w.two)
+      WriterEnded w.node count w.ended (frame w.one) (known w.one) (frame w.two) (known w.two)
 
   -- each writer ran, and is as it was
   pub record RanEach (count : ℕ) (old new : List (Writer S)) : Type 0 where

@@ -5,7 +5,7 @@ use Rattle.gated_tape.specs.declared.tapes.Mark.{Mark}
 
 -- the list went on by a suffix, of which the entries that name n are the added ones; all of it
 -- where the side is alone
-pub record WentOn {E : Type 0} (alone : Bool) (maker : E → ℕ) (n : ℕ)
+pub record GoesOnBy {E : Type 0} (alone : Bool) (maker : E → ℕ) (n : ℕ)
     (before added after : List E) : Type 0 where
   pub suffix : List E
   pub after_is : after ≡ before ++ suffix
@@ -13,9 +13,9 @@ pub record WentOn {E : Type 0} (alone : Bool) (maker : E → ℕ) (n : ℕ)
   pub all_alone : alone ≡ true → suffix ≡ added
 
 -- a side may write in this node's name: it writes in anyone's, or in this one's
-abbrev pub Serves : Option ℕ → ℕ → Type 0
-Serves None node = Unit {0}
-Serves (Some n) node = n ≡ node
+abbrev pub MayWriteFor : Option ℕ → ℕ → Type 0
+MayWriteFor None node = Unit {0}
+MayWriteFor (Some n) node = n ≡ node
 
 -- what no call changes of a side: the limit of its tape, the one node in whose name it may write,
 -- or none where it writes for each, and where the tape is

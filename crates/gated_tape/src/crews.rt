@@ -6,7 +6,7 @@ ghost use Rattle.gated_tape.specs.declared.refusals.PutNo.TheVariants.{Full};
 ghost use Rattle.gated_tape.specs.Sides.{gated_frame};
 ghost use Rattle.gated_tape.specs.Runs.{HasEnded};
 ghost use Rattle.gated_tape.specs.Crews.{count_down, seen_of, cards_of, no_refusal, first_refusal};
-ghost use Rattle.gated_tape.specs.Crews.{IsAt, AreDealt, AreGathering, IsWithin, HasGiven};
+ghost use Rattle.gated_tape.specs.Crews.{IsAt, AreDealt, AreGathering, AreAmong, HasGiven};
 ghost use Rattle.gated_tape.specs.Crews.{IsGathered};
 ghost use Rattle.gated_tape.specs.Crews.{HasHeardFull, HasCountsOf, AreByWriters, AreWritten};
 ghost use Rattle.gated_tape.specs.Crews.{IsOneFull};
@@ -219,7 +219,7 @@ fn open(alloc: Global, limit: u64) -> Result<(Gate<TapeCell>, Pass<TapeCell>), A
 fn close_tape(gate: Gate<TapeCell>, pass: Pass<TapeCell>, crew: Crew) -> Tape
     requires opening { gate.name.opening ≡ [] }
     requires gathered { IsGathered gate.name pass }
-    requires within { IsWithin pass.given (count_down crew.writers) }
+    requires within { AreAmong pass.given (count_down crew.writers) }
     ensures limit { result.limit ≡ gate.fixed }
     ensures writers { AreByWriters crew.writers result.marks }
     ensures counts { HasCountsOf result.marks pass }

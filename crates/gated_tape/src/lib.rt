@@ -13,8 +13,6 @@ mod refusals;
 mod runs;
 mod sides;
 mod tapes;
-#[cfg(test)]
-mod tests;
 mod workers;
 
 pub use cells::TapeCell;

@@ -1,8 +1,8 @@
 //! What a worker needs of a tape.
 ghost use Rattle.std.specs.Prelude.{◌≡◌, ℕ, List, [], Bool, true, None};
-ghost use Rattle.gated_tape.specs.Marks.{node_of, mark, added_on, count_of, IsNext, IsLegal};
+ghost use Rattle.gated_tape.specs.Marks.{node_of, mark, added_on, count_of, IsNext, IsLegalTape};
 ghost use Rattle.gated_tape.specs.Marks.{TellsRoom};
-ghost use Rattle.gated_tape.specs.Sides.{WentOn, Serves};
+ghost use Rattle.gated_tape.specs.Sides.{GoesOnBy, MayWriteFor};
 
 use crate::refusals::PutNo;
 use crate::tapes::Tape;
@@ -27,20 +27,20 @@ pub trait Side {
 
     /// How many marks are the node's.
     fn count(&mut self, node: u32) -> u64
-        requires serves { Serves (frame self.old).writer node }
+        requires serves { MayWriteFor (frame self.old).writer node }
         ensures answer { result ≡ count_of node (known self.new) }
-        ensures went { WentOn alone node_of node (known self.old) [] (known self.new) }
-        ensures legal { IsLegal (frame self.new).limit (known self.new) }
+        ensures went { GoesOnBy alone node_of node (known self.old) [] (known self.new) }
+        ensures legal { IsLegalTape (frame self.new).limit (known self.new) }
         ensures same { frame self.new ≡ frame self.old };
 
     /// Puts a mark at the end, whose word is the number of the node's marks so far.
     fn put(&mut self, node: u32, word: u64) -> Result<(), PutNo>
-        requires serves { Serves (frame self.old).writer node }
+        requires serves { MayWriteFor (frame self.old).writer node }
         requires next { IsNext node word (known self.old) }
         ensures went { let added = added_on result (mark node word) in
-            WentOn alone node_of node (known self.old) added (known self.new) }
+            GoesOnBy alone node_of node (known self.old) added (known self.new) }
         ensures room { TellsRoom (frame self.new).limit result (known self.new) }
-        ensures legal { IsLegal (frame self.new).limit (known self.new) }
+        ensures legal { IsLegalTape (frame self.new).limit (known self.new) }
         ensures same { frame self.new ≡ frame self.old };
 }
 

@@ -1,6 +1,6 @@
 //! A tape by itself.
 ghost use Rattle.std.specs.Prelude.{◌≡◌, ◌++◌, []};
-ghost use Rattle.gated_tape.specs.Marks.{mark, added_on, count_of, IsNext, IsLegal, TellsRoom};
+ghost use Rattle.gated_tape.specs.Marks.{mark, added_on, count_of, IsNext, IsLegalTape, TellsRoom};
 
 use crate::refusals::PutNo;
 use std::alloc::{AllocError, Global};
@@ -22,13 +22,13 @@ pub struct Tape {
 }
 
 impl Model for Tape {
-    ghost use Rattle.gated_tape.specs.Marks.{TapeFacts, IsLegal};
+    ghost use Rattle.gated_tape.specs.Marks.{TapeFacts, IsLegalTape};
 
     ghost Value = { TapeFacts };
 
     ghost view = { λ t. record { limit = t.limit; marks = t.marks.items } };
 
-    ghost invariant = { λ t. IsLegal t.limit t.marks.items };
+    ghost invariant = { λ t. IsLegalTape t.limit t.marks.items };
 }
 
 impl Tape {
@@ -45,7 +45,7 @@ impl Tape {
     /// The marks, the oldest first.
     pub fn marks(&self) -> &[Mark]
         ensures marks { result.now ≡ self.now.marks }
-        ensures legal { IsLegal self.now.limit self.now.marks }
+        ensures legal { IsLegalTape self.now.limit self.now.marks }
     {
         self.marks.as_slice()
     }

@@ -11,9 +11,6 @@ ghost use Rattle.integer_ops.specs.Arithmetic.{add_effect, sub_effect, mul_effec
 
 use plant_types::{NodePower, Ref, RefStore, store_words};
 
-#[cfg(test)]
-mod tests;
-
 /// The largest number of four digits.
 const LARGEST: u16 = 9999;
 

@@ -1,7 +1,7 @@
 -- What a joint history is: legal lists of a plant's stations and of its ring, which keep the laws
 -- between them. This project's own.
 use Rattle.std.specs.Prelude.{◌≡◌, ℕ, List}
-use Rattle.std.specs.List.{All, AllZip}
+use Rattle.std.specs.List.{All, AllZip, zip}
 use Rattle.plant_types.specs.declared.net.HostPlan.{HostPlan}
 use Rattle.plant_types.specs.declared.plan.ControllerPlan.{ControllerPlan}
 use Rattle.plant_types.specs.declared.plan.Plant.{Plant}
@@ -32,6 +32,10 @@ pub record IsJoint (joint : Joint) : Type 0 where
   pub controllers : All (IsTiedController joint.ring) joint.controllers
   pub hosts : All (IsTiedHost joint.ring) joint.hosts
 
+-- The most scans that a run has.
+abbrev pub most_scans : ℕ
+most_scans = 2000
+
 -- A controller's plan, with what the plant says beside it, for so many scans.
 abbrev pub fixed_of : Plant → ℕ → ControllerPlan → Fixed
 fixed_of plant scans plan = record {
@@ -40,6 +44,10 @@ fixed_of plant scans plan = record {
   watchdog = plant.watchdog;
   scans = scans;
 }
+
+-- Each controller of a plant with its log, in rising address.
+abbrev pub logged : Plant → Joint → List (ControllerPlan × ControllerLog)
+logged plant joint = zip plant.controllers joint.controllers
 
 -- The list of a controller is a legal one of its plan.
 abbrev pub IsLegalLog : Plant → ℕ → ControllerPlan → ControllerLog → Type 0

@@ -3,3 +3,4 @@ pub mod JointLaws
 pub mod Complete
 pub mod Effects
 pub mod Runnable
+pub mod Noted

@@ -2,5 +2,7 @@
 #![tactic(auto)]
 
 mod joint;
+mod noted;
 
 pub use joint::{ControllerLog, HostLog, Joint};
+pub use noted::Noted;

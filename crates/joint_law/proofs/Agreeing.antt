@@ -26,7 +26,8 @@ use Rattle.joint_history.specs.declared.joint.HostLog.{HostLog}
 use Rattle.joint_history.specs.declared.joint.Joint.{Joint}
 use Rattle.joint_history.specs.Complete.{IsComplete}
 use Rattle.joint_history.specs.JointLaws.{IsJoint, IsLegalHostLog, IsLegalLog, fixed_of}
-use Rattle.joint_law.specs.Bound.{Bound, Breaks, Keeps, bounds_of, controller_bound, host_bound}
+use Rattle.joint_law.specs.Bound.{Bound, BreaksLaw, KeepsLaw, bounds_of, controller_bound}
+use Rattle.joint_law.specs.Bound.{host_bound}
 use Rattle.joint_law.specs.Bound.{number_of}
 use Rattle.joint_law.specs.Differing.{BreaksAt, DifferAt}
 use Rattle.joint_law.specs.Spots.{AreLegalHostLogs, AreLegalLogs, ControllerSpot, HasSections}
@@ -44,27 +45,38 @@ use Rattle.joint_law.proofs.Verdicts.{legal-sections, no-break, ring-front, some
 
 -- ---- places
 
-differ-less : {A : Type 0} (xs ys : List A) (p q : ℕ) → p < q → DifferAt xs ys p → DifferAt xs ys q → ⊥
+differ-less : {A : Type 0} (xs ys : List A) (p q : ℕ) → p < q → DifferAt xs ys p → DifferAt xs ys q
+    → ⊥
 differ-less xs ys p q less d e =
-    d.here (sym (take-take p (q - 1) xs (omega arith)) ∙ (ap (take p) e.before ∙ take-take p (q - 1) ys (omega arith)))
+    d.here (sym (take-take p (q - 1) xs (omega arith))
+    ∙ (ap (take p) e.before ∙ take-take p (q - 1) ys (omega arith)))
 
-pub differ-once : {A : Type 0} (xs ys : List A) (p q : ℕ) → DifferAt xs ys p → DifferAt xs ys q → p ≡ q
+pub differ-once : {A : Type 0} (xs ys : List A) (p q : ℕ) → DifferAt xs ys p → DifferAt xs ys q
+    → p ≡ q
 differ-once xs ys p q d e =
     ⊎_elim (λ (same : p ≡ q). same)
-    (λ (apart : p ≢ q). absurd (⊎_elim (λ (l : p < q). differ-less xs ys p q l d e) (λ (l : q ≤ p). differ-less xs ys q p (omega arith) e d) (cases_lt p q)))
+    (λ (apart : p ≢ q). absurd (⊎_elim (λ (l : p < q). differ-less xs ys p q l d e)
+    (λ (l : q ≤ p). differ-less xs ys q p (omega arith) e d) (cases_lt p q)))
     (cases_eq p q)
 
-break-less : {E : Type 0} (Good : List E → Type 0) → ((front rest : List E) → Good (front ++ rest) → Good front) → (entries : List E) (p q : ℕ) → p < q → BreaksAt Good entries p → BreaksAt Good entries q → ⊥
+break-less : {E : Type 0} (Good : List E → Type 0)
+    → ((front rest : List E) → Good (front ++ rest) → Good front) → (entries : List E) (p q : ℕ)
+    → p < q → BreaksAt Good entries p → BreaksAt Good entries q → ⊥
 break-less Good fronts entries p q less d e =
-    d.here (subst Good (take-take p (q - 1) entries (omega arith)) (fronts (take p (take (q - 1) entries)) (drop p (take (q - 1) entries)) (subst Good (sym (take-append-drop p (take (q - 1) entries))) e.before)))
+    d.here (subst Good (take-take p (q - 1) entries (omega arith))
+    (fronts (take p (take (q - 1) entries)) (drop p (take (q - 1) entries))
+    (subst Good (sym (take-append-drop p (take (q - 1) entries))) e.before)))
 
-break-once : {E : Type 0} (Good : List E → Type 0) → ((front rest : List E) → Good (front ++ rest) → Good front) → (entries : List E) (p q : ℕ) → BreaksAt Good entries p → BreaksAt Good entries q → p ≡ q
+break-once : {E : Type 0} (Good : List E → Type 0)
+    → ((front rest : List E) → Good (front ++ rest) → Good front) → (entries : List E) (p q : ℕ)
+    → BreaksAt Good entries p → BreaksAt Good entries q → p ≡ q
 break-once Good fronts entries p q d e =
     ⊎_elim (λ (same : p ≡ q). same)
-    (λ (apart : p ≢ q). absurd (⊎_elim (λ (l : p < q). break-less Good fronts entries p q l d e) (λ (l : q ≤ p). break-less Good fronts entries q p (omega arith) e d) (cases_lt p q)))
+    (λ (apart : p ≢ q). absurd (⊎_elim (λ (l : p < q). break-less Good fronts entries p q l d e)
+    (λ (l : q ≤ p). break-less Good fronts entries q p (omega arith) e d) (cases_lt p q)))
     (cases_eq p q)
 
-law-once : (law : Law) (s : Bound) (p q : ℕ) → Breaks law s p → Breaks law s q → p ≡ q
+law-once : (law : Law) (s : Bound) (p q : ℕ) → BreaksLaw law s p → BreaksLaw law s q → p ≡ q
 law-once Asks s p q d e = differ-once _ _ p q d e
 law-once Answers s p q d e = differ-once _ _ p q d e
 law-once Replies s p q d e = differ-once _ _ p q d e
@@ -73,17 +85,24 @@ law-once Ends s p q d e = differ-once _ _ p q d e
 -- ---- addresses
 
 flips : (x y : ℕ) → eqb x y ≡ eqb y x
-flips x y = ⊎_elim (λ (same : x ≡ y). eq-eqb x y same ∙ sym (eq-eqb y x (sym same))) (λ (apart : x ≢ y). ne_eqb x y apart ∙ sym (ne_eqb y x (λ e. apart (sym e)))) (cases_eq x y)
+flips x y =
+    ⊎_elim (λ (same : x ≡ y). eq-eqb x y same ∙ sym (eq-eqb y x (sym same)))
+    (λ (apart : x ≢ y). ne_eqb x y apart ∙ sym (ne_eqb y x (λ e. apart (sym e)))) (cases_eq x y)
 
 rising-distinct : (xs : List ℕ) → IsStrictlyIncreasing xs → IsDistinct eqb xs
-rising-distinct xs rising = IsDistinct-from_apart eqb xs (λ i j d less low. let l = AllPairs-from_increasing xs rising i j d less low in ne_eqb (get_or xs i d) (get_or xs j d) (omega (arith, l)))
+rising-distinct xs rising =
+    IsDistinct-from_apart eqb xs (λ i j d less low. let l = AllPairs-from_increasing xs rising i j
+    d less low in ne_eqb (get_or xs i d) (get_or xs j d) (omega (arith, l)))
 
-same-place : (xs : List ℕ) → IsDistinct eqb xs → (i j d : ℕ) → i < length xs → j < length xs → get_or xs i d ≡ get_or xs j d → i ≡ j
+same-place : (xs : List ℕ) → IsDistinct eqb xs → (i j d : ℕ) → i < length xs → j < length xs
+    → get_or xs i d ≡ get_or xs j d → i ≡ j
 same-place xs distinct i j d low-i low-j same =
     ⊎_elim (λ (e : i ≡ j). e)
     (λ (apart : i ≢ j). absurd (⊎_elim
-    (λ (l : i < j). clash (eq-eqb (get_or xs i d) (get_or xs j d) same) (apart_from_distinct eqb xs i j d distinct l low-j))
-    (λ (l : j ≤ i). clash (eq-eqb (get_or xs j d) (get_or xs i d) (sym same)) (apart_from_distinct eqb xs j i d distinct (omega arith) low-i))
+    (λ (l : i < j). clash (eq-eqb (get_or xs i d) (get_or xs j d) same)
+    (apart_from_distinct eqb xs i j d distinct l low-j))
+    (λ (l : j ≤ i). clash (eq-eqb (get_or xs j d) (get_or xs i d) (sym same))
+    (apart_from_distinct eqb xs j i d distinct (omega arith) low-i))
     (cases_lt i j)))
     (cases_eq i j)
   where
@@ -91,9 +110,12 @@ same-place xs distinct i j d low-i low-j same =
     clash is no' = let e : true ≡ false = sym is ∙ no' in absurd cc
 
 -- the first of some stations that fails is one, and it fails at one place
-unique : {Z : Type 0} (node : Z → ℕ) (zs : List Z) → IsDistinct eqb (map node zs) → (Good : Z → Type 0) (Fails : Z → ℕ → Type 0) → ((z : Z) (e : ℕ) → Good z → Fails z e → ⊥)
+unique : {Z : Type 0} (node : Z → ℕ) (zs : List Z) → IsDistinct eqb (map node zs)
+    → (Good : Z → Type 0) (Fails : Z → ℕ → Type 0) → ((z : Z) (e : ℕ) → Good z → Fails z e → ⊥)
     → ((z : Z) (e f : ℕ) → Fails z e → Fails z f → e ≡ f) → (n e m f : ℕ)
-    → All (λ z. node z < n → Good z) zs → Any (λ z. (node z ≡ n) × Fails z e) zs → All (λ z. node z < m → Good z) zs → Any (λ z. (node z ≡ m) × Fails z f) zs → (n ≡ m) × (e ≡ f)
+    → All (λ z. node z < n → Good z) zs → Any (λ z. (node z ≡ n) × Fails z e) zs
+    → All (λ z. node z < m → Good z) zs → Any (λ z. (node z ≡ m) × Fails z f) zs
+    → (n ≡ m) × (e ≡ f)
 unique {Z} node zs distinct Good Fails never once n e m f before a before' b =
     ⊎_elim (λ (same : n ≡ m). (same, at same))
     (λ (apart : n ≢ m). absurd (⊎_elim
@@ -102,7 +124,8 @@ unique {Z} node zs distinct Good Fails never once n e m f before a before' b =
     (cases_lt n m)))
     (cases_eq n m)
   where
-    good : {k : ℕ} {X : Z → Type 0} → All (λ z. node z < k → Good z) zs → (x : Any X zs) → node x.1 < k → Good x.1
+    good : {k : ℕ} {X : Z → Type 0} → All (λ z. node z < k → Good z) zs → (x : Any X zs)
+        → node x.1 < k → Good x.1
     good {k} before x less = subst (λ (z : Z). node z < k → Good z) x.3 (before x.0 x.1 x.2) less
 
     at : n ≡ m → e ≡ f
@@ -111,33 +134,49 @@ unique {Z} node zs distinct Good Fails never once n e m f before a before' b =
         let low-a = a.2 in
         let low-b = b.2 in
         let at-a = get_or-map node zs a.0 a.1 ∙ ap node a.3 in
-        let at-b = get_or_default (map node zs) b.0 (node a.1) (node b.1) (omega (arith, size, low-b)) ∙ (get_or-map node zs b.0 b.1 ∙ ap node b.3) in
-        let place = same-place (map node zs) distinct a.0 b.0 (node a.1) (omega (arith, size, low-a)) (omega (arith, size, low-b)) (at-a ∙ (a.4.0 ∙ (same ∙ (sym b.4.0 ∙ sym at-b)))) in
-        let item : a.1 ≡ b.1 = sym a.3 ∙ (ap (λ (k : ℕ). get_or zs k a.1) place ∙ (get_or_default zs b.0 a.1 b.1 low-b ∙ b.3)) in
+        let at-b = get_or_default (map node zs) b.0 (node a.1) (node b.1)
+        (omega (arith, size, low-b)) ∙ (get_or-map node zs b.0 b.1 ∙ ap node b.3) in
+        let place = same-place (map node zs) distinct a.0 b.0 (node a.1)
+        (omega (arith, size, low-a)) (omega (arith, size, low-b))
+        (at-a ∙ (a.4.0 ∙ (same ∙ (sym b.4.0 ∙ sym at-b)))) in
+        let item : a.1 ≡ b.1 = sym a.3
+        ∙ (ap (λ (k : ℕ). get_or zs k a.1) place
+        ∙ (get_or_default zs b.0 a.1 b.1 low-b ∙ b.3)) in
         once b.1 e f (subst (λ (z : Z). Fails z e) item a.4.1) b.4.1
 
-zip-nodes : {P L : Type 0} (node : L → ℕ) (plans : List P) (logs : List L) → length logs ≡ length plans → map (λ (of : P × L). node of.1) (zip plans logs) ≡ map node logs
+zip-nodes : {P L : Type 0} (node : L → ℕ) (plans : List P) (logs : List L)
+    → length logs ≡ length plans → map (λ (of : P × L). node of.1) (zip plans logs) ≡ map node logs
 zip-nodes node [] [] size = refl
 zip-nodes node [] (g ∷ gs) size = absurd (omega (arith, size))
 zip-nodes node (p ∷ ps) [] size = absurd (omega (arith, size))
-zip-nodes node (p ∷ ps) (g ∷ gs) size = ap (λ (l : List ℕ). node g ∷ l) (zip-nodes node ps gs (omega (arith, size)))
+zip-nodes node (p ∷ ps) (g ∷ gs) size =
+    ap (λ (l : List ℕ). node g ∷ l) (zip-nodes node ps gs (omega (arith, size)))
 
-bound-nodes : (ring : List RingEntry) (logs : List ControllerLog) → map (λ (s : Bound). s.node) (map (controller_bound ring) logs) ≡ map (λ (g : ControllerLog). g.node) logs
+bound-nodes : (ring : List RingEntry) (logs : List ControllerLog)
+    → map (λ (s : Bound). s.node) (map (controller_bound ring) logs)
+    ≡ map (λ (g : ControllerLog). g.node) logs
 bound-nodes ring [] = refl
 bound-nodes ring (g ∷ gs) = ap (λ (l : List ℕ). g.node ∷ l) (bound-nodes ring gs)
 
-host-bound-nodes : (ring : List RingEntry) (logs : List HostLog) → map (λ (s : Bound). s.node) (map (host_bound ring) logs) ≡ map (λ (g : HostLog). g.node) logs
+host-bound-nodes : (ring : List RingEntry) (logs : List HostLog)
+    → map (λ (s : Bound). s.node) (map (host_bound ring) logs) ≡ map (λ (g : HostLog). g.node) logs
 host-bound-nodes ring [] = refl
 host-bound-nodes ring (g ∷ gs) = ap (λ (l : List ℕ). g.node ∷ l) (host-bound-nodes ring gs)
 
-bounds-distinct : (plant : Plant) (joint : Joint) → IsPlant plant → HasSections plant joint → IsDistinct eqb (map (λ (s : Bound). s.node) (bounds_of joint))
+bounds-distinct : (plant : Plant) (joint : Joint) → IsPlant plant → HasSections plant joint
+    → IsDistinct eqb (map (λ (s : Bound). s.node) (bounds_of joint))
 bounds-distinct plant joint sound sections =
-    let nodes : map (λ (s : Bound). s.node) (bounds_of joint) ≡ controller_nodes plant ++ host_nodes plant =
-    map-append (λ (s : Bound). s.node) (map (controller_bound joint.ring) joint.controllers) (map (host_bound joint.ring) joint.hosts)
-    ∙ (λ i. (bound-nodes joint.ring joint.controllers ∙ sections.controllers) i ++ (host-bound-nodes joint.ring joint.hosts ∙ sections.hosts) i) in
+    let nodes : map (λ (s : Bound). s.node) (bounds_of joint) ≡ controller_nodes plant
+    ++ host_nodes plant =
+    map-append (λ (s : Bound). s.node) (map (controller_bound joint.ring) joint.controllers)
+    (map (host_bound joint.ring) joint.hosts)
+    ∙ (λ i. (bound-nodes joint.ring joint.controllers ∙ sections.controllers) i
+    ++ (host-bound-nodes joint.ring joint.hosts ∙ sections.hosts) i) in
     subst (IsDistinct eqb) (sym nodes)
-    (IsDistinct-IsPermutation eqb flips plant.net.members (controller_nodes plant ++ host_nodes plant)
-    (IsPermutation-sym (controller_nodes plant ++ host_nodes plant) plant.net.members sound.members) (rising-distinct plant.net.members sound.net.rising))
+    (IsDistinct-IsPermutation eqb flips plant.net.members
+    (controller_nodes plant ++ host_nodes plant)
+    (IsPermutation-sym (controller_nodes plant ++ host_nodes plant) plant.net.members
+    sound.members) (rising-distinct plant.net.members sound.net.rising))
 
 -- ---- how far a joint history is in order
 
@@ -153,16 +192,22 @@ abbrev level : Verdict → ℕ
 level Legal = 7
 level (Illegal spot) = level_of spot
 
-sections-from : (plant : Plant) (scans : ℕ) (joint : Joint) (v : Verdict) → IsVerdict plant scans joint v → 1 < level v → HasSections plant joint
-sections-from plant scans joint Legal v more = legal-sections plant scans joint v.legal.controllers v.legal.hosts
+sections-from : (plant : Plant) (scans : ℕ) (joint : Joint) (v : Verdict)
+    → IsVerdict plant scans joint v → 1 < level v → HasSections plant joint
+sections-from plant scans joint Legal v more =
+    legal-sections plant scans joint v.legal.controllers v.legal.hosts
 sections-from plant scans joint (Illegal spots.Sections) v more = absurd (omega arith)
 sections-from plant scans joint (Illegal (spots.Controller node entry)) v more = v.sections
 sections-from plant scans joint (Illegal (spots.Host node entry)) v more = v.sections
-sections-from plant scans joint (Illegal (spots.Ring entry)) v more = legal-sections plant scans joint v.controllers v.hosts
-sections-from plant scans joint (Illegal (spots.Law law node place)) v more = legal-sections plant scans joint v.2.legal.controllers v.2.legal.hosts
-sections-from plant scans joint (Illegal (spots.Incomplete node)) v more = legal-sections plant scans joint v.legal.controllers v.legal.hosts
+sections-from plant scans joint (Illegal (spots.Ring entry)) v more =
+    legal-sections plant scans joint v.controllers v.hosts
+sections-from plant scans joint (Illegal (spots.Law law node place)) v more =
+    legal-sections plant scans joint v.2.legal.controllers v.2.legal.hosts
+sections-from plant scans joint (Illegal (spots.Incomplete node)) v more =
+    legal-sections plant scans joint v.legal.controllers v.legal.hosts
 
-logs-from : (plant : Plant) (scans : ℕ) (joint : Joint) (v : Verdict) → IsVerdict plant scans joint v → 2 < level v → AreLegalLogs plant scans joint
+logs-from : (plant : Plant) (scans : ℕ) (joint : Joint) (v : Verdict)
+    → IsVerdict plant scans joint v → 2 < level v → AreLegalLogs plant scans joint
 logs-from plant scans joint Legal v more = v.legal.controllers
 logs-from plant scans joint (Illegal spots.Sections) v more = absurd (omega arith)
 logs-from plant scans joint (Illegal (spots.Controller node entry)) v more = absurd (omega arith)
@@ -171,7 +216,8 @@ logs-from plant scans joint (Illegal (spots.Ring entry)) v more = v.controllers
 logs-from plant scans joint (Illegal (spots.Law law node place)) v more = v.2.legal.controllers
 logs-from plant scans joint (Illegal (spots.Incomplete node)) v more = v.legal.controllers
 
-hosts-from : (plant : Plant) (scans : ℕ) (joint : Joint) (v : Verdict) → IsVerdict plant scans joint v → 3 < level v → AreLegalHostLogs plant joint
+hosts-from : (plant : Plant) (scans : ℕ) (joint : Joint) (v : Verdict)
+    → IsVerdict plant scans joint v → 3 < level v → AreLegalHostLogs plant joint
 hosts-from plant scans joint Legal v more = v.legal.hosts
 hosts-from plant scans joint (Illegal spots.Sections) v more = absurd (omega arith)
 hosts-from plant scans joint (Illegal (spots.Controller node entry)) v more = absurd (omega arith)
@@ -180,7 +226,8 @@ hosts-from plant scans joint (Illegal (spots.Ring entry)) v more = v.hosts
 hosts-from plant scans joint (Illegal (spots.Law law node place)) v more = v.2.legal.hosts
 hosts-from plant scans joint (Illegal (spots.Incomplete node)) v more = v.legal.hosts
 
-ring-from : (plant : Plant) (scans : ℕ) (joint : Joint) (v : Verdict) → IsVerdict plant scans joint v → 4 < level v → IsLegalRing plant.net joint.ring
+ring-from : (plant : Plant) (scans : ℕ) (joint : Joint) (v : Verdict)
+    → IsVerdict plant scans joint v → 4 < level v → IsLegalRing plant.net joint.ring
 ring-from plant scans joint Legal v more = v.legal.ring
 ring-from plant scans joint (Illegal spots.Sections) v more = absurd (omega arith)
 ring-from plant scans joint (Illegal (spots.Controller node entry)) v more = absurd (omega arith)
@@ -189,7 +236,8 @@ ring-from plant scans joint (Illegal (spots.Ring entry)) v more = absurd (omega 
 ring-from plant scans joint (Illegal (spots.Law law node place)) v more = v.2.legal.ring
 ring-from plant scans joint (Illegal (spots.Incomplete node)) v more = v.legal.ring
 
-joint-from : (plant : Plant) (scans : ℕ) (joint : Joint) (v : Verdict) → IsVerdict plant scans joint v → 5 < level v → IsJoint joint
+joint-from : (plant : Plant) (scans : ℕ) (joint : Joint) (v : Verdict)
+    → IsVerdict plant scans joint v → 5 < level v → IsJoint joint
 joint-from plant scans joint Legal v more = v.tied
 joint-from plant scans joint (Illegal spots.Sections) v more = absurd (omega arith)
 joint-from plant scans joint (Illegal (spots.Controller node entry)) v more = absurd (omega arith)
@@ -198,32 +246,48 @@ joint-from plant scans joint (Illegal (spots.Ring entry)) v more = absurd (omega
 joint-from plant scans joint (Illegal (spots.Law law node place)) v more = absurd (omega arith)
 joint-from plant scans joint (Illegal (spots.Incomplete node)) v more = v.tied
 
-complete-from : (plant : Plant) (scans : ℕ) (joint : Joint) (v : Verdict) → IsVerdict plant scans joint v → 6 < level v → IsComplete plant scans joint
+complete-from : (plant : Plant) (scans : ℕ) (joint : Joint) (v : Verdict)
+    → IsVerdict plant scans joint v → 6 < level v → IsComplete plant scans joint
 complete-from plant scans joint Legal v more = v.complete
 complete-from plant scans joint (Illegal spots.Sections) v more = absurd (omega arith)
-complete-from plant scans joint (Illegal (spots.Controller node entry)) v more = absurd (omega arith)
+complete-from plant scans joint (Illegal (spots.Controller node entry)) v more =
+    absurd (omega arith)
 complete-from plant scans joint (Illegal (spots.Host node entry)) v more = absurd (omega arith)
 complete-from plant scans joint (Illegal (spots.Ring entry)) v more = absurd (omega arith)
 complete-from plant scans joint (Illegal (spots.Law law node place)) v more = absurd (omega arith)
 complete-from plant scans joint (Illegal (spots.Incomplete node)) v more = absurd (omega arith)
 
 -- a spot fails what all later verdicts have
-later : FrontsAreLegal → (plant : Plant) (scans : ℕ) (joint : Joint) (spot : Spot) (w : Verdict) → IsSpot plant scans joint spot → IsVerdict plant scans joint w → level_of spot < level w → ⊥
-later fronts plant scans joint spots.Sections w v is less = v (sections-from plant scans joint w is less)
+later : FrontsAreLegal → (plant : Plant) (scans : ℕ) (joint : Joint) (spot : Spot) (w : Verdict)
+    → IsSpot plant scans joint spot → IsVerdict plant scans joint w → level_of spot < level w → ⊥
+later fronts plant scans joint spots.Sections w v is less =
+    v (sections-from plant scans joint w is less)
 later fronts plant scans joint (spots.Controller node entry) w v is less =
-    let size = same-size (λ (p : ControllerPlan). p.node) (λ (g : ControllerLog). g.node) plant.controllers joint.controllers v.sections.controllers in
-    let pair = some-pair (IsLegalLog plant scans) _ plant.controllers joint.controllers size (logs-from plant scans joint w is less) v.here in
-    no-break (IsLegal (fixed_of plant scans pair.0.0)) (fronts (fixed_of plant scans pair.0.0)) pair.0.1.entries entry pair.1.1 pair.2.1
+    let size = same-size (λ (p : ControllerPlan). p.node) (λ (g : ControllerLog). g.node)
+    plant.controllers joint.controllers v.sections.controllers in
+    let pair = some-pair (IsLegalLog plant scans) _ plant.controllers joint.controllers size
+    (logs-from plant scans joint w is less) v.here in
+    no-break (IsLegal (fixed_of plant scans pair.0.0)) (fronts (fixed_of plant scans pair.0.0))
+    pair.0.1.entries entry pair.1.1 pair.2.1
 later fronts plant scans joint (spots.Host node entry) w v is less =
-    let size = same-size (λ (p : HostPlan). p.node) (λ (g : HostLog). g.node) plant.hosts joint.hosts v.sections.hosts in
-    let pair = some-pair IsLegalHostLog _ plant.hosts joint.hosts size (hosts-from plant scans joint w is less) v.here in
-    no-break (IsHostHistory pair.0.0) (host-front pair.0.0) pair.0.1.entries entry pair.1.1 pair.2.1
-later fronts plant scans joint (spots.Ring entry) w v is less = no-break (IsLegalRing plant.net) (ring-front plant.net []) joint.ring entry (ring-from plant scans joint w is less) v.here
+    let size = same-size (λ (p : HostPlan). p.node) (λ (g : HostLog). g.node) plant.hosts
+    joint.hosts v.sections.hosts in
+    let pair = some-pair IsLegalHostLog _ plant.hosts joint.hosts size
+    (hosts-from plant scans joint w is less) v.here in
+    no-break (IsHostHistory pair.0.0) (host-front pair.0.0) pair.0.1.entries entry pair.1.1
+    pair.2.1
+later fronts plant scans joint (spots.Ring entry) w v is less =
+    no-break (IsLegalRing plant.net) (ring-front plant.net []) joint.ring entry
+    (ring-from plant scans joint w is less) v.here
 later fronts plant scans joint (spots.Law number node place) w v is less =
     let any = v.2.here in
-    kept-unbroken v.0 any.1 place (subst (Keeps v.0) any.3 (joint-keeps joint v.0 (joint-from plant scans joint w is less) any.0 any.1 any.2)) any.4.1
+    kept-unbroken v.0 any.1 place
+    (subst (KeepsLaw v.0) any.3 (joint-keeps joint v.0 (joint-from plant scans joint w is less)
+    any.0 any.1 any.2)) any.4.1
 later fronts plant scans joint (spots.Incomplete node) w v is less =
-    v.here (complete-at plant scans joint node (legal-sections plant scans joint v.legal.controllers v.legal.hosts) (complete-from plant scans joint w is less))
+    v.here (complete-at plant scans joint node
+    (legal-sections plant scans joint v.legal.controllers v.legal.hosts)
+    (complete-from plant scans joint w is less))
 
 -- ---- spots of one sort
 
@@ -245,59 +309,98 @@ same-law Ends Asks e = absurd (omega arith)
 same-law Ends Answers e = absurd (omega arith)
 same-law Ends Replies e = absurd (omega arith)
 
-broken-law : (plant : Plant) (scans : ℕ) (joint : Joint) (law other : Law) (n e m f : ℕ) → LawSpot plant scans joint law n e → LawSpot plant scans joint other m f → number_of law < number_of other → ⊥
+broken-law : (plant : Plant) (scans : ℕ) (joint : Joint) (law other : Law) (n e m f : ℕ)
+    → LawSpot plant scans joint law n e → LawSpot plant scans joint other m f
+    → number_of law < number_of other → ⊥
 broken-law plant scans joint law other n e m f a b less =
     let any = a.here in
-    kept-unbroken law any.1 e (subst (Keeps law) any.3 (b.laws law less any.0 any.1 any.2)) any.4.1
+    kept-unbroken law any.1 e (subst (KeepsLaw law) any.3 (b.laws law less any.0 any.1 any.2))
+    any.4.1
 
-one-law : (plant : Plant) (scans : ℕ) (joint : Joint) (law other : Law) (n e m f : ℕ) → LawSpot plant scans joint law n e → LawSpot plant scans joint other m f → number_of law ≡ number_of other
+one-law : (plant : Plant) (scans : ℕ) (joint : Joint) (law other : Law) (n e m f : ℕ)
+    → LawSpot plant scans joint law n e → LawSpot plant scans joint other m f
+    → number_of law ≡ number_of other
 one-law plant scans joint law other n e m f a b =
     ⊎_elim (λ (same : number_of law ≡ number_of other). same)
     (λ (apart : number_of law ≢ number_of other). absurd (⊎_elim
     (λ (l : number_of law < number_of other). broken-law plant scans joint law other n e m f a b l)
-    (λ (l : number_of other ≤ number_of law). broken-law plant scans joint other law m f n e b a (omega arith))
+    (λ (l : number_of other ≤ number_of law). broken-law plant scans joint other law m f n e b a
+    (omega arith))
     (cases_lt (number_of law) (number_of other))))
     (cases_eq (number_of law) (number_of other))
 
-law-spots : (plant : Plant) (scans : ℕ) (joint : Joint) (law : Law) (n e m f : ℕ) → IsPlant plant → LawSpot plant scans joint law n e → LawSpot plant scans joint law m f → (n ≡ m) × (e ≡ f)
+law-spots : (plant : Plant) (scans : ℕ) (joint : Joint) (law : Law) (n e m f : ℕ) → IsPlant plant
+    → LawSpot plant scans joint law n e → LawSpot plant scans joint law m f → (n ≡ m) × (e ≡ f)
 law-spots plant scans joint law n e m f sound a b =
-    unique (λ (s : Bound). s.node) (bounds_of joint) (bounds-distinct plant joint sound (legal-sections plant scans joint a.legal.controllers a.legal.hosts)) (Keeps law) (Breaks law)
-    (λ s p. kept-unbroken law s p) (λ s p q. law-once law s p q) n e m f a.earlier a.here b.earlier b.here
+    unique (λ (s : Bound). s.node) (bounds_of joint)
+    (bounds-distinct plant joint sound
+    (legal-sections plant scans joint a.legal.controllers a.legal.hosts)) (KeepsLaw law)
+    (BreaksLaw law)
+    (λ s p. kept-unbroken law s p) (λ s p q. law-once law s p q) n e m f a.earlier a.here b.earlier
+    b.here
 
-controller-spots : FrontsAreLegal → (plant : Plant) (scans : ℕ) (joint : Joint) (n e m f : ℕ) → IsPlant plant → ControllerSpot plant scans joint n e → ControllerSpot plant scans joint m f → (n ≡ m) × (e ≡ f)
+controller-spots : FrontsAreLegal → (plant : Plant) (scans : ℕ) (joint : Joint) (n e m f : ℕ)
+    → IsPlant plant → ControllerSpot plant scans joint n e → ControllerSpot plant scans joint m f
+    → (n ≡ m) × (e ≡ f)
 controller-spots fronts plant scans joint n e m f sound a b =
-    let size = same-size (λ (p : ControllerPlan). p.node) (λ (g : ControllerLog). g.node) plant.controllers joint.controllers a.sections.controllers in
-    let nodes = zip-nodes (λ (g : ControllerLog). g.node) plant.controllers joint.controllers size ∙ a.sections.controllers in
-    unique (λ (of : ControllerPlan × ControllerLog). of.1.node) (zip plant.controllers joint.controllers) (subst (IsDistinct eqb) (sym nodes) (rising-distinct (controller_nodes plant) sound.controllers_rise))
-    (λ of. IsLegal (fixed_of plant scans of.0) of.1.entries) (λ of p. BreaksAt (IsLegal (fixed_of plant scans of.0)) of.1.entries p)
-    (λ of p. no-break (IsLegal (fixed_of plant scans of.0)) (fronts (fixed_of plant scans of.0)) of.1.entries p)
-    (λ of p q. break-once (IsLegal (fixed_of plant scans of.0)) (fronts (fixed_of plant scans of.0)) of.1.entries p q) n e m f a.earlier a.here b.earlier b.here
+    let size = same-size (λ (p : ControllerPlan). p.node) (λ (g : ControllerLog). g.node)
+    plant.controllers joint.controllers a.sections.controllers in
+    let nodes = zip-nodes (λ (g : ControllerLog). g.node) plant.controllers joint.controllers size
+    ∙ a.sections.controllers in
+    unique (λ (of : ControllerPlan × ControllerLog). of.1.node)
+    (zip plant.controllers joint.controllers)
+    (subst (IsDistinct eqb) (sym nodes)
+    (rising-distinct (controller_nodes plant) sound.controllers_rise))
+    (λ of. IsLegal (fixed_of plant scans of.0) of.1.entries)
+    (λ of p. BreaksAt (IsLegal (fixed_of plant scans of.0)) of.1.entries p)
+    (λ of p. no-break (IsLegal (fixed_of plant scans of.0)) (fronts (fixed_of plant scans of.0))
+    of.1.entries p)
+    (λ of p q. break-once (IsLegal (fixed_of plant scans of.0))
+    (fronts (fixed_of plant scans of.0)) of.1.entries p q) n e m f a.earlier a.here b.earlier
+    b.here
 
-host-spots : (plant : Plant) (scans : ℕ) (joint : Joint) (n e m f : ℕ) → IsPlant plant → HostSpot plant scans joint n e → HostSpot plant scans joint m f → (n ≡ m) × (e ≡ f)
+host-spots : (plant : Plant) (scans : ℕ) (joint : Joint) (n e m f : ℕ) → IsPlant plant
+    → HostSpot plant scans joint n e → HostSpot plant scans joint m f → (n ≡ m) × (e ≡ f)
 host-spots plant scans joint n e m f sound a b =
-    let size = same-size (λ (p : HostPlan). p.node) (λ (g : HostLog). g.node) plant.hosts joint.hosts a.sections.hosts in
-    let nodes = zip-nodes (λ (g : HostLog). g.node) plant.hosts joint.hosts size ∙ a.sections.hosts in
-    unique (λ (of : HostPlan × HostLog). of.1.node) (zip plant.hosts joint.hosts) (subst (IsDistinct eqb) (sym nodes) (rising-distinct (host_nodes plant) sound.hosts_rise))
+    let size = same-size (λ (p : HostPlan). p.node) (λ (g : HostLog). g.node) plant.hosts
+    joint.hosts a.sections.hosts in
+    let nodes = zip-nodes (λ (g : HostLog). g.node) plant.hosts joint.hosts size
+    ∙ a.sections.hosts in
+    unique (λ (of : HostPlan × HostLog). of.1.node) (zip plant.hosts joint.hosts)
+    (subst (IsDistinct eqb) (sym nodes) (rising-distinct (host_nodes plant) sound.hosts_rise))
     (λ of. IsHostHistory of.0 of.1.entries) (λ of p. BreaksAt (IsHostHistory of.0) of.1.entries p)
     (λ of p. no-break (IsHostHistory of.0) (host-front of.0) of.1.entries p)
-    (λ of p q. break-once (IsHostHistory of.0) (host-front of.0) of.1.entries p q) n e m f a.earlier a.here b.earlier b.here
+    (λ of p q. break-once (IsHostHistory of.0) (host-front of.0) of.1.entries p q) n e m f
+    a.earlier a.here b.earlier b.here
 
-incomplete-spots : (plant : Plant) (scans : ℕ) (joint : Joint) (n m : ℕ) → IncompleteSpot plant scans joint n → IncompleteSpot plant scans joint m → n ≡ m
+incomplete-spots : (plant : Plant) (scans : ℕ) (joint : Joint) (n m : ℕ)
+    → IncompleteSpot plant scans joint n → IncompleteSpot plant scans joint m → n ≡ m
 incomplete-spots plant scans joint n m a b =
     ⊎_elim (λ (same : n ≡ m). same)
-    (λ (apart : n ≢ m). absurd (⊎_elim (λ (l : n < m). a.here (b.earlier n l)) (λ (l : m ≤ n). b.here (a.earlier m (omega arith))) (cases_lt n m)))
+    (λ (apart : n ≢ m). absurd (⊎_elim (λ (l : n < m). a.here (b.earlier n l))
+    (λ (l : m ≤ n). b.here (a.earlier m (omega arith))) (cases_lt n m)))
     (cases_eq n m)
 
-same-level : FrontsAreLegal → (plant : Plant) (scans : ℕ) (joint : Joint) (one other : Spot) → IsPlant plant → IsSpot plant scans joint one → IsSpot plant scans joint other → level_of one ≡ level_of other → one ≡ other
+same-level : FrontsAreLegal → (plant : Plant) (scans : ℕ) (joint : Joint) (one other : Spot)
+    → IsPlant plant → IsSpot plant scans joint one → IsSpot plant scans joint other
+    → level_of one ≡ level_of other → one ≡ other
 same-level fronts plant scans joint spots.Sections spots.Sections sound a b e = refl
-same-level fronts plant scans joint (spots.Controller n p) (spots.Controller m q) sound a b e = let s = controller-spots fronts plant scans joint n p m q sound a b in λ i. spots.Controller (s.0 i) (s.1 i)
-same-level fronts plant scans joint (spots.Host n p) (spots.Host m q) sound a b e = let s = host-spots plant scans joint n p m q sound a b in λ i. spots.Host (s.0 i) (s.1 i)
-same-level fronts plant scans joint (spots.Ring p) (spots.Ring q) sound a b e = ap spots.Ring (break-once (IsLegalRing plant.net) (ring-front plant.net []) joint.ring p q a.here b.here)
+same-level fronts plant scans joint (spots.Controller n p) (spots.Controller m q) sound a b e =
+    let s = controller-spots fronts plant scans joint n p m q sound a b in
+    λ i. spots.Controller (s.0 i) (s.1 i)
+same-level fronts plant scans joint (spots.Host n p) (spots.Host m q) sound a b e =
+    let s = host-spots plant scans joint n p m q sound a b in λ i. spots.Host (s.0 i) (s.1 i)
+same-level fronts plant scans joint (spots.Ring p) (spots.Ring q) sound a b e =
+    ap spots.Ring (break-once (IsLegalRing plant.net) (ring-front plant.net []) joint.ring p q
+    a.here b.here)
 same-level fronts plant scans joint (spots.Law x n p) (spots.Law y m q) sound a b e =
     let number = one-law plant scans joint a.0 b.0 n p m q a.2 b.2 in
-    let s = law-spots plant scans joint a.0 n p m q sound a.2 (subst (λ (l : Law). LawSpot plant scans joint l m q) (sym (same-law a.0 b.0 number)) b.2) in
+    let s = law-spots plant scans joint a.0 n p m q sound a.2
+    (subst (λ (l : Law). LawSpot plant scans joint l m q) (sym (same-law a.0 b.0 number))
+    b.2) in
     λ i. spots.Law ((sym a.1 ∙ (number ∙ b.1)) i) (s.0 i) (s.1 i)
-same-level fronts plant scans joint (spots.Incomplete n) (spots.Incomplete m) sound a b e = ap spots.Incomplete (incomplete-spots plant scans joint n m a b)
+same-level fronts plant scans joint (spots.Incomplete n) (spots.Incomplete m) sound a b e =
+    ap spots.Incomplete (incomplete-spots plant scans joint n m a b)
 same-level fronts plant scans joint one other sound a b e = absurd (omega arith)
 
 low-level : (s : Spot) → level_of s < 7
@@ -308,14 +411,21 @@ low-level (spots.Ring entry) = omega arith
 low-level (spots.Law law node place) = omega arith
 low-level (spots.Incomplete node) = omega arith
 
-pub agree : FrontsAreLegal → (plant : Plant) (scans : ℕ) (joint : Joint) (one other : Verdict) → IsPlant plant → IsVerdict plant scans joint one → IsVerdict plant scans joint other → one ≡ other
+pub agree : FrontsAreLegal → (plant : Plant) (scans : ℕ) (joint : Joint) (one other : Verdict)
+    → IsPlant plant → IsVerdict plant scans joint one → IsVerdict plant scans joint other
+    → one ≡ other
 agree fronts plant scans joint Legal Legal sound a b = refl
-agree fronts plant scans joint Legal (Illegal spot) sound a b = absurd (later fronts plant scans joint spot Legal b a (low-level spot))
-agree fronts plant scans joint (Illegal spot) Legal sound a b = absurd (later fronts plant scans joint spot Legal a b (low-level spot))
+agree fronts plant scans joint Legal (Illegal spot) sound a b =
+    absurd (later fronts plant scans joint spot Legal b a (low-level spot))
+agree fronts plant scans joint (Illegal spot) Legal sound a b =
+    absurd (later fronts plant scans joint spot Legal a b (low-level spot))
 agree fronts plant scans joint (Illegal one) (Illegal other) sound a b =
-    ⊎_elim (λ (same : level_of one ≡ level_of other). ap Illegal (same-level fronts plant scans joint one other sound a b same))
+    ⊎_elim (λ (same : level_of one ≡ level_of other). ap Illegal
+    (same-level fronts plant scans joint one other sound a b same))
     (λ (apart : level_of one ≢ level_of other). absurd (⊎_elim
-    (λ (l : level_of one < level_of other). later fronts plant scans joint one (Illegal other) a b l)
-    (λ (l : level_of other ≤ level_of one). later fronts plant scans joint other (Illegal one) b a (omega arith))
+    (λ (l : level_of one < level_of other). later fronts plant scans joint one (Illegal other) a b
+    l)
+    (λ (l : level_of other ≤ level_of one). later fronts plant scans joint other (Illegal one) b a
+    (omega arith))
     (cases_lt (level_of one) (level_of other))))
     (cases_eq (level_of one) (level_of other))

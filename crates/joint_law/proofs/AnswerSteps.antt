@@ -9,25 +9,34 @@ use Rattle.tied_lists.specs.Items.{item_of, rest_of}
 use Rattle.joint_law.specs.Bound.{Sorted, sorted, sorted_answer}
 use Rattle.joint_law.specs.Taking.{DueNext, items_for, left_plain, left_stats}
 
-pub items_for-append : (statistics : Bool) (xs ys : List Taken) → items_for statistics (xs ++ ys) ≡ items_for statistics xs ++ items_for statistics ys
+pub items_for-append : (statistics : Bool) (xs ys : List Taken)
+    → items_for statistics (xs ++ ys) ≡ items_for statistics xs ++ items_for statistics ys
 items_for-append true [] ys = refl
 items_for-append true (Plain id pdu ∷ xs) ys = items_for-append true xs ys
-items_for-append true (ForStats id pdu ∷ xs) ys = ap (λ (l : List Item). (id, Some pdu) ∷ l) (items_for-append true xs ys)
+items_for-append true (ForStats id pdu ∷ xs) ys =
+    ap (λ (l : List Item). (id, Some pdu) ∷ l) (items_for-append true xs ys)
 items_for-append false [] ys = refl
-items_for-append false (Plain id pdu ∷ xs) ys = ap (λ (l : List Item). (id, Some pdu) ∷ l) (items_for-append false xs ys)
+items_for-append false (Plain id pdu ∷ xs) ys =
+    ap (λ (l : List Item). (id, Some pdu) ∷ l) (items_for-append false xs ys)
 items_for-append false (ForStats id pdu ∷ xs) ys = items_for-append false xs ys
 
-pub due-append : (ts us : List Taken) (P L : List (List ℕ)) → due_replies (ts ++ us) P L ≡ due_replies ts P L ++ due_replies us (left_plain ts P) (left_stats ts L)
+pub due-append : (ts us : List Taken) (P L : List (List ℕ))
+    → due_replies (ts ++ us) P L ≡ due_replies ts P L
+    ++ due_replies us (left_plain ts P) (left_stats ts L)
 due-append [] us P L = refl
-due-append (Plain id pdu ∷ ts) us P L = ap (λ (l : List Item). (id, first_of P) ∷ l) (due-append ts us (rest_of P) L)
-due-append (ForStats id pdu ∷ ts) us P L = ap (λ (l : List Item). (id, first_of L) ∷ l) (due-append ts us P (rest_of L))
+due-append (Plain id pdu ∷ ts) us P L =
+    ap (λ (l : List Item). (id, first_of P) ∷ l) (due-append ts us (rest_of P) L)
+due-append (ForStats id pdu ∷ ts) us P L =
+    ap (λ (l : List Item). (id, first_of L) ∷ l) (due-append ts us P (rest_of L))
 
-pub left_plain-append : (ts us : List Taken) (P : List (List ℕ)) → left_plain (ts ++ us) P ≡ left_plain us (left_plain ts P)
+pub left_plain-append : (ts us : List Taken) (P : List (List ℕ))
+    → left_plain (ts ++ us) P ≡ left_plain us (left_plain ts P)
 left_plain-append [] us P = refl
 left_plain-append (Plain id pdu ∷ ts) us P = left_plain-append ts us (rest_of P)
 left_plain-append (ForStats id pdu ∷ ts) us P = left_plain-append ts us P
 
-pub left_stats-append : (ts us : List Taken) (L : List (List ℕ)) → left_stats (ts ++ us) L ≡ left_stats us (left_stats ts L)
+pub left_stats-append : (ts us : List Taken) (L : List (List ℕ))
+    → left_stats (ts ++ us) L ≡ left_stats us (left_stats ts L)
 left_stats-append [] us L = refl
 left_stats-append (Plain id pdu ∷ ts) us L = left_stats-append ts us L
 left_stats-append (ForStats id pdu ∷ ts) us L = left_stats-append ts us (rest_of L)
@@ -42,7 +51,8 @@ pick false false item = Some item
 abbrev of-sort : Bool → Sorted → Option Item
 of-sort statistics s = pick statistics s.statistics s.item
 
-picks-own : (statistics : Bool) (xs : List Item) → filter_map (of-sort statistics) (map (sorted statistics) xs) ≡ xs
+picks-own : (statistics : Bool) (xs : List Item)
+    → filter_map (of-sort statistics) (map (sorted statistics) xs) ≡ xs
 picks-own true [] = refl
 picks-own true (x ∷ xs) = ap (λ (l : List Item). x ∷ l) (picks-own true xs)
 picks-own false [] = refl
@@ -60,30 +70,45 @@ abbrev joined : List Item → List Item → List Sorted
 joined peers port = map (sorted false) peers ++ map (sorted true) port
 
 first-part : (peers port : List Item) → filter_map (of-sort false) (joined peers port) ≡ peers
-first-part peers port = filter_map-append (of-sort false) (map (sorted false) peers) (map (sorted true) port)
+first-part peers port =
+    filter_map-append (of-sort false) (map (sorted false) peers) (map (sorted true) port)
     ∙ ((λ i. picks-own false peers i ++ picks-another port i) ∙ append-nil peers)
 
 second-part : (peers port : List Item) → filter_map (of-sort true) (joined peers port) ≡ port
-second-part peers port = filter_map-append (of-sort true) (map (sorted false) peers) (map (sorted true) port)
+second-part peers port =
+    filter_map-append (of-sort true) (map (sorted false) peers) (map (sorted true) port)
     ∙ (λ i. picks-other peers i ++ picks-own true port i)
 
-pub parts-same : (peers port peers' port' : List Item) → joined peers port ≡ joined peers' port' → (peers ≡ peers') × (port ≡ port')
+pub parts-same : (peers port peers' port' : List Item) → joined peers port ≡ joined peers' port'
+    → (peers ≡ peers') × (port ≡ port')
 parts-same peers port peers' port' e = (
   sym (first-part peers port) ∙ (ap (filter_map (of-sort false)) e ∙ first-part peers' port'),
   sym (second-part peers port) ∙ (ap (filter_map (of-sort true)) e ∙ second-part peers' port'),
 )
 
 -- answers are sorted as their items are
-pub sorted-items : (statistics : Bool) (answers : List Answered) → map (sorted_answer statistics) answers ≡ map (sorted statistics) (map item_of answers)
+pub sorted-items : (statistics : Bool) (answers : List Answered)
+    → map (sorted_answer statistics) answers ≡ map (sorted statistics) (map item_of answers)
 sorted-items statistics [] = refl
-sorted-items statistics (a ∷ as') = ap (λ (l : List Sorted). sorted statistics (item_of a) ∷ l) (sorted-items statistics as')
+sorted-items statistics (a ∷ as') =
+    ap (λ (l : List Sorted). sorted statistics (item_of a) ∷ l) (sorted-items statistics as')
 
 -- what is due behind some taken more
-pub due-step : (front taken whole : List Taken) (list list' : List Item) (peers locals peers' locals' P L : List (List ℕ)) → whole ≡ front ++ taken
-    → list ≡ due_replies front P L → peers ≡ left_plain front P → locals ≡ left_stats front L → DueNext taken list peers locals list' peers' locals'
+pub due-step : (front taken whole : List Taken) (list list' : List Item)
+    (peers locals peers' locals' P L : List (List ℕ)) → whole ≡ front ++ taken
+    → list ≡ due_replies front P L → peers ≡ left_plain front P → locals ≡ left_stats front L
+    → DueNext taken list peers locals list' peers' locals'
     → DueNext whole [] P L list' peers' locals'
 due-step front taken whole list list' peers locals peers' locals' P L is e p l next = record {
-  list_is = next.list_is ∙ ((λ i. e i ++ due_replies taken (p i) (l i)) ∙ (sym (due-append front taken P L) ∙ ap (λ (t : List Taken). due_replies t P L) (sym is)));
-  peers_are = next.peers_are ∙ (ap (left_plain taken) p ∙ (sym (left_plain-append front taken P) ∙ ap (λ (t : List Taken). left_plain t P) (sym is)));
-  locals_are = next.locals_are ∙ (ap (left_stats taken) l ∙ (sym (left_stats-append front taken L) ∙ ap (λ (t : List Taken). left_stats t L) (sym is)));
+  list_is =
+      next.list_is ∙ ((λ i. e i ++ due_replies taken (p i) (l i))
+      ∙ (sym (due-append front taken P L) ∙ ap (λ (t : List Taken). due_replies t P L) (sym is)));
+  peers_are =
+      next.peers_are ∙ (ap (left_plain taken) p
+      ∙ (sym (left_plain-append front taken P)
+      ∙ ap (λ (t : List Taken). left_plain t P) (sym is)));
+  locals_are =
+      next.locals_are ∙ (ap (left_stats taken) l
+      ∙ (sym (left_stats-append front taken L)
+      ∙ ap (λ (t : List Taken). left_stats t L) (sym is)));
 }

@@ -22,22 +22,27 @@ use Rattle.joint_law.specs.Completing.{AskFits, EachAllows, HasReplied, HostAllo
 use Rattle.joint_law.specs.Completing.{NodeAllows, is_leave, progress_of, says_done}
 
 -- the last of a list that isn't empty
-last-split : (x : RingEntry) (xs : List RingEntry) → (front : List RingEntry) × (z : RingEntry) × (x ∷ xs ≡ front ++ z ∷ [])
+last-split : (x : RingEntry) (xs : List RingEntry)
+    → (front : List RingEntry) × (z : RingEntry) × (x ∷ xs ≡ front ++ z ∷ [])
 last-split x [] = ([], x, refl)
-last-split x (y ∷ ys) = let more = last-split y ys in (x ∷ more.0, more.1, ap (λ (l : List RingEntry). x ∷ l) more.2)
+last-split x (y ∷ ys) =
+    let more = last-split y ys in (x ∷ more.0, more.1, ap (λ (l : List RingEntry). x ∷ l) more.2)
 
 -- one entry more that fits
-pub each-push : (P : List RingEntry → RingEntry → Type 0) (xs : List RingEntry) (e : RingEntry) → EachAllows P xs → P xs e → EachAllows P (xs ++ e ∷ [])
+pub each-push : (P : List RingEntry → RingEntry → Type 0) (xs : List RingEntry) (e : RingEntry)
+    → EachAllows P xs → P xs e → EachAllows P (xs ++ e ∷ [])
 each-push P xs e each here before after e' is = at after is
   where
     at : (after : List RingEntry) → xs ++ e ∷ [] ≡ before ++ e' ∷ after → P before e'
     at [] is' =
         let two = same_from_push xs before e e' is' in
-        subst (λ (x : RingEntry). P before x) two.1 (subst (λ (l : List RingEntry). P l e) two.0 here)
+        subst (λ (x : RingEntry). P before x) two.1
+        (subst (λ (l : List RingEntry). P l e) two.0 here)
     at (a ∷ as') is' =
         let last = last-split a as' in
         let whole : xs ++ e ∷ [] ≡ (before ++ e' ∷ last.0) ++ last.1 ∷ [] =
-        is' ∙ (ap (λ (l : List RingEntry). before ++ e' ∷ l) last.2 ∙ sym (append_assoc before (e' ∷ last.0) (last.1 ∷ []))) in
+        is' ∙ (ap (λ (l : List RingEntry). before ++ e' ∷ l) last.2
+        ∙ sym (append_assoc before (e' ∷ last.0) (last.1 ∷ []))) in
         each before last.0 e' (same_from_push xs (before ++ e' ∷ last.0) e last.1 whole).0
 
 pub each-none : (P : List RingEntry → RingEntry → Type 0) → EachAllows P []
@@ -46,12 +51,16 @@ each-none P (b ∷ bs) after e is = absurd cc
 
 -- some entry that said done
 abbrev Said : List RingEntry → Type 0
-Said xs = (before : List RingEntry) × (n : ℕ) × (words : List ℕ) × (after : List RingEntry) × (xs ≡ before ++ Pass n true words ∷ after)
+Said xs =
+    (before : List RingEntry) × (n : ℕ) × (words : List ℕ) × (after : List RingEntry)
+    × (xs ≡ before ++ Pass n true words ∷ after)
 
 said-later : (x : RingEntry) (xs : List RingEntry) → Said xs → Said (x ∷ xs)
-said-later x xs more = (x ∷ more.0, more.1, more.2, more.3, ap (λ (l : List RingEntry). x ∷ l) more.4)
+said-later x xs more =
+    (x ∷ more.0, more.1, more.2, more.3, ap (λ (l : List RingEntry). x ∷ l) more.4)
 
-said-head : (x : RingEntry) (xs : List RingEntry) → (says_done x || list_any says_done xs) ≡ true → (list_any says_done xs ≡ true → Said xs) → Said (x ∷ xs)
+said-head : (x : RingEntry) (xs : List RingEntry) → (says_done x || list_any says_done xs) ≡ true
+    → (list_any says_done xs ≡ true → Said xs) → Said (x ∷ xs)
 said-head (Post n f) xs there rest = said-later (Post n f) xs (rest there)
 said-head (Send n heard) xs there rest = said-later (Send n heard) xs (rest there)
 said-head (Take n f) xs there rest = said-later (Take n f) xs (rest there)
@@ -65,20 +74,27 @@ said-split : (xs : List RingEntry) → list_any says_done xs ≡ true → Said x
 said-split [] is = absurd (let no' : false ≡ true = is in cc)
 said-split (x ∷ xs) is = said-head x xs is (said-split xs)
 
-said-any : (before after : List RingEntry) (n : ℕ) (words : List ℕ) → list_any says_done (before ++ Pass n true words ∷ after) ≡ true
-said-any before after n words = list_any-append says_done before (Pass n true words ∷ after) ∙ or-true (list_any says_done before)
+said-any : (before after : List RingEntry) (n : ℕ) (words : List ℕ)
+    → list_any says_done (before ++ Pass n true words ∷ after) ≡ true
+said-any before after n words =
+    list_any-append says_done before (Pass n true words ∷ after)
+    ∙ or-true (list_any says_done before)
   where
     or-true : (b : Bool) → (b || true) ≡ true
     or-true true = refl
     or-true false = refl
 
 -- an item and what is around it
-around : (xs : List RingEntry) (k : ℕ) (d : RingEntry) → k < length xs → xs ≡ take k xs ++ get_or xs k d ∷ drop (k + 1) xs
-around xs k d low = sym (take-append-drop k xs) ∙ ap (λ (l : List RingEntry). take k xs ++ l) (drop_more xs k d low)
+around : (xs : List RingEntry) (k : ℕ) (d : RingEntry) → k < length xs
+    → xs ≡ take k xs ++ get_or xs k d ∷ drop (k + 1) xs
+around xs k d low =
+    sym (take-append-drop k xs) ∙ ap (λ (l : List RingEntry). take k xs ++ l)
+    (drop_more xs k d low)
 
 -- each entry of a node fits where it replies before its Passes, and stays done
 pub replies-from : (b : List RingEntry) → EachAllows NodeAllows b → RepliesBeforePasses b
-replies-from b each before after n done words is = (each before after (Pass n done words) is).replied
+replies-from b each before after n done words is =
+    (each before after (Pass n done words) is).replied
 
 pub done-from : (b : List RingEntry) → EachAllows NodeAllows b → StaysDone b
 done-from b each before after n words is k d low =
@@ -86,9 +102,11 @@ done-from b each before after n words is k d low =
     let whole : b ≡ (before ++ Pass n true words ∷ take k after) ++ e ∷ drop (k + 1) after =
     is ∙ (ap (λ (l : List RingEntry). before ++ Pass n true words ∷ l) (around after k d low)
     ∙ sym (append_assoc before (Pass n true words ∷ take k after) (e ∷ drop (k + 1) after))) in
-    (each (before ++ Pass n true words ∷ take k after) (drop (k + 1) after) e whole).done (said-any before (take k after) n words)
+    (each (before ++ Pass n true words ∷ take k after) (drop (k + 1) after) e whole).done
+    (said-any before (take k after) n words)
 
-replied-at : (b : List RingEntry) (before after : List RingEntry) → RepliesBeforePasses b → (e : RingEntry) → StandsIn b before e after → HasReplied (progress_of before) e
+replied-at : (b : List RingEntry) (before after : List RingEntry) → RepliesBeforePasses b
+    → (e : RingEntry) → StandsIn b before e after → HasReplied (progress_of before) e
 replied-at b before after replies (Post n f) is = tt
 replied-at b before after replies (Send n heard) is = tt
 replied-at b before after replies (Take n f) is = tt
@@ -97,49 +115,70 @@ replied-at b before after replies (GiveUp id word) is = tt
 replied-at b before after replies (Pass n done words) is = replies before after n done words is
 replied-at b before after replies (Leave n cause) is = tt
 
-done-at : (b : List RingEntry) (before after : List RingEntry) (e : RingEntry) → StaysDone b → StandsIn b before e after → list_any says_done before ≡ true → IsOfDone e
+done-at : (b : List RingEntry) (before after : List RingEntry) (e : RingEntry) → StaysDone b
+    → StandsIn b before e after → list_any says_done before ≡ true → IsOfDone e
 done-at b before after e stays is said =
     let s = said-split before said in
     let whole : b ≡ s.0 ++ Pass s.1 true s.2 ∷ (s.3 ++ e ∷ after) =
-    is ∙ (ap (λ (l : List RingEntry). l ++ e ∷ after) s.4 ∙ append_assoc s.0 (Pass s.1 true s.2 ∷ s.3) (e ∷ after)) in
+    is ∙ (ap (λ (l : List RingEntry). l ++ e ∷ after) s.4
+    ∙ append_assoc s.0 (Pass s.1 true s.2 ∷ s.3) (e ∷ after)) in
     let all = stays s.0 (s.3 ++ e ∷ after) s.1 s.2 whole in
     let size = length-append s.3 (e ∷ after) in
     let one : length (e ∷ after) ≡ suc (length after) = refl in
-    subst IsOfDone (get_or_at s.3 e after e (length s.3) refl) (all (length s.3) e (omega (arith, size, one)))
+    subst IsOfDone (get_or_at s.3 e after e (length s.3) refl)
+    (all (length s.3) e (omega (arith, size, one)))
 
-pub node-each : (b : List RingEntry) → RepliesBeforePasses b → StaysDone b → EachAllows NodeAllows b
+pub node-each : (b : List RingEntry) → RepliesBeforePasses b → StaysDone b
+    → EachAllows NodeAllows b
 node-each b replies stays before after e is =
-    record { replied = replied-at b before after replies e is; done = done-at b before after e stays is }
+    record {
+      replied = replied-at b before after replies e is;
+      done = done-at b before after e stays is;
+    }
 
 -- and each of a host where it asks in its holds, and all before it is done
-pub holds-from : (plan : HostPlan) (b : List RingEntry) → EachAllows (HostAllows plan) b → AsksInItsHolds plan b
+pub holds-from : (plan : HostPlan) (b : List RingEntry) → EachAllows (HostAllows plan) b
+    → AsksInItsHolds plan b
 holds-from plan b each before after n f ask is request there =
     (subst (AskFits plan (progress_of before)) request (each before after (Post n f) is)) ask there
 
-pub all-from : (plan : HostPlan) (b : List RingEntry) → EachAllows (HostAllows plan) b → AsksAllBeforeDone plan b
+pub all-from : (plan : HostPlan) (b : List RingEntry) → EachAllows (HostAllows plan) b
+    → AsksAllBeforeDone plan b
 all-from plan b each before after n words is = each before after (Pass n true words) is refl
 
-ask-at : (plan : HostPlan) (b before after : List RingEntry) (n : ℕ) (f : Frame) → AsksInItsHolds plan b → StandsIn b before (Post n f) after → (kind : FrameKind) → f.kind ≡ kind
+ask-at : (plan : HostPlan) (b before after : List RingEntry) (n : ℕ) (f : Frame)
+    → AsksInItsHolds plan b → StandsIn b before (Post n f) after → (kind : FrameKind)
+    → f.kind ≡ kind
     → AskFits plan (progress_of before) kind
-ask-at plan b before after n f holds is Request kind = λ ask there. holds before after n f ask is kind there
+ask-at plan b before after n f holds is Request kind =
+    λ ask there. holds before after n f ask is kind there
 ask-at plan b before after n f holds is Reply kind = tt
 
-host-at : (plan : HostPlan) (b before after : List RingEntry) → AsksInItsHolds plan b → AsksAllBeforeDone plan b → (e : RingEntry) → StandsIn b before e after → HostAllows plan before e
-host-at plan b before after holds all (Post n f) is = ask-at plan b before after n f holds is f.kind refl
+host-at : (plan : HostPlan) (b before after : List RingEntry) → AsksInItsHolds plan b
+    → AsksAllBeforeDone plan b → (e : RingEntry) → StandsIn b before e after
+    → HostAllows plan before e
+host-at plan b before after holds all (Post n f) is =
+    ask-at plan b before after n f holds is f.kind refl
 host-at plan b before after holds all (Send n heard) is = tt
 host-at plan b before after holds all (Take n f) is = tt
 host-at plan b before after holds all (Local n id op result) is = tt
 host-at plan b before after holds all (GiveUp id word) is = tt
 host-at plan b before after holds all (Pass n true words) is = λ done. all before after n words is
-host-at plan b before after holds all (Pass n false words) is = λ done. absurd (let no' : false ≡ true = done in cc)
+host-at plan b before after holds all (Pass n false words) is =
+    λ done. absurd (let no' : false ≡ true = done in cc)
 host-at plan b before after holds all (Leave n cause) is = tt
 
-pub host-each : (plan : HostPlan) (b : List RingEntry) → AsksInItsHolds plan b → AsksAllBeforeDone plan b → EachAllows (HostAllows plan) b
+pub host-each : (plan : HostPlan) (b : List RingEntry) → AsksInItsHolds plan b
+    → AsksAllBeforeDone plan b → EachAllows (HostAllows plan) b
 host-each plan b holds all before after e is = host-at plan b before after holds all e is
 
 -- a list that has a Leave
-pub any-leave : (front : List RingEntry) (e : RingEntry) (rest : List RingEntry) → is_leave e ≡ true → list_any is_leave (front ++ e ∷ rest) ≡ true
-any-leave front e rest is = list_any-append is_leave front (e ∷ rest) ∙ (ap (λ b. list_any is_leave front || (b || list_any is_leave rest)) is ∙ or-true (list_any is_leave front))
+pub any-leave : (front : List RingEntry) (e : RingEntry) (rest : List RingEntry)
+    → is_leave e ≡ true → list_any is_leave (front ++ e ∷ rest) ≡ true
+any-leave front e rest is =
+    list_any-append is_leave front (e ∷ rest)
+    ∙ (ap (λ b. list_any is_leave front || (b || list_any is_leave rest)) is
+    ∙ or-true (list_any is_leave front))
   where
     or-true : (b : Bool) → (b || true) ≡ true
     or-true true = refl

@@ -1,6 +1,7 @@
 pub mod Lists
 pub mod Agreeing
 pub mod AnswerSteps
+pub mod CallKeys
 pub mod CourseEnds
 pub mod CourseSteps
 pub mod EndCounts
@@ -10,6 +11,6 @@ pub mod LawSteps
 pub mod Leaving
 pub mod Progress
 pub mod RingSteps
-pub mod Splitting
+pub mod OwnPlaces
 pub mod Verdicts
 pub mod AtNodes

@@ -21,21 +21,27 @@ use Rattle.joint_history.specs.Complete.{is_pass}
 use Rattle.joint_law.specs.Completing.{IsShort, posted_next, progress_next, progress_of}
 use Rattle.joint_law.specs.Completing.{says_done, taken_next}
 use Rattle.joint_law.specs.declared.completing.Progress.{Progress}
-use Rattle.joint_law.specs.Split.{entry_at, picked}
+use Rattle.joint_law.specs.Picked.{entry_at, picked}
 use Rattle.joint_law.proofs.Lists.{filter_map-push}
 
-size-push : {Y : Type 0} (f : RingEntry → Option Y) (b : List RingEntry) (e : RingEntry) (o : Option Y) → f e ≡ o
+size-push : {Y : Type 0} (f : RingEntry → Option Y) (b : List RingEntry) (e : RingEntry)
+    (o : Option Y) → f e ≡ o
     → length (filter_map f (b ++ e ∷ [])) ≡ length (filter_map f b) + length (cons_option o [])
-size-push f b e o is = ap length (filter_map-push f b e) ∙ (length-append (filter_map f b) (cons_option (f e) [])
+size-push f b e o is =
+    ap length (filter_map-push f b e) ∙ (length-append (filter_map f b) (cons_option (f e) [])
     ∙ ap (λ (x : Option _). length (filter_map f b) + length (cons_option x [])) is)
 
-same-progress : (p q : Progress) → p.passes ≡ q.passes → p.asked ≡ q.asked → p.replied ≡ q.replied → p.taken ≡ q.taken → p.is_done ≡ q.is_done → p ≡ q
-same-progress p q a b c d e = λ i. record { passes = a i; asked = b i; replied = c i; taken = d i; is_done = e i }
+same-progress : (p q : Progress) → p.passes ≡ q.passes → p.asked ≡ q.asked → p.replied ≡ q.replied
+    → p.taken ≡ q.taken → p.is_done ≡ q.is_done → p ≡ q
+same-progress p q a b c d e =
+    λ i. record { passes = a i; asked = b i; replied = c i; taken = d i; is_done = e i }
 
-passes-push : (b : List RingEntry) (e : RingEntry) → count_by is_pass (b ++ e ∷ []) ≡ count_by is_pass b + cond (is_pass e) 1 0
+passes-push : (b : List RingEntry) (e : RingEntry)
+    → count_by is_pass (b ++ e ∷ []) ≡ count_by is_pass b + cond (is_pass e) 1 0
 passes-push b e = sum_by_push (λ y. cond (is_pass y) 1 0) b e
 
-done-push : (b : List RingEntry) (e : RingEntry) → list_any says_done (b ++ e ∷ []) ≡ (list_any says_done b || (says_done e || false))
+done-push : (b : List RingEntry) (e : RingEntry)
+    → list_any says_done (b ++ e ∷ []) ≡ (list_any says_done b || (says_done e || false))
 done-push b e = list_any-append says_done b (e ∷ [])
 
 plus-none : (n : ℕ) → n + 0 ≡ n
@@ -53,12 +59,16 @@ or-one false false = refl
 -- an entry that counts so much
 record Counts (p q : Progress) (b : List RingEntry) (e : RingEntry) : Type 0 where
   passes : count_by is_pass b + cond (is_pass e) 1 0 ≡ q.passes
-  asked : (o : Option Asked) × (asked_of e ≡ o) × (length (asked_by b) + length (cons_option o []) ≡ q.asked)
-  replied : (o : Option Item) × (replied_of e ≡ o) × (length (replied_by b) + length (cons_option o []) ≡ q.replied)
-  taken : (o : Option Taken) × (taken_of e ≡ o) × (length (taken_by b) + length (cons_option o []) ≡ q.taken)
+  asked : (o : Option Asked) × (asked_of e ≡ o)
+      × (length (asked_by b) + length (cons_option o []) ≡ q.asked)
+  replied : (o : Option Item) × (replied_of e ≡ o)
+      × (length (replied_by b) + length (cons_option o []) ≡ q.replied)
+  taken : (o : Option Taken) × (taken_of e ≡ o)
+      × (length (taken_by b) + length (cons_option o []) ≡ q.taken)
   done : (list_any says_done b || (says_done e || false)) ≡ q.is_done
 
-counted : (b : List RingEntry) (e : RingEntry) (q : Progress) → Counts (progress_of b) q b e → progress_of (b ++ e ∷ []) ≡ q
+counted : (b : List RingEntry) (e : RingEntry) (q : Progress) → Counts (progress_of b) q b e
+    → progress_of (b ++ e ∷ []) ≡ q
 counted b e q c = same-progress (progress_of (b ++ e ∷ [])) q
     (passes-push b e ∙ c.passes)
     (size-push asked_of b e c.asked.0 c.asked.1 ∙ c.asked.2)
@@ -66,7 +76,8 @@ counted b e q c = same-progress (progress_of (b ++ e ∷ [])) q
     (size-push taken_of b e c.taken.0 c.taken.1 ∙ c.taken.2)
     (done-push b e ∙ c.done)
 
-posted-push : (b : List RingEntry) (n : ℕ) (f : Frame) (kind : FrameKind) → f.kind ≡ kind → progress_of (b ++ Post n f ∷ []) ≡ posted_next (progress_of b) kind
+posted-push : (b : List RingEntry) (n : ℕ) (f : Frame) (kind : FrameKind) → f.kind ≡ kind
+    → progress_of (b ++ Post n f ∷ []) ≡ posted_next (progress_of b) kind
 posted-push b n f Request is = counted b (Post n f) _ (record {
   passes = plus-none (count_by is_pass b);
   asked = (Some _, ap (λ k. asked_in k f) is, refl);
@@ -82,7 +93,8 @@ posted-push b n f Reply is = counted b (Post n f) _ (record {
   done = or-none (list_any says_done b);
 })
 
-taken-push : (b : List RingEntry) (n : ℕ) (f : Frame) (kind : FrameKind) → f.kind ≡ kind → progress_of (b ++ Take n f ∷ []) ≡ taken_next (progress_of b) kind
+taken-push : (b : List RingEntry) (n : ℕ) (f : Frame) (kind : FrameKind) → f.kind ≡ kind
+    → progress_of (b ++ Take n f ∷ []) ≡ taken_next (progress_of b) kind
 taken-push b n f Request is = counted b (Take n f) _ (record {
   passes = plus-none (count_by is_pass b);
   asked = (None, refl, plus-none (length (asked_by b)));
@@ -99,7 +111,8 @@ taken-push b n f Reply is = counted b (Take n f) _ (record {
 })
 
 -- an entry that counts nothing
-quiet-push : (b : List RingEntry) (e : RingEntry) → is_pass e ≡ false → asked_of e ≡ None → replied_of e ≡ None → taken_of e ≡ None → says_done e ≡ false
+quiet-push : (b : List RingEntry) (e : RingEntry) → is_pass e ≡ false → asked_of e ≡ None
+    → replied_of e ≡ None → taken_of e ≡ None → says_done e ≡ false
     → progress_of (b ++ e ∷ []) ≡ progress_of b
 quiet-push b e no-pass no-ask no-reply no-take no-done = counted b e (progress_of b) (record {
   passes = ap (λ x. count_by is_pass b + cond x 1 0) no-pass ∙ plus-none (count_by is_pass b);
@@ -109,11 +122,13 @@ quiet-push b e no-pass no-ask no-reply no-take no-done = counted b e (progress_o
   done = ap (λ x. list_any says_done b || (x || false)) no-done ∙ or-none (list_any says_done b);
 })
 
-pub progress-push : (b : List RingEntry) (e : RingEntry) → progress_of (b ++ e ∷ []) ≡ progress_next (progress_of b) e
+pub progress-push : (b : List RingEntry) (e : RingEntry)
+    → progress_of (b ++ e ∷ []) ≡ progress_next (progress_of b) e
 progress-push b (Post n f) = posted-push b n f f.kind refl
 progress-push b (Send n heard) = quiet-push b (Send n heard) refl refl refl refl refl
 progress-push b (Take n f) = taken-push b n f f.kind refl
-progress-push b (Local n id op result) = quiet-push b (Local n id op result) refl refl refl refl refl
+progress-push b (Local n id op result) =
+    quiet-push b (Local n id op result) refl refl refl refl refl
 progress-push b (GiveUp id word) = quiet-push b (GiveUp id word) refl refl refl refl refl
 progress-push b (Pass n done words) = counted b (Pass n done words) _ (record {
   passes = refl;
@@ -125,17 +140,21 @@ progress-push b (Pass n done words) = counted b (Pass n done words) _ (record {
 progress-push b (Leave n cause) = quiet-push b (Leave n cause) refl refl refl refl refl
 
 -- counts of few entries can go on
-size-few : {Y : Type 0} (f : RingEntry → Option Y) (b : List RingEntry) → length (filter_map f b) ≤ length b
+size-few : {Y : Type 0} (f : RingEntry → Option Y) (b : List RingEntry)
+    → length (filter_map f b) ≤ length b
 size-few f [] = omega arith
 size-few f (e ∷ es) = at (f e) (size-few f es)
   where
-    at : (o : Option _) → length (filter_map f es) ≤ length es → length (cons_option o (filter_map f es)) ≤ suc (length es)
+    at : (o : Option _) → length (filter_map f es) ≤ length es
+        → length (cons_option o (filter_map f es)) ≤ suc (length es)
     at None low = omega arith
     at (Some y) low = omega arith
 
 count-few : (b : List RingEntry) → count_by is_pass b ≤ length b
 count-few [] = omega arith
-count-few (e ∷ es) = let c = count-cons is_pass e es in let one = at-most-one (is_pass e) in let low = count-few es in omega (arith, c, one, low)
+count-few (e ∷ es) =
+    let c = count-cons is_pass e es in let one = at-most-one (is_pass e) in
+    let low = count-few es in omega (arith, c, one, low)
 
 pub few-short : (b : List RingEntry) → length b + 1 < 2 ^ 64 → IsShort (progress_of b)
 few-short b low =
@@ -143,9 +162,15 @@ few-short b low =
     let asked = size-few asked_of b in
     let replied = size-few replied_of b in
     let taken = size-few taken_of b in
-    record { passes = omega arith; asked = omega arith; replied = omega arith; taken = omega arith }
+    record {
+      passes = omega arith;
+      asked = omega arith;
+      replied = omega arith;
+      taken = omega arith;
+    }
 
-pub progress-short : (ring : List RingEntry) (places : List ℕ) (i : ℕ) (p : Progress) → p ≡ progress_of (picked ring (take i places)) → i + 1 < 2 ^ 64 → IsShort p
+pub progress-short : (ring : List RingEntry) (places : List ℕ) (i : ℕ) (p : Progress)
+    → p ≡ progress_of (picked ring (take i places)) → i + 1 < 2 ^ 64 → IsShort p
 progress-short ring places i p is low =
     let size : length (picked ring (take i places)) ≤ i =
     let a = length-map (take i places) (entry_at ring) in

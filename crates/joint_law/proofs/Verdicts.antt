@@ -4,7 +4,8 @@ use Rattle.std.proofs.Common.{drop, Some, None}
 use Rattle.std.proofs.Common.{refl, sym, ap, subst, ◌∙◌, append_assoc, arith}
 use Rattle.std.specs.List.{All, AllZip, Any, zip}
 use Rattle.std.proofs.Math.ListN.{get_or-map}
-use Rattle.std.proofs.lemmas.List.{get_or-append-add, get_or_append_left, length-append, length-map}
+use Rattle.std.proofs.lemmas.List.{get_or-append-add, get_or_append_left, length-append}
+use Rattle.std.proofs.lemmas.List.{length-map}
 use Rattle.std.proofs.lemmas.List.{map-append, take-append-drop}
 use Rattle.std.proofs.lemmas.List.Elements.{All-append, All-map, filter_map-append}
 use Rattle.std.proofs.lemmas.Slice.Zip.{get_or-zip, length-zip}
@@ -29,7 +30,8 @@ use Rattle.joint_history.specs.JointLaws.{IsJoint, IsLegalHostLog, IsLegalJoint,
 use Rattle.joint_history.specs.JointLaws.{IsTiedController}
 use Rattle.joint_history.specs.JointLaws.{IsTiedHost, fixed_of}
 use Rattle.joint_law.specs.AllComplete.{IsFirstIncomplete}
-use Rattle.joint_law.specs.Bound.{Bound, Breaks, Keeps, bounds_of, controller_bound, host_bound}
+use Rattle.joint_law.specs.Bound.{Bound, BreaksLaw, KeepsLaw, bounds_of, controller_bound}
+use Rattle.joint_law.specs.Bound.{host_bound}
 use Rattle.joint_law.specs.Differing.{BreaksAt, DifferAt}
 use Rattle.joint_law.specs.LawEnds.{AllKeep, IsFirstBreak, IsLawsEnd}
 use Rattle.joint_law.specs.Spots.{AreLegalHostLogs, AreLegalLogs, HasSections, IsCompleteAt}
@@ -46,30 +48,43 @@ use Rattle.joint_law.proofs.LawSteps.{keeps-joined}
 
 -- ---- sections
 
-pub legal-sections : (plant : Plant) (scans : ℕ) (joint : Joint) → AreLegalLogs plant scans joint → AreLegalHostLogs plant joint → HasSections plant joint
+pub legal-sections : (plant : Plant) (scans : ℕ) (joint : Joint) → AreLegalLogs plant scans joint
+    → AreLegalHostLogs plant joint → HasSections plant joint
 legal-sections plant scans joint controllers hosts = record {
-  controllers = zip-map (IsLegalLog plant scans) (λ (p : ControllerPlan). p.node) (λ (g : ControllerLog). g.node) (λ p g legal. legal.0) plant.controllers joint.controllers controllers;
-  hosts = zip-map IsLegalHostLog (λ (p : HostPlan). p.node) (λ (g : HostLog). g.node) (λ p g legal. legal.0) plant.hosts joint.hosts hosts;
+  controllers =
+      zip-map (IsLegalLog plant scans) (λ (p : ControllerPlan). p.node)
+      (λ (g : ControllerLog). g.node) (λ p g legal. legal.0) plant.controllers joint.controllers
+      controllers;
+  hosts =
+      zip-map IsLegalHostLog (λ (p : HostPlan). p.node) (λ (g : HostLog). g.node)
+      (λ p g legal. legal.0) plant.hosts joint.hosts hosts;
 }
 
 -- ---- the laws
 
-each-of : (law : Law) (joint : Joint) → All (Keeps law) (bounds_of joint)
-    → ((k : ℕ) (d : ControllerLog) → k < length joint.controllers → Keeps law (controller_bound joint.ring (get_or joint.controllers k d)))
-    × ((k : ℕ) (d : HostLog) → k < length joint.hosts → Keeps law (host_bound joint.ring (get_or joint.hosts k d)))
+each-of : (law : Law) (joint : Joint) → All (KeepsLaw law) (bounds_of joint)
+    → ((k : ℕ) (d : ControllerLog) → k < length joint.controllers
+    → KeepsLaw law (controller_bound joint.ring (get_or joint.controllers k d)))
+    × ((k : ℕ) (d : HostLog) → k < length joint.hosts
+    → KeepsLaw law (host_bound joint.ring (get_or joint.hosts k d)))
 each-of law joint all =
     let xs = map (controller_bound joint.ring) joint.controllers in
     let ys = map (host_bound joint.ring) joint.hosts in
     let n = length-append xs ys in
     let a = length-map joint.controllers (controller_bound joint.ring) in
     let b = length-map joint.hosts (host_bound joint.ring) in (
-      λ k d low. subst (Keeps law) (get_or_append_left xs ys (controller_bound joint.ring d) k (omega (arith, a)) ∙ get_or-map (controller_bound joint.ring) joint.controllers k d)
+      λ k d low. subst (KeepsLaw law)
+          (get_or_append_left xs ys (controller_bound joint.ring d) k (omega (arith, a))
+          ∙ get_or-map (controller_bound joint.ring) joint.controllers k d)
           (all k (controller_bound joint.ring d) (omega (arith, n, a))),
-      λ k d low. subst (Keeps law) (get_or-append-add xs ys k (host_bound joint.ring d) ∙ get_or-map (host_bound joint.ring) joint.hosts k d)
+      λ k d low. subst (KeepsLaw law)
+          (get_or-append-add xs ys k (host_bound joint.ring d)
+          ∙ get_or-map (host_bound joint.ring) joint.hosts k d)
           (all (length xs + k) (host_bound joint.ring d) (omega (arith, n, b))),
     )
 
-pub keeps-joint : (joint : Joint) → ((law : Law) → All (Keeps law) (bounds_of joint)) → IsJoint joint
+pub keeps-joint : (joint : Joint) → ((law : Law) → All (KeepsLaw law) (bounds_of joint))
+    → IsJoint joint
 keeps-joint joint all =
     let asks = each-of Asks joint (all Asks) in
     let answers = each-of Answers joint (all Answers) in
@@ -92,31 +107,43 @@ keeps-joint joint all =
       };
     }
 
-controller-keeps : (law : Law) (ring : List RingEntry) (log : ControllerLog) → IsTiedController ring log → Keeps law (controller_bound ring log)
+controller-keeps : (law : Law) (ring : List RingEntry) (log : ControllerLog)
+    → IsTiedController ring log → KeepsLaw law (controller_bound ring log)
 controller-keeps Asks ring log t = t.asks
 controller-keeps Answers ring log t = (t.peers, t.port)
 controller-keeps Replies ring log t = t.replies
 controller-keeps Ends ring log t = t.ends
 
-host-keeps : (law : Law) (ring : List RingEntry) (log : HostLog) → IsTiedHost ring log → Keeps law (host_bound ring log)
+host-keeps : (law : Law) (ring : List RingEntry) (log : HostLog) → IsTiedHost ring log
+    → KeepsLaw law (host_bound ring log)
 host-keeps Asks ring log t = t.asks
 host-keeps Answers ring log t = (t.peers, t.port)
 host-keeps Replies ring log t = t.replies
 host-keeps Ends ring log t = t.ends
 
-pub joint-keeps : (joint : Joint) (law : Law) → IsJoint joint → All (Keeps law) (bounds_of joint)
+pub joint-keeps : (joint : Joint) (law : Law) → IsJoint joint
+    → All (KeepsLaw law) (bounds_of joint)
 joint-keeps joint law j =
-    All-append (Keeps law) (map (controller_bound joint.ring) joint.controllers) (map (host_bound joint.ring) joint.hosts)
-    (All-map (Keeps law) (controller_bound joint.ring) joint.controllers (λ k d low. controller-keeps law joint.ring (get_or joint.controllers k d) (j.controllers k d low)))
-    (All-map (Keeps law) (host_bound joint.ring) joint.hosts (λ k d low. host-keeps law joint.ring (get_or joint.hosts k d) (j.hosts k d low)))
+    All-append (KeepsLaw law) (map (controller_bound joint.ring) joint.controllers)
+    (map (host_bound joint.ring) joint.hosts)
+    (All-map (KeepsLaw law) (controller_bound joint.ring) joint.controllers
+    (λ k d low. controller-keeps law joint.ring (get_or joint.controllers k d)
+    (j.controllers k d low)))
+    (All-map (KeepsLaw law) (host_bound joint.ring) joint.hosts
+    (λ k d low. host-keeps law joint.ring (get_or joint.hosts k d) (j.hosts k d low)))
 
 -- all addresses are low, so a law kept below is kept by all
-pub low-keep : (law : Law) (stations : List Bound) → All (λ (s : Bound). s.node < addresses) stations → AllKeep law stations → All (Keeps law) stations
+pub low-keep : (law : Law) (stations : List Bound)
+    → All (λ (s : Bound). s.node < addresses) stations → AllKeep law stations
+    → All (KeepsLaw law) stations
 low-keep law stations low keep k d within = keep k d within (low k d within)
 
-pub law-spot : (plant : Plant) (scans : ℕ) (joint : Joint) (spot : Spot) → IsPlant plant → IsLegalJoint plant scans joint → IsFirstBreak (bounds_of joint) spot → IsSpot plant scans joint spot
+pub law-spot : (plant : Plant) (scans : ℕ) (joint : Joint) (spot : Spot) → IsPlant plant
+    → IsLegalJoint plant scans joint → IsFirstBreak (bounds_of joint) spot
+    → IsSpot plant scans joint spot
 law-spot plant scans joint spot sound legal first =
-    let low = bounds-low plant joint sound (legal-sections plant scans joint legal.controllers legal.hosts) in
+    let low = bounds-low plant joint sound
+    (legal-sections plant scans joint legal.controllers legal.hosts) in
     let b = first.breaks in
     subst (IsSpot plant scans joint) (sym b.spot_is) (
       first.law,
@@ -129,104 +156,161 @@ law-spot plant scans joint spot sound legal first =
       },
     )
 
-pub laws-joint : (plant : Plant) (scans : ℕ) (joint : Joint) → IsPlant plant → IsLegalJoint plant scans joint → IsLawsEnd (bounds_of joint) None → IsJoint joint
+pub laws-joint : (plant : Plant) (scans : ℕ) (joint : Joint) → IsPlant plant
+    → IsLegalJoint plant scans joint → IsLawsEnd (bounds_of joint) None → IsJoint joint
 laws-joint plant scans joint sound legal all =
-    let low = bounds-low plant joint sound (legal-sections plant scans joint legal.controllers legal.hosts) in
+    let low = bounds-low plant joint sound
+    (legal-sections plant scans joint legal.controllers legal.hosts) in
     keeps-joint joint (λ law. low-keep law (bounds_of joint) low (all law))
 
 -- ---- the stations that were done
 
-pub end-spot : (plant : Plant) (scans : ℕ) (joint : Joint) → IsPlant plant → IsLegalJoint plant scans joint → IsJoint joint → IsFirstIncomplete plant scans joint None → IsFirstSpot plant scans joint None
+pub end-spot : (plant : Plant) (scans : ℕ) (joint : Joint) → IsPlant plant
+    → IsLegalJoint plant scans joint → IsJoint joint → IsFirstIncomplete plant scans joint None
+    → IsFirstSpot plant scans joint None
 end-spot plant scans joint sound legal tied each = record {
   legal = legal;
   tied = tied;
-  complete = all-complete plant scans joint sound (legal-sections plant scans joint legal.controllers legal.hosts) each;
+  complete =
+      all-complete plant scans joint sound
+      (legal-sections plant scans joint legal.controllers legal.hosts) each;
 }
 
-pub incomplete-spot : (plant : Plant) (scans : ℕ) (joint : Joint) (node : ℕ) → IsLegalJoint plant scans joint → IsJoint joint → IsFirstIncomplete plant scans joint (Some node)
+pub incomplete-spot : (plant : Plant) (scans : ℕ) (joint : Joint) (node : ℕ)
+    → IsLegalJoint plant scans joint → IsJoint joint
+    → IsFirstIncomplete plant scans joint (Some node)
     → IsFirstSpot plant scans joint (Some (spots.Incomplete node))
-incomplete-spot plant scans joint node legal tied first = record { legal = legal; tied = tied; earlier = first.0; here = first.1 }
+incomplete-spot plant scans joint node legal tied first =
+    record { legal = legal; tied = tied; earlier = first.0; here = first.1 }
 
 -- ---- a whole run has no spot
 
-cut : {E : Type 0} (place : ℕ) (entries : List E) → entries ≡ take place entries ++ drop place entries
+cut : {E : Type 0} (place : ℕ) (entries : List E)
+    → entries ≡ take place entries ++ drop place entries
 cut place entries = sym (take-append-drop place entries)
 
-pub ring-front : (net : NetPlan) (past front rest : List RingEntry) → IsRun net past (front ++ rest) → IsRun net past front
+pub ring-front : (net : NetPlan) (past front rest : List RingEntry)
+    → IsRun net past (front ++ rest) → IsRun net past front
 ring-front net past [] rest run = tt
 ring-front net past (e ∷ es) rest run = (run.0, ring-front net (past ++ e ∷ []) es rest run.1)
 
-pub host-front : (plan : HostPlan) (front rest : List HostEntry) → IsHostHistory plan (front ++ rest) → IsHostHistory plan front
+pub host-front : (plan : HostPlan) (front rest : List HostEntry)
+    → IsHostHistory plan (front ++ rest) → IsHostHistory plan front
 host-front plan front rest h = record {
   order =
       let split : questions_in (front ++ rest) ≡ questions_in front ++ questions_in rest =
-      ap (map question_of) (filter_map-append request_by front rest) ∙ map-append question_of (requests_in front) (requests_in rest) in
-      (questions_in rest ++ h.order.0, sym (append_assoc (questions_in front) (questions_in rest) h.order.0) ∙ (ap (λ (l : List Question). l ++ h.order.0) (sym split) ∙ h.order.1));
-  each = λ before after entry is. h.each before (after ++ rest) entry (ap (λ (l : List HostEntry). l ++ rest) is ∙ append_assoc before (entry ∷ after) rest);
+      ap (map question_of) (filter_map-append request_by front rest)
+      ∙ map-append question_of (requests_in front) (requests_in rest) in (
+        questions_in rest ++ h.order.0,
+        sym
+            (append_assoc (questions_in front) (questions_in rest) h.order.0)
+            ∙ (ap (λ (l : List Question). l ++ h.order.0) (sym split) ∙ h.order.1),
+      );
+  each =
+      λ before after entry is. h.each before (after ++ rest) entry
+      (ap (λ (l : List HostEntry). l ++ rest) is ∙ append_assoc before (entry ∷ after) rest);
 }
 
-pub no-break : {E : Type 0} (Good : List E → Type 0) → ((front rest : List E) → Good (front ++ rest) → Good front) → (entries : List E) (place : ℕ) → Good entries → BreaksAt Good entries place → ⊥
-no-break Good fronts entries place good breaks = breaks.here (fronts (take place entries) (drop place entries) (subst Good (cut place entries) good))
+pub no-break : {E : Type 0} (Good : List E → Type 0)
+    → ((front rest : List E) → Good (front ++ rest) → Good front) → (entries : List E) (place : ℕ)
+    → Good entries → BreaksAt Good entries place → ⊥
+no-break Good fronts entries place good breaks =
+    breaks.here (fronts (take place entries) (drop place entries)
+    (subst Good (cut place entries) good))
 
 no-difference : {A : Type 0} (xs ys : List A) (place : ℕ) → xs ≡ ys → DifferAt xs ys place → ⊥
 no-difference xs ys place same differ = differ.here (ap (take place) same)
 
-pub kept-unbroken : (law : Law) (s : Bound) (place : ℕ) → Keeps law s → Breaks law s place → ⊥
+pub kept-unbroken : (law : Law) (s : Bound) (place : ℕ) → KeepsLaw law s → BreaksLaw law s place
+    → ⊥
 kept-unbroken Asks s place keeps breaks = no-difference _ _ place keeps breaks
-kept-unbroken Answers s place keeps breaks = no-difference _ _ place (keeps-joined s.items.answers s.ring keeps.0 keeps.1) breaks
+kept-unbroken Answers s place keeps breaks =
+    no-difference _ _ place (keeps-joined s.items.answers s.ring keeps.0 keeps.1) breaks
 kept-unbroken Replies s place keeps breaks = no-difference _ _ place keeps breaks
 kept-unbroken Ends s place keeps breaks = no-difference _ _ place keeps breaks
 
 -- some pair that stands together
-pub some-pair : {P L : Type 0} (R : P → L → Type 0) (X : P × L → Type 0) (plans : List P) (logs : List L) → length logs ≡ length plans → AllZip R plans logs → Any X (zip plans logs)
+pub some-pair : {P L : Type 0} (R : P → L → Type 0) (X : P × L → Type 0) (plans : List P)
+    (logs : List L) → length logs ≡ length plans → AllZip R plans logs → Any X (zip plans logs)
     → (of : P × L) × R of.0 of.1 × X of
 some-pair {P} {L} R X plans logs size all any =
     let k = any.0 in
     let of = any.1 in
     let n = length-zip plans logs in
     let low = any.2 in
-    let at : get_or (zip plans logs) k of ≡ (get_or plans k of.0, get_or logs k of.1) = get_or-zip plans logs k of (omega (arith, size, n, low)) (omega (arith, size, n, low)) in
-    (of, subst (λ (x : P × L). R x.0 x.1) (sym at ∙ any.3) (zip-at R plans logs all k of.0 of.1 (omega (arith, size, n, low))), any.4)
+    let at : get_or (zip plans logs) k of
+    ≡ (get_or plans k of.0, get_or logs k of.1) = get_or-zip plans logs k of
+    (omega (arith, size, n, low)) (omega (arith, size, n, low)) in (
+      of,
+      subst (λ (x : P × L). R x.0 x.1) (sym at ∙ any.3)
+          (zip-at R plans logs all k of.0 of.1 (omega (arith, size, n, low))),
+      any.4,
+    )
 
-pub complete-at : (plant : Plant) (scans : ℕ) (joint : Joint) (node : ℕ) → HasSections plant joint → IsComplete plant scans joint → IsCompleteAt plant scans joint node
+pub complete-at : (plant : Plant) (scans : ℕ) (joint : Joint) (node : ℕ) → HasSections plant joint
+    → IsComplete plant scans joint → IsCompleteAt plant scans joint node
 complete-at plant scans joint node sections complete = record {
   controllers = λ k d low.
-      let size = same-size (λ (p : ControllerPlan). p.node) (λ (g : ControllerLog). g.node) plant.controllers joint.controllers sections.controllers in
+      let size = same-size (λ (p : ControllerPlan). p.node) (λ (g : ControllerLog). g.node)
+      plant.controllers joint.controllers sections.controllers in
       let n = length-zip plant.controllers joint.controllers in
-      subst (λ (of : ControllerPlan × ControllerLog). of.1.node ≡ node → IsCompleteLog plant scans joint.ring of.0 of.1)
-      (sym (get_or-zip plant.controllers joint.controllers k d (omega (arith, size, n)) (omega (arith, size, n))))
-      (λ _. zip-at (IsCompleteLog plant scans joint.ring) plant.controllers joint.controllers complete.controllers k d.0 d.1 (omega (arith, size, n)));
+      subst (λ (of : ControllerPlan × ControllerLog). of.1.node ≡ node
+      → IsCompleteLog plant scans joint.ring of.0 of.1)
+      (sym (get_or-zip plant.controllers joint.controllers k d (omega (arith, size, n))
+      (omega (arith, size, n))))
+      (λ _. zip-at (IsCompleteLog plant scans joint.ring) plant.controllers joint.controllers
+      complete.controllers k d.0 d.1 (omega (arith, size, n)));
   hosts = λ k d low.
-      let size = same-size (λ (p : HostPlan). p.node) (λ (g : HostLog). g.node) plant.hosts joint.hosts sections.hosts in
+      let size = same-size (λ (p : HostPlan). p.node) (λ (g : HostLog). g.node) plant.hosts
+      joint.hosts sections.hosts in
       let n = length-zip plant.hosts joint.hosts in
-      subst (λ (of : HostPlan × HostLog). of.1.node ≡ node → IsCompleteHostLog plant joint.ring of.0 of.1)
-      (sym (get_or-zip plant.hosts joint.hosts k d (omega (arith, size, n)) (omega (arith, size, n))))
-      (λ _. zip-at (IsCompleteHostLog plant joint.ring) plant.hosts joint.hosts complete.hosts k d.0 d.1 (omega (arith, size, n)));
+      subst (λ (of : HostPlan × HostLog). of.1.node ≡ node
+      → IsCompleteHostLog plant joint.ring of.0 of.1)
+      (sym (get_or-zip plant.hosts joint.hosts k d (omega (arith, size, n))
+      (omega (arith, size, n))))
+      (λ _. zip-at (IsCompleteHostLog plant joint.ring) plant.hosts joint.hosts complete.hosts k
+      d.0 d.1 (omega (arith, size, n)));
 }
 
-no-spot : FrontsAreLegal → (plant : Plant) (scans : ℕ) (joint : Joint) → IsWholeRun plant scans joint → (spot : Spot) → IsSpot plant scans joint spot → ⊥
-no-spot fronts plant scans joint whole spots.Sections none = none (legal-sections plant scans joint whole.legal.controllers whole.legal.hosts)
+no-spot : FrontsAreLegal → (plant : Plant) (scans : ℕ) (joint : Joint)
+    → IsWholeRun plant scans joint → (spot : Spot) → IsSpot plant scans joint spot → ⊥
+no-spot fronts plant scans joint whole spots.Sections none =
+    none (legal-sections plant scans joint whole.legal.controllers whole.legal.hosts)
 no-spot fronts plant scans joint whole (spots.Controller node entry) spot =
     let sections = legal-sections plant scans joint whole.legal.controllers whole.legal.hosts in
-    let size = same-size (λ (p : ControllerPlan). p.node) (λ (g : ControllerLog). g.node) plant.controllers joint.controllers sections.controllers in
-    let pair = some-pair (IsLegalLog plant scans) _ plant.controllers joint.controllers size whole.legal.controllers spot.here in
-    no-break (IsLegal (fixed_of plant scans pair.0.0)) (fronts (fixed_of plant scans pair.0.0)) pair.0.1.entries entry pair.1.1 pair.2.1
+    let size = same-size (λ (p : ControllerPlan). p.node) (λ (g : ControllerLog). g.node)
+    plant.controllers joint.controllers sections.controllers in
+    let pair = some-pair (IsLegalLog plant scans) _ plant.controllers joint.controllers size
+    whole.legal.controllers spot.here in
+    no-break (IsLegal (fixed_of plant scans pair.0.0)) (fronts (fixed_of plant scans pair.0.0))
+    pair.0.1.entries entry pair.1.1 pair.2.1
 no-spot fronts plant scans joint whole (spots.Host node entry) spot =
     let sections = legal-sections plant scans joint whole.legal.controllers whole.legal.hosts in
-    let size = same-size (λ (p : HostPlan). p.node) (λ (g : HostLog). g.node) plant.hosts joint.hosts sections.hosts in
-    let pair = some-pair IsLegalHostLog _ plant.hosts joint.hosts size whole.legal.hosts spot.here in
-    no-break (IsHostHistory pair.0.0) (host-front pair.0.0) pair.0.1.entries entry pair.1.1 pair.2.1
+    let size = same-size (λ (p : HostPlan). p.node) (λ (g : HostLog). g.node) plant.hosts
+    joint.hosts sections.hosts in
+    let pair = some-pair IsLegalHostLog _ plant.hosts joint.hosts size whole.legal.hosts
+    spot.here in
+    no-break (IsHostHistory pair.0.0) (host-front pair.0.0) pair.0.1.entries entry pair.1.1
+    pair.2.1
 no-spot fronts plant scans joint whole (spots.Ring entry) spot =
-    no-break (IsLegalRing plant.net) (ring-front plant.net []) joint.ring entry whole.legal.ring spot.here
+    no-break (IsLegalRing plant.net) (ring-front plant.net []) joint.ring entry whole.legal.ring
+    spot.here
 no-spot fronts plant scans joint whole (spots.Law number node place) spot =
     let any = spot.2.here in
     let s = any.1 in
-    kept-unbroken spot.0 s place (subst (Keeps spot.0) any.3 (joint-keeps joint spot.0 whole.tied any.0 s any.2)) any.4.1
+    kept-unbroken spot.0 s place (subst (KeepsLaw spot.0) any.3
+    (joint-keeps joint spot.0 whole.tied any.0 s any.2)) any.4.1
 no-spot fronts plant scans joint whole (spots.Incomplete node) spot =
-    spot.here (complete-at plant scans joint node (legal-sections plant scans joint whole.legal.controllers whole.legal.hosts) whole.complete)
+    spot.here (complete-at plant scans joint node
+    (legal-sections plant scans joint whole.legal.controllers whole.legal.hosts)
+    whole.complete)
 
 -- a verdict is Legal exactly where the run is whole
-pub legal-exactly : FrontsAreLegal → (plant : Plant) (scans : ℕ) (joint : Joint) (verdict : Verdict) → IsVerdict plant scans joint verdict
-    → (verdict ≡ Legal → IsWholeRun plant scans joint) × (IsWholeRun plant scans joint → verdict ≡ Legal)
+pub legal-exactly : FrontsAreLegal
+    → (plant : Plant) (scans : ℕ) (joint : Joint) (verdict : Verdict)
+    → IsVerdict plant scans joint verdict
+    → (verdict ≡ Legal → IsWholeRun plant scans joint)
+    × (IsWholeRun plant scans joint → verdict ≡ Legal)
 legal-exactly fronts plant scans joint Legal whole = (λ _. whole, λ _. refl)
-legal-exactly fronts plant scans joint (Illegal spot) is = (λ e. absurd cc, λ whole. absurd (no-spot fronts plant scans joint whole spot is))
+legal-exactly fronts plant scans joint (Illegal spot) is =
+    (λ e. absurd cc, λ whole. absurd (no-spot fronts plant scans joint whole spot is))

@@ -2,15 +2,19 @@
 use Rattle.std.specs.Prelude.{◌≡◌, ◌↔◌, ℕ, ◌+◌, ◌<◌, Bool, false, List, get_or, length, IsTrue}
 use Rattle.plant_types.specs.declared.plan.ControllerPlan.{ControllerPlan}
 use Rattle.plant_types.specs.declared.plan.Plant.{Plant}
+use Rattle.controller_core.specs.declared.notes.Notes.{Notes}
 use Rattle.joint_history.specs.declared.joint.ControllerLog.{ControllerLog}
 use Rattle.joint_history.specs.declared.joint.HostLog.{HostLog}
 use Rattle.joint_history.specs.declared.joint.Joint.{Joint}
 use Rattle.joint_history.specs.Complete.{ControllerIsComplete, EndsEachCall}
 use Rattle.joint_history.specs.JointLaws.{fixed_of}
+use Rattle.joint_history.specs.Noted.{notes_in}
 use Rattle.joint_history.specs.Reading.{host_items_of}
 use Rattle.joint_law.specs.Spots.{AreLegalHostLogs, AreLegalLogs, ControllerSpot, HostSpot}
-use Rattle.joint_law.specs.declared.courses.Courses.{Courses}
-use Rattle.joint_law.specs.declared.courses.Courses.TheVariants.{Breaks, Whole}
+use Rattle.joint_law.specs.declared.courses.ControllerCourses.{ControllerCourses}
+use Rattle.joint_law.specs.declared.courses.ControllerCourses.TheVariants as courses
+use Rattle.joint_law.specs.declared.courses.HostCourses.{HostCourses}
+use Rattle.joint_law.specs.declared.courses.HostCourses.TheVariants as host_courses
 
 -- Each controller was done or not, as this list says.
 pub record AreDone (plant : Plant) (scans : ℕ) (joint : Joint) (done : List Bool) : Type 0 where
@@ -27,15 +31,23 @@ pub record AreHostsDone (plant : Plant) (joint : Joint) (done : List Bool) : Typ
       → IsTrue (get_or done k false)
       ↔ EndsEachCall (host_items_of (get_or joint.hosts k log).entries)
 
+-- The lists of all controllers are legal, and each was done or not, and noted this.
+pub record AreWholeCourses (plant : Plant) (scans : ℕ) (joint : Joint) (done : List Bool)
+    (notes : List Notes) : Type 0 where
+  pub legal : AreLegalLogs plant scans joint
+  pub are_done : AreDone plant scans joint done
+  pub notes_are : notes ≡ notes_in plant joint
+
 -- The list of a controller is the first that is not legal, or all are legal.
-abbrev pub ControllersEnd : Plant → ℕ → Joint → Courses → Type 0
-ControllersEnd plant scans joint (Breaks node place) =
+abbrev pub ControllersEnd : Plant → ℕ → Joint → ControllerCourses → Type 0
+ControllersEnd plant scans joint (courses.Breaks node place) =
     ControllerSpot plant scans joint node (place + 1)
-ControllersEnd plant scans joint (Whole done) =
-    AreLegalLogs plant scans joint × AreDone plant scans joint done
+ControllersEnd plant scans joint (courses.Whole done notes) =
+    AreWholeCourses plant scans joint done notes
 
 -- The list of a host is the first that is not legal, or all are legal.
-abbrev pub HostsEnd : Plant → ℕ → Joint → Courses → Type 0
-HostsEnd plant scans joint (Breaks node place) = HostSpot plant scans joint node (place + 1)
-HostsEnd plant scans joint (Whole done) =
+abbrev pub HostsEnd : Plant → ℕ → Joint → HostCourses → Type 0
+HostsEnd plant scans joint (host_courses.Breaks node place) =
+    HostSpot plant scans joint node (place + 1)
+HostsEnd plant scans joint (host_courses.Whole done) =
     AreLegalHostLogs plant joint × AreHostsDone plant joint done

@@ -78,19 +78,19 @@ taken_in_order ring =
     ++ map (sorted true) (stats_items (taken_by ring))
 
 -- A station keeps a law.
-abbrev pub Keeps : Law → Bound → Type 0
-Keeps Asks s = AsksAreCalls s.items s.ring
-Keeps Answers s = PeersAreTaken s.items s.ring × PortIsTaken s.ring
-Keeps Replies s = RepliesAreDue s.items s.ring
-Keeps Ends s = EndsAreMet s.station s.items s.ring
+abbrev pub KeepsLaw : Law → Bound → Type 0
+KeepsLaw Asks s = AsksAreCalls s.items s.ring
+KeepsLaw Answers s = PeersAreTaken s.items s.ring × PortIsTaken s.ring
+KeepsLaw Replies s = RepliesAreDue s.items s.ring
+KeepsLaw Ends s = EndsAreMet s.station s.items s.ring
 
 -- A station breaks a law at a place, the first at which the two lists of the law differ.
-abbrev pub Breaks : Law → Bound → ℕ → Type 0
-Breaks Asks s place = DifferAt (asked_by s.ring) (filter_map net_ask s.items.calls) place
-Breaks Answers s place =
+abbrev pub BreaksLaw : Law → Bound → ℕ → Type 0
+BreaksLaw Asks s place = DifferAt (asked_by s.ring) (filter_map net_ask s.items.calls) place
+BreaksLaw Answers s place =
     DifferAt (answered_in_order s.items.answers s.ring) (taken_in_order s.ring) place
-Breaks Replies s place =
+BreaksLaw Replies s place =
     DifferAt (replied_by s.ring)
     (due_replies (taken_by s.ring) (replies_in s.items.answers) (replies_in (port_answers s.ring)))
     place
-Breaks Ends s place = DifferAt s.items.ends (ended_by s.station [] s.ring) place
+BreaksLaw Ends s place = DifferAt s.items.ends (ended_by s.station [] s.ring) place

@@ -2,7 +2,7 @@
 use Rattle.std.specs.Prelude.{◌≡◌, ℕ, ◌+◌, List, Option, Some, None}
 use Rattle.ring_core.specs.declared.entry.RingEntry.{RingEntry}
 use Rattle.tied_lists.specs.Items.{Items, Station}
-use Rattle.joint_law.specs.Bound.{Bound, Breaks, Keeps}
+use Rattle.joint_law.specs.Bound.{Bound, BreaksLaw, KeepsLaw}
 use Rattle.joint_law.specs.Differing.{DifferAt}
 use Rattle.joint_law.specs.declared.law.Law.{Law}
 
@@ -18,6 +18,6 @@ any_bound station items ring =
 
 -- A station keeps a law, or breaks it first at a place counted from 0.
 abbrev pub IsLawEnd : Law → Station → Items → List RingEntry → Option ℕ → Type 0
-IsLawEnd law station items ring None = Keeps law (any_bound station items ring)
+IsLawEnd law station items ring None = KeepsLaw law (any_bound station items ring)
 IsLawEnd law station items ring (Some place) =
-    Breaks law (any_bound station items ring) (place + 1)
+    BreaksLaw law (any_bound station items ring) (place + 1)

@@ -97,4 +97,5 @@ HostAllows plan before e = HostFits plan (progress_of before) e
 -- Each entry fits those before it.
 abbrev pub EachAllows : (List RingEntry → RingEntry → Type 0) → List RingEntry → Type 0
 EachAllows Allows ring =
-    (before after : List RingEntry) (e : RingEntry) → StandsIn ring before e after → Allows before e
+    (before after : List RingEntry) (e : RingEntry) → StandsIn ring before e after
+    → Allows before e

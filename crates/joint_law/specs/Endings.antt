@@ -19,11 +19,11 @@ use Rattle.joint_history.specs.Reading.{outcome_of}
 use Rattle.joint_law.specs.declared.by_call.ByCall.{ByCall}
 use Rattle.joint_law.specs.declared.ending.EndKind.{EndKind}
 use Rattle.joint_law.specs.Kinds.{kind_as}
-use Rattle.joint_law.specs.Named.{value_at}
+use Rattle.joint_law.specs.Named.{value_of_call}
 
 -- The kind of a call that was noted.
 abbrev pub kind_at : ByCall EndKind → CallId → Option Kind
-kind_at kinds id = option_map kind_as (value_at kinds id)
+kind_at kinds id = option_map kind_as (value_of_call kinds id)
 
 -- The first of two.
 abbrev pub or_kind : Option Kind → Option Kind → Option Kind
@@ -47,7 +47,8 @@ pdu_for id (Some a) = if is_same_call a.id id then Some a.pdu else None
 
 -- A request was noted, if there is one.
 abbrev pub NotesAsk : ByCall (List ℕ) → Option Asked → ByCall (List ℕ) → Type 0
-NotesAsk old asked new = (q : CallId) → value_at new q ≡ or_some (pdu_for q asked) (value_at old q)
+NotesAsk old asked new =
+    (q : CallId) → value_of_call new q ≡ or_some (pdu_for q asked) (value_of_call old q)
 
 -- The end that an entry tells.
 abbrev pub end_with : (CallId → Option Kind) → Entry → Option Ended
@@ -62,22 +63,22 @@ host_end_with kinds (host_entries.Answer id result) =
 host_end_with kinds _ = None
 
 -- The end that a frame gives which was taken.
-abbrev pub ended_with_frame : Station → (CallId → Option (List ℕ))
+abbrev pub frame_end_with : Station → (CallId → Option (List ℕ))
     → FrameKind → Frame → Option Ended
-ended_with_frame station asked Request f = None
-ended_with_frame station asked Reply f = Some (record {
+frame_end_with station asked Request f = None
+frame_end_with station asked Reply f = Some (record {
   id = f.id;
   kind = Some NetCall;
   outcome = outcome_of_reply station (asked f.id) f.pdu;
 })
 
 -- The end that an entry of the ring gives.
-abbrev pub ended_with : Station → (CallId → Option (List ℕ)) → RingEntry → Option Ended
-ended_with station asked (Take n f) = ended_with_frame station asked f.kind f
-ended_with station asked (Local n id op result) = ended_at_home n id op result
-ended_with station asked (GiveUp id word) = Some (record {
+abbrev pub ring_end_with : Station → (CallId → Option (List ℕ)) → RingEntry → Option Ended
+ring_end_with station asked (Take n f) = frame_end_with station asked f.kind f
+ring_end_with station asked (Local n id op result) = ended_at_home n id op result
+ring_end_with station asked (GiveUp id word) = Some (record {
   id = id;
   kind = Some NetCall;
   outcome = outcome_of_word station word;
 })
-ended_with station asked _ = None
+ring_end_with station asked _ = None

@@ -8,7 +8,7 @@ use Rattle.controller_core.specs.declared.entry.Entry.TheVariants.{Finish}
 use Rattle.host_port.specs.declared.entry.HostEntry.{HostEntry}
 use Rattle.host_port.specs.declared.entry.HostEntry.TheVariants.{Answer}
 use Rattle.tied_lists.specs.Items.{Called, Ended}
-use Rattle.joint_law.specs.Named.{value_at}
+use Rattle.joint_law.specs.Named.{value_of_call}
 use Rattle.joint_law.specs.declared.by_call.ByCall.{ByCall}
 
 -- The name of a call.
@@ -43,9 +43,9 @@ once_of count = if count == 0 then None else Some (count == 1)
 
 -- These ends were noted.
 abbrev pub CountsEnds : List CallId → ByCall Bool → Type 0
-CountsEnds ends once = (q : CallId) → value_at once q ≡ once_of (ends_of ends q)
+CountsEnds ends once = (q : CallId) → value_of_call once q ≡ once_of (ends_of ends q)
 
 -- One more end was.
 abbrev pub NotesEnd : ByCall Bool → CallId → ByCall Bool → Type 0
-NotesEnd old id new = (q : CallId) → value_at new q
-    ≡ (if is_same_call id q then Some (is_none (value_at old id)) else value_at old q)
+NotesEnd old id new = (q : CallId) → value_of_call new q
+    ≡ (if is_same_call id q then Some (is_none (value_of_call old id)) else value_of_call old q)

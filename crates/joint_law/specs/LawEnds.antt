@@ -2,33 +2,33 @@
 use Rattle.std.specs.Prelude.{◌≡◌, ℕ, ◌+◌, ◌<◌, List, Option, Some, None}
 use Rattle.std.specs.List.{All, Any}
 use Rattle.ring_core.specs.Machine.{addresses}
-use Rattle.joint_law.specs.Bound.{Bound, Breaks, Keeps, number_of}
+use Rattle.joint_law.specs.Bound.{Bound, BreaksLaw, KeepsLaw, number_of}
 use Rattle.joint_law.specs.declared.law.Law.{Law}
 use Rattle.joint_law.specs.declared.verdict.Spot.{Spot}
 use Rattle.joint_law.specs.declared.verdict.Spot.TheVariants as spots
 
 -- A station keeps a law, if it has this address; or it has it and breaks the law.
 abbrev pub IsLogEnd : Law → ℕ → Bound → Option ℕ → Type 0
-IsLogEnd law node s None = s.node ≡ node → Keeps law s
-IsLogEnd law node s (Some place) = (s.node ≡ node) × Breaks law s (place + 1)
+IsLogEnd law node s None = s.node ≡ node → KeepsLaw law s
+IsLogEnd law node s (Some place) = (s.node ≡ node) × BreaksLaw law s (place + 1)
 
 -- All stations with this address do, or one of them breaks it.
 abbrev pub IsLogsEnd : Law → ℕ → List Bound → Option ℕ → Type 0
-IsLogsEnd law node stations None = All (λ (s : Bound). s.node ≡ node → Keeps law s) stations
+IsLogsEnd law node stations None = All (λ (s : Bound). s.node ≡ node → KeepsLaw law s) stations
 IsLogsEnd law node stations (Some place) =
-    Any (λ (s : Bound). (s.node ≡ node) × Breaks law s (place + 1)) stations
+    Any (λ (s : Bound). (s.node ≡ node) × BreaksLaw law s (place + 1)) stations
 
 -- A law is broken at the first address.
 pub record IsBreak (law : Law) (stations : List Bound) (spot : Spot) : Type 0 where
   pub node : ℕ
   pub place : ℕ
   pub spot_is : spot ≡ spots.Law (number_of law) node place
-  pub earlier : All (λ (s : Bound). s.node < node → Keeps law s) stations
-  pub here : Any (λ (s : Bound). (s.node ≡ node) × Breaks law s place) stations
+  pub earlier : All (λ (s : Bound). s.node < node → KeepsLaw law s) stations
+  pub here : Any (λ (s : Bound). (s.node ≡ node) × BreaksLaw law s place) stations
 
 -- All stations keep a law.
 abbrev pub AllKeep : Law → List Bound → Type 0
-AllKeep law stations = All (λ (s : Bound). s.node < addresses → Keeps law s) stations
+AllKeep law stations = All (λ (s : Bound). s.node < addresses → KeepsLaw law s) stations
 
 -- All keep it, or one of them breaks it.
 abbrev pub IsNodesEnd : Law → List Bound → Option Spot → Type 0

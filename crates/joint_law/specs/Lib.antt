@@ -8,11 +8,12 @@ pub mod Courses
 pub mod Differing
 pub mod Endings
 pub mod Ends
+pub mod Judgements
 pub mod Kinds
 pub mod LawEnds
 pub mod Named
+pub mod Picked
 pub mod Readings
 pub mod RingFollowing
-pub mod Split
 pub mod Spots
 pub mod Taking

@@ -2,7 +2,6 @@
 use Rattle.std.specs.Prelude.{◌≡◌, ℕ, ◌<◌, List, map, Option, Some, None}
 use Rattle.std.specs.List.{All, AllZip, Any, zip}
 use Rattle.plant_types.specs.declared.net.HostPlan.{HostPlan}
-use Rattle.plant_types.specs.declared.plan.ControllerPlan.{ControllerPlan}
 use Rattle.plant_types.specs.declared.plan.Plant.{Plant}
 use Rattle.plant_types.specs.Plans.{IsPlant, controller_nodes, host_nodes}
 use Rattle.ring_core.specs.Legal.{IsLegal as IsLegalRing}
@@ -14,8 +13,8 @@ use Rattle.joint_history.specs.declared.joint.HostLog.{HostLog}
 use Rattle.joint_history.specs.declared.joint.Joint.{Joint}
 use Rattle.joint_history.specs.Complete.{IsComplete, IsCompleteLog, IsCompleteHostLog}
 use Rattle.joint_history.specs.JointLaws.{IsJoint, IsLegalHostLog, IsLegalJoint, IsLegalLog}
-use Rattle.joint_history.specs.JointLaws.{fixed_of}
-use Rattle.joint_law.specs.Bound.{Bound, Breaks, Keeps, bounds_of, number_of}
+use Rattle.joint_history.specs.JointLaws.{fixed_of, logged}
+use Rattle.joint_law.specs.Bound.{Bound, BreaksLaw, KeepsLaw, bounds_of, number_of}
 use Rattle.joint_law.specs.Differing.{BreaksAt}
 use Rattle.joint_law.specs.declared.law.Law.{Law}
 use Rattle.joint_law.specs.declared.verdict.Spot.{Spot}
@@ -34,13 +33,9 @@ pub record HasSections (plant : Plant) (joint : Joint) : Type 0 where
       ≡ controller_nodes plant
   pub hosts : map (λ (log : HostLog). log.node) joint.hosts ≡ host_nodes plant
 
--- Each controller of a plant with its list.
-abbrev pub controllers_of : Plant → Joint → List (ControllerPlan × ControllerLog)
-controllers_of plant joint = zip plant.controllers joint.controllers
-
--- Each host of a plant with its list.
-abbrev pub hosts_of : Plant → Joint → List (HostPlan × HostLog)
-hosts_of plant joint = zip plant.hosts joint.hosts
+-- Each host of a plant with its log, in rising address.
+abbrev pub hosts_logged : Plant → Joint → List (HostPlan × HostLog)
+hosts_logged plant joint = zip plant.hosts joint.hosts
 
 -- The lists of all controllers are legal.
 abbrev pub AreLegalLogs : Plant → ℕ → Joint → Type 0
@@ -57,21 +52,21 @@ pub record ControllerSpot (plant : Plant) (scans : ℕ) (joint : Joint) (node en
   pub sections : HasSections plant joint
   pub earlier : All
       (λ of. of.1.node < node → IsLegal (fixed_of plant scans of.0) of.1.entries)
-      (controllers_of plant joint)
+      (logged plant joint)
   pub here : Any
       (λ of. (of.1.node ≡ node)
       × BreaksAt (IsLegal (fixed_of plant scans of.0)) of.1.entries entry)
-      (controllers_of plant joint)
+      (logged plant joint)
 
 -- The first host whose list isn't legal, and the entry that makes it so.
 pub record HostSpot (plant : Plant) (scans : ℕ) (joint : Joint) (node entry : ℕ) : Type 0 where
   pub sections : HasSections plant joint
   pub controllers : AreLegalLogs plant scans joint
   pub earlier : All (λ of. of.1.node < node → IsHostHistory of.0 of.1.entries)
-      (hosts_of plant joint)
+      (hosts_logged plant joint)
   pub here : Any
       (λ of. (of.1.node ≡ node) × BreaksAt (IsHostHistory of.0) of.1.entries entry)
-      (hosts_of plant joint)
+      (hosts_logged plant joint)
 
 -- The entry that makes the ring's list no legal one.
 pub record RingSpot (plant : Plant) (scans : ℕ) (joint : Joint) (entry : ℕ) : Type 0 where
@@ -84,17 +79,17 @@ pub record LawSpot (plant : Plant) (scans : ℕ) (joint : Joint) (law : Law) (no
     : Type 0 where
   pub legal : IsLegalJoint plant scans joint
   pub laws : (other : Law) → number_of other < number_of law
-      → All (Keeps other) (bounds_of joint)
-  pub earlier : All (λ (s : Bound). s.node < node → Keeps law s) (bounds_of joint)
-  pub here : Any (λ (s : Bound). (s.node ≡ node) × Breaks law s place) (bounds_of joint)
+      → All (KeepsLaw other) (bounds_of joint)
+  pub earlier : All (λ (s : Bound). s.node < node → KeepsLaw law s) (bounds_of joint)
+  pub here : Any (λ (s : Bound). (s.node ≡ node) × BreaksLaw law s place) (bounds_of joint)
 
 -- The stations at an address are complete.
 pub record IsCompleteAt (plant : Plant) (scans : ℕ) (joint : Joint) (node : ℕ) : Type 0 where
   pub controllers : All
       (λ of. of.1.node ≡ node → IsCompleteLog plant scans joint.ring of.0 of.1)
-      (controllers_of plant joint)
+      (logged plant joint)
   pub hosts : All (λ of. of.1.node ≡ node → IsCompleteHostLog plant joint.ring of.0 of.1)
-      (hosts_of plant joint)
+      (hosts_logged plant joint)
 
 -- The first station that is not complete.
 pub record IncompleteSpot (plant : Plant) (scans : ℕ) (joint : Joint) (node : ℕ) : Type 0 where

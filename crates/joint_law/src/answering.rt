@@ -6,7 +6,7 @@ ghost use Rattle.tied_lists.specs.Items.{taken_in, taken_of};
 ghost use Rattle.joint_history.specs.Reading.{host_items_of, items_of};
 ghost use Rattle.joint_law.specs.Bound.{sorted, sorted_answer, taken_in_order};
 ghost use Rattle.joint_law.specs.Readings.{answer_in, host_answer_in};
-ghost use Rattle.joint_law.specs.Split.{AreWithin, picked};
+ghost use Rattle.joint_law.specs.Picked.{AreWithin, picked};
 ghost use Rattle.joint_law.specs.Taking.{items_for};
 
 use crate::differing::Same;

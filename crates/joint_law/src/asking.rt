@@ -4,7 +4,7 @@ ghost use Rattle.std.specs.List.{cons_option};
 ghost use Rattle.tied_lists.specs.Items.{asked_by, asked_of, net_ask};
 ghost use Rattle.joint_history.specs.Reading.{called_of, host_items_of, items_of};
 ghost use Rattle.joint_law.specs.Readings.{calls_in, host_call_in};
-ghost use Rattle.joint_law.specs.Split.{AreWithin, picked};
+ghost use Rattle.joint_law.specs.Picked.{AreWithin, picked};
 
 use crate::differing::Same;
 use controller_core::{Call, CallKind, Entry};

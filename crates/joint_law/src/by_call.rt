@@ -1,32 +1,32 @@
 //! Values by the name of a call.
 ghost use Rattle.std.specs.Prelude.{◌≡◌, None, Some, OnOk, MatchOption};
 ghost use Rattle.mstr_block.specs.declared.call.CallId.{CallId as Name};
-ghost use Rattle.joint_law.specs.Named.{Puts, value_at};
+ghost use Rattle.joint_law.specs.Named.{Puts, value_of_call};
 
 use mstr_block::CallId;
 use std::alloc::{AllocError, Global};
-use std::collections::HashMap;
+use std::collections::BTreeMap;
 
 /// A value for each of some calls.
 #[derive(Drop)]
 pub(crate) struct ByCall<T> {
-    pub values: HashMap<(u8, (u8, u32)), T>,
+    pub values: BTreeMap<(u8, (u8, u32)), T>,
 }
 
 impl<T: Drop> ByCall<T> {
     /// No call has a value.
     pub(crate) fn new(alloc: Global) -> ByCall<T>
-        ensures { (q : Name) → value_at result q ≡ None }
+        ensures { (q : Name) → value_of_call result q ≡ None }
     {
         ByCall {
-            values: HashMap::new(alloc),
+            values: BTreeMap::new(alloc),
         }
     }
 
     /// The value of a call.
     pub(crate) fn get(&self, id: CallId) -> Option<&T>
-        ensures { MatchOption result (value_at self.now id ≡ None)
-            (λ found. value_at self.now id ≡ Some found.now) }
+        ensures { MatchOption result (value_of_call self.now id ≡ None)
+            (λ found. value_of_call self.now id ≡ Some found.now) }
     {
         self.values.get(&(id.node, (id.path, id.seq)))
     }

@@ -1,31 +1,28 @@
 //! The first station that was not done.
-ghost use Rattle.std.specs.Prelude.{◌≡◌, ◌↔◌, ℕ, [], get_or, length, IsTrue};
+ghost use Rattle.std.specs.Prelude.{◌≡◌, ◌↔◌, ℕ, length, IsTrue};
 ghost use Rattle.plant_types.specs.Plans.{IsPlant};
 ghost use Rattle.joint_law.specs.AllCourses.{AreDone, AreHostsDone};
 ghost use Rattle.joint_law.specs.AllComplete.{AreControllersDone, AreHostNodesDone};
 ghost use Rattle.joint_law.specs.AllComplete.{IsFirstIncomplete, IsHostNodeDone, IsNodeDone};
 ghost use Rattle.joint_law.specs.Spots.{HasSections, IsCompleteAt};
-ghost use Rattle.joint_law.specs.Split.{IsSplit, picked};
+ghost use Rattle.joint_law.specs.Picked.{AreWithin, picked};
+ghost use Rattle.own_places.specs.Places.{ArePlaces};
 
 use crate::completing::{all_fit, all_fit_host, has_left};
-use crate::own_lists::OwnLists;
 use joint_history::{ControllerLog, HostLog, Joint};
-use plant_types::{HostPlan, Plant};
+use own_places::OwnPlaces;
+use plant_types::{ADDRESSES, HostPlan, Plant};
 use ring_core::RingEntry;
 
-/// Addresses are below this.
-const ADDRESSES: u8 = 65;
-
 /// Whether a node was done on the ring, and its station, if it is the one of this log.
-fn node_is_done(ring: &[RingEntry], lists: &OwnLists, node: u8, of_log: u8, is_done: bool) -> bool
-    requires { IsSplit ring.now (length ring.now) lists.now }
+fn node_is_done(ring: &[RingEntry], places: &[usize], node: u8, of_log: u8, is_done: bool) -> bool
+    requires { AreWithin ring.now places.now }
     ensures { IsTrue result ↔ (of_log ≡ node
-        → IsNodeDone is_done (picked ring.now (get_or lists.now node []))) }
+        → IsNodeDone is_done (picked ring.now places.now)) }
 {
     if of_log != node {
         return true;
     }
-    let places = lists.places(node);
     is_done && all_fit(ring, places) && has_left(ring, places)
 }
 
@@ -33,17 +30,17 @@ fn node_is_done(ring: &[RingEntry], lists: &OwnLists, node: u8, of_log: u8, is_d
 fn controllers_are_done(
     logs: &[ControllerLog],
     ring: &[RingEntry],
-    lists: &OwnLists,
+    places: &[usize],
     done: &[bool],
     node: u8,
 ) -> bool
-    requires split { IsSplit ring.now (length ring.now) lists.now }
+    requires places { AreWithin ring.now places.now }
     requires done { length done.now ≡ length logs.now }
     ensures { IsTrue result ↔ AreControllersDone logs.now done.now node
-        (picked ring.now (get_or lists.now node [])) }
+        (picked ring.now places.now) }
 {
     for at in 0..logs.len() {
-        if !node_is_done(ring, lists, node, logs[at].node, done[at]) {
+        if !node_is_done(ring, places, node, logs[at].node, done[at]) {
             return false;
         }
     }
@@ -54,22 +51,22 @@ fn controllers_are_done(
 fn host_is_done(
     plan: &HostPlan,
     ring: &[RingEntry],
-    lists: &OwnLists,
+    places: &[usize],
     node: u8,
     of_log: u8,
     is_done: bool,
 ) -> bool
-    requires { IsSplit ring.now (length ring.now) lists.now }
+    requires { AreWithin ring.now places.now }
     ensures { IsTrue result ↔ (of_log ≡ node
-        → IsHostNodeDone plan.now is_done (picked ring.now (get_or lists.now node []))) }
+        → IsHostNodeDone plan.now is_done (picked ring.now places.now)) }
 {
     if of_log != node {
         return true;
     }
-    if !node_is_done(ring, lists, node, of_log, is_done) {
+    if !node_is_done(ring, places, node, of_log, is_done) {
         return false;
     }
-    all_fit_host(plan, ring, lists.places(node))
+    all_fit_host(plan, ring, places)
 }
 
 /// Whether the hosts of a node were done.
@@ -77,18 +74,18 @@ fn hosts_are_done(
     plans: &[HostPlan],
     logs: &[HostLog],
     ring: &[RingEntry],
-    lists: &OwnLists,
+    places: &[usize],
     done: &[bool],
     node: u8,
 ) -> bool
-    requires split { IsSplit ring.now (length ring.now) lists.now }
+    requires places { AreWithin ring.now places.now }
     requires plans { length plans.now ≡ length logs.now }
     requires done { length done.now ≡ length logs.now }
     ensures { IsTrue result ↔ AreHostNodesDone plans.now logs.now done.now node
-        (picked ring.now (get_or lists.now node [])) }
+        (picked ring.now places.now) }
 {
     for at in 0..logs.len() {
-        if !host_is_done(&plans[at], ring, lists, node, logs[at].node, done[at]) {
+        if !host_is_done(&plans[at], ring, places, node, logs[at].node, done[at]) {
             return false;
         }
     }
@@ -99,45 +96,46 @@ fn hosts_are_done(
 fn are_done(
     plant: &Plant,
     joint: &Joint,
-    lists: &OwnLists,
+    own: &OwnPlaces,
     done: &[bool],
     hosts_done: &[bool],
     node: u8,
 ) -> bool
     requires sound { IsPlant plant.now }
     requires sections { HasSections plant.now joint.now }
-    requires split { IsSplit joint.now.ring (length joint.now.ring) lists.now }
+    requires places { ArePlaces joint.now.ring own.now }
     requires size { length done.now ≡ length plant.now.controllers }
     requires hosts { AreHostsDone plant.now joint.now hosts_done.now }
     ensures { (scans : ℕ) → AreDone plant.now scans joint.now done.now
         → IsTrue result ↔ IsCompleteAt plant.now scans joint.now node }
 {
     let ring = joint.ring.as_slice();
-    if !controllers_are_done(joint.controllers.as_slice(), ring, lists, done, node) {
+    let places = own.places(node);
+    if !controllers_are_done(joint.controllers.as_slice(), ring, places, done, node) {
         return false;
     }
     let logs = joint.hosts.as_slice();
-    hosts_are_done(plant.hosts.as_slice(), logs, ring, lists, hosts_done, node)
+    hosts_are_done(plant.hosts.as_slice(), logs, ring, places, hosts_done, node)
 }
 
 /// The first node whose station was not done.
 pub(crate) fn first_incomplete(
     plant: &Plant,
     joint: &Joint,
-    lists: &OwnLists,
+    own: &OwnPlaces,
     done: &[bool],
     hosts_done: &[bool],
 ) -> Option<u8>
     requires sound { IsPlant plant.now }
     requires sections { HasSections plant.now joint.now }
-    requires split { IsSplit joint.now.ring (length joint.now.ring) lists.now }
+    requires places { ArePlaces joint.now.ring own.now }
     requires size { length done.now ≡ length plant.now.controllers }
     requires hosts { AreHostsDone plant.now joint.now hosts_done.now }
     ensures { (scans : ℕ) → AreDone plant.now scans joint.now done.now
         → IsFirstIncomplete plant.now scans joint.now result }
 {
     for node in 0..ADDRESSES {
-        if !are_done(plant, joint, lists, done, hosts_done, node) {
+        if !are_done(plant, joint, own, done, hosts_done, node) {
             return Some(node);
         }
     }

@@ -6,7 +6,7 @@ ghost use Rattle.joint_law.specs.Completing.{EachAllows, HostAllows, HostFits, I
 ghost use Rattle.joint_law.specs.Completing.{IsShort, NodeAllows, NodeFits, is_leave};
 ghost use Rattle.joint_law.specs.Completing.{passed_next, posted_next, progress_next};
 ghost use Rattle.joint_law.specs.Completing.{progress_of, taken_next};
-ghost use Rattle.joint_law.specs.Split.{AreWithin, picked};
+ghost use Rattle.joint_law.specs.Picked.{AreWithin, picked};
 
 use plant_types::HostPlan;
 use ring_core::{FrameKind, RingEntry};

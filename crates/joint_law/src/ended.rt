@@ -5,7 +5,7 @@ ghost use Rattle.joint_history.specs.Complete.{EndsEachCall};
 ghost use Rattle.joint_history.specs.Reading.{called_of, host_items_of, items_of};
 ghost use Rattle.joint_law.specs.Ends.{CountsEnds, EndsOnce, NotesEnd, end_id_in, host_end_id_in};
 ghost use Rattle.joint_law.specs.Ends.{id_of_call, id_of_end};
-ghost use Rattle.joint_law.specs.Named.{value_at};
+ghost use Rattle.joint_law.specs.Named.{value_of_call};
 ghost use Rattle.joint_law.specs.Readings.{calls_in, host_call_in};
 
 use crate::by_call::ByCall;
@@ -33,7 +33,7 @@ fn count_ends(alloc: Global, ends: &[CallId]) -> Result<ByCall<bool>, AllocError
 }
 
 fn has_ended(once: &ByCall<bool>, id: CallId) -> bool
-    ensures { IsTrue result ↔ (value_at once.now id ≡ Some true) }
+    ensures { IsTrue result ↔ (value_of_call once.now id ≡ Some true) }
 {
     match once.get(id) {
         None => false,

@@ -7,11 +7,11 @@ ghost use Rattle.tied_lists.specs.Items.{outcome_of_reply, outcome_of_word};
 ghost use Rattle.joint_history.specs.Reading.{called_of, host_items_of, items_of, outcome_of};
 ghost use Rattle.joint_history.specs.Reading.{sort_of};
 ghost use Rattle.joint_law.specs.Endings.{NotesAsk, NotesCalls, NotesKind, end_with};
-ghost use Rattle.joint_law.specs.Endings.{ended_with, ended_with_frame, host_end_with, kind_at};
+ghost use Rattle.joint_law.specs.Endings.{ring_end_with, frame_end_with, host_end_with, kind_at};
 ghost use Rattle.joint_law.specs.Kinds.{kind_as, outcome_as, station_of};
-ghost use Rattle.joint_law.specs.Named.{value_at};
+ghost use Rattle.joint_law.specs.Named.{value_of_call};
 ghost use Rattle.joint_law.specs.Readings.{calls_in, host_call_in};
-ghost use Rattle.joint_law.specs.Split.{AreWithin, picked};
+ghost use Rattle.joint_law.specs.Picked.{AreWithin, picked};
 
 use crate::by_call::ByCall;
 use crate::differing::Same;
@@ -20,13 +20,10 @@ use controller_core::{Call, CallKind, Entry};
 use host_port::{HostEntry, HostResult};
 use mstr_block::{CallId, MstrResult};
 use plant_types::{Copied, Pdu};
-use reply_laws::result_of;
+use reply_laws::{NO_RESULT, result_of};
 use ring_core::{Frame, FrameKind, LocalOp, RingEntry};
 use std::alloc::{AllocError, Global};
 use std::marker::Model;
-
-/// The word of a reply that tells no result.
-const NO_RESULT: u16 = 0x3000;
 
 /// What a station is.
 #[derive(Clone, Copy, Debug, Drop, PartialEq, Eq)]
@@ -264,7 +261,7 @@ pub(crate) fn host_ends(alloc: Global, entries: &[HostEntry]) -> Result<Vec<Endi
 }
 
 /// What a reply comes to, by the request that it answers, if that was posted.
-fn replied(
+fn outcome_of_reply(
     alloc: Global,
     sort: Sort,
     asked: &ByCall<Pdu>,
@@ -272,7 +269,7 @@ fn replied(
     reply: &Pdu,
 ) -> Result<Outcome, AllocError>
     ensures { IfOk result (λ outcome. outcome_as outcome
-        ≡ outcome_of_reply (station_of sort) (value_at asked.now id) reply.now) }
+        ≡ outcome_of_reply (station_of sort) (value_of_call asked.now id) reply.now) }
 {
     match sort {
         Sort::Host => Ok(Outcome::Replied(reply.copied(alloc)?)),
@@ -283,7 +280,7 @@ fn replied(
     }
 }
 
-fn lacked(sort: Sort, word: u16) -> Outcome
+fn outcome_of_word(sort: Sort, word: u16) -> Outcome
     ensures { outcome_as result ≡ outcome_of_word (station_of sort) word }
 {
     match sort {
@@ -300,12 +297,12 @@ fn end_of_frame(
     frame: &Frame,
 ) -> Result<Option<Ending>, AllocError>
     ensures { IfOk result (λ end. end
-        ≡ ended_with_frame (station_of sort) (value_at asked.now) frame.now.kind frame.now) }
+        ≡ frame_end_with (station_of sort) (value_of_call asked.now) frame.now.kind frame.now) }
 {
     if let FrameKind::Request = frame.kind {
         return Ok(None);
     }
-    let outcome = replied(alloc, sort, asked, frame.id, &frame.pdu)?;
+    let outcome = outcome_of_reply(alloc, sort, asked, frame.id, &frame.pdu)?;
     Ok(Some(Ending {
         id: frame.id,
         kind: Some(EndKind::Net),
@@ -343,7 +340,7 @@ fn end_of(
     entry: &RingEntry,
 ) -> Result<Option<Ending>, AllocError>
     ensures { IfOk result
-        (λ end. end ≡ ended_with (station_of sort) (value_at asked.now) entry.now) }
+        (λ end. end ≡ ring_end_with (station_of sort) (value_of_call asked.now) entry.now) }
 {
     match entry {
         RingEntry::Take { frame, .. } => end_of_frame(alloc, sort, asked, frame),
@@ -356,7 +353,7 @@ fn end_of(
         RingEntry::GiveUp { id, word } => Ok(Some(Ending {
             id: *id,
             kind: Some(EndKind::Net),
-            outcome: lacked(sort, *word),
+            outcome: outcome_of_word(sort, *word),
         })),
         _ => Ok(None),
     }
@@ -384,7 +381,7 @@ fn add_met(
 ) -> Result<(), AllocError>
     ensures asked { OnOk result (NotesAsk asked.old (asked_of entry.now) asked.new) }
     ensures ends { OnOk result (list.new.items ≡ list.old.items
-        ++ cons_option (ended_with (station_of sort) (value_at asked.old) entry.now) []) }
+        ++ cons_option (ring_end_with (station_of sort) (value_of_call asked.old) entry.now) []) }
 {
     if let Some(end) = end_of(alloc, sort, asked, entry)? {
         list.push(end)?;

@@ -7,10 +7,10 @@ ghost use Rattle.host_port.specs.Legal.{IsHostHistory};
 ghost use Rattle.joint_history.specs.Complete.{ControllerIsComplete, EndsEachCall, is_end};
 ghost use Rattle.joint_history.specs.JointLaws.{fixed_of};
 ghost use Rattle.joint_history.specs.Reading.{host_items_of};
-ghost use Rattle.joint_law.specs.Courses.{FollowedTo, IsCourse};
+ghost use Rattle.joint_law.specs.Courses.{FollowedTo, HasFollowed, IsControllerCourse, IsCourse};
 
 use crate::ended::{ends_each_call, host_ends_each_call};
-use controller_core::{Controller, Entry};
+use controller_core::{Controller, Entry, Notes, notes_ask_no_scans};
 use host_port::{Host, HostEntry};
 use plant_types::{ControllerPlan, HostPlan, NetPlan, Plant};
 use std::alloc::{AllocError, Global};
@@ -22,6 +22,15 @@ pub(crate) enum Course {
     Breaks(usize),
     /// It is legal, and its station was done, or not.
     Whole(bool),
+}
+
+/// How a controller's list goes, with what the controller noted.
+#[derive(Drop)]
+pub(crate) enum ControllerCourse {
+    /// The entry, counted from 0, makes it no legal one.
+    Breaks(usize),
+    /// It is legal, and its controller was done, or not, and noted this of its panel.
+    Whole { is_done: bool, notes: Notes },
 }
 
 /// Makes the events of a list, as far as they may follow.
@@ -74,22 +83,45 @@ fn is_done(
     ends_each_call(alloc, entries)
 }
 
+/// How a list goes that a controller follows from its start.
+fn follow_to_end(
+    alloc: Global,
+    controller: &mut Controller,
+    scans: u32,
+    entries: &[Entry],
+) -> Result<Course, AllocError>
+    requires history { controller.old.history ≡ [] }
+    requires scans { controller.old.fixed.scans ≡ scans }
+    ensures course { IfOk result (IsCourse (IsLegal controller.old.fixed)
+        (ControllerIsComplete controller.old.fixed entries.now) entries.now) }
+    ensures history { IfOk result (HasFollowed entries.now controller.new.history) }
+    ensures fixed { controller.new.fixed ≡ controller.old.fixed }
+{
+    match follow_entries(controller, entries)? {
+        Some(place) => Ok(Course::Breaks(place)),
+        None => Ok(Course::Whole(is_done(alloc, controller, scans, entries)?)),
+    }
+}
+
+/// How the list of a controller of a plant goes.
 pub(crate) fn controller_course(
     alloc: Global,
     plant: &Plant,
     scans: u32,
     plan: &ControllerPlan,
     entries: &[Entry],
-) -> Result<Course, AllocError>
+) -> Result<ControllerCourse, AllocError>
     requires { IsRunnable (fixed_of plant.now scans plan.now) }
-    ensures { IfOk result (IsCourse (IsLegal (fixed_of plant.now scans plan.now))
-        (ControllerIsComplete (fixed_of plant.now scans plan.now) entries.now) entries.now) }
+    ensures { IfOk result (IsControllerCourse plant.now scans plan.now entries.now) }
 {
+    notes_ask_no_scans();
     let (scan_time, watchdog) = (plant.scan_time, plant.watchdog);
     let mut controller = Controller::new(alloc, plan, scan_time, watchdog, scans)?;
-    match follow_entries(&mut controller, entries)? {
-        Some(place) => Ok(Course::Breaks(place)),
-        None => Ok(Course::Whole(is_done(alloc, &controller, scans, entries)?)),
+    let course = follow_to_end(alloc, &mut controller, scans, entries);
+    let (_, notes) = controller.into_parts();
+    match course? {
+        Course::Breaks(place) => Ok(ControllerCourse::Breaks(place)),
+        Course::Whole(is_done) => Ok(ControllerCourse::Whole { is_done, notes }),
     }
 }
 
@@ -106,6 +138,21 @@ fn follow_host_entries(host: &mut Host, entries: &[HostEntry]) -> Result<Option<
     Ok(None)
 }
 
+/// Makes the events of a list by a host of its own, as far as they may follow.
+fn follow_host(
+    alloc: Global,
+    net: &NetPlan,
+    plan: &HostPlan,
+    entries: &[HostEntry],
+) -> Result<Option<usize>, AllocError>
+    requires { IsHostPlan plan.now }
+    ensures { IfOk result (FollowedTo (IsHostHistory plan.now) entries.now) }
+{
+    let mut host = Host::new(alloc, plan, net)?;
+    follow_host_entries(&mut host, entries)
+}
+
+/// How the list of a host of a plant goes.
 pub(crate) fn host_course(
     alloc: Global,
     net: &NetPlan,
@@ -116,8 +163,7 @@ pub(crate) fn host_course(
     ensures { IfOk result (IsCourse (IsHostHistory plan.now)
         (EndsEachCall (host_items_of entries.now)) entries.now) }
 {
-    let mut host = Host::new(alloc, plan, net)?;
-    match follow_host_entries(&mut host, entries)? {
+    match follow_host(alloc, net, plan, entries)? {
         Some(place) => Ok(Course::Breaks(place)),
         None => Ok(Course::Whole(host_ends_each_call(alloc, entries)?)),
     }

@@ -3,20 +3,21 @@ ghost use Rattle.std.specs.Prelude.{◌≡◌, ◌↔◌, IfOk};
 ghost use Rattle.plant_types.specs.Plans.{IsPlant};
 ghost use Rattle.joint_history.specs.JointLaws.{IsLegalJoint};
 ghost use Rattle.effect_laws.specs.Effects.{EffectsAreRight};
-ghost use Rattle.joint_law.specs.AllCourses.{AreDone, AreHostsDone};
+ghost use Rattle.joint_law.specs.AllCourses.{AreDone, AreHostsDone, AreWholeCourses};
+ghost use Rattle.joint_law.specs.Judgements.{HasNotes, IsJudgement, verdict_of};
 ghost use Rattle.joint_law.specs.Spots.{AreLegalHostLogs, AreLegalLogs, CanBeJudged, HasSections};
 ghost use Rattle.joint_law.specs.Spots.{IsFirstSpot, IsVerdict, IsWholeRun};
 
 use crate::complete::first_incomplete;
-use crate::courses::{Courses, controllers_course, hosts_course};
+use crate::courses::{ControllerCourses, HostCourses, controllers_course, hosts_course};
 use crate::law_spots::{laws_spot, number};
-use crate::own_lists::OwnLists;
 use crate::ring_following::first_illegal;
 use crate::sections::has_sections;
-use crate::verdict::{Spot, Verdict};
-use controller_core::fronts_are_legal;
+use crate::verdict::{Judgement, Spot, Verdict};
+use controller_core::{Notes, fronts_are_legal};
 use effect_laws::effects_are_right;
 use joint_history::Joint;
+use own_places::OwnPlaces;
 use plant_types::{List, Plant};
 use std::alloc::{AllocError, Global};
 
@@ -36,11 +37,11 @@ fn spot_from_laws(
     requires hosts { AreHostsDone plant.now joint.now hosts_done.now }
     ensures { IfOk result (IsFirstSpot plant.now scans joint.now) }
 {
-    let lists = OwnLists::of(alloc, joint.ring.as_slice())?;
-    if let Some(spot) = laws_spot(alloc, joint, &lists)? {
+    let own = OwnPlaces::of(alloc, joint.ring.as_slice())?;
+    if let Some(spot) = laws_spot(alloc, joint, &own)? {
         return Ok(Some(spot));
     }
-    match first_incomplete(plant, joint, &lists, done.as_slice(), hosts_done.as_slice()) {
+    match first_incomplete(plant, joint, &own, done.as_slice(), hosts_done.as_slice()) {
         Some(node) => Ok(Some(Spot::Incomplete(node))),
         None => Ok(None),
     }
@@ -84,50 +85,95 @@ fn spot_from_hosts(
     ensures { IfOk result (IsFirstSpot plant.now scans joint.now) }
 {
     match hosts_course(alloc, plant, joint, scans)? {
-        Courses::Breaks { node, place } => {
+        HostCourses::Breaks { node, place } => {
             let entry = number(place)?;
             Ok(Some(Spot::Host { node, entry }))
         }
-        Courses::Whole(hosts_done) => {
+        HostCourses::Whole(hosts_done) => {
             spot_from_ring(alloc, plant, joint, scans, done, &hosts_done)
         }
     }
 }
 
-/// The first spot of lists of a plant's stations: in a controller's list, or behind those.
-fn spot_from_controllers(
+/// Judges lists of which those of the controllers are legal.
+fn judge_others(
     alloc: Global,
     plant: &Plant,
     joint: &Joint,
     scans: u32,
-) -> Result<Option<Spot>, AllocError>
+    done: &List<bool>,
+    notes: List<Notes>,
+) -> Result<Judgement, AllocError>
     requires judged { CanBeJudged plant.now scans }
     requires sections { HasSections plant.now joint.now }
-    ensures { IfOk result (IsFirstSpot plant.now scans joint.now) }
+    requires controllers { AreWholeCourses plant.now scans joint.now done.now notes }
+    ensures { IfOk result (IsJudgement plant.now scans joint.now) }
 {
-    match controllers_course(alloc, plant, joint, scans)? {
-        Courses::Breaks { node, place } => {
-            let entry = number(place)?;
-            Ok(Some(Spot::Controller { node, entry }))
-        }
-        Courses::Whole(done) => spot_from_hosts(alloc, plant, joint, scans, &done),
+    match spot_from_hosts(alloc, plant, joint, scans, done)? {
+        Some(spot) => Ok(Judgement::Illegal(spot)),
+        None => Ok(Judgement::Legal(notes)),
     }
 }
 
-/// The first spot of a joint history.
-fn first_spot(
+/// Judges lists of a plant's stations.
+fn judge_stations(
     alloc: Global,
     plant: &Plant,
     joint: &Joint,
     scans: u32,
-) -> Result<Option<Spot>, AllocError>
+) -> Result<Judgement, AllocError>
+    requires judged { CanBeJudged plant.now scans }
+    requires sections { HasSections plant.now joint.now }
+    ensures { IfOk result (IsJudgement plant.now scans joint.now) }
+{
+    match controllers_course(alloc, plant, joint, scans)? {
+        ControllerCourses::Breaks { node, place } => {
+            let entry = number(place)?;
+            Ok(Judgement::Illegal(Spot::Controller { node, entry }))
+        }
+        ControllerCourses::Whole { done, notes } => {
+            judge_others(alloc, plant, joint, scans, &done, notes)
+        }
+    }
+}
+
+/// Judges a joint history.
+fn judge_lists(
+    alloc: Global,
+    plant: &Plant,
+    joint: &Joint,
+    scans: u32,
+) -> Result<Judgement, AllocError>
     requires { CanBeJudged plant.now scans }
-    ensures { IfOk result (IsFirstSpot plant.now scans joint.now) }
+    ensures { IfOk result (IsJudgement plant.now scans joint.now) }
 {
     if !has_sections(plant, joint) {
-        return Ok(Some(Spot::Sections));
+        return Ok(Judgement::Illegal(Spot::Sections));
     }
-    spot_from_controllers(alloc, plant, joint, scans)
+    judge_stations(alloc, plant, joint, scans)
+}
+
+/// Judges a joint history as `judge` does. Where it is Legal it hands over what each controller
+/// noted of its panel, so that nobody need follow the lists again. Takes time and memory in
+/// proportion to the history.
+pub fn judge_noted(
+    alloc: Global,
+    plant: &Plant,
+    joint: &Joint,
+    scans: u32,
+) -> Result<Judgement, AllocError>
+    requires { CanBeJudged plant.now scans }
+    ensures verdict { IfOk result
+        (λ made. IsVerdict plant.now scans joint.now (verdict_of made)) }
+    ensures exact { IfOk result
+        (λ made. (verdict_of made ≡ Verdict.Legal) ↔ IsWholeRun plant.now scans joint.now) }
+    ensures effects { IfOk result
+        (λ made. verdict_of made ≡ Verdict.Legal → EffectsAreRight joint.now) }
+    ensures notes { IfOk result (HasNotes plant.now joint.now) }
+{
+    fronts_are_legal();
+    effects_are_right();
+    judge_lists(alloc, plant, joint, scans)
 }
 
 /// Judges a joint history: Legal where its lists are those of the plant's stations, legal for so
@@ -142,10 +188,8 @@ pub fn judge(alloc: Global, plant: &Plant, joint: &Joint, scans: u32) -> Result<
     ensures effects { IfOk result
         (λ verdict. verdict ≡ Verdict.Legal → EffectsAreRight joint.now) }
 {
-    fronts_are_legal();
-    effects_are_right();
-    match first_spot(alloc, plant, joint, scans)? {
-        Some(spot) => Ok(Verdict::Illegal(spot)),
-        None => Ok(Verdict::Legal),
+    match judge_noted(alloc, plant, joint, scans)? {
+        Judgement::Legal(_) => Ok(Verdict::Legal),
+        Judgement::Illegal(spot) => Ok(Verdict::Illegal(spot)),
     }
 }

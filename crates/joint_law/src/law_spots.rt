@@ -1,19 +1,18 @@
 //! The first law that is broken, and where.
-ghost use Rattle.std.specs.Prelude.{◌≡◌, ◌+◌, ◌^◌, ◌≤◌, ◌↔◌, IfOk, IsErr, length, map};
+ghost use Rattle.std.specs.Prelude.{◌≡◌, ◌+◌, ◌^◌, ◌≤◌, ◌↔◌, IfOk, IsErr, map};
 ghost use Rattle.joint_law.specs.Bound.{bounds_of, controller_bound, host_bound, number_of};
 ghost use Rattle.joint_law.specs.LawEnds.{IsLawsEnd, IsLogEnd, IsLogsEnd, IsNodesEnd};
-ghost use Rattle.joint_law.specs.Split.{IsSplit};
+ghost use Rattle.joint_law.specs.Picked.{AreOfNode};
+ghost use Rattle.own_places.specs.Places.{ArePlaces};
 
 use crate::law::Law;
-use crate::own_lists::OwnLists;
 use crate::stations::{controller_breaks, host_breaks};
 use crate::verdict::Spot;
 use joint_history::{ControllerLog, HostLog, Joint};
+use own_places::OwnPlaces;
+use plant_types::ADDRESSES;
 use ring_core::RingEntry;
 use std::alloc::{AllocError, Global};
-
-/// Addresses are below this.
-const ADDRESSES: u8 = 65;
 
 fn number_of(law: Law) -> u8
     ensures { result ≡ number_of law }
@@ -31,32 +30,32 @@ fn log_breaks(
     alloc: Global,
     law: Law,
     ring: &[RingEntry],
-    lists: &OwnLists,
+    places: &[usize],
     node: u8,
     log: &ControllerLog,
 ) -> Result<Option<usize>, AllocError>
-    requires { IsSplit ring.now (length ring.now) lists.now }
+    requires { AreOfNode ring.now node places.now }
     ensures { IfOk result (IsLogEnd law node (controller_bound ring.now log.now)) }
 {
     if log.node != node {
         return Ok(None);
     }
-    controller_breaks(alloc, law, log.entries.as_slice(), ring, lists.places(node))
+    controller_breaks(alloc, law, log.entries.as_slice(), ring, places)
 }
 
 fn logs_break(
     alloc: Global,
     law: Law,
     ring: &[RingEntry],
-    lists: &OwnLists,
+    places: &[usize],
     node: u8,
     logs: &[ControllerLog],
 ) -> Result<Option<usize>, AllocError>
-    requires { IsSplit ring.now (length ring.now) lists.now }
+    requires { AreOfNode ring.now node places.now }
     ensures { IfOk result (IsLogsEnd law node (map (controller_bound ring.now) logs.now)) }
 {
     for log in logs {
-        if let Some(place) = log_breaks(alloc, law, ring, lists, node, log)? {
+        if let Some(place) = log_breaks(alloc, law, ring, places, node, log)? {
             return Ok(Some(place));
         }
     }
@@ -67,32 +66,32 @@ fn host_log_breaks(
     alloc: Global,
     law: Law,
     ring: &[RingEntry],
-    lists: &OwnLists,
+    places: &[usize],
     node: u8,
     log: &HostLog,
 ) -> Result<Option<usize>, AllocError>
-    requires { IsSplit ring.now (length ring.now) lists.now }
+    requires { AreOfNode ring.now node places.now }
     ensures { IfOk result (IsLogEnd law node (host_bound ring.now log.now)) }
 {
     if log.node != node {
         return Ok(None);
     }
-    host_breaks(alloc, law, log.entries.as_slice(), ring, lists.places(node))
+    host_breaks(alloc, law, log.entries.as_slice(), ring, places)
 }
 
 fn host_logs_break(
     alloc: Global,
     law: Law,
     ring: &[RingEntry],
-    lists: &OwnLists,
+    places: &[usize],
     node: u8,
     logs: &[HostLog],
 ) -> Result<Option<usize>, AllocError>
-    requires { IsSplit ring.now (length ring.now) lists.now }
+    requires { AreOfNode ring.now node places.now }
     ensures { IfOk result (IsLogsEnd law node (map (host_bound ring.now) logs.now)) }
 {
     for log in logs {
-        if let Some(place) = host_log_breaks(alloc, law, ring, lists, node, log)? {
+        if let Some(place) = host_log_breaks(alloc, law, ring, places, node, log)? {
             return Ok(Some(place));
         }
     }
@@ -104,18 +103,19 @@ fn node_breaks(
     alloc: Global,
     law: Law,
     joint: &Joint,
-    lists: &OwnLists,
+    own: &OwnPlaces,
     node: u8,
 ) -> Result<Option<usize>, AllocError>
-    requires { IsSplit joint.now.ring (length joint.now.ring) lists.now }
+    requires { ArePlaces joint.now.ring own.now }
     ensures { IfOk result (IsLogsEnd law node (bounds_of joint.now)) }
 {
     let ring = joint.ring.as_slice();
+    let places = own.places(node);
     let logs = joint.controllers.as_slice();
-    if let Some(place) = logs_break(alloc, law, ring, lists, node, logs)? {
+    if let Some(place) = logs_break(alloc, law, ring, places, node, logs)? {
         return Ok(Some(place));
     }
-    host_logs_break(alloc, law, ring, lists, node, joint.hosts.as_slice())
+    host_logs_break(alloc, law, ring, places, node, joint.hosts.as_slice())
 }
 
 /// A place, counted from 1. A spot has no number above 2^32 - 1; for such a place the answer is
@@ -135,13 +135,13 @@ fn law_spot(
     alloc: Global,
     law: Law,
     joint: &Joint,
-    lists: &OwnLists,
+    own: &OwnPlaces,
 ) -> Result<Option<Spot>, AllocError>
-    requires { IsSplit joint.now.ring (length joint.now.ring) lists.now }
+    requires { ArePlaces joint.now.ring own.now }
     ensures { IfOk result (IsNodesEnd law (bounds_of joint.now)) }
 {
     for node in 0..ADDRESSES {
-        if let Some(place) = node_breaks(alloc, law, joint, lists, node)? {
+        if let Some(place) = node_breaks(alloc, law, joint, own, node)? {
             let place = number(place)?;
             return Ok(Some(Spot::Law {
                 law: number_of(law),
@@ -157,22 +157,22 @@ fn law_spot(
 pub(crate) fn laws_spot(
     alloc: Global,
     joint: &Joint,
-    lists: &OwnLists,
+    own: &OwnPlaces,
 ) -> Result<Option<Spot>, AllocError>
-    requires { IsSplit joint.now.ring (length joint.now.ring) lists.now }
+    requires { ArePlaces joint.now.ring own.now }
     ensures { IfOk result (IsLawsEnd (bounds_of joint.now)) }
 {
-    let asks = law_spot(alloc, Law::Asks, joint, lists)?;
+    let asks = law_spot(alloc, Law::Asks, joint, own)?;
     if asks.is_some() {
         return Ok(asks);
     }
-    let answers = law_spot(alloc, Law::Answers, joint, lists)?;
+    let answers = law_spot(alloc, Law::Answers, joint, own)?;
     if answers.is_some() {
         return Ok(answers);
     }
-    let replies = law_spot(alloc, Law::Replies, joint, lists)?;
+    let replies = law_spot(alloc, Law::Replies, joint, own)?;
     if replies.is_some() {
         return Ok(replies);
     }
-    law_spot(alloc, Law::Ends, joint, lists)
+    law_spot(alloc, Law::Ends, joint, own)
 }

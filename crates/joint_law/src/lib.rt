@@ -16,7 +16,6 @@ mod judging;
 mod law;
 mod law_spots;
 mod laws;
-mod own_lists;
 mod replying;
 mod ring_following;
 mod same;
@@ -24,7 +23,7 @@ mod sections;
 mod stations;
 mod verdict;
 
-pub use judging::judge;
+pub use judging::{judge, judge_noted};
 pub use law::Law;
 pub use laws::verdicts_agree;
-pub use verdict::{Spot, Verdict};
+pub use verdict::{Judgement, Spot, Verdict};

@@ -7,7 +7,7 @@ ghost use Rattle.tied_lists.specs.Items.{replied_of, replies_in, reply_of, taken
 ghost use Rattle.tied_lists.specs.Items.{taken_of, words_told};
 ghost use Rattle.joint_history.specs.Reading.{host_items_of, items_of};
 ghost use Rattle.joint_law.specs.Readings.{answer_in, host_answer_in};
-ghost use Rattle.joint_law.specs.Split.{AreWithin, picked};
+ghost use Rattle.joint_law.specs.Picked.{AreWithin, picked};
 ghost use Rattle.joint_law.specs.Taking.{DueNext, left_plain, left_stats};
 
 use crate::differing::Same;

@@ -6,7 +6,7 @@ ghost use Rattle.joint_history.specs.Reading.{host_items_of, items_of};
 ghost use Rattle.joint_law.specs.Bound.{sorted_answer, taken_in_order};
 ghost use Rattle.joint_law.specs.Comparing.{Compared, IsLawEnd};
 ghost use Rattle.joint_law.specs.Kinds.{station_of};
-ghost use Rattle.joint_law.specs.Split.{AreWithin, picked};
+ghost use Rattle.joint_law.specs.Picked.{AreWithin, picked};
 
 use crate::answering::{Served, add_port_answers, answered, host_answered, taken_in_order};
 use crate::asking::{Asking, asked, called, host_called};

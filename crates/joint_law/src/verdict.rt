@@ -1,4 +1,6 @@
 //! What a judge says of a joint history.
+use controller_core::Notes;
+use plant_types::List;
 
 /// Where a joint history first fails. Entries and places count from 1. This project's own.
 #[derive(Clone, Copy, Debug, Drop, PartialEq, Eq)]
@@ -22,5 +24,13 @@ pub enum Spot {
 #[derive(Clone, Copy, Debug, Drop, PartialEq, Eq)]
 pub enum Verdict {
     Legal,
+    Illegal(Spot),
+}
+
+/// What a judge says, with what each controller noted of its panel, in the order of the joint
+/// history, where that is legal. This project's own.
+#[derive(Drop)]
+pub enum Judgement {
+    Legal(List<Notes>),
     Illegal(Spot),
 }

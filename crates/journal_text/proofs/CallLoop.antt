@@ -1,14 +1,13 @@
 -- Calls that are read one after the other, as a loop does.
-use Rattle.std.proofs.Common.{◌≡◌, ℕ, true, false, inl, inr}
-use Rattle.std.proofs.Common.{List, [], ◌∷◌, ◌++◌, Option, Some, None, refl, sym, ap, subst, ◌∙◌}
-use Rattle.std.proofs.Common.{append_assoc}
+use Rattle.std.proofs.Common.{◌≡◌, ℕ, true, false, inl, inr, List, [], ◌∷◌, ◌++◌, Option, Some}
+use Rattle.std.proofs.Common.{None, refl, sym, ap, subst, ◌∙◌, append_assoc}
 use Rattle.std.specs.Prelude.{◌==◌}
 use Rattle.std.specs.List.{slice_split}
 use Rattle.controller_core.specs.declared.call.Call.{Call}
 use Rattle.journal_text.specs.declared.cutting.LineFault.{LineFault}
 use Rattle.journal_text.specs.declared.cutting.LineFault.TheVariants as faults
 use Rattle.journal_text.specs.Reading.{◌>>=◌, Refuses, cut}
-use Rattle.journal_text.specs.ReadLines.{call_of, each_of}
+use Rattle.journal_text.specs.ReadLines.{read_call, read_each}
 use Rattle.journal_text.proofs.Ranges.{chosen}
 use Rattle.journal_text.proofs.Cuts.{some_is, bind_some, bind_none, none_some}
 
@@ -51,29 +50,29 @@ regroup : (front : List Call) (call : Call) (read : Option (List Call)) → with
 regroup front call (Some calls) = ap (λ (cs : List Call). Some cs) (sym (append_assoc front (call ∷ []) calls))
 regroup front call None = refl
 
-pub goes_on : (front : List Call) (text : List ℕ) (parts : List ℕ × List ℕ) (call : Call) (total : Option (List Call)) → cut 32 text ≡ Some parts → call_of parts.0 ≡ Some call
-    → with_front front (each_of call_of (pieces text)) ≡ total → with_front (front ++ call ∷ []) (each_of call_of (pieces parts.1)) ≡ total
+pub goes_on : (front : List Call) (text : List ℕ) (parts : List ℕ × List ℕ) (call : Call) (total : Option (List Call)) → cut 32 text ≡ Some parts → read_call parts.0 ≡ Some call
+    → with_front front (read_each read_call (pieces text)) ≡ total → with_front (front ++ call ∷ []) (read_each read_call (pieces parts.1)) ≡ total
 goes_on front text parts call total is read so_far =
-    let one : with_front front (each_of call_of (pieces text)) ≡ with_front (front ++ call ∷ []) (each_of call_of (pieces parts.1)) =
-    rw (split_cut text parts is, read) (regroup front call (each_of call_of (pieces parts.1))) in
+    let one : with_front front (read_each read_call (pieces text)) ≡ with_front (front ++ call ∷ []) (read_each read_call (pieces parts.1)) =
+    rw (split_cut text parts is, read) (regroup front call (read_each read_call (pieces parts.1))) in
     sym one ∙ so_far
 
 pub stops : (fault : LineFault) (front : List Call) (text : List ℕ) (parts : List ℕ × List ℕ) (total : Option (List Call)) → cut 32 text ≡ Some parts
-    → Refuses fault (call_of parts.0) → with_front front (each_of call_of (pieces text)) ≡ total → Refuses fault total
+    → Refuses fault (read_call parts.0) → with_front front (read_each read_call (pieces text)) ≡ total → Refuses fault total
 stops faults.NoMemory front text parts total is refused so_far = tt
 stops faults.Wrong front text parts total is refused so_far =
-    let one : with_front front (each_of call_of (pieces text)) ≡ None = rw (split_cut text parts is, refused) refl in
+    let one : with_front front (read_each read_call (pieces text)) ≡ None = rw (split_cut text parts is, refused) refl in
     sym so_far ∙ one
 
-pub last_stops : (fault : LineFault) (front : List Call) (text : List ℕ) (total : Option (List Call)) → cut 32 text ≡ None → Refuses fault (call_of text)
-    → with_front front (each_of call_of (pieces text)) ≡ total → Refuses fault total
+pub last_stops : (fault : LineFault) (front : List Call) (text : List ℕ) (total : Option (List Call)) → cut 32 text ≡ None → Refuses fault (read_call text)
+    → with_front front (read_each read_call (pieces text)) ≡ total → Refuses fault total
 last_stops faults.NoMemory front text total is refused so_far = tt
 last_stops faults.Wrong front text total is refused so_far =
-    let one : with_front front (each_of call_of (pieces text)) ≡ None = rw (split_uncut text is, refused) refl in
+    let one : with_front front (read_each read_call (pieces text)) ≡ None = rw (split_uncut text is, refused) refl in
     sym so_far ∙ one
 
-pub is_done : (front : List Call) (text : List ℕ) (call : Call) (total : Option (List Call)) → cut 32 text ≡ None → call_of text ≡ Some call
-    → with_front front (each_of call_of (pieces text)) ≡ total → total ≡ Some (front ++ call ∷ [])
+pub is_done : (front : List Call) (text : List ℕ) (call : Call) (total : Option (List Call)) → cut 32 text ≡ None → read_call text ≡ Some call
+    → with_front front (read_each read_call (pieces text)) ≡ total → total ≡ Some (front ++ call ∷ [])
 is_done front text call total is read so_far =
-    let one : with_front front (each_of call_of (pieces text)) ≡ Some (front ++ call ∷ []) = rw (split_uncut text is, read) refl in
+    let one : with_front front (read_each read_call (pieces text)) ≡ Some (front ++ call ∷ []) = rw (split_uncut text is, read) refl in
     sym so_far ∙ one

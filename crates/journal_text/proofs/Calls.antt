@@ -1,7 +1,6 @@
 -- Operations, results and calls are read as they are written.
-use Rattle.std.proofs.Common.{◌≡◌, ◌≢◌, ℕ, true, false, cond, inl, inr}
-use Rattle.std.proofs.Common.{List, [], ◌∷◌, ◌++◌, length, Some, None, All, map, refl, sym, ap}
-use Rattle.std.proofs.Common.{subst, ◌∙◌, arith, append_assoc}
+use Rattle.std.proofs.Common.{◌≡◌, ◌≢◌, ℕ, true, false, cond, inl, inr, List, [], ◌∷◌, ◌++◌, length}
+use Rattle.std.proofs.Common.{Some, None, All, map, refl, sym, ap, subst, ◌∙◌, arith, append_assoc}
 use Rattle.std.specs.Prelude.{codes, ◌==◌, slice_index}
 use Rattle.std.specs.Fmt.{decimal}
 use Rattle.std.specs.List.{flat_map, join_with_byte, slice_split, AllByRecursion}
@@ -12,6 +11,7 @@ use Rattle.std.proofs.lemmas.List.{append-nil}
 use Rattle.std.proofs.lemmas.List.Splits.{join_with_byte-slice_split, length-slice_split}
 use Rattle.std.proofs.lemmas.List.Concat.{flat_map-cons}
 use Rattle.std.proofs.lemmas.List.Elements.{All-nil, All-cons, All-head, All-tail}
+use Rattle.plant_types.specs.Numerals.{is_digit}
 use Rattle.mstr_block.specs.declared.call.MstrResult.{MstrResult}
 use Rattle.mstr_block.specs.declared.call.MstrResult.TheVariants.{Good, Bad}
 use Rattle.ring_core.specs.declared.entry.LocalOp.{LocalOp}
@@ -19,21 +19,20 @@ use Rattle.ring_core.specs.declared.entry.LocalOp.TheVariants as ops
 use Rattle.controller_core.specs.declared.call.Call.{Call}
 use Rattle.controller_core.specs.declared.call.CallKind.{CallKind}
 use Rattle.controller_core.specs.declared.call.CallKind.TheVariants.{Net, Local}
-use Rattle.journal_text.specs.Fields.{hex_bytes, id_text, op_text, result_text}
+use Rattle.journal_text.specs.Fields.{hex_bytes, id_text, op_text, call_result_text}
 use Rattle.journal_text.specs.Lines.{kind_text, call_text}
 use Rattle.journal_text.specs.Journal.{IsOwnOp, IsPlainKind, IsPlainCall}
 use Rattle.journal_text.specs.Sizes.{IsId, IsPdu, IsSmall, IsWord, FitsOp, FitsResult, FitsKind}
 use Rattle.journal_text.specs.Sizes.{FitsCall}
-use Rattle.journal_text.specs.Reading.{◌>>=◌, behind, two, is_digit, small_of, word_number}
-use Rattle.journal_text.specs.Reading.{pdu_read}
-use Rattle.journal_text.specs.ReadLines.{own_op_kinds, bare_op, own_op_of, op_of, result_kinds}
-use Rattle.journal_text.specs.ReadLines.{result_of, net_of, local_kind, kind_of}
-use Rattle.journal_text.specs.ReadLines.{call_from, call_of, each_of, calls_of, served_of, asked_of}
-use Rattle.journal_text.specs.ReadLines.{named_of}
+use Rattle.journal_text.specs.Reading.{◌>>=◌, behind, read_pair, read_small, read_word, read_pdu}
+use Rattle.journal_text.specs.ReadLines.{own_op_forms, read_bare_op, read_own_op, read_op}
+use Rattle.journal_text.specs.ReadLines.{result_forms, read_result, read_net_kind, read_local_kind}
+use Rattle.journal_text.specs.ReadLines.{read_kind, call_from, read_call, read_each, read_calls}
+use Rattle.journal_text.specs.ReadLines.{read_served, read_asked, read_named}
 use Rattle.journal_text.proofs.Ranges.{chosen, lies, all_lie, all-append, all-flat_map, outside}
 use Rattle.journal_text.proofs.Cuts.{some_is, bind_some, none_some, text_is}
-use Rattle.journal_text.proofs.ReadLaws.{IsField, IsKind, two_fields, made_field, lie_in}
-use Rattle.journal_text.proofs.ReadLaws.{kind_of_field, first_takes}
+use Rattle.journal_text.proofs.ReadLaws.{IsField, IsForm, two_fields, made_field, lie_in}
+use Rattle.journal_text.proofs.ReadLaws.{form_of_field, first_takes}
 use Rattle.journal_text.proofs.Numbers.{small_field, word_number_field, id_field}
 use Rattle.journal_text.proofs.Digits.{pdu_field, words_field, word_field, block_field}
 
@@ -41,19 +40,19 @@ use Rattle.journal_text.proofs.Digits.{pdu_field, words_field, word_field, block
 abbrev IsOwn : LocalOp → Type 0
 IsOwn op = FitsOp op × IsOwnOp op
 
-asked_words : IsField (two small_of word_number 58) (λ p. decimal p.0 ++ 58 ∷ decimal p.1) (λ p. IsSmall p.0 × IsWord p.1) 48 58
+asked_words : IsField (read_pair read_small read_word 58) (λ p. decimal p.0 ++ 58 ∷ decimal p.1) (λ p. IsSmall p.0 × IsWord p.1) 48 58
 asked_words = two_fields 58 48 58 small_field word_number_field refl refl refl refl
 
 global_text : (node count : ℕ) → codes "GG:" ++ (decimal node ++ 58 ∷ decimal count) ≡ op_text (ops.GetGlobal node count)
 global_text node count = simp append_assoc
 
-own_kinds_take : AllByRecursion (IsKind op_text IsOwn) own_op_kinds
+own_kinds_take : AllByRecursion (IsForm op_text IsOwn) own_op_forms
 own_kinds_take = (
-  kind_of_field words_field op_text IsOwn (codes "PG:") (λ words. ops.PutGlobal words) (λ words fits. refl) (λ words fits. (fits, tt)),
-  (kind_of_field asked_words op_text IsOwn (codes "GG:") (λ p. ops.GetGlobal p.0 p.1) (λ p fits. global_text p.0 p.1) (λ p fits. (fits, tt)), tt),
+  form_of_field words_field op_text IsOwn (codes "PG:") (λ words. ops.PutGlobal words) (λ words fits. refl) (λ words fits. (fits, tt)),
+  (form_of_field asked_words op_text IsOwn (codes "GG:") (λ p. ops.GetGlobal p.0 p.1) (λ p fits. global_text p.0 p.1) (λ p fits. (fits, tt)), tt),
 )
 
-bare_op_takes : (text : List ℕ) (op : LocalOp) → bare_op text ≡ Some op → (text ≡ op_text op) × IsOwn op
+bare_op_takes : (text : List ℕ) (op : LocalOp) → read_bare_op text ≡ Some op → (text ≡ op_text op) × IsOwn op
 bare_op_takes text op e =
     elim (chosen (bytes_eq text (codes "GS")) (Some ops.GetStats) (cond (bytes_eq text (codes "CS")) (Some ops.ClearStats) None) (Some op) e) [
       | inl get ↦
@@ -66,17 +65,17 @@ bare_op_takes text op e =
           ]
     ]
 
-own_op_takes : (text : List ℕ) (op : LocalOp) → own_op_of text ≡ Some op → (text ≡ op_text op) × IsOwn op
-unfolding own_op_of
-own_op_takes text op e = first_takes op_text IsOwn own_op_kinds (bare_op text) text op own_kinds_take (bare_op_takes text op) e
+own_op_takes : (text : List ℕ) (op : LocalOp) → read_own_op text ≡ Some op → (text ≡ op_text op) × IsOwn op
+unfolding read_own_op
+own_op_takes text op e = first_takes op_text IsOwn own_op_forms (read_bare_op text) text op own_kinds_take (bare_op_takes text op) e
 
-own_op_again : (op : LocalOp) → IsOwn op → own_op_of (op_text op) ≡ Some op
-unfolding own_op_of behind
+own_op_again : (op : LocalOp) → IsOwn op → read_own_op (op_text op) ≡ Some op
+unfolding read_own_op behind
 own_op_again ops.GetStats is = refl
 own_op_again ops.ClearStats is = refl
 own_op_again (ops.PutGlobal words) is = rw (words_field.again words is.0) refl
 own_op_again (ops.GetGlobal node count) is =
-    subst (λ (t : List ℕ). own_op_of t ≡ Some (ops.GetGlobal node count)) (global_text node count) (rw (asked_words.again (node, count) is.0) refl)
+    subst (λ (t : List ℕ). read_own_op t ≡ Some (ops.GetGlobal node count)) (global_text node count) (rw (asked_words.again (node, count) is.0) refl)
 own_op_again ops.RemoteGet is = absurd is.1
 own_op_again ops.RemoteClear is = absurd is.1
 
@@ -90,22 +89,22 @@ op_lie ops.RemoteGet is = refl
 op_lie ops.RemoteClear is = refl
 
 -- and for another one too
-op_takes : (text : List ℕ) (op : LocalOp) → op_of text ≡ Some op → (text ≡ op_text op) × FitsOp op
-unfolding op_of
+op_takes : (text : List ℕ) (op : LocalOp) → read_op text ≡ Some op → (text ≡ op_text op) × FitsOp op
+unfolding read_op
 op_takes text op e =
-    elim (chosen (bytes_eq text (codes "RG")) (Some ops.RemoteGet) (cond (bytes_eq text (codes "RC")) (Some ops.RemoteClear) (own_op_of text)) (Some op) e) [
+    elim (chosen (bytes_eq text (codes "RG")) (Some ops.RemoteGet) (cond (bytes_eq text (codes "RC")) (Some ops.RemoteClear) (read_own_op text)) (Some op) e) [
       | inl get ↦
           subst (λ (o : LocalOp). (text ≡ op_text o) × FitsOp o) (some_is ops.RemoteGet op get.1) (text_is text (codes "RG") get.0, tt)
       | inr more ↦
-          elim (chosen (bytes_eq text (codes "RC")) (Some ops.RemoteClear) (own_op_of text) (Some op) more.1) [
+          elim (chosen (bytes_eq text (codes "RC")) (Some ops.RemoteClear) (read_own_op text) (Some op) more.1) [
             | inl clear ↦
                 subst (λ (o : LocalOp). (text ≡ op_text o) × FitsOp o) (some_is ops.RemoteClear op clear.1) (text_is text (codes "RC") clear.0, tt)
             | inr own ↦ let t = own_op_takes text op own.1 in (t.0, t.1.0)
           ]
     ]
 
-op_again : (op : LocalOp) → FitsOp op → op_of (op_text op) ≡ Some op
-unfolding op_of
+op_again : (op : LocalOp) → FitsOp op → read_op (op_text op) ≡ Some op
+unfolding read_op
 op_again ops.GetStats is = own_op_again ops.GetStats (is, tt)
 op_again ops.ClearStats is = own_op_again ops.ClearStats (is, tt)
 op_again (ops.PutGlobal words) is = own_op_again (ops.PutGlobal words) (is, tt)
@@ -113,29 +112,29 @@ op_again (ops.GetGlobal node count) is = own_op_again (ops.GetGlobal node count)
 op_again ops.RemoteGet is = refl
 op_again ops.RemoteClear is = refl
 
-pub op_field : IsField op_of op_text FitsOp 45 102
+pub op_field : IsField read_op op_text FitsOp 45 102
 op_field = record { takes = op_takes; again = op_again; lie = op_lie }
 
 -- what a call came to
-result_kinds_take : AllByRecursion (IsKind result_text FitsResult) result_kinds
+result_kinds_take : AllByRecursion (IsForm call_result_text FitsResult) result_forms
 result_kinds_take = (
-  kind_of_field block_field result_text FitsResult (codes "G ") (λ words. Good words) (λ words fits. refl) (λ words fits. fits),
-  (kind_of_field word_field result_text FitsResult (codes "B ") (λ word. Bad word) (λ word fits. refl) (λ word fits. fits), tt),
+  form_of_field block_field call_result_text FitsResult (codes "G ") (λ words. Good words) (λ words fits. refl) (λ words fits. fits),
+  (form_of_field word_field call_result_text FitsResult (codes "B ") (λ word. Bad word) (λ word fits. refl) (λ word fits. fits), tt),
 )
 
-result_again : (r : MstrResult) → FitsResult r → result_of (result_text r) ≡ Some r
-unfolding result_of behind
+result_again : (r : MstrResult) → FitsResult r → read_result (call_result_text r) ≡ Some r
+unfolding read_result behind
 result_again (Good words) is = rw (block_field.again words is) refl
 result_again (Bad word) is = rw (word_field.again word is) refl
 
-result_lie : (r : MstrResult) → FitsResult r → all_lie 32 102 (result_text r) ≡ true
+result_lie : (r : MstrResult) → FitsResult r → all_lie 32 102 (call_result_text r) ≡ true
 result_lie (Good words) is = lie_in block_field 32 102 refl words is
 result_lie (Bad word) is = lie_in word_field 32 102 refl word is
 
-pub result_field : IsField result_of result_text FitsResult 32 102
-unfolding result_of
+pub result_field : IsField read_result call_result_text FitsResult 32 102
+unfolding read_result
 result_field = record {
-  takes = λ text r e. first_takes result_text FitsResult result_kinds None text r result_kinds_take (none_some ((text ≡ result_text r) × FitsResult r) r) e;
+  takes = λ text r e. first_takes call_result_text FitsResult result_forms None text r result_kinds_take (none_some ((text ≡ call_result_text r) × FitsResult r) r) e;
   again = result_again;
   lie = result_lie;
 }
@@ -144,22 +143,22 @@ result_field = record {
 abbrev IsKindOf : CallKind → Type 0
 IsKindOf kind = FitsKind kind × IsPlainKind kind
 
-net_parts : IsField (two small_of pdu_read 58) (λ p. decimal p.0 ++ 58 ∷ hex_bytes p.1) (λ p. IsSmall p.0 × IsPdu p.1) 48 102
+net_parts : IsField (read_pair read_small read_pdu 58) (λ p. decimal p.0 ++ 58 ∷ hex_bytes p.1) (λ p. IsSmall p.0 × IsPdu p.1) 48 102
 net_parts = two_fields 58 48 102 small_field pdu_field refl refl refl refl
 
 net_text : (to : ℕ) (pdu : List ℕ) → decimal to ++ 58 ∷ hex_bytes pdu ≡ kind_text (Net to pdu)
 net_text to pdu = simp append_assoc
 
-kind_takes : (text : List ℕ) (kind : CallKind) → kind_of text ≡ Some kind → (text ≡ kind_text kind) × IsKindOf kind
-unfolding kind_of
+kind_takes : (text : List ℕ) (kind : CallKind) → read_kind text ≡ Some kind → (text ≡ kind_text kind) × IsKindOf kind
+unfolding read_kind
 kind_takes text kind e =
-    elim (chosen (is_digit (slice_index text 0)) (net_of text) (local_kind text) (Some kind) e) [
+    elim (chosen (is_digit (slice_index text 0)) (read_net_kind text) (read_local_kind text) (Some kind) e) [
       | inl net ↦
-          let p = bind_some (two small_of pdu_read 58 text) (λ parts. Some (Net parts.0 parts.1)) kind net.1 in
+          let p = bind_some (read_pair read_small read_pdu 58 text) (λ parts. Some (Net parts.0 parts.1)) kind net.1 in
           let t = net_parts.takes text p.0 p.1 in
           subst (λ (k : CallKind). (text ≡ kind_text k) × IsKindOf k) (some_is (Net p.0.0 p.0.1) kind p.2) (t.0 ∙ net_text p.0.0 p.0.1, (t.1, tt))
       | inr own ↦
-          let p = bind_some (own_op_of text) (λ op. Some (Local op)) kind own.1 in
+          let p = bind_some (read_own_op text) (λ op. Some (Local op)) kind own.1 in
           let t = own_op_takes text p.0 p.1 in
           subst (λ (k : CallKind). (text ≡ kind_text k) × IsKindOf k) (some_is (Local p.0) kind p.2) (t.0, t.1)
     ]
@@ -179,18 +178,18 @@ op_first (ops.GetGlobal node count) = subst (λ (t : List ℕ). is_digit (slice_
 op_first ops.RemoteGet = refl
 op_first ops.RemoteClear = refl
 
-kind_again : (kind : CallKind) → IsKindOf kind → kind_of (kind_text kind) ≡ Some kind
-unfolding kind_of
+kind_again : (kind : CallKind) → IsKindOf kind → read_kind (kind_text kind) ≡ Some kind
+unfolding read_kind
 kind_again (Net to pdu) is =
     let first = digit_first (decimal to) (58 ∷ hex_bytes pdu) (small_field.lie to is.0.0) (some_digits to is.0.0) in
-    subst (λ (t : List ℕ). kind_of t ≡ Some (Net to pdu)) (net_text to pdu) (rw (first, net_parts.again (to, pdu) is.0) refl)
+    subst (λ (t : List ℕ). read_kind t ≡ Some (Net to pdu)) (net_text to pdu) (rw (first, net_parts.again (to, pdu) is.0) refl)
 kind_again (Local op) is = rw (op_first op, own_op_again op is) refl
 
 kind_lie : (kind : CallKind) → IsKindOf kind → all_lie 45 102 (kind_text kind) ≡ true
 kind_lie (Net to pdu) is = subst (λ (t : List ℕ). all_lie 45 102 t ≡ true) (net_text to pdu) (lie_in net_parts 45 102 refl (to, pdu) is.0)
 kind_lie (Local op) is = op_lie op is.0
 
-kind_field : IsField kind_of kind_text IsKindOf 45 102
+kind_field : IsField read_kind kind_text IsKindOf 45 102
 kind_field = record { takes = kind_takes; again = kind_again; lie = kind_lie }
 
 -- a call, and calls with a blank between them
@@ -200,8 +199,8 @@ IsCall call = FitsCall call × IsPlainCall call
 abbrev pub call_body : Call → List ℕ
 call_body call = id_text call.id ++ 61 ∷ kind_text call.kind
 
-call_field : IsField call_of call_body IsCall 45 102
-unfolding call_of
+call_field : IsField read_call call_body IsCall 45 102
+unfolding read_call
 call_field =
     let all = two_fields 61 45 102 id_field kind_field refl refl refl refl in
     made_field all call_from (λ call. (call.id, call.kind)) call_body IsCall (λ parts. refl)
@@ -245,23 +244,23 @@ split_calls call (next ∷ calls) each =
     ∙ split_blank (call_body call) (calls_body (next ∷ calls)) lie
     ∙ ap (λ (texts : List (List ℕ)). call_body call ∷ texts) (split_calls next calls (All-tail IsCall call (next ∷ calls) each))
 
-each_again : (calls : List Call) → All IsCall calls → each_of call_of (map call_body calls) ≡ Some calls
+each_again : (calls : List Call) → All IsCall calls → read_each read_call (map call_body calls) ≡ Some calls
 each_again [] each = refl
 each_again (call ∷ calls) each =
     rw (call_field.again call (All-head IsCall call calls each), each_again calls (All-tail IsCall call calls each)) refl
 
-calls_again : (calls : List Call) → AreCalls calls → calls_of (calls_body calls) ≡ Some calls
-unfolding calls_of
+calls_again : (calls : List Call) → AreCalls calls → read_calls (calls_body calls) ≡ Some calls
+unfolding read_calls
 calls_again [] are = absurd (are.0 refl)
 calls_again (call ∷ calls) are = rw (split_calls call calls are.1) (each_again (call ∷ calls) are.1)
 
 -- what is read as calls is their text
-each_takes : (texts : List (List ℕ)) (calls : List Call) → each_of call_of texts ≡ Some calls → (texts ≡ map call_body calls) × All IsCall calls
+each_takes : (texts : List (List ℕ)) (calls : List Call) → read_each read_call texts ≡ Some calls → (texts ≡ map call_body calls) × All IsCall calls
 each_takes [] calls e =
     subst (λ (cs : List Call). ([] ≡ map call_body cs) × All IsCall cs) (some_is [] calls e) (refl, All-nil IsCall)
 each_takes (text ∷ texts) calls e =
-    let p = bind_some (call_of text) (λ call. each_of call_of texts >>= λ more. Some (call ∷ more)) calls e in
-    let q = bind_some (each_of call_of texts) (λ more. Some (p.0 ∷ more)) calls p.2 in
+    let p = bind_some (read_call text) (λ call. read_each read_call texts >>= λ more. Some (call ∷ more)) calls e in
+    let q = bind_some (read_each read_call texts) (λ more. Some (p.0 ∷ more)) calls p.2 in
     let one = call_field.takes text p.0 p.1 in
     let rest = each_takes texts q.0 q.1 in
     let same : (text ∷ texts) ≡ map call_body (p.0 ∷ q.0) = λ i. one.0 i ∷ rest.0 i in
@@ -280,8 +279,8 @@ some_calls text [] e = absurd (let size = ap length e in let one = length-slice_
 some_calls text (call ∷ calls) e =
     (sym (join_with_byte-slice_split 32 text) ∙ ap (join_with_byte 32) e ∙ join_calls call calls, λ none. cc)
 
-calls_takes : (text : List ℕ) (calls : List Call) → calls_of text ≡ Some calls → (text ≡ calls_body calls) × AreCalls calls
-unfolding calls_of
+calls_takes : (text : List ℕ) (calls : List Call) → read_calls text ≡ Some calls → (text ≡ calls_body calls) × AreCalls calls
+unfolding read_calls
 calls_takes text calls e =
     let read = each_takes (slice_split (λ byte. byte == 32) text) calls e in
     let some = some_calls text calls read.0 in
@@ -294,22 +293,22 @@ calls_lie (call ∷ calls) are =
     (lie_in call_field 32 102 refl call (All-head IsCall call calls are.1))
     (all-flat_map (lies 32 102) call_text IsCall (λ c is. subst (λ (t : List ℕ). all_lie 32 102 t ≡ true) (sym (call_is c)) (lie_in call_field 32 102 refl c is)) calls (All-tail IsCall call calls are.1))
 
-pub calls_field : IsField calls_of calls_body AreCalls 32 102
+pub calls_field : IsField read_calls calls_body AreCalls 32 102
 calls_field = record { takes = calls_takes; again = calls_again; lie = calls_lie }
 
 -- what stands behind names
-pub named_field : IsField named_of (λ p. id_text p.0 ++ 32 ∷ hex_bytes p.1) (λ p. IsId p.0 × IsPdu p.1) 32 102
-unfolding named_of
+pub named_field : IsField read_named (λ p. id_text p.0 ++ 32 ∷ hex_bytes p.1) (λ p. IsId p.0 × IsPdu p.1) 32 102
+unfolding read_named
 named_field = two_fields 32 32 102 id_field pdu_field refl refl refl refl
 
-pub served_field : IsField served_of (λ p. id_text p.0 ++ 32 ∷ (hex_bytes p.1.0 ++ 32 ∷ hex_bytes p.1.1)) (λ p. IsId p.0 × (IsPdu p.1.0 × IsPdu p.1.1)) 32 102
-unfolding served_of
+pub served_field : IsField read_served (λ p. id_text p.0 ++ 32 ∷ (hex_bytes p.1.0 ++ 32 ∷ hex_bytes p.1.1)) (λ p. IsId p.0 × (IsPdu p.1.0 × IsPdu p.1.1)) 32 102
+unfolding read_served
 served_field =
     let last = two_fields 32 32 102 pdu_field pdu_field refl refl refl refl in
     two_fields 32 32 102 id_field last refl refl refl refl
 
-pub asked_field : IsField asked_of (λ p. id_text p.0 ++ 32 ∷ (decimal p.1.0 ++ 32 ∷ hex_bytes p.1.1)) (λ p. IsId p.0 × (IsSmall p.1.0 × IsPdu p.1.1)) 32 102
-unfolding asked_of
+pub asked_field : IsField read_asked (λ p. id_text p.0 ++ 32 ∷ (decimal p.1.0 ++ 32 ∷ hex_bytes p.1.1)) (λ p. IsId p.0 × (IsSmall p.1.0 × IsPdu p.1.1)) 32 102
+unfolding read_asked
 asked_field =
     let last = two_fields 32 32 102 small_field pdu_field refl refl refl refl in
     two_fields 32 32 102 id_field last refl refl refl refl

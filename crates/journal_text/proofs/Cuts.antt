@@ -1,9 +1,7 @@
 -- Parts of a text, and what is read behind a front.
 use Rattle.std.proofs.Common.{◌≡◌, ℕ, zero, suc, ◌+◌, ◌<◌, Bool, true, false, cond, ◌&&◌, ◌⊎◌, inl}
-use Rattle.std.proofs.Common.{inr}
-use Rattle.std.proofs.Common.{List, [], ◌∷◌, ◌++◌, length, take, drop, All, refl, sym, ap, subst}
-use Rattle.std.proofs.Common.{◌∙◌, arith}
-use Rattle.std.proofs.Common.{Option, Some, None, Bor, length-append}
+use Rattle.std.proofs.Common.{inr, List, [], ◌∷◌, ◌++◌, length, take, drop, All, refl, sym, ap}
+use Rattle.std.proofs.Common.{subst, ◌∙◌, arith, Option, Some, None, Bor, length-append}
 use Rattle.std.specs.Prelude.{◌==◌, ◌≢◌, MatchOption, option_map, slice_index}
 use Rattle.std.specs.List.{list_all}
 use Rattle.std.specs.Str.{bytes_eq}
@@ -11,7 +9,7 @@ use Rattle.std.proofs.lemmas.Bool.{and_parts, false≢true}
 use Rattle.std.proofs.lemmas.Bool.Decides.{nat_tests}
 use Rattle.std.proofs.lemmas.List.Elements.{All-nil, All-cons, All-head, All-tail}
 use Rattle.memchr.specs.Find.{NoneBefore, Nowhere, Passes, is_byte}
-use Rattle.journal_text.specs.Reading.{◌>>=◌, cut, behind, or_else}
+use Rattle.journal_text.specs.Reading.{◌>>=◌, cut, behind, read_or}
 use Rattle.journal_text.proofs.Ranges.{chosen, lies, all_lie, outside}
 
 -- the value that was read, and the parts that it was read from
@@ -29,7 +27,7 @@ pub bind_none : {A B : Type 0} (o : Option A) (f : A → B) → (o >>= λ x. Som
 bind_none (Some x) f e = absurd cc
 bind_none None f e = refl
 
-pub else_some : {V : Type 0} (o : Option (List ℕ)) (f : List ℕ → Option V) (other : Option V) (y : V) → or_else o f other ≡ Some y
+pub else_some : {V : Type 0} (o : Option (List ℕ)) (f : List ℕ → Option V) (other : Option V) (y : V) → read_or o f other ≡ Some y
     → ((rest : List ℕ) × (o ≡ Some rest) × (f rest ≡ Some y)) ⊎ (other ≡ Some y)
 else_some (Some rest) f other y e = inl (rest, refl, e)
 else_some None f other y e = inr e

@@ -1,9 +1,8 @@
 -- Bytes and words are read from hexadecimal digits as they are written.
 use Rattle.std.proofs.Common.{◌≡◌, ℕ, ◌+◌, ◌*◌, ◌/◌, ◌%◌, ◌<◌, ◌≤◌, Bool, true, false, not, ◌&&◌}
-use Rattle.std.proofs.Common.{◌||◌, inl, inr}
-use Rattle.std.proofs.Common.{List, [], ◌∷◌, ◌++◌, length, Option, Some, None, Result, Ok, Err, All}
-use Rattle.std.proofs.Common.{refl, sym, ap, subst, ◌∙◌, arith}
-use Rattle.std.proofs.Common.{append_assoc, cond, unwrap_or}
+use Rattle.std.proofs.Common.{◌||◌, inl, inr, List, [], ◌∷◌, ◌++◌, length, Option, Some, None}
+use Rattle.std.proofs.Common.{Result, Ok, Err, All, refl, sym, ap, subst, ◌∙◌, arith, append_assoc}
+use Rattle.std.proofs.Common.{cond, unwrap_or}
 use Rattle.std.specs.Prelude.{codes, nat_le, ◌==◌, slice_index, option_map}
 use Rattle.std.specs.Fmt.{digit_glyph}
 use Rattle.std.specs.List.{list_all, flat_map}
@@ -22,10 +21,10 @@ use Rattle.hex.specs.declared.error.FromHexError.{FromHexError}
 use Rattle.hex.proofs.HexLemmas.{decode_of-encode_lower, decode_of-ok, decode_of-even}
 use Rattle.plant_types.specs.Words.{pdu_of, most_block_words, most_pdu_bytes}
 use Rattle.journal_text.specs.Fields.{small_digit, hex_byte, hex_word, hex_bytes, hex_words}
-use Rattle.journal_text.specs.Sizes.{IsSmall, IsWord, IsPdu, IsBlock, AreWords}
-use Rattle.journal_text.specs.Reading.{◌>>=◌, is_capital, decoded, bytes_of, pdu_read, joined}
-use Rattle.journal_text.specs.Reading.{one_word, some_words}
-use Rattle.journal_text.specs.Reading.{joined_words, words_of, word_of, block_of}
+use Rattle.journal_text.specs.Sizes.{IsSmall, IsWord, IsPdu, AreBlockWords, AreWords}
+use Rattle.journal_text.specs.Reading.{◌>>=◌, is_capital, decoded, read_hex_bytes, read_pdu, joined}
+use Rattle.journal_text.specs.Reading.{one_word, some_words, read_joined, read_hex_words}
+use Rattle.journal_text.specs.Reading.{read_hex_word, read_block}
 use Rattle.journal_text.proofs.Ranges.{chosen, lies, all_lie, wider, outside, all-flat_map}
 use Rattle.journal_text.proofs.Ranges.{all_below-at}
 use Rattle.journal_text.proofs.ReadLaws.{IsField}
@@ -125,8 +124,8 @@ decoded_ok : (r : Result (List ℕ) FromHexError) (bytes : List ℕ) → decoded
 decoded_ok (Ok found) bytes e = ap Ok (some_is found bytes e)
 decoded_ok (Err d) bytes e = none_some (Err d ≡ Ok bytes) bytes e
 
-pub bytes_takes : (text bytes : List ℕ) → bytes_of text ≡ Some bytes → (text ≡ hex_bytes bytes) × All IsSmall bytes
-unfolding bytes_of
+pub bytes_takes : (text bytes : List ℕ) → read_hex_bytes text ≡ Some bytes → (text ≡ hex_bytes bytes) × All IsSmall bytes
+unfolding read_hex_bytes
 bytes_takes text bytes e =
     elim (chosen (list_all (λ byte. not (is_capital byte)) text) (decoded (decode_of text)) None (Some bytes) e) [
       | inl passed ↦
@@ -156,8 +155,8 @@ pub bytes_lie : (bytes : List ℕ) → All IsSmall bytes → all_lie 48 102 (hex
 bytes_lie bytes each =
     all-flat_map (lies 48 102) hex_byte IsSmall (λ b less. digits_all (lies 48 102) (λ d few. (lower d few).0) b less) bytes each
 
-pub bytes_again : (bytes : List ℕ) → All IsSmall bytes → bytes_of (hex_bytes bytes) ≡ Some bytes
-unfolding bytes_of
+pub bytes_again : (bytes : List ℕ) → All IsSmall bytes → read_hex_bytes (hex_bytes bytes) ≡ Some bytes
+unfolding read_hex_bytes
 bytes_again bytes each =
     let small = all-flat_map (λ c. not (is_capital c)) hex_byte IsSmall (λ b less. digits_all (λ c. not (is_capital c)) (λ d few. (lower d few).1) b less) bytes each in
     let read : decode_of (hex_bytes bytes) ≡ Ok bytes = ap decode_of (bytes_are bytes each) ∙ decode_of-encode_lower bytes (to_index bytes each) in
@@ -174,10 +173,10 @@ length_of : (n : ℕ) → (nat_le 1 n && nat_le n most_pdu_bytes) ≡ true → (
 length_of n e = let (low, high) = and_parts (nat_le 1 n) (nat_le n most_pdu_bytes) e in (le_of 1 n low, le_of n most_pdu_bytes high)
 
 -- a PDU
-pub pdu_takes : (text pdu : List ℕ) → pdu_read text ≡ Some pdu → (text ≡ hex_bytes pdu) × IsPdu pdu
-unfolding pdu_read
+pub pdu_takes : (text pdu : List ℕ) → read_pdu text ≡ Some pdu → (text ≡ hex_bytes pdu) × IsPdu pdu
+unfolding read_pdu
 pdu_takes text pdu e =
-    let a = bind_some (bytes_of text) pdu_of pdu e in
+    let a = bind_some (read_hex_bytes text) pdu_of pdu e in
     let read = bytes_takes text a.0 a.1 in
     elim (chosen (nat_le 1 (length a.0) && nat_le (length a.0) most_pdu_bytes) (Some a.0) None (Some pdu) a.2) [
       | inl passed ↦
@@ -186,8 +185,8 @@ pdu_takes text pdu e =
       | inr apart ↦ none_some ((text ≡ hex_bytes pdu) × IsPdu pdu) pdu apart.1
     ]
 
-pub pdu_again : (pdu : List ℕ) → IsPdu pdu → pdu_read (hex_bytes pdu) ≡ Some pdu
-unfolding pdu_read
+pub pdu_again : (pdu : List ℕ) → IsPdu pdu → read_pdu (hex_bytes pdu) ≡ Some pdu
+unfolding read_pdu
 pdu_again pdu is =
     rw (bytes_again pdu is.each, le_test 1 (length pdu) is.count.0, le_test (length pdu) most_pdu_bytes is.count.1) refl
 
@@ -246,20 +245,20 @@ some_words_is (w ∷ words) found e =
     let same : (w ∷ words) ≡ found = some_is (w ∷ words) found e in
     (same, subst (λ (ws : List ℕ). 0 < length ws) same (omega arith))
 
-joined_words_takes : (text words : List ℕ) → joined_words text ≡ Some words → (text ≡ flat_map hex_word words) × AreWords words × (0 < length words)
-unfolding joined_words
+joined_words_takes : (text words : List ℕ) → read_joined text ≡ Some words → (text ≡ flat_map hex_word words) × AreWords words × (0 < length words)
+unfolding read_joined
 joined_words_takes text words e =
-    let a = bind_some (bytes_of text) (λ bytes. joined bytes >>= some_words) words e in
+    let a = bind_some (read_hex_bytes text) (λ bytes. joined bytes >>= some_words) words e in
     let b = bind_some (joined a.0) some_words words a.2 in
     let read = bytes_takes text a.0 a.1 in
     let made = joined_takes a.0 b.0 b.1 read.1 in
     let some = some_words_is b.0 words b.2 in
     (read.0 ∙ made.0 ∙ ap (flat_map hex_word) some.0, subst AreWords some.0 made.1, some.1)
 
-joined_words_again : (w : ℕ) (words : List ℕ) → AreWords (w ∷ words) → joined_words (flat_map hex_word (w ∷ words)) ≡ Some (w ∷ words)
-unfolding joined_words
+joined_words_again : (w : ℕ) (words : List ℕ) → AreWords (w ∷ words) → read_joined (flat_map hex_word (w ∷ words)) ≡ Some (w ∷ words)
+unfolding read_joined
 joined_words_again w words each =
-    ap joined_words (split_text (w ∷ words) each)
+    ap read_joined (split_text (w ∷ words) each)
     ∙ rw (bytes_again (split_words (w ∷ words)) (split_small (w ∷ words) each), split_again (w ∷ words)) refl
 
 words_lie : (words : List ℕ) → AreWords words → all_lie 48 102 (flat_map hex_word words) ≡ true
@@ -274,10 +273,10 @@ some_text : (text words : List ℕ) → text ≡ flat_map hex_word words → 0 <
 some_text text [] e some = absurd (omega arith)
 some_text text (w ∷ words) e some = e
 
-pub words_takes : (text words : List ℕ) → words_of text ≡ Some words → (text ≡ hex_words words) × AreWords words
-unfolding words_of
+pub words_takes : (text words : List ℕ) → read_hex_words text ≡ Some words → (text ≡ hex_words words) × AreWords words
+unfolding read_hex_words
 words_takes text words e =
-    elim (chosen (bytes_eq text (codes "-")) (Some []) (joined_words text) (Some words) e) [
+    elim (chosen (bytes_eq text (codes "-")) (Some []) (read_joined text) (Some words) e) [
       | inl dash ↦
           subst (λ (ws : List ℕ). (text ≡ hex_words ws) × AreWords ws) (some_is [] words dash.1) (text_is text (codes "-") dash.0, All-nil IsWord)
       | inr more ↦
@@ -291,8 +290,8 @@ no_dash (b ∷ text) lie =
     let (here, more) = and_parts (lies 48 102 b) (all_lie 48 102 text) lie in
     rw (outside 48 102 45 b (inl (omega arith)) here) refl
 
-pub words_again : (words : List ℕ) → AreWords words → words_of (hex_words words) ≡ Some words
-unfolding words_of
+pub words_again : (words : List ℕ) → AreWords words → read_hex_words (hex_words words) ≡ Some words
+unfolding read_hex_words
 words_again [] each = refl
 words_again (w ∷ words) each =
     rw (no_dash (flat_map hex_word (w ∷ words)) (words_lie (w ∷ words) each), joined_words_again w words each) refl
@@ -306,50 +305,50 @@ one_word_is (w ∷ v ∷ words) word e = none_some (w ∷ v ∷ words ≡ word �
 one_text : (word : ℕ) → flat_map hex_word (word ∷ []) ≡ hex_word word
 one_text word = flat_map-cons hex_word word [] ∙ append-nil (hex_word word)
 
-pub word_takes : (text : List ℕ) (word : ℕ) → word_of text ≡ Some word → (text ≡ hex_word word) × IsWord word
-unfolding word_of
+pub word_takes : (text : List ℕ) (word : ℕ) → read_hex_word text ≡ Some word → (text ≡ hex_word word) × IsWord word
+unfolding read_hex_word
 word_takes text word e =
-    let a = bind_some (joined_words text) one_word word e in
+    let a = bind_some (read_joined text) one_word word e in
     let read = joined_words_takes text a.0 a.1 in
     let one = one_word_is a.0 word a.2 in
     let each = subst AreWords one read.1 in
     (read.0 ∙ ap (flat_map hex_word) one ∙ one_text word, All-head IsWord word [] each)
 
-pub word_again : (word : ℕ) → IsWord word → word_of (hex_word word) ≡ Some word
-unfolding word_of
+pub word_again : (word : ℕ) → IsWord word → read_hex_word (hex_word word) ≡ Some word
+unfolding read_hex_word
 word_again word is =
     let read = joined_words_again word [] (All-cons IsWord word [] is (All-nil IsWord)) in
-    rw (ap joined_words (sym (one_text word)) ∙ read) refl
+    rw (ap read_joined (sym (one_text word)) ∙ read) refl
 
 pub word_lies : (word : ℕ) → IsWord word → all_lie 48 102 (hex_word word) ≡ true
 word_lies word is = subst (λ (t : List ℕ). all_lie 48 102 t ≡ true) (one_text word) (words_lie (word ∷ []) (All-cons IsWord word [] is (All-nil IsWord)))
 
 -- a block
-pub block_takes : (text words : List ℕ) → block_of text ≡ Some words → (text ≡ hex_words words) × IsBlock words
-unfolding block_of
+pub block_takes : (text words : List ℕ) → read_block text ≡ Some words → (text ≡ hex_words words) × AreBlockWords words
+unfolding read_block
 block_takes text words e =
-    let a = bind_some (words_of text) (λ ws. cond (nat_le (length ws) most_block_words) (Some ws) None) words e in
+    let a = bind_some (read_hex_words text) (λ ws. cond (nat_le (length ws) most_block_words) (Some ws) None) words e in
     let read = words_takes text a.0 a.1 in
     elim (chosen (nat_le (length a.0) most_block_words) (Some a.0) None (Some words) a.2) [
       | inl passed ↦
-          subst (λ (ws : List ℕ). (text ≡ hex_words ws) × IsBlock ws) (some_is a.0 words passed.1)
+          subst (λ (ws : List ℕ). (text ≡ hex_words ws) × AreBlockWords ws) (some_is a.0 words passed.1)
           (read.0, record { count = le_of (length a.0) most_block_words passed.0; each = read.1 })
-      | inr apart ↦ none_some ((text ≡ hex_words words) × IsBlock words) words apart.1
+      | inr apart ↦ none_some ((text ≡ hex_words words) × AreBlockWords words) words apart.1
     ]
 
-pub block_again : (words : List ℕ) → IsBlock words → block_of (hex_words words) ≡ Some words
-unfolding block_of
+pub block_again : (words : List ℕ) → AreBlockWords words → read_block (hex_words words) ≡ Some words
+unfolding read_block
 block_again words is = rw (words_again words is.each, le_test (length words) most_block_words is.count) refl
 
 -- as fields
-pub pdu_field : IsField pdu_read hex_bytes IsPdu 48 102
+pub pdu_field : IsField read_pdu hex_bytes IsPdu 48 102
 pdu_field = record { takes = pdu_takes; again = pdu_again; lie = λ pdu is. bytes_lie pdu is.each }
 
-pub words_field : IsField words_of hex_words AreWords 45 102
+pub words_field : IsField read_hex_words hex_words AreWords 45 102
 words_field = record { takes = words_takes; again = words_again; lie = hex_words_lie }
 
-pub word_field : IsField word_of hex_word IsWord 48 102
+pub word_field : IsField read_hex_word hex_word IsWord 48 102
 word_field = record { takes = word_takes; again = word_again; lie = word_lies }
 
-pub block_field : IsField block_of hex_words IsBlock 45 102
+pub block_field : IsField read_block hex_words AreBlockWords 45 102
 block_field = record { takes = block_takes; again = block_again; lie = λ words is. hex_words_lie words is.each }

@@ -1,6 +1,6 @@
 -- Each legal joint history is plain.
-use Rattle.std.proofs.Common.{◌≡◌, ◌≢◌, ℕ, zero, suc, ◌++◌, true, List, []}
-use Rattle.std.proofs.Common.{◌∷◌, map, is_some, refl, sym, ◌∙◌, subst, arith, inr}
+use Rattle.std.proofs.Common.{◌≡◌, ◌≢◌, ℕ, zero, suc, ◌++◌, true, List, [], ◌∷◌, map, is_some, refl}
+use Rattle.std.proofs.Common.{sym, ◌∙◌, subst, arith, inr}
 use Rattle.std.specs.List.{All, AllZip, Contains, slice_get, slice_index_or}
 use Rattle.std.specs.List.Sorted.{IsStrictlyIncreasing}
 use Rattle.std.proofs.lemmas.Bool.{false≢true}

@@ -1,7 +1,6 @@
 -- Bytes of texts in a range, and tests of the first numbers.
 use Rattle.std.proofs.Common.{◌≡◌, ℕ, zero, suc, ◌<◌, ◌≤◌, Bool, true, false, cond, ◌&&◌, ◌⊎◌, inl}
-use Rattle.std.proofs.Common.{inr}
-use Rattle.std.proofs.Common.{List, [], ◌∷◌, ◌++◌, All, refl, arith}
+use Rattle.std.proofs.Common.{inr, List, [], ◌∷◌, ◌++◌, All, refl, arith}
 use Rattle.std.specs.Prelude.{nat_le, ◌==◌, ◌≢◌}
 use Rattle.std.specs.List.{list_all, flat_map}
 use Rattle.std.proofs.lemmas.Bool.{and_parts, cases_lt}

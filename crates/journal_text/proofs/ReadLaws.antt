@@ -1,11 +1,11 @@
 -- Readers that read just what is written.
-use Rattle.std.proofs.Common.{◌≡◌, ℕ, ◌<◌, ◌≤◌, Bool, true, false, ◌⊎◌, inl, inr, ◌&&◌, ◌||◌}
-use Rattle.std.proofs.Common.{List, [], ◌∷◌, ◌++◌, Option, Some, refl, sym, ap, subst, ◌∙◌, arith}
+use Rattle.std.proofs.Common.{◌≡◌, ℕ, ◌<◌, ◌≤◌, Bool, true, false, ◌⊎◌, inl, inr, ◌&&◌, ◌||◌, List}
+use Rattle.std.proofs.Common.{[], ◌∷◌, ◌++◌, Option, Some, refl, sym, ap, subst, ◌∙◌, arith}
 use Rattle.std.specs.Prelude.{nat_le, nat_lt}
 use Rattle.std.specs.List.{AllByRecursion}
 use Rattle.std.proofs.lemmas.Bool.{and_parts}
 use Rattle.std.proofs.lemmas.Bool.Decides.{nat_tests}
-use Rattle.journal_text.specs.Reading.{◌>>=◌, Kind, behind, cut, first_of, made, two}
+use Rattle.journal_text.specs.Reading.{◌>>=◌, Form, behind, cut, read_first, read_as, read_pair}
 use Rattle.journal_text.proofs.Ranges.{lies, all_lie, all-append, wider}
 use Rattle.journal_text.proofs.Cuts.{some_is, bind_some, else_some, cut_parts, cut_range}
 use Rattle.journal_text.proofs.Cuts.{behind_parts}
@@ -49,7 +49,7 @@ widened low high below above e xs lie =
 -- two fields with a byte between them that is not in the first
 module _ {A B : Type 0} {first : List ℕ → Option A} {second : List ℕ → Option B} {one : A → List ℕ} {other : B → List ℕ}
     {Fits : A → Type 0} {Fit : B → Type 0} {a b c d : ℕ} (at low high : ℕ) (left : IsField first one Fits a b) (right : IsField second other Fit c d) where
-  two_take : (bytes : List ℕ) (x : A × B) → two first second at bytes ≡ Some x → (bytes ≡ one x.0 ++ at ∷ other x.1) × (Fits x.0 × Fit x.1)
+  two_take : (bytes : List ℕ) (x : A × B) → read_pair first second at bytes ≡ Some x → (bytes ≡ one x.0 ++ at ∷ other x.1) × (Fits x.0 × Fit x.1)
   two_take bytes x e =
       let p = bind_some (cut at bytes) (λ parts. first parts.0 >>= λ y. second parts.1 >>= λ z. Some (y, z)) x e in
       let q = bind_some (first p.0.0) (λ y. second p.0.1 >>= λ z. Some (y, z)) x p.2 in
@@ -61,12 +61,12 @@ module _ {A B : Type 0} {first : List ℕ → Option A} {second : List ℕ → O
       parts.whole ∙ ap (λ (t : List ℕ). t ++ at ∷ p.0.1) l.0 ∙ ap (λ (t : List ℕ). one q.0 ++ at ∷ t) k.0 in
       subst (λ (y : A × B). (bytes ≡ one y.0 ++ at ∷ other y.1) × (Fits y.0 × Fit y.1)) (some_is (q.0, r.0) x r.2) (whole, (l.1, k.1))
 
-  two_again : is_out a b at ≡ true → (x : A) (y : B) → Fits x → Fit y → two first second at (one x ++ at ∷ other y) ≡ Some (x, y)
+  two_again : is_out a b at ≡ true → (x : A) (y : B) → Fits x → Fit y → read_pair first second at (one x ++ at ∷ other y) ≡ Some (x, y)
   two_again out x y fits fit =
       rw (cut_range a b at (out_of a b at out) (one x) (other y) (left.lie x fits), left.again x fits, right.again y fit) refl
 
   pub two_fields : is_out a b at ≡ true → is_in a b low high ≡ true → is_in c d low high ≡ true → lies low high at ≡ true
-      → IsField (two first second at) (λ x. one x.0 ++ at ∷ other x.1) (λ x. Fits x.0 × Fit x.1) low high
+      → IsField (read_pair first second at) (λ x. one x.0 ++ at ∷ other x.1) (λ x. Fits x.0 × Fit x.1) low high
   two_fields out early late between = record {
     takes = λ bytes x e. two_take bytes x e;
     again = λ x fits. two_again out x.0 x.1 fits.0 fits.1;
@@ -79,7 +79,7 @@ module _ {A B : Type 0} {first : List ℕ → Option A} {second : List ℕ → O
 module _ {A V : Type 0} {read : List ℕ → Option A} {text : A → List ℕ} {Fits : A → Type 0} {low high : ℕ} (field : IsField read text Fits low high) where
   pub made_field : (make : A → V) (back : V → A) (told : V → List ℕ) (Fit : V → Type 0)
       → ((x : A) → text x ≡ told (make x)) → ((x : A) → Fits x → Fit (make x)) → ((v : V) → Fit v → Fits (back v)) → ((v : V) → make (back v) ≡ v)
-      → IsField (made make read) told Fit low high
+      → IsField (read_as make read) told Fit low high
   made_field make back told Fit same into from round = record {
     takes = λ bytes v e.
         let p = bind_some (read bytes) (λ x. Some (make x)) v e in
@@ -99,14 +99,14 @@ module _ {A : Type 0} {read : List ℕ → Option A} {text : A → List ℕ} {Fi
   lie_in under over e x fits = widened low high under over e (text x) (field.lie x fits)
 
 -- a kind of a table: what is read behind its front is told so
-pub record IsKind {V : Type 0} (told : V → List ℕ) (Fit : V → Type 0) (kind : Kind V) : Type 0 where
+pub record IsForm {V : Type 0} (told : V → List ℕ) (Fit : V → Type 0) (kind : Form V) : Type 0 where
   pub takes : (bytes : List ℕ) (v : V) → kind.1 bytes ≡ Some v → (kind.0 ++ bytes ≡ told v) × Fit v
 
 module _ {A V : Type 0} {read : List ℕ → Option A} {text : A → List ℕ} {Fits : A → Type 0} {low high : ℕ} (field : IsField read text Fits low high)
     (told : V → List ℕ) (Fit : V → Type 0) where
-  pub kind_of_field : (front : List ℕ) (make : A → V) → ((x : A) → Fits x → front ++ text x ≡ told (make x)) → ((x : A) → Fits x → Fit (make x))
-      → IsKind told Fit (front, made make read)
-  kind_of_field front make same into = record {
+  pub form_of_field : (front : List ℕ) (make : A → V) → ((x : A) → Fits x → front ++ text x ≡ told (make x)) → ((x : A) → Fits x → Fit (make x))
+      → IsForm told Fit (front, read_as make read)
+  form_of_field front make same into = record {
     takes = λ bytes v e.
         let p = bind_some (read bytes) (λ x. Some (make x)) v e in
         let t = field.takes bytes p.0 p.1 in
@@ -115,12 +115,12 @@ module _ {A V : Type 0} {read : List ℕ → Option A} {text : A → List ℕ} {
   }
 
 module _ {V : Type 0} (told : V → List ℕ) (Fit : V → Type 0) where
-  pub first_takes : (kinds : List (Kind V)) (other : Option V) (bytes : List ℕ) (v : V)
-      → AllByRecursion (IsKind told Fit) kinds → (other ≡ Some v → (bytes ≡ told v) × Fit v)
-      → first_of kinds other bytes ≡ Some v → (bytes ≡ told v) × Fit v
+  pub first_takes : (kinds : List (Form V)) (other : Option V) (bytes : List ℕ) (v : V)
+      → AllByRecursion (IsForm told Fit) kinds → (other ≡ Some v → (bytes ≡ told v) × Fit v)
+      → read_first kinds other bytes ≡ Some v → (bytes ≡ told v) × Fit v
   first_takes [] other bytes v each rest e = rest e
   first_takes (kind ∷ kinds) other bytes v each rest e =
-      elim (else_some (behind kind.0 bytes) kind.1 (first_of kinds other bytes) v e) [
+      elim (else_some (behind kind.0 bytes) kind.1 (read_first kinds other bytes) v e) [
         | inl found ↦
             let t = each.0.takes found.0 v found.2 in
             (behind_parts kind.0 bytes found.0 found.1 ∙ t.0, t.1)

@@ -1,7 +1,6 @@
 -- Lines that are read one after the other, as a loop does, and how it ends.
-use Rattle.std.proofs.Common.{◌≡◌, ◌≢◌, ℕ, ◌+◌}
-use Rattle.std.proofs.Common.{List, [], ◌∷◌, ◌++◌, length, All, Some, None, Result, Ok, Err, refl}
-use Rattle.std.proofs.Common.{sym, ap, subst, ◌∙◌, arith, append_assoc}
+use Rattle.std.proofs.Common.{◌≡◌, ◌≢◌, ℕ, ◌+◌, List, [], ◌∷◌, ◌++◌, length, All, Some, None}
+use Rattle.std.proofs.Common.{Result, Ok, Err, refl, sym, ap, subst, ◌∙◌, arith, append_assoc}
 use Rattle.std.proofs.Common.{length-append}
 use Rattle.std.specs.Prelude.{codes, IfErr, IfOk}
 use Rattle.std.specs.List.{flat_map}
@@ -16,10 +15,10 @@ use Rattle.journal_text.specs.declared.draft.Draft.{Draft}
 use Rattle.journal_text.specs.declared.draft.Draft.TheVariants as drafts
 use Rattle.journal_text.specs.Lines.{controller_line, host_line, ring_line}
 use Rattle.journal_text.specs.Journal.{controller_section, host_section, journal}
-use Rattle.journal_text.specs.Fronts.{IsJournalOf, IsFront, IsLine, ended, IsWrongLine, IsFault}
-use Rattle.journal_text.specs.Fronts.{Gives}
+use Rattle.journal_text.specs.Fronts.{IsJournalOf, IsFront, IsLine, with_feed, IsWrongLine, IsFault}
+use Rattle.journal_text.specs.Fronts.{GivesJoint}
 use Rattle.journal_text.specs.Reading.{cut}
-use Rattle.journal_text.specs.Drafts.{Stops, Takes, ending, step}
+use Rattle.journal_text.specs.Drafts.{StopsAt, ReadsAt, ending, step}
 use Rattle.journal_text.proofs.Cuts.{some_is, none_some, cut_parts, cut_lacks}
 use Rattle.journal_text.proofs.Steps.{all_back, IsHistory, history_of, journal_of, text_of, IsGood}
 use Rattle.journal_text.proofs.Steps.{good_front, journal_parts, ring_part, host_part, Goes}
@@ -30,11 +29,11 @@ use Rattle.journal_text.proofs.StepGoes.{line_is, step_goes}
 pub record SoFar (bytes : List ℕ) (draft : Draft) (rest : List ℕ) (number : ℕ) : Type 0 where
   pub lines : List (List ℕ)
   pub each : All IsLine lines
-  pub parts : bytes ≡ flat_map ended lines ++ rest
+  pub parts : bytes ≡ flat_map with_feed lines ++ rest
   pub count : number ≡ length lines + 1
-  pub text : flat_map ended lines ≡ text_of draft
+  pub text : flat_map with_feed lines ≡ text_of draft
   pub good : IsGood draft
-  pub goes : (joint : Joint) → IsHistory joint → (tail : List ℕ) → flat_map ended lines ++ tail ≡ journal joint → Goes draft joint tail
+  pub goes : (joint : Joint) → IsHistory joint → (tail : List ℕ) → flat_map with_feed lines ++ tail ≡ journal joint → Goes draft joint tail
 
 pub at_start : (bytes : List ℕ) → SoFar bytes drafts.Start bytes 1
 at_start bytes = record {
@@ -48,8 +47,8 @@ at_start bytes = record {
 }
 
 -- one line more
-push : (lines : List (List ℕ)) (line : List ℕ) → flat_map ended (lines ++ line ∷ []) ≡ flat_map ended lines ++ ended line
-push lines line = sym (flat_map_more ended [] lines line)
+push : (lines : List (List ℕ)) (line : List ℕ) → flat_map with_feed (lines ++ line ∷ []) ≡ flat_map with_feed lines ++ with_feed line
+push lines line = sym (flat_map_more with_feed [] lines line)
 
 behind_line : (before line behind : List ℕ) → before ++ (line ++ 10 ∷ behind) ≡ (before ++ (line ++ 10 ∷ [])) ++ behind
 behind_line before line behind = simp append_assoc
@@ -64,14 +63,14 @@ goes_on bytes draft rest number parts new so is read =
     record {
       lines = so.lines ++ parts.0 ∷ [];
       each = All-push IsLine so.lines parts.0 so.each c.none;
-      parts = so.parts ∙ ap (λ (t : List ℕ). flat_map ended so.lines ++ t) c.whole ∙ behind_line (flat_map ended so.lines) parts.0 parts.1
+      parts = so.parts ∙ ap (λ (t : List ℕ). flat_map with_feed so.lines ++ t) c.whole ∙ behind_line (flat_map with_feed so.lines) parts.0 parts.1
           ∙ ap (λ (t : List ℕ). t ++ parts.1) (sym (push so.lines parts.0));
       count = omega arith;
-      text = push so.lines parts.0 ∙ ap (λ (t : List ℕ). t ++ ended parts.0) so.text ∙ sym adds.text;
+      text = push so.lines parts.0 ∙ ap (λ (t : List ℕ). t ++ with_feed parts.0) so.text ∙ sym adds.text;
       good = adds.good;
       goes = λ joint history tail e.
-          let whole : flat_map ended so.lines ++ (parts.0 ++ 10 ∷ tail) ≡ journal joint =
-          behind_line (flat_map ended so.lines) parts.0 tail ∙ ap (λ (t : List ℕ). t ++ tail) (sym (push so.lines parts.0)) ∙ e in
+          let whole : flat_map with_feed so.lines ++ (parts.0 ++ 10 ∷ tail) ≡ journal joint =
+          behind_line (flat_map with_feed so.lines) parts.0 tail ∙ ap (λ (t : List ℕ). t ++ tail) (sym (push so.lines parts.0)) ∙ e in
           let next = step_goes draft joint parts.0 tail history c.none (so.goes joint history (parts.0 ++ 10 ∷ tail) whole) in
           subst (λ (d : Draft). Goes d joint tail) (some_is next.new new (sym next.is ∙ read)) next.goes;
     }
@@ -79,26 +78,26 @@ goes_on bytes draft rest number parts new so is read =
 -- what reading answered
 pub record Answers (bytes : List ℕ) (result : Result Joint JournalFault) : Type 0 where
   pub told : IfOk result (λ joint. IsJournalOf joint bytes)
-  pub all : (joint : Joint) → IsJournalOf joint bytes → Gives joint result
+  pub all : (joint : Joint) → IsJournalOf joint bytes → GivesJoint joint result
   pub fault : IfErr result (λ fault. IsFault bytes fault)
 
 -- no journal goes on where a line is wrong
 refused : (bytes : List ℕ) (draft : Draft) (rest : List ℕ) (number : ℕ) (parts : List ℕ × List ℕ) (so : SoFar bytes draft rest number)
     → cut 10 rest ≡ Some parts → step draft parts.0 ≡ None → (joint : Joint) → IsHistory joint → (tail : List ℕ)
-    → flat_map ended so.lines ++ (parts.0 ++ 10 ∷ tail) ≡ journal joint → ⊥
+    → flat_map with_feed so.lines ++ (parts.0 ++ 10 ∷ tail) ≡ journal joint → ⊥
 refused bytes draft rest number parts so is wrong joint history tail e =
     let c = cut_parts 10 rest parts is in
     let next = step_goes draft joint parts.0 tail history c.none (so.goes joint history (parts.0 ++ 10 ∷ tail) e) in
     none_some ⊥ next.new (sym wrong ∙ next.is)
 
 front_refused : (bytes : List ℕ) (draft : Draft) (rest : List ℕ) (number : ℕ) (parts : List ℕ × List ℕ) (so : SoFar bytes draft rest number)
-    → cut 10 rest ≡ Some parts → step draft parts.0 ≡ None → (line : List ℕ) → line ≡ parts.0 → IsFront (flat_map ended so.lines ++ ended line) → ⊥
+    → cut 10 rest ≡ Some parts → step draft parts.0 ≡ None → (line : List ℕ) → line ≡ parts.0 → IsFront (flat_map with_feed so.lines ++ with_feed line) → ⊥
 front_refused bytes draft rest number parts so is wrong line same front =
     let joint = front.1.0 in
     let found = front.1.1 in
-    refused bytes draft rest number parts so is wrong joint (history_of joint ((flat_map ended so.lines ++ ended line) ++ front.0) found) front.0
-    (behind_line (flat_map ended so.lines) parts.0 front.0
-    ∙ ap (λ (l : List ℕ). (flat_map ended so.lines ++ ended l) ++ front.0) (sym same) ∙ found.text)
+    refused bytes draft rest number parts so is wrong joint (history_of joint ((flat_map with_feed so.lines ++ with_feed line) ++ front.0) found) front.0
+    (behind_line (flat_map with_feed so.lines) parts.0 front.0
+    ∙ ap (λ (l : List ℕ). (flat_map with_feed so.lines ++ with_feed l) ++ front.0) (sym same) ∙ found.text)
 
 wrong_line : (bytes : List ℕ) (draft : Draft) (rest : List ℕ) (number : ℕ) (parts : List ℕ × List ℕ) → SoFar bytes draft rest number
     → cut 10 rest ≡ Some parts → step draft parts.0 ≡ None → IsWrongLine bytes number
@@ -121,10 +120,10 @@ no_journal : (bytes : List ℕ) (draft : Draft) (rest : List ℕ) (number : ℕ)
 no_journal bytes draft rest number parts so is wrong joint found =
     let c = cut_parts 10 rest parts is in
     refused bytes draft rest number parts so is wrong joint (history_of joint bytes found) parts.1
-    (ap (λ (t : List ℕ). flat_map ended so.lines ++ t) (sym c.whole) ∙ sym so.parts ∙ found.text)
+    (ap (λ (t : List ℕ). flat_map with_feed so.lines ++ t) (sym c.whole) ∙ sym so.parts ∙ found.text)
 
 pub stopped : (bytes : List ℕ) (draft : Draft) (rest : List ℕ) (number : ℕ) (parts : List ℕ × List ℕ) (fault : JournalFault) → SoFar bytes draft rest number
-    → cut 10 rest ≡ Some parts → Stops number fault (step draft parts.0) → Answers bytes (Err fault)
+    → cut 10 rest ≡ Some parts → StopsAt number fault (step draft parts.0) → Answers bytes (Err fault)
 stopped bytes draft rest number parts NoMemory so is stops = record { told = tt; all = λ joint found. tt; fault = tt }
 stopped bytes draft rest number parts (Text line) so is stops =
     record {
@@ -208,9 +207,9 @@ module _ (bytes : List ℕ) (draft : Draft) (rest : List ℕ) (number : ℕ) (so
   read_whole : (joint : Joint) → IsEnd draft rest joint → IsJournalOf joint bytes
   read_whole joint is =
       journal_of joint bytes (subst IsGood is.draft_is so.good)
-      (so.parts ∙ ap (λ (t : List ℕ). flat_map ended so.lines ++ t) is.rest_is ∙ append-nil (flat_map ended so.lines) ∙ so.text ∙ ap text_of is.draft_is)
+      (so.parts ∙ ap (λ (t : List ℕ). flat_map with_feed so.lines ++ t) is.rest_is ∙ append-nil (flat_map with_feed so.lines) ∙ so.text ∙ ap text_of is.draft_is)
 
-  no_line : (text behind : List ℕ) → rest ≡ ended text ++ behind → ⊥
+  no_line : (text behind : List ℕ) → rest ≡ with_feed text ++ behind → ⊥
   no_line text behind e = fed text (10 ∷ behind) (λ l. l 0 0 (omega arith) refl) (subst IsLine (e ∙ append_assoc text (10 ∷ []) behind) line)
 
   last_line : IsWrongLine bytes number
@@ -224,7 +223,7 @@ module _ (bytes : List ℕ) (draft : Draft) (rest : List ℕ) (number : ℕ) (so
     wrong = λ text behind one e front. no_line text behind e;
   }
 
-  pub at_end : (result : Result Joint JournalFault) → Takes number result (ending draft rest) → Answers bytes result
+  pub at_end : (result : Result Joint JournalFault) → ReadsAt number result (ending draft rest) → Answers bytes result
   at_end (Ok joint) takes =
       let is = ending_is draft rest joint takes in
       record {

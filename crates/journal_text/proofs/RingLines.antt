@@ -1,6 +1,6 @@
 -- The lines of the ring are read as they are written.
-use Rattle.std.proofs.Common.{◌≡◌, ℕ, Bool, true, false, cond, inl, inr}
-use Rattle.std.proofs.Common.{List, [], ◌∷◌, ◌++◌, Some, None, refl, sym, ap, ◌∙◌, append_assoc}
+use Rattle.std.proofs.Common.{◌≡◌, ℕ, Bool, true, false, cond, inl, inr, List, [], ◌∷◌, ◌++◌, Some}
+use Rattle.std.proofs.Common.{None, refl, sym, ap, ◌∙◌, append_assoc}
 use Rattle.std.specs.Prelude.{codes}
 use Rattle.std.specs.Fmt.{decimal}
 use Rattle.std.specs.List.{AllByRecursion}
@@ -15,20 +15,23 @@ use Rattle.ring_core.specs.declared.entry.LeaveCause.{LeaveCause}
 use Rattle.ring_core.specs.declared.entry.LeaveCause.TheVariants.{Ended, Spent}
 use Rattle.ring_core.specs.declared.entry.RingEntry.{RingEntry}
 use Rattle.ring_core.specs.declared.entry.RingEntry.TheVariants as ring
-use Rattle.journal_text.specs.Fields.{hex_bytes, hex_words, hex_word, id_text, op_text, result_text}
+use Rattle.journal_text.specs.Fields.{hex_bytes, hex_words, hex_word, id_text, op_text}
+use Rattle.journal_text.specs.Fields.{call_result_text}
 use Rattle.journal_text.specs.Lines.{sent_text, got_text, heard_text, cause_text, done_text}
 use Rattle.journal_text.specs.Lines.{ring_line}
 use Rattle.journal_text.specs.Journal.{IsPlainFrame, IsPlainGot, IsPlainRing}
 use Rattle.journal_text.specs.Sizes.{IsId, IsPdu, IsSmall, IsWord, AreWords, FitsOp, FitsResult}
 use Rattle.journal_text.specs.Sizes.{FitsFrame, FitsRingEntry}
-use Rattle.journal_text.specs.Fronts.{ended}
-use Rattle.journal_text.specs.Reading.{behind, two, small_of, id_of, word_of, words_of}
-use Rattle.journal_text.specs.ReadLines.{op_of, result_of, sent_kinds, sent_of, got_from, got_kinds}
-use Rattle.journal_text.specs.ReadLines.{got_of, target_of, taken, request_frame, reply_frame}
-use Rattle.journal_text.specs.ReadLines.{heard_of, cause_of, done_of, ring_kinds, ring_entry_of}
+use Rattle.journal_text.specs.Fronts.{with_feed}
+use Rattle.journal_text.specs.Reading.{behind, read_pair, read_small, read_id, read_hex_word}
+use Rattle.journal_text.specs.Reading.{read_hex_words}
+use Rattle.journal_text.specs.ReadLines.{read_op, read_result, sent_forms, read_sent, got_from}
+use Rattle.journal_text.specs.ReadLines.{got_forms, read_got, target_of, taken, sent_request}
+use Rattle.journal_text.specs.ReadLines.{sent_reply, read_heard, read_cause, read_done, ring_forms}
+use Rattle.journal_text.specs.ReadLines.{read_ring_entry}
 use Rattle.journal_text.proofs.Ranges.{chosen, all_lie}
 use Rattle.journal_text.proofs.Cuts.{some_is, none_some, text_is}
-use Rattle.journal_text.proofs.ReadLaws.{IsField, IsKind, two_fields, kind_of_field, first_takes}
+use Rattle.journal_text.proofs.ReadLaws.{IsField, IsForm, two_fields, form_of_field, first_takes}
 use Rattle.journal_text.proofs.Numbers.{small_field, id_field}
 use Rattle.journal_text.proofs.Digits.{words_field, word_field}
 use Rattle.journal_text.proofs.Calls.{op_field, result_field, named_field, asked_field}
@@ -48,17 +51,17 @@ sent_body frame = sent_parts frame.kind frame.id frame.to frame.pdu
 abbrev IsSent : Frame → Type 0
 IsSent frame = FitsFrame frame × IsPlainFrame frame.kind frame
 
-sent_kinds_take : AllByRecursion (IsKind sent_body IsSent) sent_kinds
+sent_kinds_take : AllByRecursion (IsForm sent_body IsSent) sent_forms
 sent_kinds_take = (
-  kind_of_field asked_field sent_body IsSent (codes "Q ") request_frame (λ p fits. refl) (λ p fits. ((fits.1.0, fits.0, fits.1.1), tt)),
-  (kind_of_field named_field sent_body IsSent (codes "R ") reply_frame (λ p fits. refl) (λ p fits. ((fits.0.node, fits.0, fits.1), refl)), tt),
+  form_of_field asked_field sent_body IsSent (codes "Q ") sent_request (λ p fits. refl) (λ p fits. ((fits.1.0, fits.0, fits.1.1), tt)),
+  (form_of_field named_field sent_body IsSent (codes "R ") sent_reply (λ p fits. refl) (λ p fits. ((fits.0.node, fits.0, fits.1), refl)), tt),
 )
 
 abbrev framed : FrameKind → ℕ → CallId → List ℕ → Frame
 framed kind to id pdu = record { kind = kind; to = to; id = id; pdu = pdu }
 
-sent_again : (kind : FrameKind) (to : ℕ) (id : CallId) (pdu : List ℕ) → IsSent (framed kind to id pdu) → sent_of (sent_parts kind id to pdu) ≡ Some (framed kind to id pdu)
-unfolding sent_of behind
+sent_again : (kind : FrameKind) (to : ℕ) (id : CallId) (pdu : List ℕ) → IsSent (framed kind to id pdu) → read_sent (sent_parts kind id to pdu) ≡ Some (framed kind to id pdu)
+unfolding read_sent behind
 sent_again Request to id pdu is = rw (asked_field.again (id, (to, pdu)) (is.0.1, (is.0.0, is.0.2))) refl
 sent_again Reply to id pdu is =
     let target : to ≡ id.node = is.1 in
@@ -68,10 +71,10 @@ sent_lie : (kind : FrameKind) (to : ℕ) (id : CallId) (pdu : List ℕ) → IsSe
 sent_lie Request to id pdu is = asked_field.lie (id, (to, pdu)) (is.0.1, (is.0.0, is.0.2))
 sent_lie Reply to id pdu is = named_field.lie (id, pdu) (is.0.1, is.0.2)
 
-sent_field : IsField sent_of sent_body IsSent 32 102
-unfolding sent_of
+sent_field : IsField read_sent sent_body IsSent 32 102
+unfolding read_sent
 sent_field = record {
-  takes = λ text f e. first_takes sent_body IsSent sent_kinds None text f sent_kinds_take (none_some ((text ≡ sent_body f) × IsSent f) f) e;
+  takes = λ text f e. first_takes sent_body IsSent sent_forms None text f sent_kinds_take (none_some ((text ≡ sent_body f) × IsSent f) f) e;
   again = λ f is. sent_again f.kind f.to f.id f.pdu is;
   lie = λ f is. sent_lie f.kind f.to f.id f.pdu is;
 }
@@ -94,14 +97,14 @@ got_body got = got_parts got.0 got.1.0 got.1.1
 abbrev IsGot : Got → Type 0
 IsGot got = IsId got.1.0 × IsPdu got.1.1
 
-got_kinds_take : AllByRecursion (IsKind got_body IsGot) got_kinds
+got_kinds_take : AllByRecursion (IsForm got_body IsGot) got_forms
 got_kinds_take = (
-  kind_of_field named_field got_body IsGot (codes "Q ") (got_from Request) (λ p fits. refl) (λ p fits. fits),
-  (kind_of_field named_field got_body IsGot (codes "R ") (got_from Reply) (λ p fits. refl) (λ p fits. fits), tt),
+  form_of_field named_field got_body IsGot (codes "Q ") (got_from Request) (λ p fits. refl) (λ p fits. fits),
+  (form_of_field named_field got_body IsGot (codes "R ") (got_from Reply) (λ p fits. refl) (λ p fits. fits), tt),
 )
 
-got_again : (kind : FrameKind) (named : CallId × List ℕ) → IsId named.0 × IsPdu named.1 → got_of (got_parts kind named.0 named.1) ≡ Some (kind, named)
-unfolding got_of behind
+got_again : (kind : FrameKind) (named : CallId × List ℕ) → IsId named.0 × IsPdu named.1 → read_got (got_parts kind named.0 named.1) ≡ Some (kind, named)
+unfolding read_got behind
 got_again Request named is = rw (named_field.again named is) refl
 got_again Reply named is = rw (named_field.again named is) refl
 
@@ -109,17 +112,17 @@ got_lie : (kind : FrameKind) (named : CallId × List ℕ) → IsId named.0 × Is
 got_lie Request named is = named_field.lie named is
 got_lie Reply named is = named_field.lie named is
 
-got_field : IsField got_of got_body IsGot 32 102
-unfolding got_of
+got_field : IsField read_got got_body IsGot 32 102
+unfolding read_got
 got_field = record {
-  takes = λ text g e. first_takes got_body IsGot got_kinds None text g got_kinds_take (none_some ((text ≡ got_body g) × IsGot g) g) e;
+  takes = λ text g e. first_takes got_body IsGot got_forms None text g got_kinds_take (none_some ((text ≡ got_body g) × IsGot g) g) e;
   again = λ g is. got_again g.0 g.1 is;
   lie = λ g is. got_lie g.0 g.1 is;
 }
 
 -- words of one letter
-heard_takes : (text : List ℕ) (heard : Heard) → heard_of text ≡ Some heard → (text ≡ heard_text heard) × Unit {0}
-unfolding heard_of
+heard_takes : (text : List ℕ) (heard : Heard) → read_heard text ≡ Some heard → (text ≡ heard_text heard) × Unit {0}
+unfolding read_heard
 heard_takes text heard e =
     elim (chosen (bytes_eq text (codes "A")) (Some Acked) (cond (bytes_eq text (codes "S")) (Some Silent) (cond (bytes_eq text (codes "B")) (Some Busy) None)) (Some heard) e) [
       | inl a ↦ (text_is text (codes "A") a.0 ∙ ap heard_text (some_is Acked heard a.1), tt)
@@ -134,8 +137,8 @@ heard_takes text heard e =
           ]
     ]
 
-heard_again : (heard : Heard) → Unit {0} → heard_of (heard_text heard) ≡ Some heard
-unfolding heard_of
+heard_again : (heard : Heard) → Unit {0} → read_heard (heard_text heard) ≡ Some heard
+unfolding read_heard
 heard_again Acked is = refl
 heard_again Silent is = refl
 heard_again Busy is = refl
@@ -145,11 +148,11 @@ heard_lie Acked is = refl
 heard_lie Silent is = refl
 heard_lie Busy is = refl
 
-heard_field : IsField heard_of heard_text (λ heard. Unit {0}) 48 102
+heard_field : IsField read_heard heard_text (λ heard. Unit {0}) 48 102
 heard_field = record { takes = heard_takes; again = heard_again; lie = heard_lie }
 
-cause_takes : (text : List ℕ) (cause : LeaveCause) → cause_of text ≡ Some cause → (text ≡ cause_text cause) × Unit {0}
-unfolding cause_of
+cause_takes : (text : List ℕ) (cause : LeaveCause) → read_cause text ≡ Some cause → (text ≡ cause_text cause) × Unit {0}
+unfolding read_cause
 cause_takes text cause e =
     elim (chosen (bytes_eq text (codes "E")) (Some Ended) (cond (bytes_eq text (codes "S")) (Some Spent) None) (Some cause) e) [
       | inl a ↦ (text_is text (codes "E") a.0 ∙ ap cause_text (some_is Ended cause a.1), tt)
@@ -160,8 +163,8 @@ cause_takes text cause e =
           ]
     ]
 
-cause_again : (cause : LeaveCause) → Unit {0} → cause_of (cause_text cause) ≡ Some cause
-unfolding cause_of
+cause_again : (cause : LeaveCause) → Unit {0} → read_cause (cause_text cause) ≡ Some cause
+unfolding read_cause
 cause_again Ended is = refl
 cause_again Spent is = refl
 
@@ -169,11 +172,11 @@ cause_lie : (cause : LeaveCause) → Unit {0} → all_lie 48 102 (cause_text cau
 cause_lie Ended is = refl
 cause_lie Spent is = refl
 
-cause_field : IsField cause_of cause_text (λ cause. Unit {0}) 48 102
+cause_field : IsField read_cause cause_text (λ cause. Unit {0}) 48 102
 cause_field = record { takes = cause_takes; again = cause_again; lie = cause_lie }
 
-done_takes : (text : List ℕ) (done : Bool) → done_of text ≡ Some done → (text ≡ done_text done) × Unit {0}
-unfolding done_of
+done_takes : (text : List ℕ) (done : Bool) → read_done text ≡ Some done → (text ≡ done_text done) × Unit {0}
+unfolding read_done
 done_takes text done e =
     elim (chosen (bytes_eq text (codes "1")) (Some true) (cond (bytes_eq text (codes "0")) (Some false) None) (Some done) e) [
       | inl a ↦ (text_is text (codes "1") a.0 ∙ ap done_text (some_is true done a.1), tt)
@@ -184,8 +187,8 @@ done_takes text done e =
           ]
     ]
 
-done_again : (done : Bool) → Unit {0} → done_of (done_text done) ≡ Some done
-unfolding done_of
+done_again : (done : Bool) → Unit {0} → read_done (done_text done) ≡ Some done
+unfolding read_done
 done_again true is = refl
 done_again false is = refl
 
@@ -193,7 +196,7 @@ done_lie : (done : Bool) → Unit {0} → all_lie 48 102 (done_text done) ≡ tr
 done_lie true is = refl
 done_lie false is = refl
 
-done_field : IsField done_of done_text (λ done. Unit {0}) 48 102
+done_field : IsField read_done done_text (λ done. Unit {0}) 48 102
 done_field = record { takes = done_takes; again = done_again; lie = done_lie }
 
 -- the line of an entry without its line feed
@@ -202,7 +205,7 @@ ring_body (ring.Post node frame) = codes "PO " ++ (decimal node ++ 32 ∷ sent_b
 ring_body (ring.Send node heard) = codes "SE " ++ (decimal node ++ 32 ∷ heard_text heard)
 ring_body (ring.Take node frame) = codes "TA " ++ (decimal node ++ 32 ∷ got_parts frame.kind frame.id frame.pdu)
 ring_body (ring.Local node id op result) =
-    codes "LO " ++ (decimal node ++ 32 ∷ (id_text id ++ 32 ∷ (op_text op ++ 32 ∷ result_text result)))
+    codes "LO " ++ (decimal node ++ 32 ∷ (id_text id ++ 32 ∷ (op_text op ++ 32 ∷ call_result_text result)))
 ring_body (ring.GiveUp id word) = codes "GU " ++ (id_text id ++ 32 ∷ hex_word word)
 ring_body (ring.Pass node done words) = codes "PA " ++ (decimal node ++ 32 ∷ (done_text done ++ 32 ∷ hex_words words))
 ring_body (ring.Leave node cause) = codes "LE " ++ (decimal node ++ 32 ∷ cause_text cause)
@@ -221,47 +224,47 @@ parts_four : (front a b d f : List ℕ)
     → front ++ a ++ 32 ∷ [] ++ b ++ 32 ∷ [] ++ d ++ 32 ∷ [] ++ f ++ 10 ∷ [] ≡ (front ++ (a ++ 32 ∷ (b ++ 32 ∷ (d ++ 32 ∷ f)))) ++ 10 ∷ []
 parts_four front a b d f = simp append_assoc
 
-pub ring_ended : (entry : RingEntry) → ring_line entry ≡ ended (ring_body entry)
+pub ring_ended : (entry : RingEntry) → ring_line entry ≡ with_feed (ring_body entry)
 ring_ended (ring.Post node frame) =
     parts (codes "PO ") (decimal node) (sent_text frame.kind frame.id frame.to frame.pdu)
-    ∙ ap (λ (t : List ℕ). ended (codes "PO " ++ (decimal node ++ 32 ∷ t))) (sent_is frame.kind frame.id frame.to frame.pdu)
+    ∙ ap (λ (t : List ℕ). with_feed (codes "PO " ++ (decimal node ++ 32 ∷ t))) (sent_is frame.kind frame.id frame.to frame.pdu)
 ring_ended (ring.Send node heard) = parts (codes "SE ") (decimal node) (heard_text heard)
 ring_ended (ring.Take node frame) =
     parts (codes "TA ") (decimal node) (got_text frame.kind frame.id frame.pdu)
-    ∙ ap (λ (t : List ℕ). ended (codes "TA " ++ (decimal node ++ 32 ∷ t))) (got_is frame.kind frame.id frame.pdu)
-ring_ended (ring.Local node id op result) = parts_four (codes "LO ") (decimal node) (id_text id) (op_text op) (result_text result)
+    ∙ ap (λ (t : List ℕ). with_feed (codes "TA " ++ (decimal node ++ 32 ∷ t))) (got_is frame.kind frame.id frame.pdu)
+ring_ended (ring.Local node id op result) = parts_four (codes "LO ") (decimal node) (id_text id) (op_text op) (call_result_text result)
 ring_ended (ring.GiveUp id word) = parts (codes "GU ") (id_text id) (hex_word word)
 ring_ended (ring.Pass node done words) = parts_three (codes "PA ") (decimal node) (done_text done) (hex_words words)
 ring_ended (ring.Leave node cause) = parts (codes "LE ") (decimal node) (cause_text cause)
 
 -- what stands behind the letters
-post_field : IsField (two small_of sent_of 32) (λ p. decimal p.0 ++ 32 ∷ sent_body p.1) (λ p. IsSmall p.0 × IsSent p.1) 32 102
+post_field : IsField (read_pair read_small read_sent 32) (λ p. decimal p.0 ++ 32 ∷ sent_body p.1) (λ p. IsSmall p.0 × IsSent p.1) 32 102
 post_field = two_fields 32 32 102 small_field sent_field refl refl refl refl
 
-send_field : IsField (two small_of heard_of 32) (λ p. decimal p.0 ++ 32 ∷ heard_text p.1) (λ p. IsSmall p.0 × Unit {0}) 32 102
+send_field : IsField (read_pair read_small read_heard 32) (λ p. decimal p.0 ++ 32 ∷ heard_text p.1) (λ p. IsSmall p.0 × Unit {0}) 32 102
 send_field = two_fields 32 32 102 small_field heard_field refl refl refl refl
 
-take_field : IsField (two small_of got_of 32) (λ p. decimal p.0 ++ 32 ∷ got_body p.1) (λ p. IsSmall p.0 × IsGot p.1) 32 102
+take_field : IsField (read_pair read_small read_got 32) (λ p. decimal p.0 ++ 32 ∷ got_body p.1) (λ p. IsSmall p.0 × IsGot p.1) 32 102
 take_field = two_fields 32 32 102 small_field got_field refl refl refl refl
 
-local_field : IsField (two small_of (two id_of (two op_of result_of 32) 32) 32)
-    (λ p. decimal p.0 ++ 32 ∷ (id_text p.1.0 ++ 32 ∷ (op_text p.1.1.0 ++ 32 ∷ result_text p.1.1.1)))
+local_field : IsField (read_pair read_small (read_pair read_id (read_pair read_op read_result 32) 32) 32)
+    (λ p. decimal p.0 ++ 32 ∷ (id_text p.1.0 ++ 32 ∷ (op_text p.1.1.0 ++ 32 ∷ call_result_text p.1.1.1)))
     (λ p. IsSmall p.0 × (IsId p.1.0 × (FitsOp p.1.1.0 × FitsResult p.1.1.1))) 32 102
 local_field =
     let last = two_fields 32 32 102 op_field result_field refl refl refl refl in
     let rest = two_fields 32 32 102 id_field last refl refl refl refl in
     two_fields 32 32 102 small_field rest refl refl refl refl
 
-give_up_field : IsField (two id_of word_of 32) (λ p. id_text p.0 ++ 32 ∷ hex_word p.1) (λ p. IsId p.0 × IsWord p.1) 32 102
+give_up_field : IsField (read_pair read_id read_hex_word 32) (λ p. id_text p.0 ++ 32 ∷ hex_word p.1) (λ p. IsId p.0 × IsWord p.1) 32 102
 give_up_field = two_fields 32 32 102 id_field word_field refl refl refl refl
 
-pass_field : IsField (two small_of (two done_of words_of 32) 32) (λ p. decimal p.0 ++ 32 ∷ (done_text p.1.0 ++ 32 ∷ hex_words p.1.1))
+pass_field : IsField (read_pair read_small (read_pair read_done read_hex_words 32) 32) (λ p. decimal p.0 ++ 32 ∷ (done_text p.1.0 ++ 32 ∷ hex_words p.1.1))
     (λ p. IsSmall p.0 × (Unit {0} × AreWords p.1.1)) 32 102
 pass_field =
     let last = two_fields 32 32 102 done_field words_field refl refl refl refl in
     two_fields 32 32 102 small_field last refl refl refl refl
 
-leave_field : IsField (two small_of cause_of 32) (λ p. decimal p.0 ++ 32 ∷ cause_text p.1) (λ p. IsSmall p.0 × Unit {0}) 32 102
+leave_field : IsField (read_pair read_small read_cause 32) (λ p. decimal p.0 ++ 32 ∷ cause_text p.1) (λ p. IsSmall p.0 × Unit {0}) 32 102
 leave_field = two_fields 32 32 102 small_field cause_field refl refl refl refl
 
 -- a frame that was taken is plain, and so are its numbers
@@ -276,21 +279,21 @@ plain_got Reply node id pdu = refl
 taken_fits : (node : ℕ) (got : Got) → IsSmall node → IsGot got → IsRingEntry (taken node got)
 taken_fits node got less is = ((less, (target_fits got.0 node got.1.0 less is.0, is.0, is.1)), plain_got got.0 node got.1.0 got.1.1)
 
-ring_kinds_take : AllByRecursion (IsKind ring_body IsRingEntry) ring_kinds
+ring_kinds_take : AllByRecursion (IsForm ring_body IsRingEntry) ring_forms
 ring_kinds_take = (
-  kind_of_field post_field ring_body IsRingEntry (codes "PO ") (λ p. ring.Post p.0 p.1) (λ p fits. refl) (λ p fits. ((fits.0, fits.1.0), fits.1.1)),
+  form_of_field post_field ring_body IsRingEntry (codes "PO ") (λ p. ring.Post p.0 p.1) (λ p fits. refl) (λ p fits. ((fits.0, fits.1.0), fits.1.1)),
   (
-    kind_of_field send_field ring_body IsRingEntry (codes "SE ") (λ p. ring.Send p.0 p.1) (λ p fits. refl) (λ p fits. (fits.0, tt)),
+    form_of_field send_field ring_body IsRingEntry (codes "SE ") (λ p. ring.Send p.0 p.1) (λ p fits. refl) (λ p fits. (fits.0, tt)),
     (
-      kind_of_field take_field ring_body IsRingEntry (codes "TA ") (λ p. taken p.0 p.1) (λ p fits. refl) (λ p fits. taken_fits p.0 p.1 fits.0 fits.1),
+      form_of_field take_field ring_body IsRingEntry (codes "TA ") (λ p. taken p.0 p.1) (λ p fits. refl) (λ p fits. taken_fits p.0 p.1 fits.0 fits.1),
       (
-        kind_of_field local_field ring_body IsRingEntry (codes "LO ") (λ p. ring.Local p.0 p.1.0 p.1.1.0 p.1.1.1) (λ p fits. refl)
+        form_of_field local_field ring_body IsRingEntry (codes "LO ") (λ p. ring.Local p.0 p.1.0 p.1.1.0 p.1.1.1) (λ p fits. refl)
             (λ p fits. ((fits.0, fits.1.0, fits.1.1.0, fits.1.1.1), tt)),
         (
-          kind_of_field give_up_field ring_body IsRingEntry (codes "GU ") (λ p. ring.GiveUp p.0 p.1) (λ p fits. refl) (λ p fits. (fits, tt)),
+          form_of_field give_up_field ring_body IsRingEntry (codes "GU ") (λ p. ring.GiveUp p.0 p.1) (λ p fits. refl) (λ p fits. (fits, tt)),
           (
-            kind_of_field pass_field ring_body IsRingEntry (codes "PA ") (λ p. ring.Pass p.0 p.1.0 p.1.1) (λ p fits. refl) (λ p fits. ((fits.0, fits.1.1), tt)),
-            (kind_of_field leave_field ring_body IsRingEntry (codes "LE ") (λ p. ring.Leave p.0 p.1) (λ p fits. refl) (λ p fits. (fits.0, tt)), tt),
+            form_of_field pass_field ring_body IsRingEntry (codes "PA ") (λ p. ring.Pass p.0 p.1.0 p.1.1) (λ p fits. refl) (λ p fits. ((fits.0, fits.1.1), tt)),
+            (form_of_field leave_field ring_body IsRingEntry (codes "LE ") (λ p. ring.Leave p.0 p.1) (λ p fits. refl) (λ p fits. (fits.0, tt)), tt),
           ),
         ),
       ),
@@ -303,8 +306,8 @@ target_is : (kind : FrameKind) (node to : ℕ) (id : CallId) (pdu : List ℕ) �
 target_is Request node to id pdu plain = sym plain
 target_is Reply node to id pdu plain = sym plain
 
-ring_again : (entry : RingEntry) → IsRingEntry entry → ring_entry_of (ring_body entry) ≡ Some entry
-unfolding ring_entry_of behind
+ring_again : (entry : RingEntry) → IsRingEntry entry → read_ring_entry (ring_body entry) ≡ Some entry
+unfolding read_ring_entry behind
 ring_again (ring.Post node frame) is = rw (post_field.again (node, frame) (is.0.0, (is.0.1, is.1))) refl
 ring_again (ring.Send node heard) is = rw (send_field.again (node, heard) (is.0, tt)) refl
 ring_again (ring.Take node frame) is =
@@ -325,10 +328,10 @@ ring_lie (ring.GiveUp id word) is = give_up_field.lie (id, word) is.0
 ring_lie (ring.Pass node done words) is = pass_field.lie (node, (done, words)) (is.0.0, (tt, is.0.1))
 ring_lie (ring.Leave node cause) is = leave_field.lie (node, cause) (is.0, tt)
 
-pub ring_field : IsField ring_entry_of ring_body IsRingEntry 32 102
-unfolding ring_entry_of
+pub ring_field : IsField read_ring_entry ring_body IsRingEntry 32 102
+unfolding read_ring_entry
 ring_field = record {
-  takes = λ line entry e. first_takes ring_body IsRingEntry ring_kinds None line entry ring_kinds_take (none_some ((line ≡ ring_body entry) × IsRingEntry entry) entry) e;
+  takes = λ line entry e. first_takes ring_body IsRingEntry ring_forms None line entry ring_kinds_take (none_some ((line ≡ ring_body entry) × IsRingEntry entry) entry) e;
   again = ring_again;
   lie = ring_lie;
 }

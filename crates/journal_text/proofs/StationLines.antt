@@ -1,7 +1,6 @@
 -- The lines of controllers and hosts are read as they are written.
-use Rattle.std.proofs.Common.{◌≡◌, ℕ, true, cond, inl, inr}
-use Rattle.std.proofs.Common.{List, [], ◌∷◌, ◌++◌, Some, None, All, refl, sym, ap, subst, ◌∙◌}
-use Rattle.std.proofs.Common.{append_assoc}
+use Rattle.std.proofs.Common.{◌≡◌, ℕ, true, cond, inl, inr, List, [], ◌∷◌, ◌++◌, Some, None, All}
+use Rattle.std.proofs.Common.{refl, sym, ap, subst, ◌∙◌, append_assoc}
 use Rattle.std.specs.Prelude.{codes}
 use Rattle.std.specs.Fmt.{decimal}
 use Rattle.std.specs.List.{flat_map, AllByRecursion}
@@ -15,18 +14,18 @@ use Rattle.host_port.specs.declared.entry.HostResult.{HostResult}
 use Rattle.host_port.specs.declared.entry.HostResult.TheVariants as host_results
 use Rattle.host_port.specs.declared.entry.HostEntry.{HostEntry}
 use Rattle.host_port.specs.declared.entry.HostEntry.TheVariants as host_entries
-use Rattle.journal_text.specs.Fields.{hex_bytes, hex_words, id_text, result_text}
+use Rattle.journal_text.specs.Fields.{hex_bytes, hex_words, id_text, call_result_text}
 use Rattle.journal_text.specs.Lines.{call_text, controller_line, answer_text, host_line}
 use Rattle.journal_text.specs.Journal.{IsPlainCall, IsPlainEntry}
-use Rattle.journal_text.specs.Sizes.{IsId, IsWord, IsBlock, FitsCall, FitsEntry, FitsResult}
+use Rattle.journal_text.specs.Sizes.{IsId, IsWord, AreBlockWords, FitsCall, FitsEntry, FitsResult}
 use Rattle.journal_text.specs.Sizes.{FitsAnswer, FitsHostEntry}
-use Rattle.journal_text.specs.Fronts.{ended}
-use Rattle.journal_text.specs.Reading.{behind, two, word_number, id_of, block_of}
-use Rattle.journal_text.specs.ReadLines.{entry_kinds, bare_entry, entry_of, outcome_kinds}
-use Rattle.journal_text.specs.ReadLines.{outcome_of, host_kinds, host_entry_of, result_of}
+use Rattle.journal_text.specs.Fronts.{with_feed}
+use Rattle.journal_text.specs.Reading.{behind, read_pair, read_word, read_id, read_block}
+use Rattle.journal_text.specs.ReadLines.{entry_forms, read_bare_entry, read_entry, outcome_forms}
+use Rattle.journal_text.specs.ReadLines.{read_outcome, host_forms, read_host_entry, read_result}
 use Rattle.journal_text.proofs.Ranges.{chosen, all_lie}
 use Rattle.journal_text.proofs.Cuts.{some_is, none_some, text_is}
-use Rattle.journal_text.proofs.ReadLaws.{IsField, IsKind, two_fields, lie_in, kind_of_field}
+use Rattle.journal_text.proofs.ReadLaws.{IsField, IsForm, two_fields, lie_in, form_of_field}
 use Rattle.journal_text.proofs.ReadLaws.{first_takes}
 use Rattle.journal_text.proofs.Numbers.{word_number_field, id_field}
 use Rattle.journal_text.proofs.Digits.{pdu_field, word_field, block_field}
@@ -45,12 +44,12 @@ entry_body (entries.Output row words) = codes "O " ++ (decimal row ++ 32 ∷ hex
 entry_body entries.End = codes "E"
 entry_body (entries.Collect calls) = codes "L" ++ flat_map call_text calls
 entry_body (entries.Peer id request reply) = peer_body id request reply
-entry_body (entries.Finish id result) = codes "F " ++ (id_text id ++ 32 ∷ result_text result)
+entry_body (entries.Finish id result) = codes "F " ++ (id_text id ++ 32 ∷ call_result_text result)
 
 abbrev pub IsEntry : Entry → Type 0
 IsEntry entry = FitsEntry entry × IsPlainEntry entry
 
-pub entry_ended : (entry : Entry) → controller_line entry ≡ ended (entry_body entry)
+pub entry_ended : (entry : Entry) → controller_line entry ≡ with_feed (entry_body entry)
 entry_ended entries.Begin = refl
 entry_ended (entries.Input row) = refl
 entry_ended (entries.Solve row) = refl
@@ -61,10 +60,10 @@ entry_ended (entries.Peer id request reply) = simp append_assoc
 entry_ended (entries.Finish id result) = simp append_assoc
 
 -- the kinds of a controller's lines
-output_field : IsField (two word_number block_of 32) (λ p. decimal p.0 ++ 32 ∷ hex_words p.1) (λ p. IsWord p.0 × IsBlock p.1) 32 102
+output_field : IsField (read_pair read_word read_block 32) (λ p. decimal p.0 ++ 32 ∷ hex_words p.1) (λ p. IsWord p.0 × AreBlockWords p.1) 32 102
 output_field = two_fields 32 32 102 word_number_field block_field refl refl refl refl
 
-finish_field : IsField (two id_of result_of 32) (λ p. id_text p.0 ++ 32 ∷ result_text p.1) (λ p. IsId p.0 × FitsResult p.1) 32 102
+finish_field : IsField (read_pair read_id read_result 32) (λ p. id_text p.0 ++ 32 ∷ call_result_text p.1) (λ p. IsId p.0 × FitsResult p.1) 32 102
 finish_field = two_fields 32 32 102 id_field result_field refl refl refl refl
 
 calls_front : (calls : List Call) → AreCalls calls → codes "L " ++ calls_body calls ≡ entry_body (entries.Collect calls)
@@ -80,25 +79,25 @@ both_calls calls fits plain k d within = (fits k d within, plain k d within)
 calls_of_entry : (calls : List Call) → IsEntry (entries.Collect calls) → AreCalls calls
 calls_of_entry calls is = (is.1.0, both_calls calls is.0 is.1.1)
 
-entry_kinds_take : AllByRecursion (IsKind entry_body IsEntry) entry_kinds
+entry_kinds_take : AllByRecursion (IsForm entry_body IsEntry) entry_forms
 entry_kinds_take = (
-  kind_of_field word_number_field entry_body IsEntry (codes "I ") (λ row. entries.Input row) (λ row fits. refl) (λ row fits. (fits, tt)),
+  form_of_field word_number_field entry_body IsEntry (codes "I ") (λ row. entries.Input row) (λ row fits. refl) (λ row fits. (fits, tt)),
   (
-    kind_of_field word_number_field entry_body IsEntry (codes "S ") (λ row. entries.Solve row) (λ row fits. refl) (λ row fits. (fits, tt)),
+    form_of_field word_number_field entry_body IsEntry (codes "S ") (λ row. entries.Solve row) (λ row fits. refl) (λ row fits. (fits, tt)),
     (
-      kind_of_field output_field entry_body IsEntry (codes "O ") (λ p. entries.Output p.0 p.1) (λ p fits. refl) (λ p fits. (fits, tt)),
+      form_of_field output_field entry_body IsEntry (codes "O ") (λ p. entries.Output p.0 p.1) (λ p fits. refl) (λ p fits. (fits, tt)),
       (
-        kind_of_field calls_field entry_body IsEntry (codes "L ") (λ calls. entries.Collect calls) calls_front calls_fit,
+        form_of_field calls_field entry_body IsEntry (codes "L ") (λ calls. entries.Collect calls) calls_front calls_fit,
         (
-          kind_of_field served_field entry_body IsEntry (codes "P ") (λ p. entries.Peer p.0 p.1.0 p.1.1) (λ p fits. refl) (λ p fits. ((fits.0, fits.1.0, fits.1.1), tt)),
-          (kind_of_field finish_field entry_body IsEntry (codes "F ") (λ p. entries.Finish p.0 p.1) (λ p fits. refl) (λ p fits. (fits, tt)), tt),
+          form_of_field served_field entry_body IsEntry (codes "P ") (λ p. entries.Peer p.0 p.1.0 p.1.1) (λ p fits. refl) (λ p fits. ((fits.0, fits.1.0, fits.1.1), tt)),
+          (form_of_field finish_field entry_body IsEntry (codes "F ") (λ p. entries.Finish p.0 p.1) (λ p fits. refl) (λ p fits. (fits, tt)), tt),
         ),
       ),
     ),
   ),
 )
 
-bare_entry_takes : (line : List ℕ) (entry : Entry) → bare_entry line ≡ Some entry → (line ≡ entry_body entry) × IsEntry entry
+bare_entry_takes : (line : List ℕ) (entry : Entry) → read_bare_entry line ≡ Some entry → (line ≡ entry_body entry) × IsEntry entry
 bare_entry_takes line entry e =
     elim (chosen (bytes_eq line (codes "B")) (Some entries.Begin) (cond (bytes_eq line (codes "E")) (Some entries.End) None) (Some entry) e) [
       | inl begin ↦
@@ -111,12 +110,12 @@ bare_entry_takes line entry e =
           ]
     ]
 
-collect_again : (calls : List Call) → AreCalls calls → entry_of (entry_body (entries.Collect calls)) ≡ Some (entries.Collect calls)
-unfolding entry_of behind
-collect_again calls are = ap entry_of (sym (calls_front calls are)) ∙ rw (calls_field.again calls are) refl
+collect_again : (calls : List Call) → AreCalls calls → read_entry (entry_body (entries.Collect calls)) ≡ Some (entries.Collect calls)
+unfolding read_entry behind
+collect_again calls are = ap read_entry (sym (calls_front calls are)) ∙ rw (calls_field.again calls are) refl
 
-entry_again : (entry : Entry) → IsEntry entry → entry_of (entry_body entry) ≡ Some entry
-unfolding entry_of behind
+entry_again : (entry : Entry) → IsEntry entry → read_entry (entry_body entry) ≡ Some entry
+unfolding read_entry behind
 entry_again entries.Begin is = refl
 entry_again (entries.Input row) is = rw (word_number_field.again row is.0) refl
 entry_again (entries.Solve row) is = rw (word_number_field.again row is.0) refl
@@ -138,23 +137,23 @@ entry_lie (entries.Collect calls) is =
 entry_lie (entries.Peer id request reply) is = served_field.lie (id, (request, reply)) (is.0.0, (is.0.1, is.0.2))
 entry_lie (entries.Finish id result) is = finish_field.lie (id, result) is.0
 
-pub entry_field : IsField entry_of entry_body IsEntry 32 102
-unfolding entry_of
+pub entry_field : IsField read_entry entry_body IsEntry 32 102
+unfolding read_entry
 entry_field = record {
-  takes = λ line entry e. first_takes entry_body IsEntry entry_kinds (bare_entry line) line entry entry_kinds_take (bare_entry_takes line entry) e;
+  takes = λ line entry e. first_takes entry_body IsEntry entry_forms (read_bare_entry line) line entry entry_kinds_take (bare_entry_takes line entry) e;
   again = entry_again;
   lie = entry_lie;
 }
 
 -- what came of a host's request
-outcome_kinds_take : AllByRecursion (IsKind answer_text FitsAnswer) outcome_kinds
+outcome_kinds_take : AllByRecursion (IsForm answer_text FitsAnswer) outcome_forms
 outcome_kinds_take = (
-  kind_of_field pdu_field answer_text FitsAnswer (codes "R ") (λ pdu. host_results.Reply pdu) (λ pdu fits. refl) (λ pdu fits. fits),
-  (kind_of_field word_field answer_text FitsAnswer (codes "B ") (λ word. host_results.Bad word) (λ word fits. refl) (λ word fits. fits), tt),
+  form_of_field pdu_field answer_text FitsAnswer (codes "R ") (λ pdu. host_results.Reply pdu) (λ pdu fits. refl) (λ pdu fits. fits),
+  (form_of_field word_field answer_text FitsAnswer (codes "B ") (λ word. host_results.Bad word) (λ word fits. refl) (λ word fits. fits), tt),
 )
 
-outcome_again : (r : HostResult) → FitsAnswer r → outcome_of (answer_text r) ≡ Some r
-unfolding outcome_of behind
+outcome_again : (r : HostResult) → FitsAnswer r → read_outcome (answer_text r) ≡ Some r
+unfolding read_outcome behind
 outcome_again (host_results.Reply pdu) is = rw (pdu_field.again pdu is) refl
 outcome_again (host_results.Bad word) is = rw (word_field.again word is) refl
 
@@ -162,10 +161,10 @@ outcome_lie : (r : HostResult) → FitsAnswer r → all_lie 32 102 (answer_text 
 outcome_lie (host_results.Reply pdu) is = lie_in pdu_field 32 102 refl pdu is
 outcome_lie (host_results.Bad word) is = lie_in word_field 32 102 refl word is
 
-outcome_field : IsField outcome_of answer_text FitsAnswer 32 102
-unfolding outcome_of
+outcome_field : IsField read_outcome answer_text FitsAnswer 32 102
+unfolding read_outcome
 outcome_field = record {
-  takes = λ text r e. first_takes answer_text FitsAnswer outcome_kinds None text r outcome_kinds_take (none_some ((text ≡ answer_text r) × FitsAnswer r) r) e;
+  takes = λ text r e. first_takes answer_text FitsAnswer outcome_forms None text r outcome_kinds_take (none_some ((text ≡ answer_text r) × FitsAnswer r) r) e;
   again = outcome_again;
   lie = outcome_lie;
 }
@@ -176,25 +175,25 @@ host_body (host_entries.Ask id to pdu) = codes "Q " ++ (id_text id ++ 32 ∷ (de
 host_body (host_entries.Answer id result) = codes "A " ++ (id_text id ++ 32 ∷ answer_text result)
 host_body (host_entries.Served id request reply) = peer_body id request reply
 
-pub host_ended : (entry : HostEntry) → host_line entry ≡ ended (host_body entry)
+pub host_ended : (entry : HostEntry) → host_line entry ≡ with_feed (host_body entry)
 host_ended (host_entries.Ask id to pdu) = simp append_assoc
 host_ended (host_entries.Answer id result) = simp append_assoc
 host_ended (host_entries.Served id request reply) = simp append_assoc
 
-answer_field : IsField (two id_of outcome_of 32) (λ p. id_text p.0 ++ 32 ∷ answer_text p.1) (λ p. IsId p.0 × FitsAnswer p.1) 32 102
+answer_field : IsField (read_pair read_id read_outcome 32) (λ p. id_text p.0 ++ 32 ∷ answer_text p.1) (λ p. IsId p.0 × FitsAnswer p.1) 32 102
 answer_field = two_fields 32 32 102 id_field outcome_field refl refl refl refl
 
-host_kinds_take : AllByRecursion (IsKind host_body FitsHostEntry) host_kinds
+host_kinds_take : AllByRecursion (IsForm host_body FitsHostEntry) host_forms
 host_kinds_take = (
-  kind_of_field asked_field host_body FitsHostEntry (codes "Q ") (λ p. host_entries.Ask p.0 p.1.0 p.1.1) (λ p fits. refl) (λ p fits. (fits.0, fits.1.0, fits.1.1)),
+  form_of_field asked_field host_body FitsHostEntry (codes "Q ") (λ p. host_entries.Ask p.0 p.1.0 p.1.1) (λ p fits. refl) (λ p fits. (fits.0, fits.1.0, fits.1.1)),
   (
-    kind_of_field answer_field host_body FitsHostEntry (codes "A ") (λ p. host_entries.Answer p.0 p.1) (λ p fits. refl) (λ p fits. fits),
-    (kind_of_field served_field host_body FitsHostEntry (codes "P ") (λ p. host_entries.Served p.0 p.1.0 p.1.1) (λ p fits. refl) (λ p fits. (fits.0, fits.1.0, fits.1.1)), tt),
+    form_of_field answer_field host_body FitsHostEntry (codes "A ") (λ p. host_entries.Answer p.0 p.1) (λ p fits. refl) (λ p fits. fits),
+    (form_of_field served_field host_body FitsHostEntry (codes "P ") (λ p. host_entries.Served p.0 p.1.0 p.1.1) (λ p fits. refl) (λ p fits. (fits.0, fits.1.0, fits.1.1)), tt),
   ),
 )
 
-host_again : (entry : HostEntry) → FitsHostEntry entry → host_entry_of (host_body entry) ≡ Some entry
-unfolding host_entry_of behind
+host_again : (entry : HostEntry) → FitsHostEntry entry → read_host_entry (host_body entry) ≡ Some entry
+unfolding read_host_entry behind
 host_again (host_entries.Ask id to pdu) is = rw (asked_field.again (id, (to, pdu)) (is.0, (is.1, is.2))) refl
 host_again (host_entries.Answer id result) is = rw (answer_field.again (id, result) is) refl
 host_again (host_entries.Served id request reply) is = rw (served_field.again (id, (request, reply)) (is.0, (is.1, is.2))) refl
@@ -204,10 +203,10 @@ host_lie (host_entries.Ask id to pdu) is = asked_field.lie (id, (to, pdu)) (is.0
 host_lie (host_entries.Answer id result) is = answer_field.lie (id, result) is
 host_lie (host_entries.Served id request reply) is = served_field.lie (id, (request, reply)) (is.0, (is.1, is.2))
 
-pub host_field : IsField host_entry_of host_body FitsHostEntry 32 102
-unfolding host_entry_of
+pub host_field : IsField read_host_entry host_body FitsHostEntry 32 102
+unfolding read_host_entry
 host_field = record {
-  takes = λ line entry e. first_takes host_body FitsHostEntry host_kinds None line entry host_kinds_take (none_some ((line ≡ host_body entry) × FitsHostEntry entry) entry) e;
+  takes = λ line entry e. first_takes host_body FitsHostEntry host_forms None line entry host_kinds_take (none_some ((line ≡ host_body entry) × FitsHostEntry entry) entry) e;
   again = host_again;
   lie = host_lie;
 }

@@ -1,7 +1,6 @@
 -- As a journal goes on from what is read, so its next line is read.
-use Rattle.std.proofs.Common.{◌≡◌, ℕ, ◌<◌, true, false, inl}
-use Rattle.std.proofs.Common.{List, [], ◌∷◌, ◌++◌, map, All, Some, None, refl, sym, ap, subst, ◌∙◌}
-use Rattle.std.proofs.Common.{arith, append_assoc}
+use Rattle.std.proofs.Common.{◌≡◌, ℕ, ◌<◌, true, false, inl, List, [], ◌∷◌, ◌++◌, map, All, Some}
+use Rattle.std.proofs.Common.{None, refl, sym, ap, subst, ◌∙◌, arith, append_assoc}
 use Rattle.std.specs.Prelude.{codes, nat_lt}
 use Rattle.std.specs.Fmt.{decimal}
 use Rattle.std.specs.List.{flat_map}
@@ -27,23 +26,22 @@ use Rattle.journal_text.specs.Lines.{controller_line, host_line, ring_line}
 use Rattle.journal_text.specs.Journal.{IsPlainEntry, IsPlainRing, controller_section, host_section}
 use Rattle.journal_text.specs.Journal.{journal}
 use Rattle.journal_text.specs.Sizes.{FitsLog, FitsHostLog, FitsEntry, FitsHostEntry, FitsRingEntry}
-use Rattle.journal_text.specs.Fronts.{IsLine, ended}
+use Rattle.journal_text.specs.Fronts.{IsLine, with_feed}
 use Rattle.journal_text.specs.Reading.{behind, cut}
-use Rattle.journal_text.specs.ReadLines.{entry_of, host_entry_of, ring_entry_of}
-use Rattle.journal_text.specs.Drafts.{head_of, new_log, new_host_log, logged, host_logged}
-use Rattle.journal_text.specs.Drafts.{ring_from, ringed}
+use Rattle.journal_text.specs.ReadLines.{read_entry, read_host_entry, read_ring_entry}
+use Rattle.journal_text.specs.Drafts.{read_head, new_log, new_host_log, log_with_entry}
+use Rattle.journal_text.specs.Drafts.{host_log_with_entry, ring_from, joint_with_entry}
 use Rattle.journal_text.specs.Drafts.{first_section, after_controller, after_host, start_line}
-use Rattle.journal_text.specs.Drafts.{open_line, log_line, host_log_line}
-use Rattle.journal_text.specs.Drafts.{controller_step, host_step, ring_line_of, ring_step, step}
+use Rattle.journal_text.specs.Drafts.{open_line, log_line, host_log_line, controller_step}
+use Rattle.journal_text.specs.Drafts.{host_step, ring_log_line, ring_step, step}
 use Rattle.journal_text.proofs.Ranges.{all_lie, lacks}
 use Rattle.journal_text.proofs.Cuts.{some_is, cut_line}
 use Rattle.journal_text.proofs.StationLines.{entry_body, entry_ended, entry_field, host_body}
 use Rattle.journal_text.proofs.StationLines.{host_ended, host_field}
 use Rattle.journal_text.proofs.RingLines.{ring_body, ring_ended, ring_field}
 use Rattle.journal_text.proofs.Steps.{controller_node, host_node, Rises, rises_next, all_back}
-use Rattle.journal_text.proofs.Steps.{PlainLog, IsHistory}
-use Rattle.journal_text.proofs.Steps.{journal_parts, ring_part, host_part, with_more}
-use Rattle.journal_text.proofs.Steps.{host_with_more, Goes}
+use Rattle.journal_text.proofs.Steps.{PlainLog, IsHistory, journal_parts, ring_part, host_part}
+use Rattle.journal_text.proofs.Steps.{with_more, host_with_more, Goes}
 use Rattle.journal_text.proofs.StepTakes.{head_body, FitsHead, head_field}
 
 -- two texts whose first lines end are the same line by line
@@ -52,7 +50,7 @@ line_is a b x y one other e =
     let parts = some_is (a, x) (b, y) (sym (cut_line 10 a x one) ∙ ap (cut 10) e ∙ cut_line 10 b y other) in
     (ap (λ (p : List ℕ × List ℕ). p.0) parts, ap (λ (p : List ℕ × List ℕ). p.1) parts)
 
-first_line : (line tail body more : List ℕ) → IsLine line → all_lie 32 102 body ≡ true → line ++ 10 ∷ tail ≡ ended body ++ more → (line ≡ body) × (tail ≡ more)
+first_line : (line tail body more : List ℕ) → IsLine line → all_lie 32 102 body ≡ true → line ++ 10 ∷ tail ≡ with_feed body ++ more → (line ≡ body) × (tail ≡ more)
 first_line line tail body more is lie e =
     line_is line body tail more is (lacks 32 102 10 (inl (omega arith)) body lie) (e ∙ append_assoc body (10 ∷ []) more)
 
@@ -72,28 +70,28 @@ parts a b c d = simp append_assoc
 
 section_text : (log : ControllerLog) (logs : List ControllerLog) (more : List ℕ)
     → flat_map controller_section (log ∷ logs) ++ more
-    ≡ ended (head_body (heads.Controller log.node)) ++ (flat_map controller_line log.entries ++ (flat_map controller_section logs ++ more))
+    ≡ with_feed (head_body (heads.Controller log.node)) ++ (flat_map controller_line log.entries ++ (flat_map controller_section logs ++ more))
 section_text log logs more =
     ap (λ (t : List ℕ). t ++ more) (flat_map-cons controller_section log logs)
     ∙ parts (codes "C " ++ decimal log.node ++ codes "\n") (flat_map controller_line log.entries) (flat_map controller_section logs) more
 
 host_section_text : (log : HostLog) (logs : List HostLog) (more : List ℕ)
     → flat_map host_section (log ∷ logs) ++ more
-    ≡ ended (head_body (heads.Host log.node)) ++ (flat_map host_line log.entries ++ (flat_map host_section logs ++ more))
+    ≡ with_feed (head_body (heads.Host log.node)) ++ (flat_map host_line log.entries ++ (flat_map host_section logs ++ more))
 host_section_text log logs more =
     ap (λ (t : List ℕ). t ++ more) (flat_map-cons host_section log logs)
     ∙ parts (codes "H " ++ decimal log.node ++ codes "\n") (flat_map host_line log.entries) (flat_map host_section logs) more
 
 -- the text of an entry and of those behind it
-line_text : {X : Type 0} (f : X → List ℕ) (body : X → List ℕ) → ((x : X) → f x ≡ ended (body x)) → (x : X) (xs : List X) (more : List ℕ)
-    → flat_map f (x ∷ xs) ++ more ≡ ended (body x) ++ (flat_map f xs ++ more)
+line_text : {X : Type 0} (f : X → List ℕ) (body : X → List ℕ) → ((x : X) → f x ≡ with_feed (body x)) → (x : X) (xs : List X) (more : List ℕ)
+    → flat_map f (x ∷ xs) ++ more ≡ with_feed (body x) ++ (flat_map f xs ++ more)
 line_text f body is x xs more =
     ap (λ (t : List ℕ). t ++ more) (flat_map-cons f x xs) ∙ append_assoc (f x) (flat_map f xs) more
     ∙ ap (λ (t : List ℕ). t ++ (flat_map f xs ++ more)) (is x)
 
 -- no entry has the text of a head
-entry_no_head : (entry : Entry) → head_of (entry_body entry) ≡ None
-unfolding head_of behind
+entry_no_head : (entry : Entry) → read_head (entry_body entry) ≡ None
+unfolding read_head behind
 entry_no_head entries.Begin = refl
 entry_no_head (entries.Input row) = refl
 entry_no_head (entries.Solve row) = refl
@@ -103,8 +101,8 @@ entry_no_head (entries.Collect calls) = refl
 entry_no_head (entries.Peer id request reply) = refl
 entry_no_head (entries.Finish id result) = refl
 
-host_no_head : (entry : HostEntry) → head_of (host_body entry) ≡ None
-unfolding head_of behind
+host_no_head : (entry : HostEntry) → read_head (host_body entry) ≡ None
+unfolding read_head behind
 host_no_head (host_entries.Ask id to pdu) = refl
 host_no_head (host_entries.Answer id result) = refl
 host_no_head (host_entries.Served id request reply) = refl
@@ -128,11 +126,11 @@ same_host_log : (log : HostLog) → host_with_more log [] ≡ log
 same_host_log log = ap (λ (es : List HostEntry). record { node = log.node; entries = es }) (append-nil log.entries)
 
 -- the heads that may follow
-head_is : (head : Head) (line : List ℕ) → line ≡ head_body head → FitsHead head → head_of line ≡ Some head
-head_is head line is fits = ap head_of is ∙ head_field.again head fits
+head_is : (head : Head) (line : List ℕ) → line ≡ head_body head → FitsHead head → read_head line ≡ Some head
+head_is head line is fits = ap read_head is ∙ head_field.again head fits
 
 ring_head : (line tail : List ℕ) (entries : List RingEntry) → IsLine line → line ++ 10 ∷ tail ≡ ring_part entries
-    → (head_of line ≡ Some heads.Ring) × (tail ≡ flat_map ring_line entries ++ codes "%END\n")
+    → (read_head line ≡ Some heads.Ring) × (tail ≡ flat_map ring_line entries ++ codes "%END\n")
 ring_head line tail entries is e =
     let first = first_line line tail (codes "R") (flat_map ring_line entries ++ codes "%END\n") is refl e in
     (head_is heads.Ring line first.0 tt, first.1)
@@ -233,10 +231,10 @@ controller_next done log joint line tail (entry ∷ more) logs history is cs e =
     let rest = flat_map controller_section logs ++ host_part joint.hosts joint.ring in
     let first = first_line line tail (entry_body entry) (flat_map controller_line more ++ rest) is (entry_field.lie entry (fits, plain))
     (e ∙ line_text controller_line entry_body entry_ended entry more rest) in
-    let apart : head_of line ≡ None = ap head_of first.0 ∙ entry_no_head entry in
-    let read : entry_of line ≡ Some entry = ap entry_of first.0 ∙ entry_field.again entry (fits, plain) in
+    let apart : read_head line ≡ None = ap read_head first.0 ∙ entry_no_head entry in
+    let read : read_entry line ≡ Some entry = ap read_entry first.0 ∙ entry_field.again entry (fits, plain) in
     record {
-      new = drafts.Controller done (logged log entry);
+      new = drafts.Controller done (log_with_entry log entry);
       is = rw (apart, read) refl;
       goes = record {
         more = more;
@@ -284,10 +282,10 @@ host_next controllers done log joint line tail (entry ∷ more) logs history is 
     let rest = flat_map host_section logs ++ ring_part joint.ring in
     let first = first_line line tail (host_body entry) (flat_map host_line more ++ rest) is (host_field.lie entry fits)
     (e ∙ line_text host_line host_body host_ended entry more rest) in
-    let apart : head_of line ≡ None = ap head_of first.0 ∙ host_no_head entry in
-    let read : host_entry_of line ≡ Some entry = ap host_entry_of first.0 ∙ host_field.again entry fits in
+    let apart : read_head line ≡ None = ap read_head first.0 ∙ host_no_head entry in
+    let read : read_host_entry line ≡ Some entry = ap read_host_entry first.0 ∙ host_field.again entry fits in
     record {
-      new = drafts.Host controllers done (host_logged log entry);
+      new = drafts.Host controllers done (host_log_with_entry log entry);
       is = rw (apart, read) refl;
       goes = record {
         more = more;
@@ -304,7 +302,7 @@ same_joint joint read cs hs rs = λ i. record { controllers = cs i; hosts = hs i
 
 ring_next : (read joint : Joint) (line tail : List ℕ) (more : List RingEntry) → IsHistory joint → IsLine line → joint.controllers ≡ read.controllers → joint.hosts ≡ read.hosts
     → joint.ring ≡ read.ring ++ more → line ++ 10 ∷ tail ≡ flat_map ring_line more ++ codes "%END\n" → Next (drafts.Ring read) joint line tail
-unfolding step ring_step ring_line_of
+unfolding step ring_step ring_log_line
 ring_next read joint line tail [] history is cs hs rs e =
     let first = first_line line tail (codes "%END") [] is refl e in
     let last : bytes_eq line (codes "%END") ≡ true = ap (λ (t : List ℕ). bytes_eq t (codes "%END")) first.0 in
@@ -319,9 +317,9 @@ ring_next read joint line tail (entry ∷ more) history is cs hs rs e =
     let first = first_line line tail (ring_body entry) (flat_map ring_line more ++ codes "%END\n") is (ring_field.lie entry (fits, plain))
     (e ∙ line_text ring_line ring_body ring_ended entry more (codes "%END\n")) in
     let apart : bytes_eq line (codes "%END") ≡ false = ap (λ (t : List ℕ). bytes_eq t (codes "%END")) first.0 ∙ ring_no_end entry in
-    let found : ring_entry_of line ≡ Some entry = ap ring_entry_of first.0 ∙ ring_field.again entry (fits, plain) in
+    let found : read_ring_entry line ≡ Some entry = ap read_ring_entry first.0 ∙ ring_field.again entry (fits, plain) in
     record {
-      new = drafts.Ring (ringed read entry);
+      new = drafts.Ring (joint_with_entry read entry);
       is = rw (apart, found) refl;
       goes = record {
         more = more;

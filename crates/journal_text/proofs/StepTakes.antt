@@ -1,7 +1,6 @@
 -- What a line adds to what is read is the line, and it can be told.
-use Rattle.std.proofs.Common.{◌≡◌, ℕ, ◌<◌, true, cond, ◌⊎◌, inl, inr}
-use Rattle.std.proofs.Common.{List, [], ◌∷◌, ◌++◌, Option, Some, None, refl, sym, ap, subst, ◌∙◌}
-use Rattle.std.proofs.Common.{arith, append_assoc}
+use Rattle.std.proofs.Common.{◌≡◌, ℕ, ◌<◌, true, cond, ◌⊎◌, inl, inr, List, [], ◌∷◌, ◌++◌, Option}
+use Rattle.std.proofs.Common.{Some, None, refl, sym, ap, subst, ◌∙◌, arith, append_assoc}
 use Rattle.std.specs.Prelude.{codes, nat_lt}
 use Rattle.std.specs.Fmt.{decimal}
 use Rattle.std.specs.List.{flat_map, AllByRecursion}
@@ -23,17 +22,17 @@ use Rattle.journal_text.specs.Lines.{controller_line, host_line, ring_line}
 use Rattle.journal_text.specs.Journal.{IsPlainEntry, IsPlainRing, controller_section, host_section}
 use Rattle.journal_text.specs.Sizes.{IsSmall, FitsLog, FitsHostLog, FitsEntry, FitsHostEntry}
 use Rattle.journal_text.specs.Sizes.{FitsRingEntry}
-use Rattle.journal_text.specs.Fronts.{ended}
+use Rattle.journal_text.specs.Fronts.{with_feed}
 use Rattle.journal_text.specs.Reading.{◌>>=◌, behind}
-use Rattle.journal_text.specs.ReadLines.{entry_of, host_entry_of, ring_entry_of}
-use Rattle.journal_text.specs.Drafts.{head_kinds, head_of, new_log, new_host_log, logged}
-use Rattle.journal_text.specs.Drafts.{host_logged, ring_from, ringed}
+use Rattle.journal_text.specs.ReadLines.{read_entry, read_host_entry, read_ring_entry}
+use Rattle.journal_text.specs.Drafts.{head_forms, read_head, new_log, new_host_log, log_with_entry}
+use Rattle.journal_text.specs.Drafts.{host_log_with_entry, ring_from, joint_with_entry}
 use Rattle.journal_text.specs.Drafts.{first_section, after_controller, after_host, start_line}
-use Rattle.journal_text.specs.Drafts.{open_line, headed, log_line, host_log_line}
-use Rattle.journal_text.specs.Drafts.{controller_step, host_step, ring_line_of, ring_step, step}
+use Rattle.journal_text.specs.Drafts.{open_line, headed, log_line, host_log_line, controller_step}
+use Rattle.journal_text.specs.Drafts.{host_step, ring_log_line, ring_step, step}
 use Rattle.journal_text.proofs.Ranges.{chosen, all_lie}
 use Rattle.journal_text.proofs.Cuts.{some_is, bind_some, none_some, text_is}
-use Rattle.journal_text.proofs.ReadLaws.{IsField, IsKind, lie_in, kind_of_field, first_takes}
+use Rattle.journal_text.proofs.ReadLaws.{IsField, IsForm, lie_in, form_of_field, first_takes}
 use Rattle.journal_text.proofs.Numbers.{small_field}
 use Rattle.journal_text.proofs.StationLines.{IsEntry, entry_ended, entry_field, host_ended}
 use Rattle.journal_text.proofs.StationLines.{host_field}
@@ -54,10 +53,10 @@ FitsHead (heads.Controller node) = IsSmall node
 FitsHead (heads.Host node) = IsSmall node
 FitsHead heads.Ring = Unit {0}
 
-head_kinds_take : AllByRecursion (IsKind head_body FitsHead) head_kinds
+head_kinds_take : AllByRecursion (IsForm head_body FitsHead) head_forms
 head_kinds_take = (
-  kind_of_field small_field head_body FitsHead (codes "C ") (λ node. heads.Controller node) (λ node fits. refl) (λ node fits. fits),
-  (kind_of_field small_field head_body FitsHead (codes "H ") (λ node. heads.Host node) (λ node fits. refl) (λ node fits. fits), tt),
+  form_of_field small_field head_body FitsHead (codes "C ") (λ node. heads.Controller node) (λ node fits. refl) (λ node fits. fits),
+  (form_of_field small_field head_body FitsHead (codes "H ") (λ node. heads.Host node) (λ node fits. refl) (λ node fits. fits), tt),
 )
 
 bare_head : (line : List ℕ) (head : Head) → cond (bytes_eq line (codes "R")) (Some heads.Ring) None ≡ Some head → (line ≡ head_body head) × FitsHead head
@@ -68,8 +67,8 @@ bare_head line head e =
       | inr apart ↦ none_some ((line ≡ head_body head) × FitsHead head) head apart.1
     ]
 
-head_again : (head : Head) → FitsHead head → head_of (head_body head) ≡ Some head
-unfolding head_of behind
+head_again : (head : Head) → FitsHead head → read_head (head_body head) ≡ Some head
+unfolding read_head behind
 head_again (heads.Controller node) is = rw (small_field.again node is) refl
 head_again (heads.Host node) is = rw (small_field.again node is) refl
 head_again heads.Ring is = refl
@@ -79,10 +78,10 @@ head_lie (heads.Controller node) is = lie_in small_field 32 102 refl node is
 head_lie (heads.Host node) is = lie_in small_field 32 102 refl node is
 head_lie heads.Ring is = refl
 
-pub head_field : IsField head_of head_body FitsHead 32 102
-unfolding head_of
+pub head_field : IsField read_head head_body FitsHead 32 102
+unfolding read_head
 head_field = record {
-  takes = λ line head e. first_takes head_body FitsHead head_kinds (cond (bytes_eq line (codes "R")) (Some heads.Ring) None) line head head_kinds_take (bare_head line head) e;
+  takes = λ line head e. first_takes head_body FitsHead head_forms (cond (bytes_eq line (codes "R")) (Some heads.Ring) None) line head head_kinds_take (bare_head line head) e;
   again = head_again;
   lie = head_lie;
 }
@@ -91,40 +90,40 @@ head_field = record {
 push : {X : Type 0} (f : X → List ℕ) (xs : List X) (x : X) → flat_map f (xs ++ x ∷ []) ≡ flat_map f xs ++ f x
 push f xs x = sym (flat_map_more f [] xs x)
 
-section_more : (log : ControllerLog) (entry : Entry) → controller_section (logged log entry) ≡ controller_section log ++ controller_line entry
+section_more : (log : ControllerLog) (entry : Entry) → controller_section (log_with_entry log entry) ≡ controller_section log ++ controller_line entry
 section_more log entry =
     ap (λ (t : List ℕ). codes "C " ++ decimal log.node ++ codes "\n" ++ t) (push controller_line log.entries entry)
     ∙ sym (append_assoc (codes "C " ++ decimal log.node ++ codes "\n") (flat_map controller_line log.entries) (controller_line entry))
 
-host_section_more : (log : HostLog) (entry : HostEntry) → host_section (host_logged log entry) ≡ host_section log ++ host_line entry
+host_section_more : (log : HostLog) (entry : HostEntry) → host_section (host_log_with_entry log entry) ≡ host_section log ++ host_line entry
 host_section_more log entry =
     ap (λ (t : List ℕ). codes "H " ++ decimal log.node ++ codes "\n" ++ t) (push host_line log.entries entry)
     ∙ sym (append_assoc (codes "H " ++ decimal log.node ++ codes "\n") (flat_map host_line log.entries) (host_line entry))
 
 sections_more : (done : List ControllerLog) (log : ControllerLog) (entry : Entry)
-    → flat_map controller_section (done ++ logged log entry ∷ []) ≡ flat_map controller_section (done ++ log ∷ []) ++ controller_line entry
+    → flat_map controller_section (done ++ log_with_entry log entry ∷ []) ≡ flat_map controller_section (done ++ log ∷ []) ++ controller_line entry
 sections_more done log entry =
-    push controller_section done (logged log entry) ∙ ap (λ (t : List ℕ). flat_map controller_section done ++ t) (section_more log entry)
+    push controller_section done (log_with_entry log entry) ∙ ap (λ (t : List ℕ). flat_map controller_section done ++ t) (section_more log entry)
     ∙ sym (append_assoc (flat_map controller_section done) (controller_section log) (controller_line entry))
     ∙ ap (λ (t : List ℕ). t ++ controller_line entry) (sym (push controller_section done log))
 
 host_sections_more : (done : List HostLog) (log : HostLog) (entry : HostEntry)
-    → flat_map host_section (done ++ host_logged log entry ∷ []) ≡ flat_map host_section (done ++ log ∷ []) ++ host_line entry
+    → flat_map host_section (done ++ host_log_with_entry log entry ∷ []) ≡ flat_map host_section (done ++ log ∷ []) ++ host_line entry
 host_sections_more done log entry =
-    push host_section done (host_logged log entry) ∙ ap (λ (t : List ℕ). flat_map host_section done ++ t) (host_section_more log entry)
+    push host_section done (host_log_with_entry log entry) ∙ ap (λ (t : List ℕ). flat_map host_section done ++ t) (host_section_more log entry)
     ∙ sym (append_assoc (flat_map host_section done) (host_section log) (host_line entry))
     ∙ ap (λ (t : List ℕ). t ++ host_line entry) (sym (push host_section done log))
 
 -- a section of nothing is its head
-new_section : (node : ℕ) → controller_section (new_log node) ≡ ended (head_body (heads.Controller node))
+new_section : (node : ℕ) → controller_section (new_log node) ≡ with_feed (head_body (heads.Controller node))
 new_section node = append-nil (codes "C " ++ decimal node ++ codes "\n")
 
-new_host_section : (node : ℕ) → host_section (new_host_log node) ≡ ended (head_body (heads.Host node))
+new_host_section : (node : ℕ) → host_section (new_host_log node) ≡ with_feed (head_body (heads.Host node))
 new_host_section node = append-nil (codes "H " ++ decimal node ++ codes "\n")
 
 -- a line was added, and what is read can be told
 pub record Adds (old new : Draft) (line : List ℕ) : Type 0 where
-  pub text : text_of new ≡ text_of old ++ ended line
+  pub text : text_of new ≡ text_of old ++ with_feed line
   pub good : IsGood new
 
 -- logs with one more, and with one entry more
@@ -157,23 +156,23 @@ more_hosts done log node are above less = record {
 }
 
 more_entries : (done : List ControllerLog) (log : ControllerLog) (entry : Entry) → AreControllers (done ++ log ∷ []) → IsEntry entry
-    → AreControllers (done ++ logged log entry ∷ [])
+    → AreControllers (done ++ log_with_entry log entry ∷ [])
 more_entries done log entry are is =
     let fit = All-head FitsLog log [] (all_back FitsLog done (log ∷ []) are.fit) in
     let plain = All-head PlainLog log [] (all_back PlainLog done (log ∷ []) are.plain) in
     record {
-      rise = subst Rises (same_last controller_node done log (logged log entry) refl) are.rise;
-      fit = All-push FitsLog done (logged log entry) (all_front FitsLog done (log ∷ []) are.fit) (fit.0, All-push FitsEntry log.entries entry fit.1 is.0);
-      plain = All-push PlainLog done (logged log entry) (all_front PlainLog done (log ∷ []) are.plain) (All-push IsPlainEntry log.entries entry plain is.1);
+      rise = subst Rises (same_last controller_node done log (log_with_entry log entry) refl) are.rise;
+      fit = All-push FitsLog done (log_with_entry log entry) (all_front FitsLog done (log ∷ []) are.fit) (fit.0, All-push FitsEntry log.entries entry fit.1 is.0);
+      plain = All-push PlainLog done (log_with_entry log entry) (all_front PlainLog done (log ∷ []) are.plain) (All-push IsPlainEntry log.entries entry plain is.1);
     }
 
 more_host_entries : (done : List HostLog) (log : HostLog) (entry : HostEntry) → AreHosts (done ++ log ∷ []) → FitsHostEntry entry
-    → AreHosts (done ++ host_logged log entry ∷ [])
+    → AreHosts (done ++ host_log_with_entry log entry ∷ [])
 more_host_entries done log entry are is =
     let fit = All-head FitsHostLog log [] (all_back FitsHostLog done (log ∷ []) are.fit) in
     record {
-      rise = subst Rises (same_last host_node done log (host_logged log entry) refl) are.rise;
-      fit = All-push FitsHostLog done (host_logged log entry) (all_front FitsHostLog done (log ∷ []) are.fit)
+      rise = subst Rises (same_last host_node done log (host_log_with_entry log entry) refl) are.rise;
+      fit = All-push FitsHostLog done (host_log_with_entry log entry) (all_front FitsHostLog done (log ∷ []) are.fit)
           (fit.0, All-push FitsHostEntry log.entries entry fit.1 is);
     }
 
@@ -184,7 +183,7 @@ start_adds line new e =
     elim (chosen (bytes_eq line (codes "%JOURNAL")) (Some drafts.Open) None (Some new) e) [
       | inl passed ↦
           subst (λ (d : Draft). Adds drafts.Start d line) (some_is drafts.Open new passed.1)
-          (record { text = ap ended (sym (text_is line (codes "%JOURNAL") passed.0)); good = tt })
+          (record { text = ap with_feed (sym (text_is line (codes "%JOURNAL") passed.0)); good = tt })
       | inr apart ↦ none_some (Adds drafts.Start new line) new apart.1
     ]
 
@@ -192,24 +191,24 @@ first_adds : (head : Head) (line : List ℕ) (new : Draft) → line ≡ head_bod
 unfolding first_section
 first_adds (heads.Controller node) line new is fits e =
     subst (λ (d : Draft). Adds drafts.Open d line) (some_is (drafts.Controller [] (new_log node)) new e) (record {
-      text = ap (λ (t : List ℕ). codes "%JOURNAL\n" ++ t) (flat_map-cons controller_section (new_log node) [] ∙ append-nil (controller_section (new_log node)) ∙ new_section node ∙ ap ended (sym is));
+      text = ap (λ (t : List ℕ). codes "%JOURNAL\n" ++ t) (flat_map-cons controller_section (new_log node) [] ∙ append-nil (controller_section (new_log node)) ∙ new_section node ∙ ap with_feed (sym is));
       good = one_log node fits;
     })
 first_adds (heads.Host node) line new is fits e =
     subst (λ (d : Draft). Adds drafts.Open d line) (some_is (drafts.Host [] [] (new_host_log node)) new e) (record {
-      text = ap (λ (t : List ℕ). codes "%JOURNAL\n" ++ t) (flat_map-cons host_section (new_host_log node) [] ∙ append-nil (host_section (new_host_log node)) ∙ new_host_section node ∙ ap ended (sym is));
+      text = ap (λ (t : List ℕ). codes "%JOURNAL\n" ++ t) (flat_map-cons host_section (new_host_log node) [] ∙ append-nil (host_section (new_host_log node)) ∙ new_host_section node ∙ ap with_feed (sym is));
       good = (no_logs, one_host node fits);
     })
 first_adds heads.Ring line new is fits e =
     subst (λ (d : Draft). Adds drafts.Open d line) (some_is (drafts.Ring (ring_from [] [])) new e) (record {
-      text = ap (λ (t : List ℕ). codes "%JOURNAL\n" ++ t) (ap ended (sym is));
+      text = ap (λ (t : List ℕ). codes "%JOURNAL\n" ++ t) (ap with_feed (sym is));
       good = record { controllers = no_logs; hosts = no_hosts; ring = no_ring };
     })
 
 open_adds : (line : List ℕ) (new : Draft) → open_line line ≡ Some new → Adds drafts.Open new line
 unfolding open_line
 open_adds line new e =
-    let p = bind_some (head_of line) first_section new e in
+    let p = bind_some (read_head line) first_section new e in
     let h = head_field.takes line p.0 p.1 in
     first_adds p.0 line new h.0 h.1 p.2
 
@@ -231,7 +230,7 @@ turn_adds done log (heads.Controller node) line new are is fits e =
       | inl passed ↦
           subst (λ (d : Draft). Adds (drafts.Controller done log) d line) (some_is (drafts.Controller (done ++ log ∷ []) (new_log node)) new passed.1) (record {
             text = ap (λ (t : List ℕ). codes "%JOURNAL\n" ++ t)
-                (push controller_section (done ++ log ∷ []) (new_log node) ∙ ap (λ (t : List ℕ). flat_map controller_section (done ++ log ∷ []) ++ t) (new_section node ∙ ap ended (sym is)));
+                (push controller_section (done ++ log ∷ []) (new_log node) ∙ ap (λ (t : List ℕ). flat_map controller_section (done ++ log ∷ []) ++ t) (new_section node ∙ ap with_feed (sym is)));
             good = more_logs done log node are (above_of log.node node passed.0) fits;
           })
       | inr apart ↦ none_some (Adds (drafts.Controller done log) new line) new apart.1
@@ -239,12 +238,12 @@ turn_adds done log (heads.Controller node) line new are is fits e =
 turn_adds done log (heads.Host node) line new are is fits e =
     subst (λ (d : Draft). Adds (drafts.Controller done log) d line) (some_is (drafts.Host (done ++ log ∷ []) [] (new_host_log node)) new e) (record {
       text = ap (λ (t : List ℕ). codes "%JOURNAL\n" ++ (flat_map controller_section (done ++ log ∷ []) ++ t))
-          (flat_map-cons host_section (new_host_log node) [] ∙ append-nil (host_section (new_host_log node)) ∙ new_host_section node ∙ ap ended (sym is));
+          (flat_map-cons host_section (new_host_log node) [] ∙ append-nil (host_section (new_host_log node)) ∙ new_host_section node ∙ ap with_feed (sym is));
       good = (are, one_host node fits);
     })
 turn_adds done log heads.Ring line new are is fits e =
     subst (λ (d : Draft). Adds (drafts.Controller done log) d line) (some_is (drafts.Ring (ring_from (done ++ log ∷ []) [])) new e) (record {
-      text = ap (λ (t : List ℕ). codes "%JOURNAL\n" ++ (flat_map controller_section (done ++ log ∷ []) ++ t)) (ap ended (sym is));
+      text = ap (λ (t : List ℕ). codes "%JOURNAL\n" ++ (flat_map controller_section (done ++ log ∷ []) ++ t)) (ap with_feed (sym is));
       good = record { controllers = are; hosts = no_hosts; ring = no_ring };
     })
 
@@ -252,16 +251,16 @@ controller_adds : (done : List ControllerLog) (log : ControllerLog) (line : List
     → controller_step done log line ≡ Some new → Adds (drafts.Controller done log) new line
 unfolding controller_step log_line
 controller_adds done log line new are e =
-    elim (headed_some (head_of line) (after_controller done log) (entry_of line >>= λ entry. Some (drafts.Controller done (logged log entry))) new e) [
+    elim (headed_some (read_head line) (after_controller done log) (read_entry line >>= λ entry. Some (drafts.Controller done (log_with_entry log entry))) new e) [
       | inl found ↦
           let h = head_field.takes line found.0 found.1 in
           turn_adds done log found.0 line new are h.0 h.1 found.2
       | inr other ↦
-          let p = bind_some (entry_of line) (λ entry. Some (drafts.Controller done (logged log entry))) new other in
+          let p = bind_some (read_entry line) (λ entry. Some (drafts.Controller done (log_with_entry log entry))) new other in
           let t = entry_field.takes line p.0 p.1 in
-          subst (λ (d : Draft). Adds (drafts.Controller done log) d line) (some_is (drafts.Controller done (logged log p.0)) new p.2) (record {
+          subst (λ (d : Draft). Adds (drafts.Controller done log) d line) (some_is (drafts.Controller done (log_with_entry log p.0)) new p.2) (record {
             text = ap (λ (t : List ℕ). codes "%JOURNAL\n" ++ t)
-                (sections_more done log p.0 ∙ ap (λ (t : List ℕ). flat_map controller_section (done ++ log ∷ []) ++ t) (entry_ended p.0 ∙ ap ended (sym t.0)));
+                (sections_more done log p.0 ∙ ap (λ (t : List ℕ). flat_map controller_section (done ++ log ∷ []) ++ t) (entry_ended p.0 ∙ ap with_feed (sym t.0)));
             good = more_entries done log p.0 are t.1;
           })
     ]
@@ -277,8 +276,8 @@ host_turn_adds controllers done log (heads.Host node) line new are hosts is fits
           subst (λ (d : Draft). Adds (drafts.Host controllers done log) d line) (some_is (drafts.Host controllers (done ++ log ∷ []) (new_host_log node)) new passed.1) (record {
             text = ap (λ (t : List ℕ). codes "%JOURNAL\n" ++ t)
                 (ap (λ (t : List ℕ). flat_map controller_section controllers ++ t)
-                (push host_section (done ++ log ∷ []) (new_host_log node) ∙ ap (λ (t : List ℕ). flat_map host_section (done ++ log ∷ []) ++ t) (new_host_section node ∙ ap ended (sym is)))
-                ∙ sym (append_assoc (flat_map controller_section controllers) (flat_map host_section (done ++ log ∷ [])) (ended line)));
+                (push host_section (done ++ log ∷ []) (new_host_log node) ∙ ap (λ (t : List ℕ). flat_map host_section (done ++ log ∷ []) ++ t) (new_host_section node ∙ ap with_feed (sym is)))
+                ∙ sym (append_assoc (flat_map controller_section controllers) (flat_map host_section (done ++ log ∷ [])) (with_feed line)));
             good = (are, more_hosts done log node hosts (above_of log.node node passed.0) fits);
           })
       | inr apart ↦ none_some (Adds (drafts.Host controllers done log) new line) new apart.1
@@ -286,8 +285,8 @@ host_turn_adds controllers done log (heads.Host node) line new are hosts is fits
 host_turn_adds controllers done log heads.Ring line new are hosts is fits e =
     subst (λ (d : Draft). Adds (drafts.Host controllers done log) d line) (some_is (drafts.Ring (ring_from controllers (done ++ log ∷ []))) new e) (record {
       text = ap (λ (t : List ℕ). codes "%JOURNAL\n" ++ t)
-          (ap (λ (t : List ℕ). flat_map controller_section controllers ++ (flat_map host_section (done ++ log ∷ []) ++ t)) (ap ended (sym is))
-          ∙ sym (append_assoc (flat_map controller_section controllers) (flat_map host_section (done ++ log ∷ [])) (ended line)));
+          (ap (λ (t : List ℕ). flat_map controller_section controllers ++ (flat_map host_section (done ++ log ∷ []) ++ t)) (ap with_feed (sym is))
+          ∙ sym (append_assoc (flat_map controller_section controllers) (flat_map host_section (done ++ log ∷ [])) (with_feed line)));
       good = record { controllers = are; hosts = hosts; ring = no_ring };
     })
 
@@ -295,18 +294,18 @@ host_adds : (controllers : List ControllerLog) (done : List HostLog) (log : Host
     → host_step controllers done log line ≡ Some new → Adds (drafts.Host controllers done log) new line
 unfolding host_step host_log_line
 host_adds controllers done log line new are hosts e =
-    elim (headed_some (head_of line) (after_host controllers done log) (host_entry_of line >>= λ entry. Some (drafts.Host controllers done (host_logged log entry))) new e) [
+    elim (headed_some (read_head line) (after_host controllers done log) (read_host_entry line >>= λ entry. Some (drafts.Host controllers done (host_log_with_entry log entry))) new e) [
       | inl found ↦
           let h = head_field.takes line found.0 found.1 in
           host_turn_adds controllers done log found.0 line new are hosts h.0 h.1 found.2
       | inr other ↦
-          let p = bind_some (host_entry_of line) (λ entry. Some (drafts.Host controllers done (host_logged log entry))) new other in
+          let p = bind_some (read_host_entry line) (λ entry. Some (drafts.Host controllers done (host_log_with_entry log entry))) new other in
           let t = host_field.takes line p.0 p.1 in
-          subst (λ (d : Draft). Adds (drafts.Host controllers done log) d line) (some_is (drafts.Host controllers done (host_logged log p.0)) new p.2) (record {
+          subst (λ (d : Draft). Adds (drafts.Host controllers done log) d line) (some_is (drafts.Host controllers done (host_log_with_entry log p.0)) new p.2) (record {
             text = ap (λ (t : List ℕ). codes "%JOURNAL\n" ++ t)
                 (ap (λ (t : List ℕ). flat_map controller_section controllers ++ t)
-                (host_sections_more done log p.0 ∙ ap (λ (t : List ℕ). flat_map host_section (done ++ log ∷ []) ++ t) (host_ended p.0 ∙ ap ended (sym t.0)))
-                ∙ sym (append_assoc (flat_map controller_section controllers) (flat_map host_section (done ++ log ∷ [])) (ended line)));
+                (host_sections_more done log p.0 ∙ ap (λ (t : List ℕ). flat_map host_section (done ++ log ∷ []) ++ t) (host_ended p.0 ∙ ap with_feed (sym t.0)))
+                ∙ sym (append_assoc (flat_map controller_section controllers) (flat_map host_section (done ++ log ∷ [])) (with_feed line)));
             good = (are, more_host_entries done log p.0 hosts t.1);
           })
     ]
@@ -317,25 +316,25 @@ four a b c d =
     ap (λ (t : List ℕ). a ++ t) (sym (append_assoc b (82 ∷ 10 ∷ c) d)) ∙ sym (append_assoc a (b ++ (82 ∷ 10 ∷ c)) d)
 
 ring_adds : (joint : Joint) (line : List ℕ) (new : Draft) → IsHistory joint → ring_step joint line ≡ Some new → Adds (drafts.Ring joint) new line
-unfolding ring_step ring_line_of
+unfolding ring_step ring_log_line
 ring_adds joint line new is e =
-    elim (chosen (bytes_eq line (codes "%END")) (Some (drafts.End joint)) (ring_entry_of line >>= λ entry. Some (drafts.Ring (ringed joint entry))) (Some new) e) [
+    elim (chosen (bytes_eq line (codes "%END")) (Some (drafts.End joint)) (read_ring_entry line >>= λ entry. Some (drafts.Ring (joint_with_entry joint entry))) (Some new) e) [
       | inl last ↦
           subst (λ (d : Draft). Adds (drafts.Ring joint) d line) (some_is (drafts.End joint) new last.1) (record {
             text = journal_parts joint ∙ ap (λ (t : List ℕ). codes "%JOURNAL\n" ++ t)
                 (ap (λ (t : List ℕ). flat_map controller_section joint.controllers ++ (flat_map host_section joint.hosts ++ (82 ∷ 10 ∷ (flat_map ring_line joint.ring ++ t))))
-                (ap ended (sym (text_is line (codes "%END") last.0)))
-                ∙ four (flat_map controller_section joint.controllers) (flat_map host_section joint.hosts) (flat_map ring_line joint.ring) (ended line));
+                (ap with_feed (sym (text_is line (codes "%END") last.0)))
+                ∙ four (flat_map controller_section joint.controllers) (flat_map host_section joint.hosts) (flat_map ring_line joint.ring) (with_feed line));
             good = is;
           })
       | inr other ↦
-          let p = bind_some (ring_entry_of line) (λ entry. Some (drafts.Ring (ringed joint entry))) new other.1 in
+          let p = bind_some (read_ring_entry line) (λ entry. Some (drafts.Ring (joint_with_entry joint entry))) new other.1 in
           let t = ring_field.takes line p.0 p.1 in
-          subst (λ (d : Draft). Adds (drafts.Ring joint) d line) (some_is (drafts.Ring (ringed joint p.0)) new p.2) (record {
+          subst (λ (d : Draft). Adds (drafts.Ring joint) d line) (some_is (drafts.Ring (joint_with_entry joint p.0)) new p.2) (record {
             text = ap (λ (t : List ℕ). codes "%JOURNAL\n" ++ t)
                 (ap (λ (t : List ℕ). flat_map controller_section joint.controllers ++ (flat_map host_section joint.hosts ++ (82 ∷ 10 ∷ t)))
-                (push ring_line joint.ring p.0 ∙ ap (λ (t : List ℕ). flat_map ring_line joint.ring ++ t) (ring_ended p.0 ∙ ap ended (sym t.0)))
-                ∙ four (flat_map controller_section joint.controllers) (flat_map host_section joint.hosts) (flat_map ring_line joint.ring) (ended line));
+                (push ring_line joint.ring p.0 ∙ ap (λ (t : List ℕ). flat_map ring_line joint.ring ++ t) (ring_ended p.0 ∙ ap with_feed (sym t.0)))
+                ∙ four (flat_map controller_section joint.controllers) (flat_map host_section joint.hosts) (flat_map ring_line joint.ring) (with_feed line));
             good = record {
               controllers = is.controllers;
               hosts = is.hosts;

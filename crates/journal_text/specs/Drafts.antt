@@ -1,6 +1,6 @@
 -- How far a journal is read, and what a line adds. This project's own.
-use Rattle.std.specs.Prelude.{ℕ, nat_lt, if◌then◌else◌, codes, List, [], ◌∷◌, ◌++◌}
-use Rattle.std.specs.Prelude.{◌≡◌, ◌-◌, ◌^◌, min, Option, Some, None, Result, Ok, Err}
+use Rattle.std.specs.Prelude.{ℕ, nat_lt, if◌then◌else◌, codes, List, [], ◌∷◌, ◌++◌, ◌≡◌, ◌-◌, ◌^◌}
+use Rattle.std.specs.Prelude.{min, Option, Some, None, Result, Ok, Err}
 use Rattle.std.specs.Str.{bytes_eq}
 use Rattle.joint_history.specs.declared.joint.ControllerLog.{ControllerLog}
 use Rattle.joint_history.specs.declared.joint.HostLog.{HostLog}
@@ -14,19 +14,19 @@ use Rattle.journal_text.specs.declared.draft.Head.{Head}
 use Rattle.journal_text.specs.declared.draft.Head.TheVariants as heads
 use Rattle.journal_text.specs.declared.draft.Draft.{Draft}
 use Rattle.journal_text.specs.declared.draft.Draft.TheVariants as drafts
-use Rattle.journal_text.specs.Reading.{◌>>=◌, Kind, first_of, made, small_of}
-use Rattle.journal_text.specs.ReadLines.{entry_of, host_entry_of, ring_entry_of}
+use Rattle.journal_text.specs.Reading.{◌>>=◌, Form, read_first, read_as, read_small}
+use Rattle.journal_text.specs.ReadLines.{read_entry, read_host_entry, read_ring_entry}
 
 -- The line that begins a section.
-abbrev pub head_kinds : List (Kind Head)
-head_kinds =
-    (codes "C ", made (λ node. heads.Controller node) small_of)
-    ∷ (codes "H ", made (λ node. heads.Host node) small_of)
+abbrev pub head_forms : List (Form Head)
+head_forms =
+    (codes "C ", read_as (λ node. heads.Controller node) read_small)
+    ∷ (codes "H ", read_as (λ node. heads.Host node) read_small)
     ∷ []
 
-unfoldable pub head_of : List ℕ → Option Head
-head_of line =
-    first_of head_kinds (if bytes_eq line (codes "R") then Some heads.Ring else None) line
+unfoldable pub read_head : List ℕ → Option Head
+read_head line =
+    read_first head_forms (if bytes_eq line (codes "R") then Some heads.Ring else None) line
 
 -- Logs of nothing, and logs with one entry more.
 abbrev pub new_log : ℕ → ControllerLog
@@ -35,17 +35,17 @@ new_log node = record { node = node; entries = [] }
 abbrev pub new_host_log : ℕ → HostLog
 new_host_log node = record { node = node; entries = [] }
 
-abbrev pub logged : ControllerLog → Entry → ControllerLog
-logged log entry = record { node = log.node; entries = log.entries ++ entry ∷ [] }
+abbrev pub log_with_entry : ControllerLog → Entry → ControllerLog
+log_with_entry log entry = record { node = log.node; entries = log.entries ++ entry ∷ [] }
 
-abbrev pub host_logged : HostLog → HostEntry → HostLog
-host_logged log entry = record { node = log.node; entries = log.entries ++ entry ∷ [] }
+abbrev pub host_log_with_entry : HostLog → HostEntry → HostLog
+host_log_with_entry log entry = record { node = log.node; entries = log.entries ++ entry ∷ [] }
 
 abbrev pub ring_from : List ControllerLog → List HostLog → Joint
 ring_from controllers hosts = record { controllers = controllers; hosts = hosts; ring = [] }
 
-abbrev pub ringed : Joint → RingEntry → Joint
-ringed joint entry =
+abbrev pub joint_with_entry : Joint → RingEntry → Joint
+joint_with_entry joint entry =
     record { controllers = joint.controllers; hosts = joint.hosts; ring = joint.ring ++ entry ∷ [] }
 
 -- The section that a head begins: the nodes of a kind rise.
@@ -78,7 +78,7 @@ start_line line = if bytes_eq line (codes "%JOURNAL") then Some drafts.Open else
 
 unfoldable pub open_line : List ℕ → Option Draft
 open_line line = do
-  head ← head_of line
+  head ← read_head line
   first_section head
 
 -- A head, or else an entry.
@@ -88,32 +88,32 @@ headed None turn other = other
 
 unfoldable pub log_line : List ControllerLog → ControllerLog → List ℕ → Option Draft
 log_line done log line = do
-  entry ← entry_of line
-  Some (drafts.Controller done (logged log entry))
+  entry ← read_entry line
+  Some (drafts.Controller done (log_with_entry log entry))
 
 unfoldable pub host_log_line :
     List ControllerLog → List HostLog → HostLog → List ℕ → Option Draft
 host_log_line controllers done log line = do
-  entry ← host_entry_of line
-  Some (drafts.Host controllers done (host_logged log entry))
+  entry ← read_host_entry line
+  Some (drafts.Host controllers done (host_log_with_entry log entry))
 
 unfoldable pub controller_step : List ControllerLog → ControllerLog → List ℕ → Option Draft
 controller_step done log line =
-    headed (head_of line) (after_controller done log) (log_line done log line)
+    headed (read_head line) (after_controller done log) (log_line done log line)
 
 unfoldable pub host_step : List ControllerLog → List HostLog → HostLog → List ℕ → Option Draft
 host_step controllers done log line =
-    headed (head_of line) (after_host controllers done log)
+    headed (read_head line) (after_host controllers done log)
     (host_log_line controllers done log line)
 
-unfoldable pub ring_line_of : Joint → List ℕ → Option Draft
-ring_line_of joint line = do
-  entry ← ring_entry_of line
-  Some (drafts.Ring (ringed joint entry))
+unfoldable pub ring_log_line : Joint → List ℕ → Option Draft
+ring_log_line joint line = do
+  entry ← read_ring_entry line
+  Some (drafts.Ring (joint_with_entry joint entry))
 
 unfoldable pub ring_step : Joint → List ℕ → Option Draft
 ring_step joint line =
-    if bytes_eq line (codes "%END") then Some (drafts.End joint) else ring_line_of joint line
+    if bytes_eq line (codes "%END") then Some (drafts.End joint) else ring_log_line joint line
 
 unfoldable pub step : Draft → List ℕ → Option Draft
 step drafts.Start line = start_line line
@@ -124,13 +124,13 @@ step (drafts.Ring joint) line = ring_step joint line
 step (drafts.End joint) line = None
 
 -- What a line, or the end of the bytes, came to: a value, or the number of the line.
-abbrev pub Stops : {V : Type 0} → ℕ → JournalFault → Option V → Type 0
-Stops number (Text line) read = (read ≡ None) × (line ≡ min number (2 ^ 32 - 1))
-Stops number NoMemory read = Unit {0}
+abbrev pub StopsAt : {V : Type 0} → ℕ → JournalFault → Option V → Type 0
+StopsAt number (Text line) read = (read ≡ None) × (line ≡ min number (2 ^ 32 - 1))
+StopsAt number NoMemory read = Unit {0}
 
-abbrev pub Takes : {V : Type 0} → ℕ → Result V JournalFault → Option V → Type 0
-Takes number (Ok value) read = read ≡ Some value
-Takes number (Err fault) read = Stops number fault read
+abbrev pub ReadsAt : {V : Type 0} → ℕ → Result V JournalFault → Option V → Type 0
+ReadsAt number (Ok value) read = read ≡ Some value
+ReadsAt number (Err fault) read = StopsAt number fault read
 
 -- A joint history is read where its last line is, and nothing stands behind it.
 abbrev pub ending : Draft → List ℕ → Option Joint

@@ -44,6 +44,6 @@ op_text ops.RemoteGet = codes "RG"
 op_text ops.RemoteClear = codes "RC"
 
 -- What a call came to: words, or an error word.
-abbrev pub result_text : MstrResult → List ℕ
-result_text (Good words) = codes "G " ++ hex_words words
-result_text (Bad word) = codes "B " ++ hex_word word
+abbrev pub call_result_text : MstrResult → List ℕ
+call_result_text (Good words) = codes "G " ++ hex_words words
+call_result_text (Bad word) = codes "B " ++ hex_word word

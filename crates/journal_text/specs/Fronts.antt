@@ -1,7 +1,7 @@
 -- Which bytes are a journal, which begin one, and which line is the first wrong one. This project's
 -- own.
-use Rattle.std.specs.Prelude.{◌≡◌, ◌≢◌, ℕ, ◌+◌, ◌-◌, ◌^◌, min, List, [], ◌∷◌, ◌++◌, length}
-use Rattle.std.specs.Prelude.{Result, Ok, Err}
+use Rattle.std.specs.Prelude.{◌≡◌, ◌≢◌, ℕ, ◌+◌, ◌-◌, ◌^◌, min, List, [], ◌∷◌, ◌++◌, length, Result}
+use Rattle.std.specs.Prelude.{Ok, Err}
 use Rattle.std.specs.List.{All, flat_map}
 use Rattle.joint_history.specs.declared.joint.Joint.{Joint}
 use Rattle.journal_text.specs.declared.fault.JournalFault.{JournalFault}
@@ -30,8 +30,8 @@ line_feed = 10
 abbrev pub IsLine : List ℕ → Type 0
 IsLine line = All (λ byte. byte ≢ line_feed) line
 
-abbrev pub ended : List ℕ → List ℕ
-ended line = line ++ line_feed ∷ []
+abbrev pub with_feed : List ℕ → List ℕ
+with_feed line = line ++ line_feed ∷ []
 
 -- The first wrong line of bytes, counted from 1: a journal begins with the lines before it, and
 -- with them and it begins none. A line that no line feed ends, where the bytes end, is answered
@@ -40,11 +40,11 @@ pub record IsWrongLine (bytes : List ℕ) (number : ℕ) : Type 0 where
   pub lines : List (List ℕ)
   pub rest : List ℕ
   pub each : All IsLine lines
-  pub parts : bytes ≡ flat_map ended lines ++ rest
+  pub parts : bytes ≡ flat_map with_feed lines ++ rest
   pub count : number ≡ length lines + 1
-  pub begins : IsFront (flat_map ended lines)
-  pub wrong : (line behind : List ℕ) → IsLine line → rest ≡ ended line ++ behind
-      → IsFront (flat_map ended lines ++ ended line) → ⊥
+  pub begins : IsFront (flat_map with_feed lines)
+  pub wrong : (line behind : List ℕ) → IsLine line → rest ≡ with_feed line ++ behind
+      → IsFront (flat_map with_feed lines ++ with_feed line) → ⊥
 
 -- Why bytes are no journal: by the number of the first wrong line, or the greatest number there is
 -- where it is greater.
@@ -63,6 +63,6 @@ abbrev pub IsWant : JournalFault → Type 0
 IsWant (Text number) = ⊥
 IsWant NoMemory = Unit {0}
 
-abbrev pub Gives : Joint → Result Joint JournalFault → Type 0
-Gives joint (Ok read) = read ≡ joint
-Gives joint (Err fault) = IsWant fault
+abbrev pub GivesJoint : Joint → Result Joint JournalFault → Type 0
+GivesJoint joint (Ok read) = read ≡ joint
+GivesJoint joint (Err fault) = IsWant fault

@@ -20,7 +20,8 @@ use Rattle.host_port.specs.declared.entry.HostResult.{HostResult}
 use Rattle.host_port.specs.declared.entry.HostResult.TheVariants as host_results
 use Rattle.host_port.specs.declared.entry.HostEntry.{HostEntry}
 use Rattle.host_port.specs.declared.entry.HostEntry.TheVariants as host_entries
-use Rattle.journal_text.specs.Fields.{hex_word, hex_bytes, hex_words, id_text, op_text, result_text}
+use Rattle.journal_text.specs.Fields.{hex_word, hex_bytes, hex_words, id_text, op_text}
+use Rattle.journal_text.specs.Fields.{call_result_text}
 
 -- A call that a controller hands on: to another node, or to its own port.
 abbrev pub kind_text : CallKind → List ℕ
@@ -47,7 +48,7 @@ controller_line entries.End = codes "E\n"
 controller_line (entries.Collect calls) = codes "L" ++ flat_map call_text calls ++ codes "\n"
 controller_line (entries.Peer id request reply) = peer_line id request reply
 controller_line (entries.Finish id result) =
-    codes "F " ++ id_text id ++ codes " " ++ result_text result ++ codes "\n"
+    codes "F " ++ id_text id ++ codes " " ++ call_result_text result ++ codes "\n"
 
 -- What came of a host's request.
 abbrev pub answer_text : HostResult → List ℕ
@@ -101,7 +102,7 @@ ring_line (ring.Take node frame) =
     ++ codes "\n"
 ring_line (ring.Local node id op result) =
     codes "LO " ++ decimal node ++ codes " " ++ id_text id ++ codes " " ++ op_text op
-    ++ codes " " ++ result_text result ++ codes "\n"
+    ++ codes " " ++ call_result_text result ++ codes "\n"
 ring_line (ring.GiveUp id word) = codes "GU " ++ id_text id ++ codes " " ++ hex_word word ++ codes
     "\n"
 ring_line (ring.Pass node done words) =

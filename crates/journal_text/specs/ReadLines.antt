@@ -3,6 +3,7 @@ use Rattle.std.specs.Prelude.{ℕ, ◌==◌, Bool, true, false, if◌then◌else
 use Rattle.std.specs.Prelude.{slice_index, Option, Some, None}
 use Rattle.std.specs.List.{slice_split}
 use Rattle.std.specs.Str.{bytes_eq}
+use Rattle.plant_types.specs.Numerals.{is_digit}
 use Rattle.mstr_block.specs.declared.call.CallId.{CallId}
 use Rattle.mstr_block.specs.declared.call.MstrResult.{MstrResult}
 use Rattle.mstr_block.specs.declared.call.MstrResult.TheVariants.{Good, Bad}
@@ -26,159 +27,168 @@ use Rattle.host_port.specs.declared.entry.HostResult.{HostResult}
 use Rattle.host_port.specs.declared.entry.HostResult.TheVariants as host_results
 use Rattle.host_port.specs.declared.entry.HostEntry.{HostEntry}
 use Rattle.host_port.specs.declared.entry.HostEntry.TheVariants as host_entries
-use Rattle.journal_text.specs.Reading.{◌>>=◌, Kind, first_of, made, two, is_digit, small_of}
-use Rattle.journal_text.specs.Reading.{word_number, id_of, pdu_read, words_of, word_of, block_of}
+use Rattle.journal_text.specs.Reading.{◌>>=◌, Form, read_first, read_as, read_pair, read_small}
+use Rattle.journal_text.specs.Reading.{read_word, read_id, read_pdu, read_hex_words, read_hex_word}
+use Rattle.journal_text.specs.Reading.{read_block}
 
 -- What is asked of a port: for the own station, and for another one too.
-abbrev pub own_op_kinds : List (Kind LocalOp)
-own_op_kinds =
-    (codes "PG:", made (λ words. ops.PutGlobal words) words_of)
-    ∷ (codes "GG:", made (λ parts. ops.GetGlobal parts.0 parts.1) (two small_of word_number 58))
-    ∷ []
+abbrev pub read_put_global : List ℕ → Option LocalOp
+read_put_global text = read_as (λ words. ops.PutGlobal words) read_hex_words text
 
-abbrev pub bare_op : List ℕ → Option LocalOp
-bare_op text =
+abbrev pub read_get_global : List ℕ → Option LocalOp
+read_get_global text =
+    read_as (λ parts. ops.GetGlobal parts.0 parts.1) (read_pair read_small read_word 58) text
+
+abbrev pub own_op_forms : List (Form LocalOp)
+own_op_forms = (codes "PG:", read_put_global) ∷ (codes "GG:", read_get_global) ∷ []
+
+abbrev pub read_bare_op : List ℕ → Option LocalOp
+read_bare_op text =
     if bytes_eq text (codes "GS") then Some ops.GetStats
     else if bytes_eq text (codes "CS") then Some ops.ClearStats
     else None
 
-unfoldable pub own_op_of : List ℕ → Option LocalOp
-own_op_of text = first_of own_op_kinds (bare_op text) text
+unfoldable pub read_own_op : List ℕ → Option LocalOp
+read_own_op text = read_first own_op_forms (read_bare_op text) text
 
-unfoldable pub op_of : List ℕ → Option LocalOp
-op_of text =
+unfoldable pub read_op : List ℕ → Option LocalOp
+read_op text =
     if bytes_eq text (codes "RG") then Some ops.RemoteGet
     else if bytes_eq text (codes "RC") then Some ops.RemoteClear
-    else own_op_of text
+    else read_own_op text
 
 -- What a call came to.
-abbrev pub result_kinds : List (Kind MstrResult)
-result_kinds =
-    (codes "G ", made (λ words. Good words) block_of)
-    ∷ (codes "B ", made (λ word. Bad word) word_of)
+abbrev pub result_forms : List (Form MstrResult)
+result_forms =
+    (codes "G ", read_as (λ words. Good words) read_block)
+    ∷ (codes "B ", read_as (λ word. Bad word) read_hex_word)
     ∷ []
 
-unfoldable pub result_of : List ℕ → Option MstrResult
-result_of text = first_of result_kinds None text
+unfoldable pub read_result : List ℕ → Option MstrResult
+read_result text = read_first result_forms None text
 
 -- A call that a controller hands on: to another node where it begins with a digit.
-abbrev pub net_of : List ℕ → Option CallKind
-net_of text = made (λ parts. Net parts.0 parts.1) (two small_of pdu_read 58) text
+abbrev pub read_net_kind : List ℕ → Option CallKind
+read_net_kind text = read_as (λ parts. Net parts.0 parts.1) (read_pair read_small read_pdu 58) text
 
-abbrev pub local_kind : List ℕ → Option CallKind
-local_kind text = made (λ op. Local op) own_op_of text
+abbrev pub read_local_kind : List ℕ → Option CallKind
+read_local_kind text = read_as (λ op. Local op) read_own_op text
 
-unfoldable pub kind_of : List ℕ → Option CallKind
-kind_of text = if is_digit (slice_index text 0) then net_of text else local_kind text
+unfoldable pub read_kind : List ℕ → Option CallKind
+read_kind text = if is_digit (slice_index text 0) then read_net_kind text else read_local_kind text
 
 abbrev pub call_from : CallId × CallKind → Call
 call_from parts = record { id = parts.0; kind = parts.1 }
 
-unfoldable pub call_of : List ℕ → Option Call
-call_of text = made call_from (two id_of kind_of 61) text
+unfoldable pub read_call : List ℕ → Option Call
+read_call text = read_as call_from (read_pair read_id read_kind 61) text
 
 -- Calls, separated by one space.
-abbrev pub each_of : {V : Type 0} → (List ℕ → Option V) → List (List ℕ) → Option (List V)
-each_of read [] = Some []
-each_of read (text ∷ texts) =
-    read text >>= λ value. each_of read texts >>= λ values. Some (value ∷ values)
+abbrev pub read_each : {V : Type 0} → (List ℕ → Option V) → List (List ℕ) → Option (List V)
+read_each read [] = Some []
+read_each read (text ∷ texts) =
+    read text >>= λ value. read_each read texts >>= λ values. Some (value ∷ values)
 
-unfoldable pub calls_of : List ℕ → Option (List Call)
-calls_of text = each_of call_of (slice_split (λ byte. byte == 32) text)
+unfoldable pub read_calls : List ℕ → Option (List Call)
+read_calls text = read_each read_call (slice_split (λ byte. byte == 32) text)
 
 -- A request that was served with its reply, one with its target, and a request or a reply alone:
 -- each behind its name.
-unfoldable pub served_of : List ℕ → Option (CallId × (List ℕ × List ℕ))
-served_of text = two id_of (two pdu_read pdu_read 32) 32 text
+unfoldable pub read_served : List ℕ → Option (CallId × (List ℕ × List ℕ))
+read_served text = read_pair read_id (read_pair read_pdu read_pdu 32) 32 text
 
-unfoldable pub asked_of : List ℕ → Option (CallId × (ℕ × List ℕ))
-asked_of text = two id_of (two small_of pdu_read 32) 32 text
+unfoldable pub read_asked : List ℕ → Option (CallId × (ℕ × List ℕ))
+read_asked text = read_pair read_id (read_pair read_small read_pdu 32) 32 text
 
-unfoldable pub named_of : List ℕ → Option (CallId × List ℕ)
-named_of text = two id_of pdu_read 32 text
+unfoldable pub read_named : List ℕ → Option (CallId × List ℕ)
+read_named text = read_pair read_id read_pdu 32 text
 
 -- The lines of a controller.
-abbrev pub output_of : List ℕ → Option Entry
-output_of text = made (λ parts. entries.Output parts.0 parts.1) (two word_number block_of 32) text
+abbrev pub read_output : List ℕ → Option Entry
+read_output text =
+    read_as (λ parts. entries.Output parts.0 parts.1) (read_pair read_word read_block 32) text
 
-abbrev pub peer_of : List ℕ → Option Entry
-peer_of text = made (λ parts. entries.Peer parts.0 parts.1.0 parts.1.1) served_of text
+abbrev pub read_peer : List ℕ → Option Entry
+read_peer text = read_as (λ parts. entries.Peer parts.0 parts.1.0 parts.1.1) read_served text
 
-abbrev pub finish_of : List ℕ → Option Entry
-finish_of text = made (λ parts. entries.Finish parts.0 parts.1) (two id_of result_of 32) text
+abbrev pub read_finish : List ℕ → Option Entry
+read_finish text =
+    read_as (λ parts. entries.Finish parts.0 parts.1) (read_pair read_id read_result 32) text
 
-abbrev pub entry_kinds : List (Kind Entry)
-entry_kinds =
-    (codes "I ", made (λ row. entries.Input row) word_number)
-    ∷ (codes "S ", made (λ row. entries.Solve row) word_number)
-    ∷ (codes "O ", output_of)
-    ∷ (codes "L ", made (λ calls. entries.Collect calls) calls_of)
-    ∷ (codes "P ", peer_of)
-    ∷ (codes "F ", finish_of)
+abbrev pub entry_forms : List (Form Entry)
+entry_forms =
+    (codes "I ", read_as (λ row. entries.Input row) read_word)
+    ∷ (codes "S ", read_as (λ row. entries.Solve row) read_word)
+    ∷ (codes "O ", read_output)
+    ∷ (codes "L ", read_as (λ calls. entries.Collect calls) read_calls)
+    ∷ (codes "P ", read_peer)
+    ∷ (codes "F ", read_finish)
     ∷ []
 
-abbrev pub bare_entry : List ℕ → Option Entry
-bare_entry line =
+abbrev pub read_bare_entry : List ℕ → Option Entry
+read_bare_entry line =
     if bytes_eq line (codes "B") then Some entries.Begin
     else if bytes_eq line (codes "E") then Some entries.End
     else None
 
-unfoldable pub entry_of : List ℕ → Option Entry
-entry_of line = first_of entry_kinds (bare_entry line) line
+unfoldable pub read_entry : List ℕ → Option Entry
+read_entry line = read_first entry_forms (read_bare_entry line) line
 
 -- The lines of a host.
-abbrev pub outcome_kinds : List (Kind HostResult)
-outcome_kinds =
-    (codes "R ", made (λ pdu. host_results.Reply pdu) pdu_read)
-    ∷ (codes "B ", made (λ word. host_results.Bad word) word_of)
+abbrev pub outcome_forms : List (Form HostResult)
+outcome_forms =
+    (codes "R ", read_as (λ pdu. host_results.Reply pdu) read_pdu)
+    ∷ (codes "B ", read_as (λ word. host_results.Bad word) read_hex_word)
     ∷ []
 
-unfoldable pub outcome_of : List ℕ → Option HostResult
-outcome_of text = first_of outcome_kinds None text
+unfoldable pub read_outcome : List ℕ → Option HostResult
+read_outcome text = read_first outcome_forms None text
 
-abbrev pub ask_of : List ℕ → Option HostEntry
-ask_of text = made (λ parts. host_entries.Ask parts.0 parts.1.0 parts.1.1) asked_of text
+abbrev pub read_ask : List ℕ → Option HostEntry
+read_ask text = read_as (λ parts. host_entries.Ask parts.0 parts.1.0 parts.1.1) read_asked text
 
-abbrev pub answer_of : List ℕ → Option HostEntry
-answer_of text = made (λ parts. host_entries.Answer parts.0 parts.1) (two id_of outcome_of 32) text
+abbrev pub read_answer : List ℕ → Option HostEntry
+read_answer text =
+    read_as (λ parts. host_entries.Answer parts.0 parts.1) (read_pair read_id read_outcome 32) text
 
-abbrev pub host_served_of : List ℕ → Option HostEntry
-host_served_of text = made (λ parts. host_entries.Served parts.0 parts.1.0 parts.1.1) served_of text
+abbrev pub read_host_served : List ℕ → Option HostEntry
+read_host_served text =
+    read_as (λ parts. host_entries.Served parts.0 parts.1.0 parts.1.1) read_served text
 
-abbrev pub host_kinds : List (Kind HostEntry)
-host_kinds =
-    (codes "Q ", ask_of) ∷ (codes "A ", answer_of) ∷ (codes "P ", host_served_of) ∷ []
+abbrev pub host_forms : List (Form HostEntry)
+host_forms =
+    (codes "Q ", read_ask) ∷ (codes "A ", read_answer) ∷ (codes "P ", read_host_served) ∷ []
 
-unfoldable pub host_entry_of : List ℕ → Option HostEntry
-host_entry_of line = first_of host_kinds None line
+unfoldable pub read_host_entry : List ℕ → Option HostEntry
+read_host_entry line = read_first host_forms None line
 
 -- The frames that are posted and taken: a Reply goes to the node that asked, and a Request is taken
 -- by its target.
-abbrev pub request_frame : CallId × (ℕ × List ℕ) → Frame
-request_frame parts =
+abbrev pub sent_request : CallId × (ℕ × List ℕ) → Frame
+sent_request parts =
     record { kind = Request; to = parts.1.0; id = parts.0; pdu = parts.1.1 }
 
-abbrev pub reply_frame : CallId × List ℕ → Frame
-reply_frame parts = record { kind = Reply; to = parts.0.node; id = parts.0; pdu = parts.1 }
+abbrev pub sent_reply : CallId × List ℕ → Frame
+sent_reply parts = record { kind = Reply; to = parts.0.node; id = parts.0; pdu = parts.1 }
 
-abbrev pub sent_kinds : List (Kind Frame)
-sent_kinds =
-    (codes "Q ", made request_frame asked_of) ∷ (codes "R ", made reply_frame named_of) ∷ []
+abbrev pub sent_forms : List (Form Frame)
+sent_forms =
+    (codes "Q ", read_as sent_request read_asked) ∷ (codes "R ", read_as sent_reply read_named) ∷ []
 
-unfoldable pub sent_of : List ℕ → Option Frame
-sent_of text = first_of sent_kinds None text
+unfoldable pub read_sent : List ℕ → Option Frame
+read_sent text = read_first sent_forms None text
 
 abbrev pub got_from : FrameKind → CallId × List ℕ → FrameKind × (CallId × List ℕ)
 got_from kind named = (kind, named)
 
-abbrev pub got_kinds : List (Kind (FrameKind × (CallId × List ℕ)))
-got_kinds =
-    (codes "Q ", made (got_from Request) named_of)
-    ∷ (codes "R ", made (got_from Reply) named_of)
+abbrev pub got_forms : List (Form (FrameKind × (CallId × List ℕ)))
+got_forms =
+    (codes "Q ", read_as (got_from Request) read_named)
+    ∷ (codes "R ", read_as (got_from Reply) read_named)
     ∷ []
 
-unfoldable pub got_of : List ℕ → Option (FrameKind × (CallId × List ℕ))
-got_of text = first_of got_kinds None text
+unfoldable pub read_got : List ℕ → Option (FrameKind × (CallId × List ℕ))
+read_got text = read_first got_forms None text
 
 abbrev pub target_of : FrameKind → ℕ → CallId → ℕ
 target_of Request node id = node
@@ -190,61 +200,65 @@ taken node got =
     (record { kind = got.0; to = target_of got.0 node got.1.0; id = got.1.0; pdu = got.1.1 })
 
 -- What a sender was told, why a node leaves, and whether it is done.
-unfoldable pub heard_of : List ℕ → Option Heard
-heard_of text =
+unfoldable pub read_heard : List ℕ → Option Heard
+read_heard text =
     if bytes_eq text (codes "A") then Some Acked
     else if bytes_eq text (codes "S") then Some Silent
     else if bytes_eq text (codes "B") then Some Busy
     else None
 
-unfoldable pub cause_of : List ℕ → Option LeaveCause
-cause_of text =
+unfoldable pub read_cause : List ℕ → Option LeaveCause
+read_cause text =
     if bytes_eq text (codes "E") then Some Ended
     else if bytes_eq text (codes "S") then Some Spent
     else None
 
-unfoldable pub done_of : List ℕ → Option Bool
-done_of text =
+unfoldable pub read_done : List ℕ → Option Bool
+read_done text =
     if bytes_eq text (codes "1") then Some true
     else if bytes_eq text (codes "0") then Some false
     else None
 
 -- The lines of the ring.
-abbrev pub post_of : List ℕ → Option RingEntry
-post_of text = made (λ parts. ring.Post parts.0 parts.1) (two small_of sent_of 32) text
+abbrev pub read_post : List ℕ → Option RingEntry
+read_post text =
+    read_as (λ parts. ring.Post parts.0 parts.1) (read_pair read_small read_sent 32) text
 
-abbrev pub send_of : List ℕ → Option RingEntry
-send_of text = made (λ parts. ring.Send parts.0 parts.1) (two small_of heard_of 32) text
+abbrev pub read_send : List ℕ → Option RingEntry
+read_send text =
+    read_as (λ parts. ring.Send parts.0 parts.1) (read_pair read_small read_heard 32) text
 
-abbrev pub take_of : List ℕ → Option RingEntry
-take_of text = made (λ parts. taken parts.0 parts.1) (two small_of got_of 32) text
+abbrev pub read_take : List ℕ → Option RingEntry
+read_take text = read_as (λ parts. taken parts.0 parts.1) (read_pair read_small read_got 32) text
 
-abbrev pub local_of : List ℕ → Option RingEntry
-local_of text =
-    made (λ parts. ring.Local parts.0 parts.1.0 parts.1.1.0 parts.1.1.1)
-    (two small_of (two id_of (two op_of result_of 32) 32) 32) text
+abbrev pub read_local : List ℕ → Option RingEntry
+read_local text =
+    read_as (λ parts. ring.Local parts.0 parts.1.0 parts.1.1.0 parts.1.1.1)
+    (read_pair read_small (read_pair read_id (read_pair read_op read_result 32) 32) 32) text
 
-abbrev pub give_up_of : List ℕ → Option RingEntry
-give_up_of text = made (λ parts. ring.GiveUp parts.0 parts.1) (two id_of word_of 32) text
+abbrev pub read_give_up : List ℕ → Option RingEntry
+read_give_up text =
+    read_as (λ parts. ring.GiveUp parts.0 parts.1) (read_pair read_id read_hex_word 32) text
 
-abbrev pub pass_of : List ℕ → Option RingEntry
-pass_of text =
-    made (λ parts. ring.Pass parts.0 parts.1.0 parts.1.1)
-    (two small_of (two done_of words_of 32) 32) text
+abbrev pub read_pass : List ℕ → Option RingEntry
+read_pass text =
+    read_as (λ parts. ring.Pass parts.0 parts.1.0 parts.1.1)
+    (read_pair read_small (read_pair read_done read_hex_words 32) 32) text
 
-abbrev pub leave_of : List ℕ → Option RingEntry
-leave_of text = made (λ parts. ring.Leave parts.0 parts.1) (two small_of cause_of 32) text
+abbrev pub read_leave : List ℕ → Option RingEntry
+read_leave text =
+    read_as (λ parts. ring.Leave parts.0 parts.1) (read_pair read_small read_cause 32) text
 
-abbrev pub ring_kinds : List (Kind RingEntry)
-ring_kinds =
-    (codes "PO ", post_of)
-    ∷ (codes "SE ", send_of)
-    ∷ (codes "TA ", take_of)
-    ∷ (codes "LO ", local_of)
-    ∷ (codes "GU ", give_up_of)
-    ∷ (codes "PA ", pass_of)
-    ∷ (codes "LE ", leave_of)
+abbrev pub ring_forms : List (Form RingEntry)
+ring_forms =
+    (codes "PO ", read_post)
+    ∷ (codes "SE ", read_send)
+    ∷ (codes "TA ", read_take)
+    ∷ (codes "LO ", read_local)
+    ∷ (codes "GU ", read_give_up)
+    ∷ (codes "PA ", read_pass)
+    ∷ (codes "LE ", read_leave)
     ∷ []
 
-unfoldable pub ring_entry_of : List ℕ → Option RingEntry
-ring_entry_of line = first_of ring_kinds None line
+unfoldable pub read_ring_entry : List ℕ → Option RingEntry
+read_ring_entry line = read_first ring_forms None line

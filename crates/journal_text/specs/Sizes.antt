@@ -41,7 +41,7 @@ pub record IsPdu (bytes : List ℕ) : Type 0 where
 abbrev pub AreWords : List ℕ → Type 0
 AreWords words = All IsWord words
 
-pub record IsBlock (words : List ℕ) : Type 0 where
+pub record AreBlockWords (words : List ℕ) : Type 0 where
   pub count : FitsBlock words
   pub each : AreWords words
 
@@ -58,7 +58,7 @@ FitsOp (GetGlobal node count) = IsSmall node × IsWord count
 FitsOp _ = Unit {0}
 
 abbrev pub FitsResult : MstrResult → Type 0
-FitsResult (Good words) = IsBlock words
+FitsResult (Good words) = AreBlockWords words
 FitsResult (Bad word) = IsWord word
 
 -- A call that a controller hands on.
@@ -73,7 +73,7 @@ FitsCall call = IsId call.id × FitsKind call.kind
 abbrev pub FitsEntry : Entry → Type 0
 FitsEntry (entries.Input row) = IsWord row
 FitsEntry (entries.Solve row) = IsWord row
-FitsEntry (entries.Output row words) = IsWord row × IsBlock words
+FitsEntry (entries.Output row words) = IsWord row × AreBlockWords words
 FitsEntry (entries.Collect calls) = All FitsCall calls
 FitsEntry (entries.Peer id request reply) = IsId id × IsPdu request × IsPdu reply
 FitsEntry (entries.Finish id result) = IsId id × FitsResult result

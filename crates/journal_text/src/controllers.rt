@@ -3,7 +3,7 @@ ghost use Rattle.std.specs.Prelude.{codes, ◌≡◌, ◌++◌, OnOk, string_byt
 ghost use Rattle.std.specs.List.{flat_map};
 ghost use Rattle.journal_text.specs.Lines.{call_text, controller_line, kind_text, peer_line};
 ghost use Rattle.std.specs.Fmt.{decimal};
-ghost use Rattle.journal_text.specs.Fields.{hex_words, id_text, result_text};
+ghost use Rattle.journal_text.specs.Fields.{hex_words, id_text, call_result_text};
 ghost use Rattle.journal_text.specs.Journal.{controller_section};
 
 use crate::fields::{Name, push_bytes, push_op, push_result, push_words};
@@ -81,7 +81,7 @@ pub(crate) fn push_peer(
 
 fn push_finish(text: &mut String, id: CallId, outcome: &MstrResult) -> Result<(), AllocError>
     ensures { OnOk result (string_bytes text.new ≡ string_bytes text.old
-        ++ (codes "F " ++ id_text id ++ codes " " ++ result_text outcome.now ++ codes "\n")) }
+        ++ (codes "F " ++ id_text id ++ codes " " ++ call_result_text outcome.now ++ codes "\n")) }
 {
     let id = Name(id);
     write!(text, "F {id} ")?;

@@ -3,12 +3,13 @@ ghost use Rattle.std.specs.Prelude.{◌≡◌, ◌<◌, ◌≤◌, true, length,
 ghost use Rattle.std.specs.List.{list_all};
 ghost use Rattle.std.specs.Str.{bytes_eq};
 ghost use Rattle.journal_text.specs.declared.cutting.LineFault.TheVariants as faults;
-ghost use Rattle.journal_text.specs.Reading.{Reads, behind, cut, id_of, is_digit, is_numeral};
-ghost use Rattle.journal_text.specs.Reading.{long_of, number_below, small_of, value_of};
-ghost use Rattle.journal_text.specs.Reading.{word_number};
+ghost use Rattle.plant_types.specs.Numerals.{is_digit, is_numeral_up_to, value_of};
+ghost use Rattle.journal_text.specs.Reading.{Reads, behind, cut, read_id, read_long, read_number};
+ghost use Rattle.journal_text.specs.Reading.{read_small, read_word};
 
 use memchr::memchr;
 use mstr_block::CallId;
+use plant_types::{are_digits, is_digit};
 use std::alloc::AllocError;
 
 /// Why a line, or a part of one, was not read.
@@ -59,18 +60,6 @@ pub(crate) fn is_text(text: &[u8], other: &str) -> bool
     text == other.as_bytes()
 }
 
-fn is_digit(byte: u8) -> bool
-    ensures { result ≡ is_digit byte }
-{
-    b'0' <= byte && byte <= b'9'
-}
-
-fn are_digits(text: &[u8]) -> bool
-    ensures { result ≡ list_all is_digit text.now }
-{
-    text.iter().all(|byte| is_digit(*byte))
-}
-
 /// Whether a text begins with a digit.
 pub(crate) fn has_digit_first(text: &[u8]) -> bool
     ensures { result ≡ is_digit (slice_index text.now 0) }
@@ -94,16 +83,17 @@ fn value_of(digits: &[u8]) -> u64
     value
 }
 
+/// Whether a text is decimal digits, one to ten, without a leading zero.
 fn is_numeral(text: &[u8]) -> bool
-    ensures { result ≡ is_numeral text.now }
+    ensures { result ≡ is_numeral_up_to 10 text.now }
 {
     let len = text.len();
     are_digits(text) && 1 <= len && len <= 10 && (len == 1 || text[0] != b'0')
 }
 
 /// A number below a limit, without a leading zero.
-fn number_below(text: &[u8], limit: u64) -> Result<u64, LineFault>
-    ensures number { Reads (λ number. number) result (number_below limit text.now) }
+fn read_number(text: &[u8], limit: u64) -> Result<u64, LineFault>
+    ensures number { Reads (λ number. number) result (read_number limit text.now) }
     ensures below { IfOk result (λ number. number < limit) }
 {
     if !is_numeral(text) {
@@ -117,38 +107,38 @@ fn number_below(text: &[u8], limit: u64) -> Result<u64, LineFault>
     }
 }
 
-#[tactic(auto, unfolding(crate::specs::Reading::small_of))]
-pub(crate) fn small_of(text: &[u8]) -> Result<u8, LineFault>
-    ensures { Reads (λ number. number) result (small_of text.now) }
+#[tactic(auto, unfolding(crate::specs::Reading::read_small))]
+pub(crate) fn read_small(text: &[u8]) -> Result<u8, LineFault>
+    ensures { Reads (λ number. number) result (read_small text.now) }
 {
-    let number = number_below(text, 1 << 8)?;
+    let number = read_number(text, 1 << 8)?;
     Ok(number as u8)
 }
 
-#[tactic(auto, unfolding(crate::specs::Reading::word_number))]
-pub(crate) fn word_number(text: &[u8]) -> Result<u16, LineFault>
-    ensures { Reads (λ number. number) result (word_number text.now) }
+#[tactic(auto, unfolding(crate::specs::Reading::read_word))]
+pub(crate) fn read_word(text: &[u8]) -> Result<u16, LineFault>
+    ensures { Reads (λ number. number) result (read_word text.now) }
 {
-    let number = number_below(text, 1 << 16)?;
+    let number = read_number(text, 1 << 16)?;
     Ok(number as u16)
 }
 
-#[tactic(auto, unfolding(crate::specs::Reading::long_of))]
-fn long_of(text: &[u8]) -> Result<u32, LineFault>
-    ensures { Reads (λ number. number) result (long_of text.now) }
+#[tactic(auto, unfolding(crate::specs::Reading::read_long))]
+fn read_long(text: &[u8]) -> Result<u32, LineFault>
+    ensures { Reads (λ number. number) result (read_long text.now) }
 {
-    let number = number_below(text, 1 << 32)?;
+    let number = read_number(text, 1 << 32)?;
     Ok(number as u32)
 }
 
-#[tactic(auto, unfolding(crate::specs::Reading::id_of))]
-pub(crate) fn id_of(text: &[u8]) -> Result<CallId, LineFault>
-    ensures { Reads (λ id. id) result (id_of text.now) }
+#[tactic(auto, unfolding(crate::specs::Reading::read_id))]
+pub(crate) fn read_id(text: &[u8]) -> Result<CallId, LineFault>
+    ensures { Reads (λ id. id) result (read_id text.now) }
 {
     let (node, rest) = cut(text, b'.')?;
-    let node = small_of(node)?;
+    let node = read_small(node)?;
     let (path, seq) = cut(rest, b'.')?;
-    let path = small_of(path)?;
-    let seq = long_of(seq)?;
+    let path = read_small(path)?;
+    let seq = read_long(seq)?;
     Ok(CallId { node, path, seq })
 }

@@ -2,15 +2,15 @@
 ghost use Rattle.std.specs.Prelude.{◌≡◌, Some};
 ghost use Rattle.journal_text.specs.declared.draft.Draft.TheVariants as drafts;
 ghost use Rattle.journal_text.specs.declared.draft.Head.TheVariants as heads;
-ghost use Rattle.journal_text.specs.Reading.{Reads, made, small_of};
+ghost use Rattle.journal_text.specs.Reading.{Reads, read_as, read_small};
 ghost use Rattle.journal_text.specs.Drafts.{after_controller, after_host, controller_step};
-ghost use Rattle.journal_text.specs.Drafts.{first_section, head_of, host_log_line, host_step};
+ghost use Rattle.journal_text.specs.Drafts.{first_section, read_head, host_log_line, host_step};
 ghost use Rattle.journal_text.specs.Drafts.{log_line, new_host_log, new_log, open_line, ring_from};
-ghost use Rattle.journal_text.specs.Drafts.{ring_line_of, ring_step, start_line, step};
+ghost use Rattle.journal_text.specs.Drafts.{ring_log_line, ring_step, start_line, step};
 
-use crate::cutting::{LineFault, behind, is_text, small_of};
-use crate::ring_read::ring_entry_of;
-use crate::stations_read::{entry_of, host_entry_of};
+use crate::cutting::{LineFault, behind, is_text, read_small};
+use crate::ring_read::read_ring_entry;
+use crate::stations_read::{read_entry, read_host_entry};
 use joint_history::{ControllerLog, HostLog, Joint};
 use plant_types::List;
 use std::alloc::Global;
@@ -44,30 +44,31 @@ pub(crate) enum Draft {
     End(Joint),
 }
 
-fn controller_head(text: &[u8]) -> Result<Head, LineFault>
-    ensures { Reads (λ head. head) result (made (λ node. heads.Controller node) small_of text.now) }
+fn read_controller_head(text: &[u8]) -> Result<Head, LineFault>
+    ensures { Reads (λ head. head) result
+        (read_as (λ node. heads.Controller node) read_small text.now) }
 {
-    let node = small_of(text)?;
+    let node = read_small(text)?;
     Ok(Head::Controller(node))
 }
 
-fn host_head(text: &[u8]) -> Result<Head, LineFault>
-    ensures { Reads (λ head. head) result (made (λ node. heads.Host node) small_of text.now) }
+fn read_host_head(text: &[u8]) -> Result<Head, LineFault>
+    ensures { Reads (λ head. head) result (read_as (λ node. heads.Host node) read_small text.now) }
 {
-    let node = small_of(text)?;
+    let node = read_small(text)?;
     Ok(Head::Host(node))
 }
 
 /// The section that a line begins.
-#[tactic(auto, unfolding(crate::specs::Drafts::head_of))]
-fn head_of(line: &[u8]) -> Result<Head, LineFault>
-    ensures { Reads (λ head. head) result (head_of line.now) }
+#[tactic(auto, unfolding(crate::specs::Drafts::read_head))]
+fn read_head(line: &[u8]) -> Result<Head, LineFault>
+    ensures { Reads (λ head. head) result (read_head line.now) }
 {
     if let Some(node) = behind(line, "C ") {
-        return controller_head(node);
+        return read_controller_head(node);
     }
     if let Some(node) = behind(line, "H ") {
-        return host_head(node);
+        return read_host_head(node);
     }
     if is_text(line, "R") {
         Ok(Head::Ring)
@@ -206,7 +207,7 @@ fn start_line(line: &[u8]) -> Result<Draft, LineFault>
 fn open_line(alloc: Global, line: &[u8]) -> Result<Draft, LineFault>
     ensures { Reads (λ draft. draft) result (open_line line.now) }
 {
-    let head = head_of(line)?;
+    let head = read_head(line)?;
     Ok(first_section(alloc, head))
 }
 
@@ -220,7 +221,7 @@ fn log_line(
     ensures { Reads (λ draft. draft) result (log_line done log line.now) }
 {
     let mut log = log;
-    let entry = entry_of(alloc, line)?;
+    let entry = read_entry(alloc, line)?;
     log.entries.push(entry)?;
     Ok(Draft::Controller { done, log })
 }
@@ -236,7 +237,7 @@ fn host_log_line(
     ensures { Reads (λ draft. draft) result (host_log_line controllers done log line.now) }
 {
     let mut log = log;
-    let entry = host_entry_of(alloc, line)?;
+    let entry = read_host_entry(alloc, line)?;
     log.entries.push(entry)?;
     Ok(Draft::Host {
         controllers,
@@ -254,7 +255,7 @@ fn controller_step(
 ) -> Result<Draft, LineFault>
     ensures { Reads (λ draft. draft) result (controller_step done log line.now) }
 {
-    match head_of(line) {
+    match read_head(line) {
         Ok(head) => after_controller(alloc, done, log, head),
         Err(LineFault::Wrong) => log_line(alloc, done, log, line),
         Err(LineFault::NoMemory) => Err(LineFault::NoMemory),
@@ -271,19 +272,19 @@ fn host_step(
 ) -> Result<Draft, LineFault>
     ensures { Reads (λ draft. draft) result (host_step controllers done log line.now) }
 {
-    match head_of(line) {
+    match read_head(line) {
         Ok(head) => after_host(alloc, controllers, done, log, head),
         Err(LineFault::Wrong) => host_log_line(alloc, controllers, done, log, line),
         Err(LineFault::NoMemory) => Err(LineFault::NoMemory),
     }
 }
 
-#[tactic(auto, unfolding(crate::specs::Drafts::ring_line_of))]
-fn ring_line_of(alloc: Global, joint: Joint, line: &[u8]) -> Result<Draft, LineFault>
-    ensures { Reads (λ draft. draft) result (ring_line_of joint line.now) }
+#[tactic(auto, unfolding(crate::specs::Drafts::ring_log_line))]
+fn ring_log_line(alloc: Global, joint: Joint, line: &[u8]) -> Result<Draft, LineFault>
+    ensures { Reads (λ draft. draft) result (ring_log_line joint line.now) }
 {
     let mut joint = joint;
-    let entry = ring_entry_of(alloc, line)?;
+    let entry = read_ring_entry(alloc, line)?;
     joint.ring.push(entry)?;
     Ok(Draft::Ring(joint))
 }
@@ -295,7 +296,7 @@ fn ring_step(alloc: Global, joint: Joint, line: &[u8]) -> Result<Draft, LineFaul
     if is_text(line, "%END") {
         Ok(Draft::End(joint))
     } else {
-        ring_line_of(alloc, joint, line)
+        ring_log_line(alloc, joint, line)
     }
 }
 

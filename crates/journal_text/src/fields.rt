@@ -2,7 +2,7 @@
 ghost use Rattle.std.specs.List.{flat_map};
 ghost use Rattle.std.specs.Prelude.{codes, ◌≡◌, ◌++◌, OnOk, Some, string_bytes};
 ghost use Rattle.journal_text.specs.Fields.{hex_byte, hex_bytes, hex_word, hex_words, id_text};
-ghost use Rattle.journal_text.specs.Fields.{op_text, result_text};
+ghost use Rattle.journal_text.specs.Fields.{op_text, call_result_text};
 
 use mstr_block::{CallId, MstrResult};
 use ring_core::LocalOp;
@@ -105,7 +105,7 @@ pub(crate) fn push_op(text: &mut String, op: &LocalOp) -> Result<(), AllocError>
 
 pub(crate) fn push_result(text: &mut String, outcome: &MstrResult) -> Result<(), AllocError>
     ensures { OnOk result (string_bytes text.new ≡ string_bytes text.old
-        ++ result_text outcome.now) }
+        ++ call_result_text outcome.now) }
 {
     match outcome {
         MstrResult::Good(words) => {

@@ -1,8 +1,8 @@
 //! A journal read back.
 ghost use Rattle.std.specs.Prelude.{◌≡◌, ◌-◌, ◌^◌, min, IfErr, IfOk};
 ghost use Rattle.joint_history.specs.declared.joint.Joint.{Joint as History};
-ghost use Rattle.journal_text.specs.Fronts.{Gives, IsFault, IsJournalOf};
-ghost use Rattle.journal_text.specs.Drafts.{Takes, ending, step};
+ghost use Rattle.journal_text.specs.Fronts.{GivesJoint, IsFault, IsJournalOf};
+ghost use Rattle.journal_text.specs.Drafts.{ReadsAt, ending, step};
 
 use crate::cutting::{LineFault, parted};
 use crate::draft::{Draft, step};
@@ -18,7 +18,7 @@ fn told(number: usize) -> u32
 }
 
 fn take_line(alloc: Global, draft: Draft, line: &[u8], number: usize) -> Result<Draft, JournalFault>
-    ensures { Takes number result (step draft line.now) }
+    ensures { ReadsAt number result (step draft line.now) }
 {
     match step(alloc, draft, line) {
         Ok(draft) => Ok(draft),
@@ -29,7 +29,7 @@ fn take_line(alloc: Global, draft: Draft, line: &[u8], number: usize) -> Result<
 
 /// What is read where the bytes end, in a line of this number.
 fn ending(draft: Draft, rest: &[u8], number: usize) -> Result<Joint, JournalFault>
-    ensures { Takes number result (ending draft rest.now) }
+    ensures { ReadsAt number result (ending draft rest.now) }
 {
     match draft {
         Draft::End(joint) => {
@@ -46,7 +46,7 @@ fn ending(draft: Draft, rest: &[u8], number: usize) -> Result<Joint, JournalFaul
 /// The joint history whose journal the bytes are. Reads each line once.
 pub fn read_journal(alloc: Global, bytes: &[u8]) -> Result<Joint, JournalFault>
     ensures told { IfOk result (λ joint. IsJournalOf joint bytes.now) }
-    ensures all { (joint : History) → IsJournalOf joint bytes.now → Gives joint result }
+    ensures all { (joint : History) → IsJournalOf joint bytes.now → GivesJoint joint result }
     ensures fault { IfErr result (λ fault. IsFault bytes.now fault) }
 {
     let mut draft = Draft::Start;

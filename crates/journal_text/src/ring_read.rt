@@ -1,73 +1,73 @@
 //! The lines of the ring that are read back.
 ghost use Rattle.std.specs.Prelude.{◌≡◌};
-ghost use Rattle.journal_text.specs.Reading.{Reads, made};
-ghost use Rattle.journal_text.specs.ReadLines.{asked_of, cause_of, done_of, give_up_of, got_from};
-ghost use Rattle.journal_text.specs.ReadLines.{got_of};
-ghost use Rattle.journal_text.specs.ReadLines.{heard_of, leave_of, local_of, named_of, pass_of};
-ghost use Rattle.journal_text.specs.ReadLines.{post_of, reply_frame, request_frame, ring_entry_of};
-ghost use Rattle.journal_text.specs.ReadLines.{send_of, sent_of, take_of, target_of};
+ghost use Rattle.journal_text.specs.Reading.{Reads, read_as};
+ghost use Rattle.journal_text.specs.ReadLines.{read_asked, read_cause, read_done, read_give_up};
+ghost use Rattle.journal_text.specs.ReadLines.{got_from, read_got, read_heard, read_leave};
+ghost use Rattle.journal_text.specs.ReadLines.{read_local, read_named, read_pass, read_post};
+ghost use Rattle.journal_text.specs.ReadLines.{sent_reply, sent_request, read_ring_entry};
+ghost use Rattle.journal_text.specs.ReadLines.{read_send, read_sent, read_take, target_of};
 
-use crate::calls_read::{asked_of, named_of, op_of, result_of};
-use crate::cutting::{LineFault, behind, cut, id_of, is_text, small_of};
-use crate::words_read::{word_of, words_of};
+use crate::calls_read::{read_asked, read_named, read_op, read_result};
+use crate::cutting::{LineFault, behind, cut, is_text, read_id, read_small};
+use crate::words_read::{read_hex_word, read_hex_words};
 use mstr_block::CallId;
 use plant_types::{Pdu, Words};
 use ring_core::{Frame, FrameKind, Heard, LeaveCause, RingEntry};
 use std::alloc::Global;
 
-fn sent_request_of(alloc: Global, text: &[u8]) -> Result<Frame, LineFault>
-    ensures { Reads (λ frame. frame) result (made request_frame asked_of text.now) }
+fn read_sent_request(alloc: Global, text: &[u8]) -> Result<Frame, LineFault>
+    ensures { Reads (λ frame. frame) result (read_as sent_request read_asked text.now) }
 {
-    let (id, to, pdu) = asked_of(alloc, text)?;
+    let (id, to, pdu) = read_asked(alloc, text)?;
     let kind = FrameKind::Request;
     Ok(Frame { kind, to, id, pdu })
 }
 
 /// A Reply goes to the node that asked.
-fn reply_frame_of(alloc: Global, text: &[u8]) -> Result<Frame, LineFault>
-    ensures { Reads (λ frame. frame) result (made reply_frame named_of text.now) }
+fn read_sent_reply(alloc: Global, text: &[u8]) -> Result<Frame, LineFault>
+    ensures { Reads (λ frame. frame) result (read_as sent_reply read_named text.now) }
 {
-    let (id, pdu) = named_of(alloc, text)?;
+    let (id, pdu) = read_named(alloc, text)?;
     let kind = FrameKind::Reply;
     let to = id.node;
     Ok(Frame { kind, to, id, pdu })
 }
 
-#[tactic(auto, unfolding(crate::specs::ReadLines::sent_of))]
-fn sent_of(alloc: Global, text: &[u8]) -> Result<Frame, LineFault>
-    ensures { Reads (λ frame. frame) result (sent_of text.now) }
+#[tactic(auto, unfolding(crate::specs::ReadLines::read_sent))]
+fn read_sent(alloc: Global, text: &[u8]) -> Result<Frame, LineFault>
+    ensures { Reads (λ frame. frame) result (read_sent text.now) }
 {
     if let Some(rest) = behind(text, "Q ") {
-        return sent_request_of(alloc, rest);
+        return read_sent_request(alloc, rest);
     }
     if let Some(rest) = behind(text, "R ") {
-        return reply_frame_of(alloc, rest);
+        return read_sent_reply(alloc, rest);
     }
     Err(LineFault::Wrong)
 }
 
-fn got_as(
+fn read_got_as(
     alloc: Global,
     kind: FrameKind,
     text: &[u8],
 ) -> Result<(FrameKind, CallId, Pdu), LineFault>
     ensures { Reads (λ got. (got.0, (got.1, got.2))) result
-        (made (got_from kind) named_of text.now) }
+        (read_as (got_from kind) read_named text.now) }
 {
-    let (id, pdu) = named_of(alloc, text)?;
+    let (id, pdu) = read_named(alloc, text)?;
     Ok((kind, id, pdu))
 }
 
 /// What was taken, but for its target.
-#[tactic(auto, unfolding(crate::specs::ReadLines::got_of))]
-fn got_of(alloc: Global, text: &[u8]) -> Result<(FrameKind, CallId, Pdu), LineFault>
-    ensures { Reads (λ got. (got.0, (got.1, got.2))) result (got_of text.now) }
+#[tactic(auto, unfolding(crate::specs::ReadLines::read_got))]
+fn read_got(alloc: Global, text: &[u8]) -> Result<(FrameKind, CallId, Pdu), LineFault>
+    ensures { Reads (λ got. (got.0, (got.1, got.2))) result (read_got text.now) }
 {
     if let Some(rest) = behind(text, "Q ") {
-        return got_as(alloc, FrameKind::Request, rest);
+        return read_got_as(alloc, FrameKind::Request, rest);
     }
     if let Some(rest) = behind(text, "R ") {
-        return got_as(alloc, FrameKind::Reply, rest);
+        return read_got_as(alloc, FrameKind::Reply, rest);
     }
     Err(LineFault::Wrong)
 }
@@ -82,9 +82,9 @@ fn target_of(kind: FrameKind, node: u8, id: CallId) -> u8
     }
 }
 
-#[tactic(auto, unfolding(crate::specs::ReadLines::heard_of))]
-fn heard_of(text: &[u8]) -> Result<Heard, LineFault>
-    ensures { Reads (λ heard. heard) result (heard_of text.now) }
+#[tactic(auto, unfolding(crate::specs::ReadLines::read_heard))]
+fn read_heard(text: &[u8]) -> Result<Heard, LineFault>
+    ensures { Reads (λ heard. heard) result (read_heard text.now) }
 {
     if is_text(text, "A") {
         Ok(Heard::Acked)
@@ -97,9 +97,9 @@ fn heard_of(text: &[u8]) -> Result<Heard, LineFault>
     }
 }
 
-#[tactic(auto, unfolding(crate::specs::ReadLines::cause_of))]
-fn cause_of(text: &[u8]) -> Result<LeaveCause, LineFault>
-    ensures { Reads (λ cause. cause) result (cause_of text.now) }
+#[tactic(auto, unfolding(crate::specs::ReadLines::read_cause))]
+fn read_cause(text: &[u8]) -> Result<LeaveCause, LineFault>
+    ensures { Reads (λ cause. cause) result (read_cause text.now) }
 {
     if is_text(text, "E") {
         Ok(LeaveCause::Ended)
@@ -110,9 +110,9 @@ fn cause_of(text: &[u8]) -> Result<LeaveCause, LineFault>
     }
 }
 
-#[tactic(auto, unfolding(crate::specs::ReadLines::done_of))]
-fn done_of(text: &[u8]) -> Result<bool, LineFault>
-    ensures { Reads (λ done. done) result (done_of text.now) }
+#[tactic(auto, unfolding(crate::specs::ReadLines::read_done))]
+fn read_done(text: &[u8]) -> Result<bool, LineFault>
+    ensures { Reads (λ done. done) result (read_done text.now) }
 {
     if is_text(text, "1") {
         Ok(true)
@@ -123,45 +123,45 @@ fn done_of(text: &[u8]) -> Result<bool, LineFault>
     }
 }
 
-fn post_of(alloc: Global, text: &[u8]) -> Result<RingEntry, LineFault>
-    ensures { Reads (λ entry. entry) result (post_of text.now) }
+fn read_post(alloc: Global, text: &[u8]) -> Result<RingEntry, LineFault>
+    ensures { Reads (λ entry. entry) result (read_post text.now) }
 {
     let (node, frame) = cut(text, b' ')?;
-    let node = small_of(node)?;
-    let frame = sent_of(alloc, frame)?;
+    let node = read_small(node)?;
+    let frame = read_sent(alloc, frame)?;
     Ok(RingEntry::Post { node, frame })
 }
 
-fn send_of(text: &[u8]) -> Result<RingEntry, LineFault>
-    ensures { Reads (λ entry. entry) result (send_of text.now) }
+fn read_send(text: &[u8]) -> Result<RingEntry, LineFault>
+    ensures { Reads (λ entry. entry) result (read_send text.now) }
 {
     let (node, heard) = cut(text, b' ')?;
-    let node = small_of(node)?;
-    let heard = heard_of(heard)?;
+    let node = read_small(node)?;
+    let heard = read_heard(heard)?;
     Ok(RingEntry::Send { node, heard })
 }
 
-fn take_of(alloc: Global, text: &[u8]) -> Result<RingEntry, LineFault>
-    ensures { Reads (λ entry. entry) result (take_of text.now) }
+fn read_take(alloc: Global, text: &[u8]) -> Result<RingEntry, LineFault>
+    ensures { Reads (λ entry. entry) result (read_take text.now) }
 {
     let (node, frame) = cut(text, b' ')?;
-    let node = small_of(node)?;
-    let (kind, id, pdu) = got_of(alloc, frame)?;
+    let node = read_small(node)?;
+    let (kind, id, pdu) = read_got(alloc, frame)?;
     let to = target_of(kind, node, id);
     let frame = Frame { kind, to, id, pdu };
     Ok(RingEntry::Take { node, frame })
 }
 
-fn local_of(alloc: Global, text: &[u8]) -> Result<RingEntry, LineFault>
-    ensures { Reads (λ entry. entry) result (local_of text.now) }
+fn read_local(alloc: Global, text: &[u8]) -> Result<RingEntry, LineFault>
+    ensures { Reads (λ entry. entry) result (read_local text.now) }
 {
     let (node, rest) = cut(text, b' ')?;
-    let node = small_of(node)?;
+    let node = read_small(node)?;
     let (id, rest) = cut(rest, b' ')?;
-    let id = id_of(id)?;
+    let id = read_id(id)?;
     let (op, outcome) = cut(rest, b' ')?;
-    let op = op_of(alloc, op)?;
-    let outcome = result_of(alloc, outcome)?;
+    let op = read_op(alloc, op)?;
+    let outcome = read_result(alloc, outcome)?;
     Ok(RingEntry::Local {
         node,
         id,
@@ -170,61 +170,61 @@ fn local_of(alloc: Global, text: &[u8]) -> Result<RingEntry, LineFault>
     })
 }
 
-fn give_up_of(alloc: Global, text: &[u8]) -> Result<RingEntry, LineFault>
-    ensures { Reads (λ entry. entry) result (give_up_of text.now) }
+fn read_give_up(alloc: Global, text: &[u8]) -> Result<RingEntry, LineFault>
+    ensures { Reads (λ entry. entry) result (read_give_up text.now) }
 {
     let (id, word) = cut(text, b' ')?;
-    let id = id_of(id)?;
-    let word = word_of(alloc, word)?;
+    let id = read_id(id)?;
+    let word = read_hex_word(alloc, word)?;
     Ok(RingEntry::GiveUp { id, word })
 }
 
-fn pass_of(alloc: Global, text: &[u8]) -> Result<RingEntry, LineFault>
-    ensures { Reads (λ entry. entry) result (pass_of text.now) }
+fn read_pass(alloc: Global, text: &[u8]) -> Result<RingEntry, LineFault>
+    ensures { Reads (λ entry. entry) result (read_pass text.now) }
 {
     let (node, rest) = cut(text, b' ')?;
-    let node = small_of(node)?;
+    let node = read_small(node)?;
     let (done, words) = cut(rest, b' ')?;
-    let done = done_of(done)?;
-    let words = words_of(alloc, words)?;
+    let done = read_done(done)?;
+    let words = read_hex_words(alloc, words)?;
     let words = Words::of(alloc, words.as_slice())?;
     Ok(RingEntry::Pass { node, done, words })
 }
 
-fn leave_of(text: &[u8]) -> Result<RingEntry, LineFault>
-    ensures { Reads (λ entry. entry) result (leave_of text.now) }
+fn read_leave(text: &[u8]) -> Result<RingEntry, LineFault>
+    ensures { Reads (λ entry. entry) result (read_leave text.now) }
 {
     let (node, cause) = cut(text, b' ')?;
-    let node = small_of(node)?;
-    let cause = cause_of(cause)?;
+    let node = read_small(node)?;
+    let cause = read_cause(cause)?;
     Ok(RingEntry::Leave { node, cause })
 }
 
 /// The entry of the ring that a line tells.
-#[tactic(auto, unfolding(crate::specs::ReadLines::ring_entry_of))]
-pub(crate) fn ring_entry_of(alloc: Global, line: &[u8]) -> Result<RingEntry, LineFault>
-    ensures { Reads (λ entry. entry) result (ring_entry_of line.now) }
+#[tactic(auto, unfolding(crate::specs::ReadLines::read_ring_entry))]
+pub(crate) fn read_ring_entry(alloc: Global, line: &[u8]) -> Result<RingEntry, LineFault>
+    ensures { Reads (λ entry. entry) result (read_ring_entry line.now) }
 {
     if let Some(rest) = behind(line, "PO ") {
-        return post_of(alloc, rest);
+        return read_post(alloc, rest);
     }
     if let Some(rest) = behind(line, "SE ") {
-        return send_of(rest);
+        return read_send(rest);
     }
     if let Some(rest) = behind(line, "TA ") {
-        return take_of(alloc, rest);
+        return read_take(alloc, rest);
     }
     if let Some(rest) = behind(line, "LO ") {
-        return local_of(alloc, rest);
+        return read_local(alloc, rest);
     }
     if let Some(rest) = behind(line, "GU ") {
-        return give_up_of(alloc, rest);
+        return read_give_up(alloc, rest);
     }
     if let Some(rest) = behind(line, "PA ") {
-        return pass_of(alloc, rest);
+        return read_pass(alloc, rest);
     }
     if let Some(rest) = behind(line, "LE ") {
-        return leave_of(rest);
+        return read_leave(rest);
     }
     Err(LineFault::Wrong)
 }

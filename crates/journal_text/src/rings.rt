@@ -2,7 +2,8 @@
 ghost use Rattle.std.specs.Prelude.{codes, ◌≡◌, ◌++◌, OnOk, string_bytes};
 ghost use Rattle.std.specs.Fmt.{decimal};
 ghost use Rattle.std.specs.List.{flat_map};
-ghost use Rattle.journal_text.specs.Fields.{hex_bytes, hex_words, id_text, op_text, result_text};
+ghost use Rattle.journal_text.specs.Fields.{call_result_text, hex_bytes, hex_words, id_text};
+ghost use Rattle.journal_text.specs.Fields.{op_text};
 ghost use Rattle.journal_text.specs.Lines.{cause_text, done_text, got_text, heard_text, ring_line};
 ghost use Rattle.journal_text.specs.Lines.{sent_text};
 

@@ -2,8 +2,8 @@
 ghost use Rattle.std.specs.Prelude.{All};
 ghost use Rattle.journal_text.specs.Sizes.{AreWords, FitsAnswer, FitsCall, FitsEntry, FitsFrame};
 ghost use Rattle.journal_text.specs.Sizes.{FitsHostEntry, FitsHostLog, FitsJoint, FitsKind};
-ghost use Rattle.journal_text.specs.Sizes.{FitsLog, FitsOp, FitsResult, FitsRingEntry, IsBlock};
-ghost use Rattle.journal_text.specs.Sizes.{IsId, IsLong, IsPdu, IsSmall, IsWord};
+ghost use Rattle.journal_text.specs.Sizes.{FitsLog, FitsOp, FitsResult, FitsRingEntry};
+ghost use Rattle.journal_text.specs.Sizes.{AreBlockWords, IsId, IsLong, IsPdu, IsSmall, IsWord};
 
 use controller_core::{Call, CallKind, Entry};
 use host_port::{HostEntry, HostResult};
@@ -39,7 +39,7 @@ fn pdu(pdu: &Pdu)
 }
 
 fn block(block: &Block)
-    ensures { IsBlock block.now }
+    ensures { AreBlockWords block.now }
 {
     words(block.words());
 }
@@ -216,18 +216,11 @@ fn ring_entry(entry: &RingEntry)
     ensures { FitsRingEntry entry.now }
 {
     match entry {
-        RingEntry::Post {
-            node,
-            frame: posted,
-        } => {
+        RingEntry::Post { node, frame: sent } | RingEntry::Take { node, frame: sent } => {
             small(*node);
-            frame(posted);
+            frame(sent);
         }
         RingEntry::Send { node, .. } | RingEntry::Leave { node, .. } => small(*node),
-        RingEntry::Take { node, frame: taken } => {
-            small(*node);
-            frame(taken);
-        }
         RingEntry::Local {
             node,
             id,

@@ -2,17 +2,14 @@
 ghost use Rattle.std.specs.Prelude.{◌≡◌, ◌*◌, ◌≤◌, ◌==◌, not, length, Some};
 ghost use Rattle.std.specs.List.{list_all};
 ghost use Rattle.std.specs.Str.{bytes_eq};
-ghost use Rattle.journal_text.specs.Reading.{Reads, block_of, bytes_of, is_capital, joined};
-ghost use Rattle.journal_text.specs.Reading.{joined_words, pdu_read, word_of, words_of};
+ghost use Rattle.journal_text.specs.Reading.{Reads, read_block, read_hex_bytes, is_capital, joined};
+ghost use Rattle.journal_text.specs.Reading.{read_joined, read_pdu, read_hex_word, read_hex_words};
 
 use crate::cutting::{LineFault, is_text};
 use byteorder::{BigEndian, ByteOrder};
 use hex::FromHexError;
-use plant_types::{Block, Pdu};
+use plant_types::{BLOCK_LIMIT, Block, Pdu};
 use std::alloc::{AllocError, Global};
-
-/// The most words of a block.
-const BLOCK_LIMIT: usize = 100;
 
 fn has_no_capital(text: &[u8]) -> bool
     ensures { result ≡ list_all (λ byte. not (is_capital byte)) text.now }
@@ -20,9 +17,9 @@ fn has_no_capital(text: &[u8]) -> bool
     text.iter().all(|byte| !(b'A' <= *byte && *byte <= b'Z'))
 }
 
-#[tactic(auto, unfolding(crate::specs::Reading::bytes_of))]
-fn bytes_of(alloc: Global, text: &[u8]) -> Result<Vec<u8>, LineFault>
-    ensures { Reads (λ bytes. bytes.items) result (bytes_of text.now) }
+#[tactic(auto, unfolding(crate::specs::Reading::read_hex_bytes))]
+fn read_hex_bytes(alloc: Global, text: &[u8]) -> Result<Vec<u8>, LineFault>
+    ensures { Reads (λ bytes. bytes.items) result (read_hex_bytes text.now) }
 {
     if !has_no_capital(text) {
         return Err(LineFault::Wrong);
@@ -34,18 +31,18 @@ fn bytes_of(alloc: Global, text: &[u8]) -> Result<Vec<u8>, LineFault>
     }
 }
 
-#[tactic(auto, unfolding(crate::specs::Reading::pdu_read))]
-pub(crate) fn pdu_read(alloc: Global, text: &[u8]) -> Result<Pdu, LineFault>
-    ensures { Reads (λ pdu. pdu) result (pdu_read text.now) }
+#[tactic(auto, unfolding(crate::specs::Reading::read_pdu))]
+pub(crate) fn read_pdu(alloc: Global, text: &[u8]) -> Result<Pdu, LineFault>
+    ensures { Reads (λ pdu. pdu) result (read_pdu text.now) }
 {
-    let bytes = bytes_of(alloc, text)?;
+    let bytes = read_hex_bytes(alloc, text)?;
     match Pdu::of(alloc, bytes.as_slice())? {
         Some(pdu) => Ok(pdu),
         None => Err(LineFault::Wrong),
     }
 }
 
-fn read_words(bytes: &[u8], words: &mut [u16])
+fn fill_words(bytes: &[u8], words: &mut [u16])
     requires { length bytes.now ≡ 2 * length words.old }
     ensures { joined bytes.now ≡ Some words.new }
 {
@@ -61,15 +58,15 @@ fn joined(alloc: Global, bytes: &[u8]) -> Result<Vec<u16>, LineFault>
         return Err(LineFault::Wrong);
     }
     let mut words = vec![in alloc; 0u16; count]?;
-    read_words(bytes, words.as_mut_slice());
+    fill_words(bytes, words.as_mut_slice());
     Ok(words)
 }
 
-#[tactic(auto, unfolding(crate::specs::Reading::joined_words))]
-fn joined_words(alloc: Global, text: &[u8]) -> Result<Vec<u16>, LineFault>
-    ensures { Reads (λ words. words.items) result (joined_words text.now) }
+#[tactic(auto, unfolding(crate::specs::Reading::read_joined))]
+fn read_joined(alloc: Global, text: &[u8]) -> Result<Vec<u16>, LineFault>
+    ensures { Reads (λ words. words.items) result (read_joined text.now) }
 {
-    let bytes = bytes_of(alloc, text)?;
+    let bytes = read_hex_bytes(alloc, text)?;
     let words = joined(alloc, bytes.as_slice())?;
     if words.is_empty() {
         return Err(LineFault::Wrong);
@@ -78,32 +75,32 @@ fn joined_words(alloc: Global, text: &[u8]) -> Result<Vec<u16>, LineFault>
 }
 
 /// Words one after another, or the dash that stands for none.
-#[tactic(auto, unfolding(crate::specs::Reading::words_of))]
-pub(crate) fn words_of(alloc: Global, text: &[u8]) -> Result<Vec<u16>, LineFault>
-    ensures { Reads (λ words. words.items) result (words_of text.now) }
+#[tactic(auto, unfolding(crate::specs::Reading::read_hex_words))]
+pub(crate) fn read_hex_words(alloc: Global, text: &[u8]) -> Result<Vec<u16>, LineFault>
+    ensures { Reads (λ words. words.items) result (read_hex_words text.now) }
 {
     if is_text(text, "-") {
         return Ok(Vec::new(alloc));
     }
-    joined_words(alloc, text)
+    read_joined(alloc, text)
 }
 
-#[tactic(auto, unfolding(crate::specs::Reading::word_of))]
-pub(crate) fn word_of(alloc: Global, text: &[u8]) -> Result<u16, LineFault>
-    ensures { Reads (λ word. word) result (word_of text.now) }
+#[tactic(auto, unfolding(crate::specs::Reading::read_hex_word))]
+pub(crate) fn read_hex_word(alloc: Global, text: &[u8]) -> Result<u16, LineFault>
+    ensures { Reads (λ word. word) result (read_hex_word text.now) }
 {
-    let words = joined_words(alloc, text)?;
+    let words = read_joined(alloc, text)?;
     match words.as_slice() {
         [word] => Ok(*word),
         _ => Err(LineFault::Wrong),
     }
 }
 
-#[tactic(auto, unfolding(crate::specs::Reading::block_of))]
-pub(crate) fn block_of(alloc: Global, text: &[u8]) -> Result<Block, LineFault>
-    ensures { Reads (λ block. block) result (block_of text.now) }
+#[tactic(auto, unfolding(crate::specs::Reading::read_block))]
+pub(crate) fn read_block(alloc: Global, text: &[u8]) -> Result<Block, LineFault>
+    ensures { Reads (λ block. block) result (read_block text.now) }
 {
-    let words = words_of(alloc, text)?;
+    let words = read_hex_words(alloc, text)?;
     if words.len() > BLOCK_LIMIT {
         return Err(LineFault::Wrong);
     }

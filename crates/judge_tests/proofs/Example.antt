@@ -34,7 +34,9 @@ two-rise (suc k) low = absurd (omega arith)
 net-sound : IsNetPlan net_plan
 net-sound = record {
   first = omega arith;
-  members = all-two IsNode 1 2 (from-to 1 64 1 (omega arith) (omega arith)) (from-to 1 64 2 (omega arith) (omega arith));
+  members =
+      all-two IsNode 1 2 (from-to 1 64 1 (omega arith) (omega arith))
+      (from-to 1 64 2 (omega arith) (omega arith));
   rising = two-rise;
   fates = from-to 1 1000 1 (omega arith) (omega arith);
   answer = from-to 2 1000 20 (omega arith) (omega arith);
@@ -81,5 +83,6 @@ example-judged = record {
     hosts_rise = one-rises 2;
     members = IsPermutation-refl (1 ∷ 2 ∷ []);
   };
-  runs = all-one (λ plan. IsRunnable (fixed_of example_plant 1 plan)) controller_plan controller-runs;
+  runs =
+      all-one (λ plan. IsRunnable (fixed_of example_plant 1 plan)) controller_plan controller-runs;
 }

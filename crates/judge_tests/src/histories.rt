@@ -7,7 +7,7 @@ ghost use Rattle.joint_law.specs.Spots.{CanBeJudged};
 use controller_core::Entry;
 use host_port::{HostEntry, HostResult};
 use joint_history::{ControllerLog, HostLog, Joint};
-use joint_law::{Spot, Verdict, judge};
+use joint_law::{Judgement, Spot, Verdict, judge, judge_noted};
 use mstr_block::CallId;
 use plant_types::{ControllerPlan, Fate, HostAsk, HostPlan, List, NetPlan, Pdu, Plant, Words};
 use ring_core::{Frame, FrameKind, Heard, LeaveCause, RingEntry};
@@ -369,6 +369,23 @@ const SPOTS: [(Change, Spot); 16] = [
 fn a_whole_run_is_legal(rt: HostRuntime) -> Result<(), AllocError> {
     let verdict = judged(rt.alloc(), Change::Nothing)?;
     assert!(rt; verdict == Verdict::Legal);
+    Ok(())
+}
+
+/// How many scans the controller noted, where the judge says Legal.
+fn scans_noted(alloc: Global) -> Result<Option<u32>, AllocError> {
+    let plant = plant(alloc)?;
+    let joint = joint(alloc, Change::Nothing)?;
+    match judge_noted(alloc, &plant, &joint, 1)? {
+        Judgement::Legal(notes) => Ok(notes.as_slice().first().map(|noted| noted.ended)),
+        Judgement::Illegal(_) => Ok(None),
+    }
+}
+
+#[test]
+fn a_whole_run_hands_over_notes(rt: HostRuntime) -> Result<(), AllocError> {
+    let scans = scans_noted(rt.alloc())?;
+    assert!(rt; scans == Some(1));
     Ok(())
 }
 

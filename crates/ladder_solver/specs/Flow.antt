@@ -84,10 +84,10 @@ solved_element setting (Coil at) place inputs s = goes_on (coil_after at inputs 
 solved_element setting (Latch at) place inputs s = goes_on (coil_after at inputs s)
 solved_element setting Wire place inputs s = goes_on (one_node inputs.top, s)
 solved_element setting (Timer unit preset acc) place inputs s =
-    goes_on (block_after (timing_effect unit preset acc inputs s.clock s.map) s)
+    goes_on (block_after (timing_effect unit preset acc s.clock inputs s.map) s)
 solved_element setting (Counter up preset acc) place inputs s =
     goes_on (counter_after
-    (counting_effect up preset acc inputs (contains s.edges place) s.map) place inputs.top s)
+    (counting_effect up preset acc (contains s.edges place) inputs s.map) place inputs.top s)
 solved_element setting (Math op top mid low) place inputs s =
     goes_on (block_after (math_effect op top mid low inputs s.map) s)
 solved_element setting (Move op top mid length) place inputs s =

@@ -1,9 +1,13 @@
 //! Scans of networks that were worked out by hand. Coils count from 00001, inputs from 10001 and
 //! registers from 40001.
-ghost use Rattle.std.specs.Prelude.{◌≡◌, true, false, length, IfOk, IsTrue};
+ghost use Rattle.std.specs.Prelude.{◌≡◌, ◌≤◌, true, false, length, IfOk, IsTrue};
+ghost use Rattle.plant_types.specs.Checks.{sizes_of};
 ghost use Rattle.plant_types.specs.Reference.{is_discrete};
 ghost use Rattle.plant_types.specs.Passing.{IsChecked};
+ghost use Rattle.plant_types.specs.Sizes.{cleared, discretes_of};
 ghost use Rattle.plant_types.specs.Store.{Keeps};
+ghost use Rattle.grid_compile.specs.Layout.{grids_of};
+ghost use Rattle.ladder_solver.specs.Numbers.{mstr_count};
 ghost use Rattle.ladder_solver.specs.Ready.{IsReady};
 
 use grid_compile::grids_of;
@@ -211,6 +215,7 @@ fn segments_of(alloc: Global, segments: Segments) -> Result<List<Segment>, Alloc
 }
 
 fn plan_of(alloc: Global, segments: Segments) -> Result<ControllerPlan, AllocError> {
+    let segments = segments_of(alloc, segments)?;
     Ok(ControllerPlan {
         node: 1,
         coils: 16,
@@ -220,7 +225,7 @@ fn plan_of(alloc: Global, segments: Segments) -> Result<ControllerPlan, AllocErr
         panel: List::new(alloc),
         orders: List::new(alloc),
         drops: List::new(alloc),
-        segments: segments_of(alloc, segments)?,
+        segments,
     })
 }
 
@@ -234,22 +239,81 @@ struct Plant {
     bank: MstrBank,
 }
 
+/// The ladder of a plan, and the table of its message blocks.
+#[derive(Drop)]
+struct Solver {
+    ladder: Ladder,
+    bank: MstrBank,
+}
+
+fn solver_of(alloc: Global, plan: &ControllerPlan) -> Result<Solver, AllocError>
+    requires { IsChecked plan.now }
+    ensures laid { IfOk result (λ made. made.ladder.grids ≡ grids_of plan.now.segments) }
+    ensures blocks { IfOk result (λ made.
+        mstr_count made.ladder.grids ≤ length made.bank.blocks) }
+{
+    checked_plans_find_all();
+    grids_ask_no_more();
+    let grids = grids_of(alloc, plan.segments.as_slice())?;
+    let ladder = Ladder::new(alloc, grids)?;
+    let count = ladder.blocks();
+    let bank = MstrBank::new(alloc, plan.node, count)?;
+    Ok(Solver { ladder, bank })
+}
+
+/// The store of a plan, and one of its discretes alone.
+#[derive(Drop)]
+struct Stores {
+    ram: MapRam,
+    past: MapRam,
+}
+
+fn stores_of(alloc: Global, plan: &ControllerPlan) -> Result<Stores, AllocError>
+    ensures stored { IfOk result (λ made. Keeps (cleared (sizes_of plan.now)) made.ram) }
+    ensures discretes { IfOk result (λ made.
+        Keeps (cleared (discretes_of (sizes_of plan.now))) made.past) }
+    ensures ends { IfOk result (λ made. Keeps made.past made.ram) }
+{
+    discretes_follow();
+    let (coils, inputs, words) = (plan.coils, plan.inputs, plan.registers);
+    let ram = MapRam::new(alloc, coils, inputs, plan.input_registers, words)?;
+    let past = MapRam::new(alloc, coils, inputs, 0, 0)?;
+    Ok(Stores { ram, past })
+}
+
+/// What a plan's scans work on.
+#[derive(Drop)]
+struct Parts {
+    solver: Solver,
+    stores: Stores,
+}
+
+fn parts_of(alloc: Global, plan: &ControllerPlan) -> Result<Parts, AllocError>
+    requires { IsChecked plan.now }
+    ensures { IfOk result (λ made. IsReady plan.now made.solver.ladder made.stores.ram
+        made.stores.past made.solver.bank) }
+{
+    let stores = stores_of(alloc, plan)?;
+    let solver = solver_of(alloc, plan)?;
+    Ok(Parts { solver, stores })
+}
+
 fn plant_of(alloc: Global, plan: ControllerPlan) -> Result<Plant, AllocError>
     requires { IsChecked plan }
     ensures { IfOk result (λ plant.
         IsReady plant.plan plant.ladder plant.ram plant.past plant.bank) }
 {
-    checked_plans_find_all();
-    discretes_follow();
-    grids_ask_no_more();
-    let ladder = Ladder::new(alloc, grids_of(alloc, plan.segments.as_slice())?)?;
-    let (coils, inputs, words) = (plan.coils, plan.inputs, plan.registers);
+    let parts = parts_of(alloc, &plan)?;
+    let Parts {
+        solver: Solver { ladder, bank },
+        stores: Stores { ram, past },
+    } = parts;
     Ok(Plant {
-        ram: MapRam::new(alloc, coils, inputs, plan.input_registers, words)?,
-        past: MapRam::new(alloc, coils, inputs, 0, 0)?,
-        bank: MstrBank::new(alloc, plan.node, ladder.blocks())?,
-        ladder,
         plan,
+        ladder,
+        ram,
+        past,
+        bank,
     })
 }
 
@@ -345,15 +409,23 @@ impl Plant {
     }
 }
 
-/// Scans the networks of a case, one scan every 30 ticks.
-fn show_case(rt: &(impl Abort + AllocGlobal), case: &Case) -> Result<(), AllocError> {
+/// The plant of a case.
+fn plant_in(rt: &(impl Abort + AllocGlobal), case: &Case) -> Result<Plant, AllocError>
+    ensures { IfOk result (λ plant.
+        IsReady plant.plan plant.ladder plant.ram plant.past plant.bank) }
+{
     let plan = plan_of(rt.alloc(), case.segments)?;
     checks_are_exact();
     if plan.check().is_err() {
         let what = case.what;
         panic!(rt; "{what}: the plan has a fault");
     }
-    let mut plant = plant_of(rt.alloc(), plan)?;
+    plant_of(rt.alloc(), plan)
+}
+
+/// Scans the networks of a case, one scan every 30 ticks.
+fn show_case(rt: &(impl Abort + AllocGlobal), case: &Case) -> Result<(), AllocError> {
+    let mut plant = plant_in(rt, case)?;
     let mut before = 0u64;
     for scan in case.scans {
         let now = before.saturating_add(30);

@@ -11,3 +11,4 @@ pub mod Dealt
 pub mod Through
 pub mod Closed
 pub mod Whole
+pub mod Noting

@@ -15,13 +15,13 @@ use Rattle.ring_core.specs.declared.entry.RingEntry.{RingEntry}
 use Rattle.ring_core.specs.Legal.{IsMember}
 use Rattle.ring_core.specs.Machine.{addresses}
 use Rattle.std.proofs.lemmas.List.Elements.{All-contains_itself}
-use Rattle.joint_history.specs.declared.joint.ControllerLog.{ControllerLog}
 use Rattle.joint_history.specs.declared.joint.HostLog.{HostLog}
 use Rattle.live_run.specs.Dealing.{GatheredInto, HasLog, IsAt, Seat, brought, fresh_station}
 use Rattle.live_run.specs.Dealing.{seen_by}
 use Rattle.joint_history.specs.Runnable.{CanRunPlant}
 use Rattle.live_run.specs.Runs.{IsThrough}
-use Rattle.live_run.specs.Stations.{CameToEnd, CanRunAll, HasRun, HostCameToEnd, HostHasRun}
+use Rattle.live_run.specs.declared.stations.NotedLog.{NotedLog}
+use Rattle.live_run.specs.Stations.{CameNoted, CanRunAll, HasRun, HostCameToEnd, HostHasRun}
 use Rattle.live_run.specs.Stations.{RanEach}
 use Rattle.live_run.proofs.Dealt.{plant-new}
 use Rattle.live_run.proofs.Gathering.{into-gate}
@@ -44,10 +44,10 @@ hosts-members plant sound =
     (Contains-append_right (controller_nodes plant) (host_nodes plant) n there))
 
 -- the stations of controllers after their run
-pub controllers-seated : (plant : Plant) (scans : ℕ) (gate : GateFacts RingEntry NetPlan) (old new : List (Seat ControllerLog))
+pub controllers-seated : (plant : Plant) (scans : ℕ) (gate : GateFacts RingEntry NetPlan) (old new : List (Seat NotedLog))
     → old ≡ map (λ (plan : ControllerPlan). fresh_station gate plan.node) plant.controllers
     → RanEach seat_side (HasRun seat_seen plant scans) plant.controllers old new
-    → AllZip (λ (plan : ControllerPlan) (seat : Seat ControllerLog). IsSeatOf gate plan.node seat) plant.controllers new
+    → AllZip (λ (plan : ControllerPlan) (seat : Seat NotedLog). IsSeatOf gate plan.node seat) plant.controllers new
 controllers-seated plant scans gate old new is r =
     seated gate (λ plan. plan.node) plant.controllers new (r.sides ∙ ap (Rattle.live_run.specs.Stations.sides_of seat_side) is)
 
@@ -58,7 +58,7 @@ pub hosts-seated : (plant : Plant) (gate : GateFacts RingEntry NetPlan) (old new
 hosts-seated plant gate old new is r =
     seated gate (λ plan. plan.node) plant.hosts new (r.sides ∙ ap (Rattle.live_run.specs.Stations.sides_of seat_side) is)
 
-pub controllers-at : (plant : Plant) (scans : ℕ) (gate : GateFacts RingEntry NetPlan) (old new : List (Seat ControllerLog)) → IsPlant plant
+pub controllers-at : (plant : Plant) (scans : ℕ) (gate : GateFacts RingEntry NetPlan) (old new : List (Seat NotedLog)) → IsPlant plant
     → old ≡ map (λ (plan : ControllerPlan). fresh_station gate plan.node) plant.controllers
     → RanEach seat_side (HasRun seat_seen plant scans) plant.controllers old new → All (IsAt gate) new
 controllers-at plant scans gate old new sound is r =
@@ -75,7 +75,7 @@ both-true true b e = (refl, e)
 both-true false b e = absurd (let no' : false ≡ true = e in cc)
 
 pub through-all : (plant : Plant) (scans : ℕ) (gate : GateFacts RingEntry NetPlan) (zero one two three four : PassFacts RingEntry)
-    (old new : List (Seat ControllerLog)) (host_old host_new : List (Seat HostLog)) (logs : List ControllerLog) (host_logs : List HostLog) (done host_done : Bool)
+    (old new : List (Seat NotedLog)) (host_old host_new : List (Seat HostLog)) (logs : List NotedLog) (host_logs : List HostLog) (done host_done : Bool)
     → zero ≡ first_pass gate.name → one ≡ record zero { given = reverse (controller_nodes plant) ++ zero.given }
     → two ≡ record one { given = reverse (host_nodes plant) ++ one.given }
     → old ≡ map (λ (plan : ControllerPlan). fresh_station gate plan.node) plant.controllers
@@ -94,11 +94,11 @@ through-all plant scans gate zero one two three four old new host_old host_new l
           (ap (map (λ (q : ℕ × List RingEntry). q.0)) joined ∙ map-append (λ (q : ℕ × List RingEntry). q.0) (map brought new) (map brought host_new)
           ∙ (λ i. seat-numbers gate (λ plan. plan.node) plant.controllers new seats i ++ seat-numbers gate (λ plan. plan.node) plant.hosts host_new host_seats i));
       ran = λ yes'.
-          more-brought gate (λ plan. plan.node) (CameToEnd plant scans) (map brought new) four.joined (map seen_by new) four.heard
+          more-brought gate (λ plan. plan.node) (CameNoted plant scans) (map brought new) four.joined (map seen_by new) four.heard
           (λ x there. subst (λ l. Contains l x) (sym joined) (Contains-append_left (map brought new) (map brought host_new) x there))
           (λ x there. subst (λ l. Contains l x) (sym heard) (Contains-append_left (map seen_by new) (map seen_by host_new) x there))
           plant.controllers logs
-          (are-brought gate (λ plan. plan.node) (CameToEnd plant scans) plant.controllers new logs ran.ran seats (logged (both-true done host_done yes').0));
+          (are-brought gate (λ plan. plan.node) (CameNoted plant scans) plant.controllers new logs ran.ran seats (logged (both-true done host_done yes').0));
       served = λ yes'.
           more-brought gate (λ plan. plan.node) (HostCameToEnd plant) (map brought host_new) four.joined (map seen_by host_new) four.heard
           (λ x there. subst (λ l. Contains l x) (sym joined) (Contains-append_right (map brought new) (map brought host_new) x there))
@@ -112,7 +112,7 @@ through-all plant scans gate zero one two three four old new host_old host_new l
     base = t ∙ ap (λ (p : PassFacts RingEntry). record p { given = reverse (host_nodes plant) ++ p.given })
         (o ∙ ap (λ (p : PassFacts RingEntry). record p { given = reverse (controller_nodes plant) ++ p.given }) z)
 
-    seats : AllZip (λ (plan : ControllerPlan) (seat : Seat ControllerLog). IsSeatOf gate plan.node seat) plant.controllers new
+    seats : AllZip (λ (plan : ControllerPlan) (seat : Seat NotedLog). IsSeatOf gate plan.node seat) plant.controllers new
     seats = controllers-seated plant scans gate old new old_is ran
 
     host_seats : AllZip (λ (plan : HostPlan) (seat : Seat HostLog). IsSeatOf gate plan.node seat) plant.hosts host_new
@@ -129,7 +129,7 @@ through-all plant scans gate zero one two three four old new host_old host_new l
         ∙ ap (λ (p : PassFacts RingEntry). p.heard ++ map seen_by new) base)
 
 -- nothing ran
-pub through-none : (plant : Plant) (scans : ℕ) (gate : GateFacts RingEntry NetPlan) (p : PassFacts RingEntry) (logs : List ControllerLog) (host_logs : List HostLog)
+pub through-none : (plant : Plant) (scans : ℕ) (gate : GateFacts RingEntry NetPlan) (p : PassFacts RingEntry) (logs : List NotedLog) (host_logs : List HostLog)
     → p ≡ first_pass gate.name → IsThrough plant scans gate p logs host_logs false
 through-none plant scans gate p logs host_logs is = record {
   gate_is = ap (λ (q : PassFacts RingEntry). q.gate) is;

@@ -1,15 +1,18 @@
 -- A run whose passes of the ring are all back. This project's own.
-use Rattle.std.specs.Prelude.{◌≡◌, ℕ, Bool, true, List}
+use Rattle.std.specs.Prelude.{◌≡◌, ℕ, Bool, true, List, map}
 use Rattle.std.specs.List.{AllZip, Contains}
 use Rattle.turn_gate.specs.Known.{GateFacts, HasAllBack, IsOutside, PassFacts, own as made_by}
 use Rattle.plant_types.specs.declared.net.NetPlan.{NetPlan}
 use Rattle.plant_types.specs.declared.plan.Plant.{Plant}
 use Rattle.ring_core.specs.declared.entry.RingEntry.{RingEntry}
 use Rattle.ring_core.specs.Words.{maker}
+use Rattle.controller_core.specs.declared.notes.Notes.{Notes}
 use Rattle.joint_history.specs.declared.joint.ControllerLog.{ControllerLog}
 use Rattle.joint_history.specs.declared.joint.HostLog.{HostLog}
+use Rattle.joint_history.specs.declared.noted.Noted.{Noted}
 use Rattle.live_run.specs.declared.runs.Outcome.{Outcome}
-use Rattle.live_run.specs.Stations.{CameToEnd, HostCameToEnd}
+use Rattle.live_run.specs.declared.stations.NotedLog.{NotedLog}
+use Rattle.live_run.specs.Stations.{CameNoted, HostCameToEnd}
 
 -- The passes brought back that of a node, with a list of which this holds.
 pub record IsBrought (joined : List (ℕ × List RingEntry)) (heard : List (List RingEntry)) (node : ℕ)
@@ -26,14 +29,14 @@ AreBrought joined heard node_of Holds plans logs =
 
 -- Pass 0 has all passes back; where all stations came to their ends, it has what they tell.
 pub record IsThrough (plant : Plant) (scans : ℕ) (gate : GateFacts RingEntry NetPlan)
-    (p : PassFacts RingEntry) (logs : List ControllerLog) (host_logs : List HostLog) (done : Bool)
+    (p : PassFacts RingEntry) (logs : List NotedLog) (host_logs : List HostLog) (done : Bool)
     : Type 0 where
   pub gate_is : p.gate ≡ gate.name
   pub outside : IsOutside p
   pub is_zero : p.number ≡ 0
   pub all_back : HasAllBack p
   pub ran : done ≡ true
-      → AreBrought p.joined p.heard (λ plan. plan.node) (CameToEnd plant scans)
+      → AreBrought p.joined p.heard (λ plan. plan.node) (CameNoted plant scans)
       plant.controllers logs
   pub served : done ≡ true
       → AreBrought p.joined p.heard (λ plan. plan.node) (HostCameToEnd plant) plant.hosts host_logs
@@ -43,3 +46,18 @@ abbrev pub IsOutcome : Plant → ℕ → GateFacts RingEntry NetPlan → Outcome
 IsOutcome plant scans gate outcome =
     IsThrough plant scans gate outcome.pass outcome.controllers.items outcome.hosts.items
     outcome.done
+
+-- The history of a controller, and its notes.
+abbrev pub log_part : NotedLog → ControllerLog
+log_part noted = noted.log
+
+abbrev pub notes_part : NotedLog → Notes
+notes_part noted = noted.notes
+
+-- A joint history has these closed lists, and the notes beside it are those of its controllers.
+pub record IsMadeOf (controllers : List NotedLog) (hosts : List HostLog) (ring : List RingEntry)
+    (noted : Noted) : Type 0 where
+  pub controllers_are : noted.joint.controllers ≡ map log_part controllers
+  pub hosts_are : noted.joint.hosts ≡ hosts
+  pub ring_is : noted.joint.ring ≡ ring
+  pub notes_are : noted.notes ≡ map notes_part controllers

@@ -8,12 +8,14 @@ use Rattle.plant_types.specs.Plans.{IsHostPlan, IsNetPlan}
 use Rattle.ring_core.specs.Legal.{IsMember}
 use Rattle.ring_core.specs.declared.entry.RingEntry.{RingEntry}
 use Rattle.controller_core.specs.Machine.{IsRunnable}
+use Rattle.controller_core.specs.Notes.{notes_of}
 use Rattle.tied_lists.specs.Own.{own}
 use Rattle.joint_history.specs.declared.joint.ControllerLog.{ControllerLog}
 use Rattle.joint_history.specs.declared.joint.HostLog.{HostLog}
 use Rattle.joint_history.specs.JointLaws.{fixed_of}
 use Rattle.comm_port.specs.Sides.{RingSideIs}
 use Rattle.turn_laws.specs.KeepsOn.{HasFinished, HostHasFinished, NoneSpent}
+use Rattle.live_run.specs.declared.stations.NotedLog.{NotedLog}
 use Rattle.live_run.specs.declared.stations.Station.{Station}
 
 -- Each controller of these plans can run, and each host can serve.
@@ -39,6 +41,12 @@ pub record CameToEnd (plant : Plant) (scans : ℕ) (plan : ControllerPlan) (log 
   pub node : log.node ≡ plan.node
   pub finished : HasFinished plant scans ring plan log
   pub unspent : NoneSpent (own plan.node ring)
+
+-- A controller came to its end, and what it noted of its panel is what its history has noted.
+pub record CameNoted (plant : Plant) (scans : ℕ) (plan : ControllerPlan) (noted : NotedLog)
+    (ring : List RingEntry) : Type 0 where
+  pub came : CameToEnd plant scans plan noted.log ring
+  pub notes : noted.notes ≡ notes_of (fixed_of plant scans plan) noted.log.entries
 
 -- A host came to its end, as its history and what its node has seen of the ring tell.
 pub record HostCameToEnd (plant : Plant) (plan : HostPlan) (log : HostLog)
@@ -68,11 +76,11 @@ module _ {S Q L : Type 0} (side : S → RingSideIs Q) where
     pub ran : AllZip Ran plans new
     pub sides : sides_of new ≡ sides_of old
 
--- Where a station has a history, its controller came to its end.
+-- Where a station has a history, its controller came to its end, and its notes are beside it.
 abbrev pub HasRun : {S : Type 0} → (S → List RingEntry) → Plant → ℕ → ControllerPlan
-    → Station S ControllerLog → Type 0
+    → Station S NotedLog → Type 0
 HasRun known plant scans plan station =
-    IfSome station.log (λ log. CameToEnd plant scans plan log (known station.ring))
+    IfSome station.log (λ noted. CameNoted plant scans plan noted (known station.ring))
 
 -- Where a station has a history, its host came to its end.
 abbrev pub HostHasRun : {S : Type 0} → (S → List RingEntry) → Plant → HostPlan
@@ -82,7 +90,7 @@ HostHasRun known plant plan station =
 
 -- The stations of these controllers have not run.
 abbrev pub AreControllersFresh : {S Q : Type 0} → (S → RingSideIs Q) → (S → List RingEntry) → Plant
-    → List ControllerPlan → List (Station S ControllerLog) → Type 0
+    → List ControllerPlan → List (Station S NotedLog) → Type 0
 AreControllersFresh side known plant plans stations =
     AreFresh side known plant (λ plan. plan.node) plans stations
 
@@ -94,8 +102,7 @@ AreHostsFresh side known plant plans stations =
 
 -- The stations of these controllers have run, and their sides are the same.
 abbrev pub AllRan : {S Q : Type 0} → (S → RingSideIs Q) → (S → List RingEntry) → Plant → ℕ
-    → List ControllerPlan → List (Station S ControllerLog) → List (Station S ControllerLog)
-    → Type 0
+    → List ControllerPlan → List (Station S NotedLog) → List (Station S NotedLog) → Type 0
 AllRan side known plant scans plans old new =
     RanEach side (HasRun known plant scans) plans old new
 

@@ -69,6 +69,8 @@ impl<'a, R: Wait> RamSide for GatedRam<'a, R> {
 
     ghost alone = { false };
 
+    ghost reserved = { λ s. false };
+
     fn collect(&mut self) -> Result<List<Call>, AllocError> {
         conditions_stay();
         let mut held = self.gate.enter(self.rt, &mut self.pass);

@@ -92,6 +92,8 @@ impl<'a, M: Meet, R: Wait> RingSide for GatedRing<'a, M, R> {
 
     ghost alone = { false };
 
+    ghost room = { λ s. 0 };
+
     fn post(&mut self, node: u8, frame: Frame) -> Result<(), RingNo> {
         let mut held = self.gate.enter(self.rt, &mut self.pass);
         let ring = held.value().get_mut();

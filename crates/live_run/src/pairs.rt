@@ -6,7 +6,7 @@ ghost use Rattle.controller_core.specs.Machine.{IsRunnable};
 ghost use Rattle.joint_history.specs.JointLaws.{fixed_of};
 ghost use Rattle.live_run.specs.Cells.{maker_number};
 ghost use Rattle.live_run.specs.Pairs.{IsBack, StaysAt, TalksAt, ram_side};
-ghost use Rattle.live_run.specs.Stations.{IsUnused, CameToEnd};
+ghost use Rattle.live_run.specs.Stations.{IsUnused, CameNoted};
 ghost use Rattle.live_run.specs.Talking.{TalksOn};
 
 use crate::cells::RamCell;
@@ -14,6 +14,7 @@ use crate::crews::Run;
 use crate::gated_ram::GatedRam;
 use crate::meets::Meet;
 use crate::scanning::scan_all;
+use crate::stations::NotedLog;
 use crate::talking::talk;
 use crate::tallies::Outside;
 use comm_port::{CommWorker, RingSide};
@@ -96,16 +97,16 @@ fn through_gate<G: RingSide + Outside + Send, M: Meet + Sync, R: Threads + Wait 
     (zero, scanned & talked)
 }
 
-/// The history of a controller that ran behind a gate to its end.
+/// The history and the notes of a controller that ran behind a gate to its end.
 pub(crate) fn run_controller<
     G: RingSide + Outside + Send,
     M: Meet + Sync,
     R: Threads + Wait + Clock + Sync,
->(run: &Run<'_, M, R>, plan: &ControllerPlan, ring: &mut G) -> Result<ControllerLog, AllocError>
+>(run: &Run<'_, M, R>, plan: &ControllerPlan, ring: &mut G) -> Result<NotedLog, AllocError>
     requires runnable { IsRunnable (fixed_of run.now.plant.now run.now.scans plan.now) }
     requires unused { IsUnused run.now.plant.now plan.now.node (G.side ring.old) (G.known ring.old) }
     ensures ended { IfOk result
-        (λ log. CameToEnd run.now.plant.now run.now.scans plan.now log (G.known ring.new)) }
+        (λ noted. CameNoted run.now.plant.now run.now.scans plan.now noted (G.known ring.new)) }
     ensures side { G.side ring.new ≡ G.side ring.old }
 {
     let plant = run.plant;
@@ -117,8 +118,10 @@ pub(crate) fn run_controller<
     if !done {
         return Err(AllocError);
     }
-    Ok(ControllerLog {
+    let (entries, notes) = controller.into_parts();
+    let log = ControllerLog {
         node: plan.node,
-        entries: controller.into_history(),
-    })
+        entries,
+    };
+    Ok(NotedLog { log, notes })
 }

@@ -1,9 +1,13 @@
-//! How a worker waits between its turns.
+//! How a worker waits between its turns, and lets others go first between its scans.
 use crate::crews::Crew;
 use crate::flags::Watch;
 use crossbeam_utils::Backoff;
-use std::thread::sleep;
-use std::time::{Clock, Duration};
+use std::thread::{sleep, yield_now};
+use std::time::{Clock, Duration, Instant};
+
+/// For so many millionths of a second a scan worker goes on before it lets others go first. With
+/// few processors a worker that has the token would else wait for a time slice of each of them.
+const STINT: u64 = 50;
 
 /// How often a worker waits for one that has not begun: where no thread could be made, that one may
 /// stand behind the worker itself.
@@ -55,6 +59,37 @@ impl Pause {
             sleep(clock, Duration::from_millis(A_WAIT));
         } else {
             watch.raise();
+        }
+    }
+}
+
+/// Since when a scan worker has not let others go first.
+#[derive(Drop)]
+pub(crate) struct Stint {
+    since: Option<Instant>,
+}
+
+impl Stint {
+    pub(crate) fn new() -> Stint {
+        Stint { since: None }
+    }
+
+    /// A scan has ended: others go first, unless they did a short while before. Where no clock can
+    /// be read they go first after each scan.
+    pub(crate) fn scan_ended<C: Clock>(&mut self, clock: &C) {
+        if self.is_over(clock) {
+            yield_now();
+            self.since = Instant::now(clock).ok();
+        }
+    }
+
+    fn is_over<C: Clock>(&self, clock: &C) -> bool {
+        let Some(since) = &self.since else {
+            return true;
+        };
+        match since.elapsed(clock) {
+            Ok(spent) => spent >= Duration::from_micros(STINT),
+            Err(_) => true,
         }
     }
 }

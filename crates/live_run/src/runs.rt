@@ -10,6 +10,7 @@ ghost use Rattle.std.specs.Prelude.{◌≤◌, IfOk};
 ghost use Rattle.plant_types.specs.Plans.{IsPlant};
 ghost use Rattle.joint_history.specs.Complete.{IsComplete};
 ghost use Rattle.joint_history.specs.JointLaws.{IsJoint, IsLegalJoint};
+ghost use Rattle.joint_history.specs.Noted.{IsNoted};
 ghost use Rattle.effect_laws.specs.Effects.{EffectsAreRight};
 ghost use Rattle.entry_causes.specs.Joint.{IsInOneOrder};
 ghost use Rattle.turn_laws.specs.KeepsOn.{NoneSpent};
@@ -20,12 +21,14 @@ ghost use Rattle.live_run.specs.Runs.{IsOutcome};
 use crate::cells::RingCell;
 use crate::crews::{Crew, Run};
 use crate::gated_ring::GatedRing;
+use crate::lists::noted_of;
 use crate::meets::Meet;
-use crate::stations::{Station, run_all};
+use crate::stations::{NotedLog, Station, run_all};
+use controller_core::notes_ask_no_scans;
 use effect_laws::effects_are_right;
 use entry_causes::joint_is_in_one_order;
-use joint_history::{ControllerLog, HostLog, Joint};
-use plant_types::{ControllerPlan, HostPlan, List, Plant};
+use joint_history::{HostLog, Joint, Noted};
+use plant_types::{ControllerPlan, HostPlan, Plant};
 use ring_core::Ring;
 use std::alloc::{AllocError, Global};
 use std::sync::Wait;
@@ -128,7 +131,7 @@ fn gather<'a, L: Drop, M: Meet, R: Wait>(
 /// What a run through the ring's gate comes to.
 struct Outcome {
     pass: Pass<RingCell>,
-    controllers: Vec<ControllerLog>,
+    controllers: Vec<NotedLog>,
     hosts: Vec<HostLog>,
     done: bool,
 }
@@ -190,7 +193,47 @@ fn through_ring<M: Meet + Sync, R: Threads + Wait + Clock + Sync>(
 
 /// Runs a plant in threads, where threads can be made: each controller with its scan worker and its
 /// communication worker behind a gate, each host with its worker, and the ring behind a gate. The
-/// workers have no budget. The only error is that memory ran out.
+/// workers have no budget. Beside the joint history stands what each controller noted of its panel.
+/// The only error is that memory ran out.
+pub fn live_noted<M: Meet + Sync, R: Threads + Wait + Clock + Sync>(
+    rt: &R,
+    alloc: Global,
+    plant: &Plant,
+    scans: u32,
+    meet: &M,
+) -> Result<Noted, AllocError>
+    requires plant { CanRunPlant plant.now }
+    requires scans { scans ≤ 2000 }
+    ensures legal { IfOk result (λ noted. IsLegalJoint plant.now scans noted.joint) }
+    ensures joint { IfOk result (λ noted. IsJoint noted.joint) }
+    ensures complete { IfOk result (λ noted. IsComplete plant.now scans noted.joint) }
+    ensures unspent { IfOk result (λ noted. NoneSpent noted.joint.ring) }
+    ensures effects { IfOk result (λ noted. EffectsAreRight noted.joint) }
+    ensures in_time { IfOk result (λ noted. IsInOneOrder noted.joint) }
+    ensures noted { IfOk result (IsNoted plant.now) }
+{
+    effects_are_right();
+    runs_complete();
+    joint_is_in_one_order();
+    notes_ask_no_scans();
+    let ring = Ring::new(alloc, &plant.net)?;
+    let crew = Crew::new(alloc, plant, ring.holder())?;
+    let (gate, pass) = Gate::new(alloc, RingCell::new(ring))?;
+    let run = Run::new(rt, &crew, meet, plant, alloc, scans);
+    let Outcome {
+        pass,
+        controllers,
+        hosts,
+        done,
+    } = through_ring(&run, &gate, pass);
+    let ring = gate.close(pass).into_inner().into_history();
+    if !done {
+        return Err(AllocError);
+    }
+    noted_of(alloc, controllers, hosts, ring)
+}
+
+/// The joint history of a run in threads alone, as `live_noted` makes it.
 pub fn live<M: Meet + Sync, R: Threads + Wait + Clock + Sync>(
     rt: &R,
     alloc: Global,
@@ -207,26 +250,6 @@ pub fn live<M: Meet + Sync, R: Threads + Wait + Clock + Sync>(
     ensures effects { IfOk result EffectsAreRight }
     ensures in_time { IfOk result IsInOneOrder }
 {
-    effects_are_right();
-    runs_complete();
-    joint_is_in_one_order();
-    let ring = Ring::new(alloc, &plant.net)?;
-    let crew = Crew::new(alloc, plant, ring.holder())?;
-    let (gate, pass) = Gate::new(alloc, RingCell::new(ring))?;
-    let run = Run::new(rt, &crew, meet, plant, alloc, scans);
-    let Outcome {
-        pass,
-        controllers,
-        hosts,
-        done,
-    } = through_ring(&run, &gate, pass);
-    let ring = gate.close(pass).into_inner();
-    if !done {
-        return Err(AllocError);
-    }
-    Ok(Joint {
-        controllers: List::from_vec(controllers),
-        hosts: List::from_vec(hosts),
-        ring: ring.into_history(),
-    })
+    let Noted { joint, notes: _ } = live_noted(rt, alloc, plant, scans, meet)?;
+    Ok(joint)
 }

@@ -9,11 +9,12 @@ ghost use Rattle.live_run.specs.Scanning.{IsOver};
 use crate::cells::RamCell;
 use crate::crews::Crew;
 use crate::meets::Meet;
+use crate::pauses::Stint;
 use controller_core::{Controller, Maker, StepEnd};
 use scan_order::ScanStep;
 use std::alloc::AllocError;
 use std::sync::Wait;
-use std::thread::yield_now;
+use std::time::Clock;
 use turn_gate::{Gate, Pass};
 
 /// Makes the next event of the scan, for which it reserves memory where a scan begins.
@@ -53,7 +54,7 @@ fn step_in<M: Meet, R: Wait>(
 }
 
 /// Makes events until all scans have ended or the controller has stopped; whether it came so far.
-pub(crate) fn scan_all<M: Meet, R: Wait>(
+pub(crate) fn scan_all<M: Meet, R: Wait + Clock>(
     rt: &R,
     crew: &Crew,
     meet: &M,
@@ -66,12 +67,13 @@ pub(crate) fn scan_all<M: Meet, R: Wait>(
     ensures ended { result ≡ true → has_ended_at gate.now.fixed pass.new.seen ≡ true }
 {
     let mut watch = crew.begin();
+    let mut stint = Stint::new();
     for _ in rt.forever() {
         if watch.is_raised() {
             return false;
         }
         match step_in(rt, meet, gate, pass, node) {
-            Ok(StepEnd::Did(ScanStep::End)) => yield_now(),
+            Ok(StepEnd::Did(ScanStep::End)) => stint.scan_ended(rt),
             Ok(StepEnd::Did(_)) => {}
             Ok(_) => return true,
             Err(_) => {

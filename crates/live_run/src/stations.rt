@@ -14,6 +14,7 @@ use crate::meets::Meet;
 use crate::pairs::run_controller;
 use crate::tallies::Outside;
 use comm_port::RingSide;
+use controller_core::Notes;
 use joint_history::{ControllerLog, HostLog};
 use plant_types::{ControllerPlan, HostPlan};
 use std::sync::Wait;
@@ -26,13 +27,20 @@ pub(crate) struct Station<G, L> {
     pub(crate) log: Option<L>,
 }
 
+/// The closed history of a controller, and what it noted of its panel.
+#[derive(Drop)]
+pub(crate) struct NotedLog {
+    pub(crate) log: ControllerLog,
+    pub(crate) notes: Notes,
+}
+
 /// Runs the controllers of these plans, each at the station beside its plan.
 #[cycle(controllers)]
 pub(crate) fn run_controllers<
     G: RingSide + Outside + Send,
     M: Meet + Sync,
     R: Threads + Wait + Clock + Sync,
->(run: &Run<'_, M, R>, plans: &[ControllerPlan], stations: &mut [Station<G, ControllerLog>])
+>(run: &Run<'_, M, R>, plans: &[ControllerPlan], stations: &mut [Station<G, NotedLog>])
     requires runnable { CanRunAll run.now.plant.now run.now.scans plans.now }
     requires fresh { AreControllersFresh G.side G.known run.now.plant.now plans.now stations.old }
     ensures { AllRan G.side G.known run.now.plant.now run.now.scans plans.now
@@ -55,7 +63,7 @@ pub(crate) fn run_controllers<
 fn run_one<G: RingSide + Outside + Send, M: Meet + Sync, R: Threads + Wait + Clock + Sync>(
     run: &Run<'_, M, R>,
     plan: &ControllerPlan,
-    station: &mut Station<G, ControllerLog>,
+    station: &mut Station<G, NotedLog>,
 )
     requires runnable { IsRunnable (fixed_of run.now.plant.now run.now.scans plan.now) }
     requires fresh { IsFresh G.side G.known run.now.plant.now plan.now.node station.old }
@@ -63,7 +71,7 @@ fn run_one<G: RingSide + Outside + Send, M: Meet + Sync, R: Threads + Wait + Clo
     ensures side { G.side station.new.ring ≡ G.side station.old.ring }
 {
     match run_controller(run, plan, &mut station.ring) {
-        Ok(log) => station.log = Some(log),
+        Ok(noted) => station.log = Some(noted),
         Err(_) => run.crew.raise(),
     }
 }
@@ -73,8 +81,8 @@ fn run_halves<G: RingSide + Outside + Send, M: Meet + Sync, R: Threads + Wait + 
     run: &Run<'_, M, R>,
     first: &[ControllerPlan],
     second: &[ControllerPlan],
-    front: &mut [Station<G, ControllerLog>],
-    back: &mut [Station<G, ControllerLog>],
+    front: &mut [Station<G, NotedLog>],
+    back: &mut [Station<G, NotedLog>],
 )
     requires runnable_first { CanRunAll run.now.plant.now run.now.scans first.now }
     requires runnable_second { CanRunAll run.now.plant.now run.now.scans second.now }
@@ -191,7 +199,7 @@ pub(crate) fn run_all<
     run: &Run<'_, M, R>,
     plans: &[ControllerPlan],
     host_plans: &[HostPlan],
-    controllers: &mut [Station<G, ControllerLog>],
+    controllers: &mut [Station<G, NotedLog>],
     hosts: &mut [Station<G, HostLog>],
 )
     requires runnable { CanRunAll run.now.plant.now run.now.scans plans.now }

@@ -10,29 +10,41 @@ use std::alloc::{AllocError, Global};
 use std::process::Abort;
 use std::test::Fail;
 
+// Why there is no plant of these bytes, where there is none.
+fn end_of(alloc: Global, bytes: &[u8]) -> Option<LoadEnd> {
+    load(alloc, bytes).err()
+}
+
 // What a plant file is answered with: its fault and place, or that it is taken.
-fn answer_text(alloc: Global, read: Result<Plant, LoadEnd>) -> Result<String, AllocError> {
-    match read {
-        Ok(_) => String::from_str(alloc, "taken"),
-        Err(LoadEnd::Refused(fault, place)) => format!(in alloc; "{fault} {place}"),
-        Err(LoadEnd::NoMemory) => String::from_str(alloc, "no memory"),
+fn answer(alloc: Global, bytes: &[u8]) -> Result<String, AllocError> {
+    match end_of(alloc, bytes) {
+        None => String::from_str(alloc, "taken"),
+        Some(LoadEnd::Refused(fault, place)) => format!(in alloc; "{fault} {place}"),
+        Some(LoadEnd::NoMemory) => String::from_str(alloc, "no memory"),
+    }
+}
+
+// What a letter of a part stands for, where it does not stand for itself.
+fn unfolded_letter(letter: char) -> Option<&'static str> {
+    match letter {
+        '|' => Some("\n"),
+        '@' => Some("[[controller.segment]]\nnetworks = []\n"),
+        '%' => Some("[[controller.drop]]"),
+        '(' => Some("{ networks = ["),
+        ')' => Some("] }"),
+        _ => None,
     }
 }
 
 // A part of a plant file, written in one line.
-fn unfolded(alloc: Global, part: &str) -> Result<String, AllocError> {
-    let mut text = String::new(alloc);
+fn push_unfolded(text: &mut String, part: &str) -> Result<(), AllocError> {
     for letter in part.chars() {
-        match letter {
-            '|' => text.push_str("\n")?,
-            '@' => text.push_str("[[controller.segment]]\nnetworks = []\n")?,
-            '%' => text.push_str("[[controller.drop]]")?,
-            '(' => text.push_str("{ networks = [")?,
-            ')' => text.push_str("] }")?,
-            _ => text.push(letter)?,
+        match unfolded_letter(letter) {
+            Some(piece) => text.push_str(piece)?,
+            None => text.push(letter)?,
         }
     }
-    Ok(text)
+    Ok(())
 }
 
 // Texts between a start and an end, and what each is answered with behind a head.
@@ -209,17 +221,23 @@ const TABLES: [Table; 19] = [
     },
 ];
 
-fn answer(alloc: Global, bytes: &[u8]) -> Result<String, AllocError> {
-    answer_text(alloc, load(alloc, bytes))
+fn push_file(text: &mut String, table: &Table, part: &str) -> Result<(), AllocError> {
+    text.push_str(table.start)?;
+    push_unfolded(text, part)?;
+    text.push_str(table.end)
+}
+
+// What the file with a part in the place of a table's rows is answered with.
+fn answer_with(alloc: Global, table: &Table, part: &str) -> Result<String, AllocError> {
+    let mut text = String::new(alloc);
+    push_file(&mut text, table, part)?;
+    answer(alloc, text.as_bytes())
 }
 
 fn answers_row(rt: &impl Abort, alloc: Global, table: &Table, row: &str) -> Result<(), Fail> {
     let (part, tail) = row.split_once(" => ").ok_or("an answer")?;
-    let middle = unfolded(alloc, part)?;
-    let text = format!(in alloc; "{}{middle}{}", table.start, table.end)?;
-    let want = format!(in alloc; "{}{tail}", table.head)?;
-    let answer = answer(alloc, text.as_bytes())?;
-    assert_eq!(rt; answer.as_str(), want.as_str(), "{part}");
+    let answer = answer_with(alloc, table, part)?;
+    assert_eq!(rt; answer.strip_prefix(table.head), Some(tail), "{part}");
     Ok(())
 }
 
@@ -404,31 +422,29 @@ fn is_read(plant: &Plant) -> bool {
         && has_hosts(plant.hosts.as_slice())
 }
 
+fn is_small(plant: &Plant) -> bool {
+    plant.net.members.as_slice() == [7].as_slice()
+        && plant.net.fates.as_slice() == [Fate::D].as_slice()
+        && plant.net.holds == 100_000
+}
+
+const SMALL: &str = "version = 1\ncontroller = [{ node = 7 }]\nscan_time = 1\n";
+
 #[test]
-fn plants_are_read(rt: HostRuntime) -> Result<(), Fail> {
-    let plant = load(rt.alloc(), READ.as_bytes());
-    assert!(rt; plant.is_ok_and(|plant| is_read(&plant)));
-    let small = load(
-        rt.alloc(),
-        b"version = 1\ncontroller = [{ node = 7 }]\nscan_time = 1\n",
-    );
-    assert!(rt;
-        small.is_ok_and(|plant| plant.net.members.as_slice() == [7].as_slice()
-            && plant.net.fates.as_slice() == [Fate::D].as_slice()
-            && plant.net.holds == 100_000)
-    );
+fn a_plant_is_read(rt: HostRuntime) -> Result<(), Fail> {
+    let is = load(rt.alloc(), READ.as_bytes()).is_ok_and(|plant| is_read(&plant));
+    assert!(rt; is);
+    Ok(())
+}
+
+#[test]
+fn a_small_plant_is_read(rt: HostRuntime) -> Result<(), Fail> {
+    let is = load(rt.alloc(), SMALL.as_bytes()).is_ok_and(|plant| is_small(&plant));
+    assert!(rt; is);
     Ok(())
 }
 
 // Texts of many items, and how each is answered.
-fn many(alloc: Global, item: &str, count: u16) -> Result<String, AllocError> {
-    let mut list = String::new(alloc);
-    for _ in 0..count {
-        list.push_str(item)?;
-    }
-    Ok(list)
-}
-
 struct Limit {
     start: &'static str,
     item: &'static str,
@@ -517,13 +533,25 @@ const LIMITS: [Limit; 11] = [
     },
 ];
 
+fn push_items(text: &mut String, limit: &Limit) -> Result<(), AllocError> {
+    text.push_str(limit.start)?;
+    for _ in 0..limit.count {
+        text.push_str(limit.item)?;
+    }
+    text.push_str(limit.end)
+}
+
+// What the file with the items of a limit is answered with.
+fn answer_at(alloc: Global, limit: &Limit) -> Result<String, AllocError> {
+    let mut text = String::new(alloc);
+    push_items(&mut text, limit)?;
+    answer(alloc, text.as_bytes())
+}
+
 #[test]
 fn limits_are_kept(rt: HostRuntime) -> Result<(), Fail> {
-    let alloc = rt.alloc();
     for limit in &LIMITS {
-        let items = many(alloc, limit.item, limit.count)?;
-        let text = format!(in alloc; "{}{items}{}", limit.start, limit.end)?;
-        let answer = answer(alloc, text.as_bytes())?;
+        let answer = answer_at(rt.alloc(), limit)?;
         assert_eq!(rt;
             answer.as_str(),
             limit.answer,
@@ -546,15 +574,31 @@ const NO_DOCUMENTS: [&[u8]; 5] = [
 
 #[test]
 fn other_bytes_are_no_document(rt: HostRuntime) -> Result<(), Fail> {
-    let alloc = rt.alloc();
     for bytes in NO_DOCUMENTS {
-        assert_eq!(rt; answer(alloc, bytes)?.as_str(), "1 BadToml plant");
+        let answer = answer(rt.alloc(), bytes)?;
+        assert_eq!(rt; answer.as_str(), "1 BadToml plant");
     }
-    let nested = format!(in alloc; "x = {}", many(alloc, "[", 10_000)?)?;
-    assert_eq!(rt;
-        answer(alloc, nested.as_bytes())?.as_str(),
-        "1 BadToml plant"
-    );
-    assert_eq!(rt; answer(alloc, b"")?.as_str(), "2 BadKey plant");
+    Ok(())
+}
+
+const NESTED: Limit = Limit {
+    start: "x = ",
+    item: "[",
+    count: 10_000,
+    end: "",
+    answer: "1 BadToml plant",
+};
+
+#[test]
+fn what_is_nested_too_deep_is_no_document(rt: HostRuntime) -> Result<(), Fail> {
+    let answer = answer_at(rt.alloc(), &NESTED)?;
+    assert_eq!(rt; answer.as_str(), NESTED.answer);
+    Ok(())
+}
+
+#[test]
+fn an_empty_document_has_no_version(rt: HostRuntime) -> Result<(), Fail> {
+    let answer = answer(rt.alloc(), b"")?;
+    assert_eq!(rt; answer.as_str(), "2 BadKey plant");
     Ok(())
 }

@@ -152,6 +152,3 @@ pub fn comp<R: RefStore>(top: Ref, mid: Ref, length: u16, inputs: u8, ram: &mut 
     }
     passed_on(power)
 }
-
-#[cfg(test)]
-mod tests;

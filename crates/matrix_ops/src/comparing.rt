@@ -86,6 +86,3 @@ pub fn cmpr<R: RefStore>(top: Ref, mid: Ref, length: u16, inputs: u8, ram: &mut 
     };
     outputs.bits()
 }
-
-#[cfg(test)]
-mod tests;

@@ -12,8 +12,3 @@ pub use combining::{and, comp, or, xor};
 pub use comparing::cmpr;
 pub use single_bits::{mbit, sens, sets_one_bit};
 pub use turning::brot;
-
-#[cfg(test)]
-mod testing;
-#[cfg(test)]
-mod tests;

@@ -148,6 +148,3 @@ pub fn sens<R: RefStore>(top: Operand, mid: Ref, length: u16, inputs: u8, ram: &
     };
     outputs.bits()
 }
-
-#[cfg(test)]
-mod tests;

@@ -92,6 +92,3 @@ pub fn brot<R: RefStore>(top: Ref, mid: Ref, length: u16, inputs: u8, ram: &mut 
     };
     outputs.bits()
 }
-
-#[cfg(test)]
-mod tests;

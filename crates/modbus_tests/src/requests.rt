@@ -4,7 +4,7 @@ use std::alloc::{AllocError, Global};
 use std::test::*;
 
 /// What decoding answered: the code of an exception, 0 for a request.
-fn code_of(alloc: Global, bytes: &[u8]) -> u8 {
+pub fn code_of(alloc: Global, bytes: &[u8]) -> u8 {
     if bytes.is_empty() {
         return 255;
     }

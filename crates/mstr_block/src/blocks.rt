@@ -302,27 +302,14 @@ impl Blocks {
             (R.contents ram.old) (R.contents ram.new) }
     {
         match &self.blocks[usize::from(block - 1)] {
-            BlockState::Idle => {
-                if nodes.top && !nodes.middle {
-                    self.start(block, site, ram)
-                } else {
-                    SILENT.bits()
-                }
+            BlockState::Idle if nodes.top && !nodes.middle => self.start(block, site, ram),
+            BlockState::Idle => SILENT.bits(),
+            BlockState::Waiting if nodes.middle => {
+                self.end_with(USER_ABORT, BlockState::Idle, block, site, ram)
             }
-            BlockState::Waiting => {
-                if nodes.middle {
-                    self.end_with(USER_ABORT, BlockState::Idle, block, site, ram)
-                } else {
-                    self.start(block, site, ram)
-                }
-            }
-            BlockState::Active(_) => {
-                if nodes.middle {
-                    self.abort(block, site, ram)
-                } else {
-                    ACTIVE.bits()
-                }
-            }
+            BlockState::Waiting => self.start(block, site, ram),
+            BlockState::Active(_) if nodes.middle => self.abort(block, site, ram),
+            BlockState::Active(_) => ACTIVE.bits(),
             BlockState::Aborted(_) => SILENT.bits(),
             BlockState::Ready { kept, result } => {
                 let outputs = kept.answer(result, site, ram);

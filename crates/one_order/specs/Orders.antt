@@ -51,7 +51,8 @@ module _ {E R S D : Type 0} (maker : R → ℕ) (note : S → E → S) (deed : D
   -- At each time of an order what a node has done and what its station has noted are caused.
   abbrev pub IsCausedThroughout : ℕ → List (Event E R) → Type 0
   IsCausedThroughout n order = (before after : List (Event E R)) → order ≡ before ++ after
-      → Caused (tally note s (at_station n before)) (tally deed d (own_of maker n (on_ring before)))
+      → Caused (tally note s (at_station n before))
+      (tally deed d (own_of maker n (on_ring before)))
 
   -- There is one order of the ring's entries and of all stations', in which each entry stands
   -- behind what caused it.

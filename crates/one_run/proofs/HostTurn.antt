@@ -36,7 +36,7 @@ use Rattle.comm_port.specs.HostTurns.{HoldsHostTurn, IsFailed, IsSendingStep, Se
 use Rattle.comm_port.specs.HostTurns.{ServesFrame, ServesInbox, ServesKind, TellsTaken, ask_of}
 use Rattle.comm_port.specs.HostTurns.{bad_answer_of, bad_answer_to, give_up_of, hold_of, host_at}
 use Rattle.comm_port.specs.Giving.{inbox_of}
-use Rattle.comm_port.specs.HostTurns.{host_cause, notes_of, went_on}
+use Rattle.comm_port.specs.HostTurns.{host_cause, host_notes_of, went_on}
 use Rattle.comm_port.specs.Leaving.{last_entry}
 use Rattle.comm_port.specs.Replies.{reply_frame}
 use Rattle.turn_laws.proofs.Passes.{cons-head, cons-tail, nil-cons}
@@ -99,7 +99,7 @@ module _ (net : NetPlan) (n : ℕ) where
   -- what is served adds to both lists
   serves-goes : (a b : List HostEntry) (x y : List RingEntry) → ServesInbox true net n a b x y → Goes n a b x y
   serves-goes a b x y s = record {
-    noted = flat_map notes_of (inbox_of net n x);
+    noted = flat_map host_notes_of (inbox_of net n x);
     known_is = s.all.notes;
     done = flat_map (λ part. part) s.all.parts;
     ring_is = grew-is (is_of n) x _ y s.all.grew;

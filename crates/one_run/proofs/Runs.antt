@@ -34,8 +34,8 @@ use Rattle.serial_run.specs.declared.order.Turn.{Turn}
 use Rattle.serial_run.specs.declared.order.Turn.TheVariants.{Step, Hold, Visit}
 use Rattle.serial_run.specs.Turns.{HoldsAt, HostHoldsAt, IsControllerAt, MakesHold}
 use Rattle.serial_run.specs.Turns.{MakesStep, MakesTurn, MakesTurns, MakesVisit, StepsAt, VisitsAt}
-use Rattle.serial_run.specs.Turns.{VisitsIfDue, VisitsWhere, controller_place, empty_log}
-use Rattle.serial_run.specs.Turns.{host_place}
+use Rattle.serial_run.specs.Turns.{VisitsIfDue, VisitsWhere, place_of_controller, empty_log}
+use Rattle.serial_run.specs.Turns.{place_of_host}
 use Rattle.serial_run.specs.Turns.{nothing_made, stepped_list, visit_is_due, with_host_list}
 use Rattle.serial_run.specs.Turns.{with_list}
 use Rattle.serial_run.proofs.Lists.{position-none, zip-at-first}
@@ -373,7 +373,7 @@ module _ (plant : Plant) (scans : ℕ) where
     hold-grows None None old new m = subst (Grows old) (sym m) (grows-none old)
 
     -- a hold makes one thing
-    hold-one : (holder : ℕ) (c h : Option ℕ) → controller_place plant holder ≡ c → host_place plant holder ≡ h → (old new new' : Joint) → Kept old → Fine new
+    hold-one : (holder : ℕ) (c h : Option ℕ) → place_of_controller plant holder ≡ c → place_of_host plant holder ≡ h → (old new new' : Joint) → Kept old → Fine new
         → Fine new' → MakesHold plant scans c h old new → MakesHold plant scans c h old new' → OneJoint new new'
     hold-one holder (Some at) h is is' old new new' kept fine fine' m m' = held-one at old new new' kept fine fine' m m'
     hold-one holder None (Some at) is is' old new new' kept fine fine' m m' =
@@ -427,13 +427,13 @@ module _ (plant : Plant) (scans : ℕ) where
     -- ---- a turn, and turns one after another
 
     pub turn-grows : (turn : Turn) (old new : Joint) → MakesTurn plant scans turn old new → Grows old new
-    turn-grows (Step node) old new m = at (controller_place plant node) m
+    turn-grows (Step node) old new m = at (place_of_controller plant node) m
       where
         at : (c : Option ℕ) → MakesStep plant scans c old new → Grows old new
         at None m' = subst (Grows old) (sym m') (grows-none old)
         at (Some k) m' = step-grows k old new m'
     turn-grows Hold old new m = hold-grows _ _ old new m
-    turn-grows (Visit node) old new m = at (controller_place plant node) m
+    turn-grows (Visit node) old new m = at (place_of_controller plant node) m
       where
         at : (c : Option ℕ) → MakesVisit plant scans c old new → Grows old new
         at None m' = subst (Grows old) (sym m') (grows-none old)
@@ -442,15 +442,15 @@ module _ (plant : Plant) (scans : ℕ) where
     -- a turn makes one thing
     turn-one : (turn : Turn) (old new new' : Joint) → Kept old → Fine new → Fine new' → MakesTurn plant scans turn old new → MakesTurn plant scans turn old new'
         → OneJoint new new'
-    turn-one (Step node) old new new' kept fine fine' m m' = at (controller_place plant node) m m'
+    turn-one (Step node) old new new' kept fine fine' m m' = at (place_of_controller plant node) m m'
       where
         at : (c : Option ℕ) → MakesStep plant scans c old new → MakesStep plant scans c old new' → OneJoint new new'
         at None s s' = record { is = s ∙ sym s'; kept = subst Kept (sym s) kept }
         at (Some k) s s' = step-one k old new new' kept s s'
     turn-one Hold old new new' kept fine fine' m m' =
         let holder = (ring_after plant.net old.ring).holder in
-        hold-one holder (controller_place plant holder) (host_place plant holder) refl refl old new new' kept fine fine' m m'
-    turn-one (Visit node) old new new' kept fine fine' m m' = at (controller_place plant node) m m'
+        hold-one holder (place_of_controller plant holder) (place_of_host plant holder) refl refl old new new' kept fine fine' m m'
+    turn-one (Visit node) old new new' kept fine fine' m m' = at (place_of_controller plant node) m m'
       where
         at : (c : Option ℕ) → MakesVisit plant scans c old new → MakesVisit plant scans c old new' → OneJoint new new'
         at None s s' = record { is = s ∙ sym s'; kept = subst Kept (sym s) kept }

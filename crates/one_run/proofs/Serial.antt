@@ -15,13 +15,13 @@ use Rattle.controller_core.specs.Replay.{State, apply, replay}
 use Rattle.controller_core.specs.Run.{entries_from}
 use Rattle.joint_history.specs.declared.joint.ControllerLog.{ControllerLog}
 use Rattle.joint_history.specs.declared.joint.Joint.{Joint}
-use Rattle.joint_history.specs.JointLaws.{fixed_of}
+use Rattle.joint_history.specs.JointLaws.{fixed_of, logged}
 use Rattle.joint_history.specs.Reading.{has_ended_at}
 use Rattle.joint_history.proofs.Collected.{CallLaws}
 use Rattle.serial_run.specs.declared.order.Turn.TheVariants.{Hold}
 use Rattle.serial_run.specs.Serial.{Finishes, IsChain, IsLateRound, IsRepetition, IsSerial}
 use Rattle.serial_run.specs.Serial.{MakesRound, MakesRounds, Repeats, all_have_ended, log_with_scan}
-use Rattle.serial_run.specs.Serial.{logged, members_left, scanned, visits_of, with_scan}
+use Rattle.serial_run.specs.Serial.{members_left, scanned, visits_of, with_scan}
 use Rattle.serial_run.specs.Turns.{nothing_made}
 use Rattle.one_run.proofs.Meets.{Behind, endings}
 use Rattle.one_run.proofs.Places.{at-map, at-zip, map-at, some-same, zip-at}

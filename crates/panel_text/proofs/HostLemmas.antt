@@ -14,7 +14,7 @@ use Rattle.host_port.specs.declared.entry.HostEntry.{HostEntry}
 use Rattle.host_port.specs.declared.entry.HostEntry.TheVariants.{Ask, Answer, Served}
 use Rattle.host_port.specs.declared.entry.HostResult.{HostResult}
 use Rattle.host_port.specs.Calls.{has_answer, requests_in}
-use Rattle.panel_text.specs.Hosts.{ask_line, entry_lines, result_by, result_in}
+use Rattle.panel_text.specs.Hosts.{ask_line, entry_lines, outcome_by, result_in}
 
 -- an answer of another call tells nothing of this one
 another : (other : Bool) (said : HostResult) (told : List HostResult)
@@ -29,12 +29,12 @@ neither false other h = (refl, h)
 
 -- where a call has no answer in front, its first answer stands behind
 none_in_front : (front : List HostEntry) (id : CallId) → has_answer front id ≡ false
-    → filter_map (result_by id) front ≡ []
+    → filter_map (outcome_by id) front ≡ []
 none_in_front [] id h = refl
 none_in_front (Ask other to pdu ∷ front) id h = none_in_front front id h
 none_in_front (Answer other result ∷ front) id h =
     let parts = neither (is_same_call id other) (has_answer front id) h in
-    another (is_same_call id other) result (filter_map (result_by id) front) (none_in_front front id parts.1) parts.0
+    another (is_same_call id other) result (filter_map (outcome_by id) front) (none_in_front front id parts.1) parts.0
 none_in_front (Served other request reply ∷ front) id h = none_in_front front id h
 
 -- so the answer to an Ask is found behind it
@@ -42,8 +42,8 @@ found_behind : (before rest : List HostEntry) (id : CallId) (to : ℕ) (pdu : Li
     → result_in rest id ≡ result_in (before ++ Ask id to pdu ∷ rest) id
 found_behind before rest id to pdu new =
     ap (λ found. slice_get found 0)
-    (sym (filter_map-append (result_by id) before (Ask id to pdu ∷ rest)
-    ∙ ap (λ front. front ++ filter_map (result_by id) rest) (none_in_front before id new)))
+    (sym (filter_map-append (outcome_by id) before (Ask id to pdu ∷ rest)
+    ∙ ap (λ front. front ++ filter_map (outcome_by id) rest) (none_in_front before id new)))
 
 -- the lines of some entries, by all entries of the host, where so many requests were made before
 abbrev pub lines_left : ℕ → List HostEntry → ℕ → List HostEntry → List ℕ

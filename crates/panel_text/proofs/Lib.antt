@@ -1,4 +1,5 @@
 pub mod HostLemmas
+pub mod LineLemmas
 pub mod ScanLemmas
-pub mod ReplayLemmas
+pub mod FollowLemmas
 pub mod LogLemmas

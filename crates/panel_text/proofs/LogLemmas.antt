@@ -1,5 +1,5 @@
 -- The logs of a plant's stations.
-use Rattle.std.proofs.Common.{List, [], ◌∷◌}
+use Rattle.std.proofs.Common.{◌≡◌, List, [], ◌∷◌, suc, length, map, refl, ap}
 use Rattle.std.proofs.lemmas.List.Elements.{All-head, All-tail}
 use Rattle.std.specs.List.{All, AllByRecursion, AllZip, zip}
 use Rattle.plant_types.specs.declared.net.HostPlan.{HostPlan}
@@ -8,8 +8,11 @@ use Rattle.plant_types.specs.declared.plan.Plant.{Plant}
 use Rattle.controller_core.specs.Machine.{IsRunnable}
 use Rattle.joint_history.specs.declared.joint.ControllerLog.{ControllerLog}
 use Rattle.joint_history.specs.declared.joint.HostLog.{HostLog}
-use Rattle.joint_history.specs.JointLaws.{IsLegalHostLog, IsLegalLog, fixed_of}
-use Rattle.panel_text.specs.Panel.{CanShow, IsHostLog, most_scans}
+use Rattle.controller_core.specs.NotedLines.{NotesTellTheLines}
+use Rattle.joint_history.specs.JointLaws.{IsLegalHostLog, IsLegalLog, fixed_of, most_scans}
+use Rattle.joint_history.specs.Noted.{notes_by_log}
+use Rattle.panel_text.specs.Panel.{CanShow, IsHostLog, log_lines}
+use Rattle.panel_text.specs.Scans.{runs_noted}
 
 -- each log is a legal one of some host
 pub host_logs : (plans : List HostPlan) (logs : List HostLog) → AllZip IsLegalHostLog plans logs → AllByRecursion IsHostLog logs
@@ -29,3 +32,24 @@ controller_logs plant (plan ∷ plans) (log ∷ logs) runs legal =
       record { runs = All-head P plan plans runs; legal = legal.0.1 },
       controller_logs plant plans logs (All-tail P plan plans runs) legal.1,
     )
+
+-- each controller of a plant has notes
+pub notes_long : (plant : Plant) (plans : List ControllerPlan) (logs : List ControllerLog)
+    → AllZip (IsLegalLog plant most_scans) plans logs
+    → length (map (notes_by_log plant) (zip plans logs)) ≡ length plans
+notes_long plant [] [] legal = refl
+notes_long plant [] (log ∷ logs) legal = absurd legal
+notes_long plant (plan ∷ plans) [] legal = absurd legal
+notes_long plant (plan ∷ plans) (log ∷ logs) legal = ap suc (notes_long plant plans logs legal.1)
+
+-- and they tell its lines
+pub notes_tell : NotesTellTheLines → (plant : Plant) (plans : List ControllerPlan)
+    (logs : List ControllerLog) → AllZip (IsLegalLog plant most_scans) plans logs
+    → runs_noted plans (map (notes_by_log plant) (zip plans logs))
+    ≡ map (log_lines plant) (zip plans logs)
+notes_tell law plant [] [] legal = refl
+notes_tell law plant [] (log ∷ logs) legal = absurd legal
+notes_tell law plant (plan ∷ plans) [] legal = absurd legal
+notes_tell law plant (plan ∷ plans) (log ∷ logs) legal =
+    λ i. law (fixed_of plant most_scans plan) log.entries legal.0.1 i
+    ∷ notes_tell law plant plans logs legal.1 i

@@ -13,30 +13,30 @@ use Rattle.host_port.specs.declared.entry.HostResult.TheVariants.{Reply, Bad}
 use Rattle.host_port.specs.Calls.{requests_in}
 
 -- What an entry says that a call came to.
-abbrev pub result_by : CallId → HostEntry → Option HostResult
-result_by id (Ask other to pdu) = None
-result_by id (Answer other result) = if is_same_call id other then Some result else None
-result_by id (Served other request reply) = None
+abbrev pub outcome_by : CallId → HostEntry → Option HostResult
+outcome_by id (Ask other to pdu) = None
+outcome_by id (Answer other result) = if is_same_call id other then Some result else None
+outcome_by id (Served other request reply) = None
 
 -- What a call came to, by the entries of a host.
 abbrev pub result_in : List HostEntry → CallId → Option HostResult
-result_in entries id = slice_get (filter_map (result_by id) entries) 0
+result_in entries id = slice_get (filter_map (outcome_by id) entries) 0
 
 -- A word in four hexadecimal digits, with small letters.
-abbrev pub word_text : ℕ → List ℕ
-word_text word = encode_lower (word / 256 ∷ word % 256 ∷ [])
+abbrev pub hex_word_text : ℕ → List ℕ
+hex_word_text word = encode_lower (word / 256 ∷ word % 256 ∷ [])
 
 -- A result: the bytes of the reply, or the error word.
-abbrev pub result_text : HostResult → List ℕ
-result_text (Reply pdu) = encode_lower pdu
-result_text (Bad word) = codes "ERR " ++ word_text word
+abbrev pub host_result_text : HostResult → List ℕ
+host_result_text (Reply pdu) = encode_lower pdu
+host_result_text (Bad word) = codes "ERR " ++ hex_word_text word
 
 -- The line of a host's request, with its number, once it came to something.
 abbrev pub ask_line : ℕ → ℕ → Option HostResult → List ℕ
 ask_line node number None = []
 ask_line node number (Some result) =
     codes "H " ++ decimal node ++ codes " " ++ decimal number ++ codes " "
-    ++ result_text result ++ codes "\n"
+    ++ host_result_text result ++ codes "\n"
 
 -- The line of an entry, if it is a request, where so many were made before it, by the entries
 -- behind it.

@@ -1,7 +1,7 @@
 -- The panel of a plant, by what its controllers and its hosts noted. All of it is this project's
 -- own.
 use Rattle.std.specs.Prelude.{◌≡◌, ℕ, List, [], ◌∷◌, ◌++◌, map}
-use Rattle.std.specs.List.{All, flat_map, zip}
+use Rattle.std.specs.List.{All, flat_map}
 use Rattle.plant_types.specs.declared.plan.ControllerPlan.{ControllerPlan}
 use Rattle.plant_types.specs.declared.plan.Plant.{Plant}
 use Rattle.plant_types.specs.declared.net.HostPlan.{HostPlan}
@@ -13,17 +13,14 @@ use Rattle.host_port.specs.Legal.{IsHostHistory}
 use Rattle.joint_history.specs.declared.joint.ControllerLog.{ControllerLog}
 use Rattle.joint_history.specs.declared.joint.HostLog.{HostLog}
 use Rattle.joint_history.specs.declared.joint.Joint.{Joint}
-use Rattle.joint_history.specs.JointLaws.{fixed_of}
+use Rattle.joint_history.specs.JointLaws.{fixed_of, logged, most_scans}
 use Rattle.panel_text.specs.Hosts.{host_lines}
 use Rattle.panel_text.specs.Scans.{by_scan}
 
--- The most scans that a run has.
-abbrev pub most_scans : ℕ
-most_scans = 2000
-
 -- The controllers of a plant can be run.
-abbrev pub CanRunAll : Plant → Type 0
-CanRunAll plant = All (λ plan. IsRunnable (fixed_of plant most_scans plan)) plant.controllers
+abbrev pub ControllersCanRun : Plant → Type 0
+ControllersCanRun plant =
+    All (λ plan. IsRunnable (fixed_of plant most_scans plan)) plant.controllers
 
 -- A controller can be run, and its log is legal.
 pub record CanShow (plant : Plant) (of : ControllerPlan × ControllerLog) : Type 0 where
@@ -38,10 +35,6 @@ pub record HasMade (entry : Entry) (old new : ControllerIs) : Type 0 where
 -- A log is a legal one of some host.
 abbrev pub IsHostLog : HostLog → Type 0
 IsHostLog log = (plan : HostPlan) × IsHostHistory plan log.entries
-
--- Each controller of a plant with its log, in rising address.
-abbrev pub logged : Plant → Joint → List (ControllerPlan × ControllerLog)
-logged plant joint = zip plant.controllers joint.controllers
 
 -- The panel lines of a controller by its log.
 abbrev pub log_lines : Plant → ControllerPlan × ControllerLog → List (List ℕ)

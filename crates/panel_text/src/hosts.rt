@@ -4,7 +4,8 @@ ghost use Rattle.std.specs.Prelude.{option_copied, string_bytes};
 ghost use Rattle.plant_types.specs.declared.net.HostPlan.{HostPlan as AnyHostPlan};
 ghost use Rattle.host_port.specs.Legal.{IsHostHistory};
 ghost use Rattle.host_port.specs.Calls.{requests_in};
-ghost use Rattle.panel_text.specs.Hosts.{ask_line, entry_lines, host_lines, result_in, result_text};
+ghost use Rattle.panel_text.specs.Hosts.{ask_line, entry_lines, host_lines, host_result_text};
+ghost use Rattle.panel_text.specs.Hosts.{result_in};
 
 use host_port::{HostEntry, HostResult, asks_have_new_names};
 use mstr_block::CallId;
@@ -24,8 +25,8 @@ fn result_in<'a>(entries: &'a [HostEntry], id: CallId) -> Option<&'a HostResult>
     None
 }
 
-fn result_text(alloc: Global, outcome: &HostResult) -> Result<String, AllocError>
-    ensures { IfOk result (λ text. string_bytes text ≡ result_text outcome.now) }
+fn host_result_text(alloc: Global, outcome: &HostResult) -> Result<String, AllocError>
+    ensures { IfOk result (λ text. string_bytes text ≡ host_result_text outcome.now) }
 {
     match outcome {
         HostResult::Reply(pdu) => hex::encode(alloc, pdu.bytes()),
@@ -50,7 +51,7 @@ fn push_ask(
     let Some(outcome) = outcome else {
         return Ok(());
     };
-    let told = result_text(alloc, outcome)?;
+    let told = host_result_text(alloc, outcome)?;
     write!(text, "H {node} {number} {told}\n")
 }
 

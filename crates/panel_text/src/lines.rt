@@ -1,16 +1,13 @@
-//! The panel lines of a controller.
-ghost use Rattle.std.specs.Prelude.{◌≡◌, ◌++◌, IfOk, OnOk, map, string_bytes, true};
-ghost use Rattle.std.specs.FinMap.{contains_key};
-ghost use Rattle.std.specs.List.{flat_map};
-ghost use Rattle.plant_types.specs.Checks.{HasPanel};
-ghost use Rattle.plant_types.specs.Store.{value_at};
-ghost use Rattle.controller_core.specs.Controller.{state_of};
-ghost use Rattle.controller_core.specs.Panel.{label_of, panel_line, scan_over, told_of};
-ghost use Rattle.controller_core.specs.Panel.{value_text};
+//! The panel lines of a controller, by what it noted.
+ghost use Rattle.std.specs.Prelude.{◌≡◌, ◌*◌, ◌++◌, [], ◌∷◌, drop, get_or, map};
+ghost use Rattle.std.specs.Prelude.{IfOk, OnOk, string_bytes};
+ghost use Rattle.controller_core.specs.NotedLines.{ended_line, noted_lines, noted_texts};
+ghost use Rattle.controller_core.specs.Panel.{label_of, line_text};
+ghost use Rattle.panel_text.specs.Scans.{lines_noted, stopped_told};
 
-use controller_core::Controller;
+use controller_core::Notes;
 use itoa::Buffer;
-use plant_types::{Ref, RefKind, RefStore};
+use plant_types::{ControllerPlan, Ref};
 use std::alloc::{AllocError, Global};
 use std::fmt::Write;
 
@@ -40,78 +37,98 @@ pub(crate) fn readings_of(alloc: Global, panel: &[Ref]) -> Result<Vec<Reading>, 
     Ok(readings)
 }
 
-fn value_of<R: RefStore>(at: Ref, ram: &R) -> u16
-    requires { contains_key (R.contents ram.now) at ≡ true }
-    ensures { result ≡ value_at (R.contents ram.now) at }
+/// How many lines a controller has.
+pub(crate) fn lines_noted(notes: &Notes) -> usize
+    ensures { result ≡ lines_noted notes.now }
 {
-    match at.kind {
-        RefKind::Coil | RefKind::Input => u16::from(ram.bit(at)),
-        RefKind::InputRegister | RefKind::Register => ram.word(at),
+    let ended = notes.ended as usize;
+    if notes.stop == 0 { ended } else { ended + 1 }
+}
+
+/// The values from those of a scan on, which is counted from 0, where each scan has so many.
+fn values_from(values: &[u16], scan: usize, many: usize) -> &[u16]
+    ensures { result.now ≡ drop (scan * many) values.now }
+{
+    match scan.checked_mul(many) {
+        Some(at) if at < values.len() => &values[at..],
+        _ => &[],
     }
 }
 
-fn push_values<R: RefStore>(
+/// Adds a reference with the value at its place among these, if they go so far.
+fn push_value(
     text: &mut String,
-    readings: &[Reading],
-    ram: &R,
+    reading: &Reading,
+    values: &[u16],
+    at: usize,
 ) -> Result<(), AllocError>
-    requires { HasPanel (R.contents ram.now) (map (λ reading. reading.at) readings.now) }
     ensures { OnOk result (string_bytes text.new ≡ string_bytes text.old
-        ++ flat_map (value_text (R.contents ram.now)) (map (λ reading. reading.at) readings.now)) }
+        ++ noted_texts (reading.now.at ∷ []) (drop at values.now)) }
 {
-    for reading in readings {
-        let value = value_of(reading.at, ram);
-        text.push_str(reading.label.as_str())?;
-        text.push_str(Buffer::new().format(value))?;
+    if at >= values.len() {
+        return Ok(());
+    }
+    text.push_str(reading.label.as_str())?;
+    text.push_str(Buffer::new().format(values[at]))
+}
+
+/// Adds the references with the first of these values.
+fn push_values(text: &mut String, readings: &[Reading], values: &[u16]) -> Result<(), AllocError>
+    ensures { OnOk result (string_bytes text.new ≡ string_bytes text.old
+        ++ noted_texts (map (λ reading. reading.at) readings.now) values.now) }
+{
+    for (at, reading) in readings.iter().enumerate() {
+        push_value(text, reading, values, at)?;
     }
     Ok(())
 }
 
-/// The number of the scan that is over.
-fn scan_over(controller: &Controller) -> u64
-    ensures { result ≡ scan_over (state_of controller.now) }
-{
-    let ended = u64::from(controller.scans_ended());
-    if controller.stop_code() == 0 {
-        ended
-    } else {
-        ended + 1
-    }
-}
-
-/// Adds the values, or the code with which the controller stopped.
-fn push_told(
+/// Adds the line of a scan that has ended, by the values from its own on.
+fn push_ended(
     text: &mut String,
+    scan: usize,
+    plan: &ControllerPlan,
     readings: &[Reading],
-    controller: &Controller,
+    values: &[u16],
 ) -> Result<(), AllocError>
-    requires { map (λ reading. reading.at) readings.now ≡ controller.now.fixed.plan.panel }
+    requires { map (λ reading. reading.at) readings.now ≡ plan.now.panel }
     ensures { OnOk result (string_bytes text.new ≡ string_bytes text.old
-        ++ told_of controller.now.fixed.plan (state_of controller.now)) }
+        ++ ended_line plan.now scan values.now) }
 {
-    let stop = controller.stop_code();
-    if stop == 0 {
-        push_values(text, readings, controller.ram())
-    } else {
-        write!(text, " STOP {stop}")
-    }
+    let node = plan.node;
+    write!(text, "S {scan} N {node}")?;
+    push_values(text, readings, values)?;
+    text.push_str("\n")
 }
 
-/// Adds the line of a scan that is over.
+/// Adds the line of the scan in which a controller stopped.
+fn push_stopped(text: &mut String, scan: usize, node: u8, stop: u16) -> Result<(), AllocError>
+    ensures { OnOk result (string_bytes text.new ≡ string_bytes text.old
+        ++ line_text scan node (stopped_told stop)) }
+{
+    write!(text, "S {scan} N {node} STOP {stop}\n")
+}
+
+/// Adds the line of a scan, which is counted from 0, if the controller came so far.
 pub(crate) fn push_line(
     text: &mut String,
-    node: u8,
+    scan: usize,
+    plan: &ControllerPlan,
     readings: &[Reading],
-    controller: &Controller,
+    notes: &Notes,
 ) -> Result<(), AllocError>
-    requires node { controller.now.fixed.plan.node ≡ node }
-    requires readings { map (λ reading. reading.at) readings.now
-        ≡ controller.now.fixed.plan.panel }
+    requires { map (λ reading. reading.at) readings.now ≡ plan.now.panel }
     ensures { OnOk result (string_bytes text.new ≡ string_bytes text.old
-        ++ panel_line controller.now.fixed.plan (state_of controller.now)) }
+        ++ get_or (noted_lines plan.now notes.now) scan []) }
 {
-    let scan = scan_over(controller);
-    write!(text, "S {scan} N {node}")?;
-    push_told(text, readings, controller)?;
-    text.push_str("\n")
+    let ended = notes.ended as usize;
+    if scan < ended {
+        let values = values_from(notes.values.as_slice(), scan, readings.len());
+        return push_ended(text, scan + 1, plan, readings, values);
+    }
+    let lines = lines_noted(notes);
+    if scan < lines {
+        return push_stopped(text, scan + 1, plan.node, notes.stop);
+    }
+    Ok(())
 }

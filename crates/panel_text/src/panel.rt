@@ -1,35 +1,34 @@
 //! The panel of a plant.
-ghost use Rattle.std.specs.Prelude.{◌≡◌, ◌++◌, length, IfOk, OnOk, map, string_bytes};
-ghost use Rattle.std.specs.List.{AllByRecursion, flat_map, zip};
-ghost use Rattle.joint_history.specs.JointLaws.{IsLegalJoint};
+ghost use Rattle.std.specs.Prelude.{◌≡◌, ◌++◌, IfOk, OnOk, map, string_bytes};
+ghost use Rattle.std.specs.List.{AllByRecursion, flat_map};
+ghost use Rattle.joint_history.specs.JointLaws.{IsLegalJoint, most_scans};
+ghost use Rattle.joint_history.specs.Noted.{notes_in};
 ghost use Rattle.panel_text.specs.Hosts.{host_lines};
-ghost use Rattle.panel_text.specs.Panel.{CanRunAll, CanShow, IsHostLog, log_lines, most_scans};
-ghost use Rattle.panel_text.specs.Panel.{panel};
+ghost use Rattle.panel_text.specs.Panel.{ControllersCanRun, IsHostLog, panel};
 
+use crate::following::notes_by_logs;
 use crate::hosts::push_host;
-use crate::replay::log_lines;
+use crate::lines::{Reading, readings_of};
 use crate::scans::push_scans;
-use joint_history::{ControllerLog, HostLog, Joint};
-use plant_types::Plant;
+use controller_core::{Notes, notes_tell_the_lines};
+use joint_history::{HostLog, Joint};
+use plant_types::{ControllerPlan, Plant};
 use std::alloc::{AllocError, Global};
 
-/// The panel lines of each controller.
-fn runs_of(
+/// The references of each controller's panel.
+pub(crate) fn panels_of(
     alloc: Global,
-    plant: &Plant,
-    logs: &[ControllerLog],
-) -> Result<Vec<Vec<String>>, AllocError>
-    requires count { length logs.now ≡ length plant.now.controllers }
-    requires logs { AllByRecursion (CanShow plant.now) (zip plant.now.controllers logs.now) }
-    ensures { IfOk result (λ runs. map (λ lines. map string_bytes lines.items) runs.items
-        ≡ map (log_lines plant.now) (zip plant.now.controllers logs.now)) }
+    plans: &[ControllerPlan],
+) -> Result<Vec<Vec<Reading>>, AllocError>
+    ensures { IfOk result (λ panels.
+        map (λ panel. map (λ reading. reading.at) panel.items) panels.items
+        ≡ map (λ plan. plan.panel) plans.now) }
 {
-    let plans = plant.controllers.as_slice();
-    let mut runs = Vec::new(alloc);
-    for (at, log) in logs.iter().enumerate() {
-        runs.push(log_lines(alloc, plant, &plans[at], log.entries.as_slice())?)?;
+    let mut panels = Vec::new(alloc);
+    for plan in plans {
+        panels.push(readings_of(alloc, plan.panel.as_slice())?)?;
     }
-    Ok(runs)
+    Ok(panels)
 }
 
 /// Adds the lines of each host.
@@ -44,18 +43,38 @@ fn push_hosts(alloc: Global, text: &mut String, logs: &[HostLog]) -> Result<(), 
     Ok(())
 }
 
+/// The panel of a plant by what its hosts noted in their lists, and by what its controllers noted
+/// of their panels, one after another in rising address; no scan is made again. The text is that
+/// of `panel_text`.
+pub fn panel_from_notes(
+    alloc: Global,
+    plant: &Plant,
+    joint: &Joint,
+    notes: &[Notes],
+) -> Result<Vec<u8>, AllocError>
+    requires joint { IsLegalJoint plant.now most_scans joint.now }
+    requires notes { notes.now ≡ notes_in plant.now joint.now }
+    ensures { IfOk result (λ text. text.items ≡ panel plant.now joint.now) }
+{
+    notes_tell_the_lines();
+    let plans = plant.controllers.as_slice();
+    let panels = panels_of(alloc, plans)?;
+    let mut text = String::new(alloc);
+    push_scans(&mut text, plans, panels.as_slice(), notes)?;
+    push_hosts(alloc, &mut text, joint.hosts.as_slice())?;
+    Ok(text.into_bytes())
+}
+
 /// The panel of a plant by what its stations noted: scan by scan a line of each controller in
 /// rising address, with the values of its panel or the code with which it stopped; and then a
 /// line of each request of each host, with the reply or the error word in hexadecimal digits.
-/// A request that came to nothing yet has no line.
+/// A request that came to nothing yet has no line. The scans are made again, as the lists of the
+/// controllers say.
 pub fn panel_text(alloc: Global, plant: &Plant, joint: &Joint) -> Result<Vec<u8>, AllocError>
-    requires plant { CanRunAll plant.now }
+    requires plant { ControllersCanRun plant.now }
     requires joint { IsLegalJoint plant.now most_scans joint.now }
     ensures { IfOk result (λ text. text.items ≡ panel plant.now joint.now) }
 {
-    let runs = runs_of(alloc, plant, joint.controllers.as_slice())?;
-    let mut text = String::new(alloc);
-    push_scans(&mut text, runs.as_slice())?;
-    push_hosts(alloc, &mut text, joint.hosts.as_slice())?;
-    Ok(text.into_bytes())
+    let notes = notes_by_logs(alloc, plant, joint.controllers.as_slice())?;
+    panel_from_notes(alloc, plant, joint, notes.as_slice())
 }

@@ -1,9 +1,13 @@
 //! The lines of a host, and those of controllers scan by scan.
 use crate::hosts::push_host;
+use crate::panel::panels_of;
 use crate::scans::push_scans;
+use controller_core::Notes;
 use host_port::{Host, HostResult};
 use mstr_block::CallId;
-use plant_types::{Fate, HostAsk, HostPlan, List, NetPlan, Pdu, is_host_plan};
+use plant_types::{
+    ControllerPlan, Fate, HostAsk, HostPlan, List, NetPlan, Pdu, Ref, RefKind, is_host_plan,
+};
 use std::alloc::{AllocError, Global};
 use std::process::Abort;
 
@@ -79,23 +83,54 @@ fn requests_stand_in_the_order_in_which_they_were_made(rt: HostRuntime) -> Resul
     Ok(())
 }
 
-fn run_of(alloc: Global, lines: &[&str]) -> Result<Vec<String>, AllocError> {
-    let mut run = Vec::new(alloc);
-    for line in lines {
-        run.push(String::from_str(alloc, line)?)?;
-    }
-    Ok(run)
+/// The plan of a controller that shows one register.
+fn plan_at(alloc: Global, node: u8) -> Result<ControllerPlan, AllocError> {
+    let mut panel = List::new(alloc);
+    panel.push(Ref {
+        kind: RefKind::Register,
+        number: 1,
+    })?;
+    Ok(ControllerPlan {
+        node,
+        coils: 0,
+        inputs: 0,
+        input_registers: 0,
+        registers: 16,
+        panel,
+        orders: List::new(alloc),
+        segments: List::new(alloc),
+        drops: List::new(alloc),
+    })
+}
+
+fn notes_of(alloc: Global, values: &[u16], ended: u32, stop: u16) -> Result<Notes, AllocError> {
+    let values = List::from_vec(Vec::from_slice(alloc, values)?);
+    Ok(Notes {
+        values,
+        ended,
+        stop,
+    })
 }
 
 #[test]
 fn each_scan_has_the_lines_of_all(rt: HostRuntime) -> Result<(), AllocError> {
     let alloc = rt.alloc();
-    let mut runs = Vec::new(alloc);
-    runs.push(run_of(alloc, &["a1 ", "a2 ", "a3 "])?)?;
-    runs.push(run_of(alloc, &["b1 "])?)?;
-    runs.push(run_of(alloc, &["c1 ", "c2 "])?)?;
+    let mut plans = Vec::new(alloc);
+    plans.push(plan_at(alloc, 2)?)?;
+    plans.push(plan_at(alloc, 5)?)?;
+    let mut notes = Vec::new(alloc);
+    notes.push(notes_of(alloc, &[7, 8, 65_535], 3, 0)?)?;
+    notes.push(notes_of(alloc, &[1, 2], 1, 1)?)?;
+    let panels = panels_of(alloc, plans.as_slice())?;
     let mut text = String::new(alloc);
-    push_scans(&mut text, runs.as_slice())?;
-    assert!(rt; text.as_str() == "a1 b1 c1 a2 c2 a3 ");
+    push_scans(
+        &mut text,
+        plans.as_slice(),
+        panels.as_slice(),
+        notes.as_slice(),
+    )?;
+    let wanted = "S 1 N 2 40001=7\nS 1 N 5 40001=1\nS 2 N 2 40001=8\nS 2 N 5 STOP 1\n\
+        S 3 N 2 40001=65535\n";
+    assert!(rt; text.as_str() == wanted);
     Ok(())
 }

@@ -8,8 +8,8 @@ use Rattle.plant984.specs.declared.status.Status.TheVariants as ends
 use Rattle.plant984.specs.declared.words.Command.{Command}
 use Rattle.plant984.specs.Words.{IsCommandInRange, IsNumberOfScans, SpellsCommand, SpellsLive}
 use Rattle.plant984.specs.Due.{Due}
-use Rattle.plant984.specs.Promise.{Answers, Asked, CanRead, EndsAsDue, Failed, HasRead, IsAsked}
-use Rattle.plant984.specs.Promise.{Keeps, Side, Wrote, input_limit}
+use Rattle.plant984.specs.Promise.{HasAnswered, AskedFor, CanRead, EndsAsDue, Failed, HasRead, IsSomeCommand}
+use Rattle.plant984.specs.Promise.{KeepsPromise, Side, Wrote, input_limit}
 
 -- What a call has found out before it writes: what was asked, and what was read for it.
 pub record Found {C : Type 0} (Spells : List (List ℕ) → C → Type 0) (reads : C → Bool) (words : List (List ℕ))
@@ -30,7 +30,7 @@ one-command Spells words asked command reads is other spells =
 -- words that nothing was read from are no command
 pub not-asked : {C : Type 0} (Spells : List (List ℕ) → C → Type 0) (words : List (List ℕ)) (asked : Option C)
     → ((command : C) → (asked ≡ Some command) ↔ Spells words command)
-    → asked ≡ None → IsAsked Spells words → ⊥
+    → asked ≡ None → IsSomeCommand Spells words → ⊥
 not-asked Spells words asked reads none command =
     let some : asked ≡ Some command.0 = (reads command.0).1 command.1 in
     absurd (cc)
@@ -82,12 +82,12 @@ front-read true (Some bytes) rest input read =
 
 abbrev asked-found : {C : Type 0} {Spells : List (List ℕ) → C → Type 0} {reads : C → Bool} {words : List (List ℕ)}
     {source source_now : Side} {command : C} {input : List ℕ}
-    → Found Spells reads words source source_now command input → Asked Spells reads words source.bytes source_now.bytes
+    → Found Spells reads words source source_now command input → AskedFor Spells reads words source.bytes source_now.bytes
 asked-found {command = command} {input = input} found =
     record { command = command; spelled = found.spelled; input = input; read = found.read }
 
 -- what was written is what was due
-wrote-ends : (IsDueHere : Due → Type 0) (status : Status) (had has : Side) → Answers IsDueHere had has status
+wrote-ends : (IsDueHere : Due → Type 0) (status : Status) (had has : Side) → HasAnswered IsDueHere had has status
     → ¬ (Failed had has) → EndsAsDue IsDueHere status had.bytes has.bytes
 wrote-ends IsDueHere ends.Ok had has answers no_write = inl answers
 wrote-ends IsDueHere ends.Refused had has answers no_write = inl answers
@@ -102,10 +102,10 @@ wrote-ends IsDueHere ends.WriteFault had has answers no_write = absurd (no_write
 pub Keeps-found : {C : Type 0} (Spells : List (List ℕ) → C → Type 0) (reads : C → Bool) (IsDueFor : C → List ℕ → Due → Type 0)
     (words : List (List ℕ)) (source source_now : Side) (command : C) (input : List ℕ)
     → Found Spells reads words source source_now command input
-    → (had has : Side) (status : Status) → had.faults ≤ has.faults → Answers (IsDueFor command input) had has status
-    → Keeps Spells reads IsDueFor status words source source_now had has
+    → (had has : Side) (status : Status) → had.faults ≤ has.faults → HasAnswered (IsDueFor command input) had has status
+    → KeepsPromise Spells reads IsDueFor status words source source_now had has
 Keeps-found {C = C} Spells reads IsDueFor words source source_now command input found had has status later answers =
-    let P : Status → Type 0 = λ s. Answers (IsDueFor command input) had has s in
+    let P : Status → Type 0 = λ s. HasAnswered (IsDueFor command input) had has s in
     record {
       ok = λ is. (asked-found found, subst P is answers);
       refused = λ is. (asked-found found, subst P is answers);

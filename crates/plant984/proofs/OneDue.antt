@@ -14,7 +14,7 @@ use Rattle.plant_loader.specs.Refusals.{Refusal}
 use Rattle.plant_loader.specs.Plant.{plant_of}
 use Rattle.plant_loader.proofs.LoadedLemmas.{IsLoaded, gives-loaded}
 use Rattle.joint_history.specs.declared.joint.Joint.{Joint}
-use Rattle.journal_text.specs.Fronts.{IsFront, IsJournal, IsLine, IsText, IsWrongLine, ended}
+use Rattle.journal_text.specs.Fronts.{IsFront, IsJournal, IsLine, IsText, IsWrongLine, with_feed}
 use Rattle.journal_text.specs.Laws.{OneHistoryOfAText}
 use Rattle.journal_text.proofs.StepGoes.{line_is}
 use Rattle.joint_law.specs.Agreement.{VerdictsAgree}
@@ -26,8 +26,8 @@ use Rattle.plant984.specs.declared.status.Status.{Status}
 use Rattle.plant984.specs.declared.words.Command.{Command}
 use Rattle.plant984.specs.declared.words.Command.TheVariants.{Do, Gen}
 use Rattle.plant984.specs.Cut.{CanBegin, IsCut}
-use Rattle.plant984.specs.Judged.{IsIllegalAt, IsNoRun, IsRunRead, line_text, spot_text}
-use Rattle.plant984.specs.Due.{Due, IsDueOf, IsDueWith, IsFile, IsHistory, IsRun}
+use Rattle.plant984.specs.Judged.{IsIllegalAt, IsNoRun, IsRunRead, wrong_line_text, spot_text}
+use Rattle.plant984.specs.Due.{Due, IsDueOf, IsDueWith, IsFile, IsHistory, IsWholeSerialRun}
 use Rattle.plant984.specs.Due.{IsTaskFile, illegal_text, judges, reads_journal, scans_of, text_of}
 use Rattle.plant984.specs.OneDue.{OneDue}
 
@@ -82,21 +82,21 @@ file-one (Gen number scans) input file behind file' behind' is is' = (is.0 ∙ s
 
 -- lines and what stands behind them, from the end of the first one on
 lines-first : (line : List ℕ) (lines : List (List ℕ)) (rest : List ℕ)
-    → flat_map ended (line ∷ lines) ++ rest ≡ line ++ 10 ∷ (flat_map ended lines ++ rest)
+    → flat_map with_feed (line ∷ lines) ++ rest ≡ line ++ 10 ∷ (flat_map with_feed lines ++ rest)
 lines-first line lines rest =
-    ap (λ bytes. bytes ++ rest) (flat_map-cons ended line lines) ∙ append_assoc (ended line) (flat_map ended lines) rest
-    ∙ append_assoc line (10 ∷ []) (flat_map ended lines ++ rest)
+    ap (λ bytes. bytes ++ rest) (flat_map-cons with_feed line lines) ∙ append_assoc (with_feed line) (flat_map with_feed lines) rest
+    ∙ append_assoc line (10 ∷ []) (flat_map with_feed lines ++ rest)
 
 -- one line before both, what more lines begin with stays so
 lines-next : (line line' : List ℕ) (lines lines' : List (List ℕ)) (next more : List ℕ) → line ≡ line'
-    → flat_map ended lines' ≡ (flat_map ended lines ++ ended next) ++ more
-    → flat_map ended (line' ∷ lines') ≡ (flat_map ended (line ∷ lines) ++ ended next) ++ more
+    → flat_map with_feed lines' ≡ (flat_map with_feed lines ++ with_feed next) ++ more
+    → flat_map with_feed (line' ∷ lines') ≡ (flat_map with_feed (line ∷ lines) ++ with_feed next) ++ more
 lines-next line line' lines lines' next more same first =
-    flat_map-cons ended line' lines' ∙ ap (λ l. ended l ++ flat_map ended lines') (sym same)
-    ∙ ap (λ bytes. ended line ++ bytes) first
-    ∙ sym (append_assoc (ended line) (flat_map ended lines ++ ended next) more)
-    ∙ ap (λ bytes. bytes ++ more) (sym (append_assoc (ended line) (flat_map ended lines) (ended next)))
-    ∙ ap (λ bytes. (bytes ++ ended next) ++ more) (sym (flat_map-cons ended line lines))
+    flat_map-cons with_feed line' lines' ∙ ap (λ l. with_feed l ++ flat_map with_feed lines') (sym same)
+    ∙ ap (λ bytes. with_feed line ++ bytes) first
+    ∙ sym (append_assoc (with_feed line) (flat_map with_feed lines ++ with_feed next) more)
+    ∙ ap (λ bytes. bytes ++ more) (sym (append_assoc (with_feed line) (flat_map with_feed lines) (with_feed next)))
+    ∙ ap (λ bytes. (bytes ++ with_feed next) ++ more) (sym (flat_map-cons with_feed line lines))
 
 -- behind some lines stands the next of more lines
 record NextLine (lines lines' : List (List ℕ)) (rest : List ℕ) : Type 0 where
@@ -104,23 +104,23 @@ record NextLine (lines lines' : List (List ℕ)) (rest : List ℕ) : Type 0 wher
   behind : List ℕ
   more : List ℕ
   is : IsLine line
-  there : rest ≡ ended line ++ behind
-  first : flat_map ended lines' ≡ (flat_map ended lines ++ ended line) ++ more
+  there : rest ≡ with_feed line ++ behind
+  first : flat_map with_feed lines' ≡ (flat_map with_feed lines ++ with_feed line) ++ more
 
 next-line : (lines lines' : List (List ℕ)) (rest rest' : List ℕ) → All IsLine lines → All IsLine lines'
-    → flat_map ended lines ++ rest ≡ flat_map ended lines' ++ rest' → length lines < length lines' → NextLine lines lines' rest
+    → flat_map with_feed lines ++ rest ≡ flat_map with_feed lines' ++ rest' → length lines < length lines' → NextLine lines lines' rest
 next-line [] [] rest rest' each each' same less = absurd (omega (arith, less))
 next-line (line ∷ lines) [] rest rest' each each' same less = absurd (omega (arith, less))
 next-line [] (line ∷ lines') rest rest' each each' same less = record {
   line = line;
-  behind = flat_map ended lines' ++ rest';
-  more = flat_map ended lines';
+  behind = flat_map with_feed lines' ++ rest';
+  more = flat_map with_feed lines';
   is = All-head IsLine line lines' each';
-  there = same ∙ ap (λ bytes. bytes ++ rest') (flat_map-cons ended line lines') ∙ append_assoc (ended line) (flat_map ended lines') rest';
-  first = flat_map-cons ended line lines';
+  there = same ∙ ap (λ bytes. bytes ++ rest') (flat_map-cons with_feed line lines') ∙ append_assoc (with_feed line) (flat_map with_feed lines') rest';
+  first = flat_map-cons with_feed line lines';
 }
 next-line (line ∷ lines) (line' ∷ lines') rest rest' each each' same less =
-    let here = line_is line line' (flat_map ended lines ++ rest) (flat_map ended lines' ++ rest') (All-head IsLine line lines each)
+    let here = line_is line line' (flat_map with_feed lines ++ rest) (flat_map with_feed lines' ++ rest') (All-head IsLine line lines each)
     (All-head IsLine line' lines' each') (sym (lines-first line lines rest) ∙ same ∙ lines-first line' lines' rest') in
     let next = next-line lines lines' rest rest' (All-tail IsLine line lines each) (All-tail IsLine line' lines' each') here.1 (omega (arith, less)) in
     record {
@@ -142,7 +142,7 @@ wrong-not_before : (bytes : List ℕ) (number number' : ℕ) (one : IsWrongLine 
 wrong-not_before bytes number number' one other less =
     let next = next-line one.lines other.lines one.rest other.rest one.each other.each (sym one.parts ∙ other.parts) less in
     one.wrong next.line next.behind next.is next.there
-    (front-front (flat_map ended one.lines ++ ended next.line) next.more (subst IsFront next.first other.begins))
+    (front-front (flat_map with_feed one.lines ++ with_feed next.line) next.more (subst IsFront next.first other.begins))
 
 -- so there is one
 wrong-one : (bytes : List ℕ) (number number' : ℕ) → IsWrongLine bytes number → IsWrongLine bytes number' → number ≡ number'
@@ -184,7 +184,7 @@ module _ (laws : DueLaws) (plant : Plant) (sound : IsPlant plant) (scans : ℕ) 
   -- one spot shows that bytes are no journal of a whole run
   illegal-one : (spot spot' : List ℕ) → IsIllegalAt plant scans bytes spot → IsIllegalAt plant scans bytes spot' → spot ≡ spot'
   illegal-one spot spot' (inl one) (inl other) =
-      one.text ∙ ap line_text (text-one bytes one.line other.line one.wrong other.wrong) ∙ sym other.text
+      one.text ∙ ap wrong_line_text (text-one bytes one.line other.line one.wrong other.wrong) ∙ sym other.text
   illegal-one spot spot' (inl one) (inr other) = absurd (one.wrong.none (other.joint, other.read))
   illegal-one spot spot' (inr one) (inl other) = absurd (other.wrong.none (one.joint, one.read))
   illegal-one spot spot' (inr one) (inr other) = run-spots spot spot' one other
@@ -205,7 +205,7 @@ module _ (laws : DueLaws) (plant : Plant) (sound : IsPlant plant) (scans : ℕ) 
   history-one false joint joint' one other =
       laws.runs plant scans joint joint' sound one.serial (run-of joint one) other.serial (run-of joint' other)
     where
-      run-of : (some : Joint) → IsRun plant scans some → IsRunOf plant scans some
+      run-of : (some : Joint) → IsWholeSerialRun plant scans some → IsRunOf plant scans some
       run-of some run = record { legal = run.whole.legal; ties = run.whole.tied }
 
 -- ---- what is due

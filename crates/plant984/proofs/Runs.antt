@@ -1,5 +1,5 @@
 -- Plants that were loaded can be run, and their panels shown.
-use Rattle.std.proofs.Common.{◌≤◌, ℕ, Bool, true, false, List, arith}
+use Rattle.std.proofs.Common.{ℕ, Bool, true, false, List}
 use Rattle.std.specs.List.{All}
 use Rattle.plant_types.specs.declared.plan.ControllerPlan.{ControllerPlan}
 use Rattle.plant_types.specs.declared.plan.Plant.{Plant}
@@ -7,15 +7,13 @@ use Rattle.plant_types.specs.Plans.{IsPlant}
 use Rattle.plant_loader.specs.Accepted.{IsSolvable}
 use Rattle.controller_core.specs.Machine.{CanRun}
 use Rattle.joint_history.specs.declared.joint.Joint.{Joint}
-use Rattle.joint_history.specs.JointLaws.{IsJoint, IsLegalJoint}
+use Rattle.joint_history.specs.declared.noted.Noted.{Noted}
+use Rattle.joint_history.specs.JointLaws.{IsJoint, IsLegalJoint, most_scans}
 use Rattle.effect_laws.specs.Effects.{AllEffectsAreRight, EffectsAreRight}
-use Rattle.panel_text.specs.Panel.{CanRunAll, most_scans}
 use Rattle.joint_history.specs.Runnable.{CanRunPlant}
 use Rattle.plant984.specs.declared.judging.Judged.TheVariants.{Whole}
-use Rattle.plant984.specs.declared.words.Command.{Command}
-use Rattle.plant984.specs.declared.words.Command.TheVariants.{Do, Gen}
-use Rattle.plant984.specs.Words.{IsCommandInRange}
-use Rattle.plant984.specs.Due.{IsFound, IsHistory, reads_journal, scans_of}
+use Rattle.plant984.specs.Words.{IsNumberOfScans}
+use Rattle.plant984.specs.Due.{IsFound, IsHistory}
 use Rattle.plant984.proofs.MoreScans.{joint_more}
 
 -- what can be solved can be run
@@ -34,25 +32,12 @@ loaded_runs plant sound solvable = record {
   controllers = λ k d within. solvable-runs _ (solvable k d within);
 }
 
--- and all its controllers can be shown
-pub shows_all : (plant : Plant) → CanRunPlant plant → CanRunAll plant
-shows_all plant runs = λ k d within. record {
-  plan = runs.controllers k d within;
-  scan_time = runs.sound.scan_time.to;
-  watchdog = runs.sound.watchdog.from;
-  scans = omega arith;
-}
-
--- ---- the joint history of a command
+-- ---- the joint history of a task
 
 found-whole : (reads : Bool) (plant : Plant) (scans : ℕ) (behind : List ℕ) (joint : Joint) → IsHistory reads plant scans behind joint
     → IsLegalJoint plant scans joint
 found-whole true plant scans behind joint found = found.whole.legal
 found-whole false plant scans behind joint found = found.whole.legal
-
-few-scans : (command : Command) → IsCommandInRange command → scans_of command ≤ 2000
-few-scans (Do task scans) within = within.to
-few-scans (Gen number scans) within = within.1.to
 
 found-tied : (reads : Bool) (plant : Plant) (scans : ℕ) (behind : List ℕ) (joint : Joint) → IsHistory reads plant scans behind joint
     → IsJoint joint
@@ -60,16 +45,17 @@ found-tied true plant scans behind joint found = found.whole.tied
 found-tied false plant scans behind joint found = found.whole.tied
 
 -- its calls take effect as they are to
-pub found_right : AllEffectsAreRight → (command : Command) (plant : Plant) (behind : List ℕ) (joint : Joint) → IsPlant plant
-    → IsFound command plant behind (Whole joint) → EffectsAreRight joint
-found_right right command plant behind joint sound found =
-    right plant (scans_of command) joint sound
-    (found-whole (reads_journal command) plant (scans_of command) behind joint found)
-    (found-tied (reads_journal command) plant (scans_of command) behind joint found)
+pub found_right : AllEffectsAreRight → (reads : Bool) (plant : Plant) (scans : ℕ) (behind : List ℕ)
+    (noted : Noted) → IsPlant plant → IsFound reads plant scans behind (Whole noted)
+    → EffectsAreRight noted.joint
+found_right right reads plant scans behind noted sound found =
+    right plant scans noted.joint sound (found-whole reads plant scans behind noted.joint found.0)
+    (found-tied reads plant scans behind noted.joint found.0)
 
 -- it is legal for the most scans
-pub found_legal : (command : Command) (plant : Plant) (behind : List ℕ) (joint : Joint) → IsCommandInRange command
-    → IsFound command plant behind (Whole joint) → IsLegalJoint plant most_scans joint
-found_legal command plant behind joint within found =
-    joint_more plant (scans_of command) most_scans joint (few-scans command within)
-    (found-whole (reads_journal command) plant (scans_of command) behind joint found)
+pub found_legal : (reads : Bool) (plant : Plant) (scans : ℕ) (behind : List ℕ) (noted : Noted)
+    → IsNumberOfScans scans → IsFound reads plant scans behind (Whole noted)
+    → IsLegalJoint plant most_scans noted.joint
+found_legal reads plant scans behind noted within found =
+    joint_more plant scans most_scans noted.joint within.to
+    (found-whole reads plant scans behind noted.joint found.0)

@@ -10,6 +10,7 @@ use Rattle.plant_loader.specs.Refusals.{Refusal}
 use Rattle.plant_loader.specs.Plant.{plant_of}
 use Rattle.plant_gen.specs.Text.{plant_text}
 use Rattle.joint_history.specs.declared.joint.Joint.{Joint}
+use Rattle.joint_history.specs.Noted.{IsNoted}
 use Rattle.effect_laws.specs.Effects.{EffectsAreRight}
 use Rattle.entry_causes.specs.Joint.{IsInOneOrder}
 use Rattle.turn_laws.specs.KeepsOn.{NoneSpent}
@@ -37,8 +38,8 @@ pub record Due : Type 0 where
   pub text : List ℕ
 
 -- What an answer tells.
-abbrev pub told : Answer → Due
-told answer = record { status = answer.status; text = answer.text.items }
+abbrev pub as_due : Answer → Due
+as_due answer = record { status = answer.status; text = answer.text.items }
 
 -- The line that names a fault and its place.
 abbrev pub refusal_text : PlantFault → Place → List ℕ
@@ -86,7 +87,7 @@ IsFile (Gen number scans) input file journal = (file ≡ plant_text number) × (
 -- The joint history is that of the plant's serial run, and a complete run: legal, with the laws
 -- between its lists kept, and complete; and all its entries have one order in time, in which each
 -- stands behind its cause.
-pub record IsRun (plant : Plant) (scans : ℕ) (joint : Joint) : Type 0 where
+pub record IsWholeSerialRun (plant : Plant) (scans : ℕ) (joint : Joint) : Type 0 where
   pub serial : IsSerial plant scans joint
   pub whole : IsWholeRun plant scans joint
   pub in_time : IsInOneOrder joint
@@ -94,15 +95,15 @@ pub record IsRun (plant : Plant) (scans : ℕ) (joint : Joint) : Type 0 where
 -- The joint history that a command is about: that of the journal, or of the serial run.
 abbrev pub IsHistory : Bool → Plant → ℕ → List ℕ → Joint → Type 0
 IsHistory true plant scans journal joint = IsRunRead plant scans journal joint
-IsHistory false plant scans journal joint = IsRun plant scans joint
+IsHistory false plant scans journal joint = IsWholeSerialRun plant scans joint
 
--- What was found of the joint history that a command is about.
-abbrev pub IsFound : Command → Plant → List ℕ → Judged → Type 0
-IsFound command plant behind (Whole joint) =
-    IsHistory (reads_journal command) plant (scans_of command) behind joint
-IsFound command plant behind (Illegal spot) =
-    (reads_journal command ≡ true)
-    × IsIllegalAt plant (scans_of command) behind (string_bytes spot)
+-- What was found of the joint history that a task is about: that of the journal or of the run, with
+-- what its controllers noted, or the spot of a journal.
+abbrev pub IsFound : Bool → Plant → ℕ → List ℕ → Judged → Type 0
+IsFound reads plant scans behind (Whole noted) =
+    IsHistory reads plant scans behind noted.joint × IsNoted plant noted
+IsFound reads plant scans behind (Illegal spot) =
+    (reads ≡ true) × IsIllegalAt plant scans behind (string_bytes spot)
 
 -- What a task writes of a joint history: the panel, before it the journal, or a word alone.
 abbrev pub task_text : Task → Plant → Joint → List ℕ

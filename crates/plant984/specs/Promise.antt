@@ -13,8 +13,8 @@ abbrev pub input_limit : ℕ
 input_limit = 64 * 2 ^ 20
 
 -- The words are those of some command.
-abbrev pub IsAsked : {C : Type 0} → (List (List ℕ) → C → Type 0) → List (List ℕ) → Type 0
-IsAsked {C = C} Spells words = (command : C) × Spells words command
+abbrev pub IsSomeCommand : {C : Type 0} → (List (List ℕ) → C → Type 0) → List (List ℕ) → Type 0
+IsSomeCommand {C = C} Spells words = (command : C) × Spells words command
 
 -- The words ask for something with an input.
 abbrev pub AsksInput :
@@ -33,7 +33,7 @@ CanRead true left input = (left ≡ Some input) × (length input ≤ input_limit
 CanRead false left input = input ≡ []
 
 -- What was asked: the command that the words spell, and what was read for it.
-pub record Asked {C : Type 0} (Spells : List (List ℕ) → C → Type 0) (reads : C → Bool)
+pub record AskedFor {C : Type 0} (Spells : List (List ℕ) → C → Type 0) (reads : C → Bool)
     (words : List (List ℕ)) (left rest : Option (List ℕ)) : Type 0 where
   pub command : C
   pub spelled : Spells words command
@@ -84,32 +84,32 @@ abbrev pub Failed : Side → Side → Type 0
 Failed before after = Rose before.faults after.faults
 
 -- What answering a command over an input has written, by the status that it ended with.
-abbrev pub Answers : (Due → Type 0) → Side → Side → Status → Type 0
-Answers IsDueHere had has ends.NoMemory = Unit {0}
-Answers IsDueHere had has ends.Usage = ⊥
-Answers IsDueHere had has ends.ReadFault = ⊥
-Answers IsDueHere had has ends.TooLong = ⊥
-Answers IsDueHere had has ends.WriteFault =
+abbrev pub HasAnswered : (Due → Type 0) → Side → Side → Status → Type 0
+HasAnswered IsDueHere had has ends.NoMemory = Unit {0}
+HasAnswered IsDueHere had has ends.Usage = ⊥
+HasAnswered IsDueHere had has ends.ReadFault = ⊥
+HasAnswered IsDueHere had has ends.TooLong = ⊥
+HasAnswered IsDueHere had has ends.WriteFault =
     Failed had has × WroteFront IsDueHere had.bytes has.bytes
-Answers IsDueHere had has status = Wrote IsDueHere status had.bytes has.bytes
+HasAnswered IsDueHere had has status = Wrote IsDueHere status had.bytes has.bytes
 
 -- What a call promises by the status that it ends with, for commands that are spelled so, that
 -- read an input or none, and for which this is due: what it read and wrote, and the cause of each
 -- fault; and with which status it ends where the outside does not fail, unless memory runs out.
-pub record Keeps
+pub record KeepsPromise
     {C : Type 0} (Spells : List (List ℕ) → C → Type 0) (reads : C → Bool)
     (IsDueFor : C → List ℕ → Due → Type 0)
     (status : Status) (words : List (List ℕ)) (source source_now sink sink_now : Side)
     : Type 0 where
-  pub ok : status ≡ ends.Ok → (asked : Asked Spells reads words source.bytes source_now.bytes)
+  pub ok : status ≡ ends.Ok → (asked : AskedFor Spells reads words source.bytes source_now.bytes)
       × Wrote (IsDueFor asked.command asked.input) ends.Ok sink.bytes sink_now.bytes
   pub refused : status ≡ ends.Refused
-      → (asked : Asked Spells reads words source.bytes source_now.bytes)
+      → (asked : AskedFor Spells reads words source.bytes source_now.bytes)
       × Wrote (IsDueFor asked.command asked.input) ends.Refused sink.bytes sink_now.bytes
   pub illegal : status ≡ ends.Illegal
-      → (asked : Asked Spells reads words source.bytes source_now.bytes)
+      → (asked : AskedFor Spells reads words source.bytes source_now.bytes)
       × Wrote (IsDueFor asked.command asked.input) ends.Illegal sink.bytes sink_now.bytes
-  pub usage : status ≢ ends.NoMemory → (status ≡ ends.Usage) ↔ (¬ IsAsked Spells words)
+  pub usage : status ≢ ends.NoMemory → (status ≡ ends.Usage) ↔ (¬ IsSomeCommand Spells words)
   pub read_fault : status ≡ ends.ReadFault
       → AsksInput Spells reads words × Failed source source_now
       × GaveFront source.bytes source_now.bytes input_limit
@@ -118,7 +118,7 @@ pub record Keeps
   pub no_memory : status ≡ ends.NoMemory
       → GaveFront source.bytes source_now.bytes (input_limit + 1)
   pub write_fault : status ≡ ends.WriteFault → Failed sink sink_now
-      × (asked : Asked Spells reads words source.bytes source_now.bytes)
+      × (asked : AskedFor Spells reads words source.bytes source_now.bytes)
       × WroteFront (IsDueFor asked.command asked.input) sink.bytes sink_now.bytes
   pub later_source : source.faults ≤ source_now.faults
   pub later_sink : sink.faults ≤ sink_now.faults
@@ -133,7 +133,7 @@ pub record Keeps
 -- What a call promises for every command but a live run.
 abbrev pub Promised : Status → List (List ℕ) → Side → Side → Side → Side → Type 0
 Promised status words source source_now sink sink_now =
-    Keeps SpellsCommand reads_input IsDue status words source source_now sink sink_now
+    KeepsPromise SpellsCommand reads_input IsDue status words source source_now sink sink_now
 
 -- A live run reads its input.
 abbrev pub always : ℕ → Bool
@@ -142,7 +142,7 @@ always scans = true
 -- What a call promises for a live run.
 abbrev pub PromisedLive : Status → List (List ℕ) → Side → Side → Side → Side → Type 0
 PromisedLive status words source source_now sink sink_now =
-    Keeps SpellsLive always IsLiveDue status words source source_now sink sink_now
+    KeepsPromise SpellsLive always IsLiveDue status words source source_now sink sink_now
 
 -- A call does what its first word says: a live run, or any other command.
 abbrev pub StartsLive : List (List ℕ) → Type 0

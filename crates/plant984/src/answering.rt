@@ -1,28 +1,28 @@
 // What is due for a command and an input.
-ghost use Rattle.std.specs.Prelude.{◌≡◌, IfOk, string_bytes};
+ghost use Rattle.std.specs.Prelude.{◌≡◌, ℕ, List, IfOk, string_bytes};
 ghost use Rattle.plant_loader.specs.Plant.{plant_of};
-ghost use Rattle.joint_history.specs.JointLaws.{IsLegalJoint};
+ghost use Rattle.joint_history.specs.JointLaws.{IsLegalJoint, most_scans};
+ghost use Rattle.joint_history.specs.Noted.{IsNoted};
+ghost use Rattle.joint_history.specs.Runnable.{CanRunPlant};
 ghost use Rattle.journal_text.specs.Fronts.{IsJournalOf};
 ghost use Rattle.journal_text.specs.Journal.{journal};
-ghost use Rattle.panel_text.specs.Panel.{most_scans};
-ghost use Rattle.joint_history.specs.Runnable.{CanRunPlant};
+ghost use Rattle.panel_text.specs.Panel.{panel};
 ghost use Rattle.plant984.specs.Words.{IsCommandInRange, IsNumberOfScans};
 ghost use Rattle.plant984.specs.Due.{IsDue, IsDueOf, IsDueWith, IsFound, illegal_text, judges};
-ghost use Rattle.plant984.specs.Due.{reads_journal, refusal_text, refused, scans_of, task_text};
-ghost use Rattle.plant984.specs.Due.{text_of, told};
+ghost use Rattle.plant984.specs.Due.{refusal_text, refused, task_text, as_due};
 
 use crate::cutting::cut;
 use crate::judging::{Judged, judge_journal};
 use crate::status::Status;
 use crate::words::{Command, Task};
 use effect_laws::effects_are_right;
-use joint_history::Joint;
+use joint_history::{Joint, Noted};
 use journal_text::{fits_its_types, journal_text, legal_is_plain};
-use panel_text::panel_text;
+use panel_text::panel_from_notes;
 use plant_gen::plant_from;
 use plant_loader::{LoadEnd, load};
 use plant_types::{Place, Plant, PlantFault};
-use serial_run::run;
+use serial_run::{run_counted, run_noted};
 use std::alloc::{AllocError, Global};
 use summary_text::summary_text;
 
@@ -41,7 +41,7 @@ fn refusal_text(alloc: Global, fault: PlantFault, place: Place) -> Result<String
 
 /// The line that names a fault and its place, with the status Refused.
 pub fn refused(alloc: Global, fault: PlantFault, place: Place) -> Result<Answer, AllocError>
-    ensures { IfOk result (λ answer. told answer ≡ refused (fault, place)) }
+    ensures { IfOk result (λ answer. as_due answer ≡ refused (fault, place)) }
 {
     let text = refusal_text(alloc, fault, place)?;
     Ok(Answer {
@@ -51,7 +51,7 @@ pub fn refused(alloc: Global, fault: PlantFault, place: Place) -> Result<Answer,
 }
 
 fn illegal(alloc: Global, spot: &str) -> Result<Answer, AllocError>
-    ensures { IfOk result (λ answer. told answer
+    ensures { IfOk result (λ answer. as_due answer
         ≡ record { status = Status.Illegal; text = illegal_text spot.now }) }
 {
     let text = format!(in alloc; "illegal {spot}")?;
@@ -71,55 +71,41 @@ pub fn journal_tells_all(plant: &Plant, joint: &Joint)
     fits_its_types(joint);
 }
 
+/// The panel of a joint history, by the notes beside it.
+fn panel_of(alloc: Global, plant: &Plant, noted: &Noted) -> Result<Vec<u8>, AllocError>
+    requires joint { IsLegalJoint plant.now most_scans noted.now.joint }
+    requires notes { IsNoted plant.now noted.now }
+    ensures { IfOk result (λ text. text.items ≡ panel plant.now noted.now.joint) }
+{
+    panel_from_notes(alloc, plant, &noted.joint, noted.notes.as_slice())
+}
+
 /// The journal, and behind it the panel.
-pub fn trace_text(alloc: Global, plant: &Plant, joint: &Joint) -> Result<Vec<u8>, AllocError>
+pub fn trace_text(alloc: Global, plant: &Plant, noted: &Noted) -> Result<Vec<u8>, AllocError>
     requires plant { CanRunPlant plant.now }
-    requires joint { IsLegalJoint plant.now most_scans joint.now }
-    ensures { IfOk result (λ text. text.items ≡ task_text Task.Trace plant.now joint.now) }
+    requires joint { IsLegalJoint plant.now most_scans noted.now.joint }
+    requires notes { IsNoted plant.now noted.now }
+    ensures { IfOk result (λ text. text.items ≡ task_text Task.Trace plant.now noted.now.joint) }
 {
     legal_is_plain();
-    let mut text = journal_text(alloc, joint)?;
-    let panel = panel_text(alloc, plant, joint)?;
+    let mut text = journal_text(alloc, &noted.joint)?;
+    let panel = panel_of(alloc, plant, noted)?;
     text.extend_from_slice(panel.as_slice())?;
     Ok(text)
 }
 
 /// What a task writes of a joint history.
-fn task_text(alloc: Global, task: Task, plant: &Plant, joint: &Joint) -> Result<Vec<u8>, AllocError>
+fn task_text(alloc: Global, task: Task, plant: &Plant, noted: &Noted) -> Result<Vec<u8>, AllocError>
     requires plant { CanRunPlant plant.now }
-    requires joint { IsLegalJoint plant.now most_scans joint.now }
-    ensures { IfOk result (λ text. text.items ≡ task_text task plant.now joint.now) }
+    requires joint { IsLegalJoint plant.now most_scans noted.now.joint }
+    requires notes { IsNoted plant.now noted.now }
+    ensures { IfOk result (λ text. text.items ≡ task_text task plant.now noted.now.joint) }
 {
     match task {
-        Task::Run => panel_text(alloc, plant, joint),
-        Task::Trace => trace_text(alloc, plant, joint),
+        Task::Run => panel_of(alloc, plant, noted),
+        Task::Trace => trace_text(alloc, plant, noted),
         Task::Check => Vec::from_slice(alloc, b"legal\n"),
-        Task::Replay => panel_text(alloc, plant, joint),
-    }
-}
-
-/// What a command writes of the joint history of its run.
-fn text_of(
-    alloc: Global,
-    command: Command,
-    plant: &Plant,
-    joint: &Joint,
-) -> Result<Vec<u8>, AllocError>
-    requires plant { CanRunPlant plant.now }
-    requires joint { IsLegalJoint plant.now most_scans joint.now }
-    ensures { IfOk result (λ text. text.items ≡ text_of command plant.now joint.now) }
-{
-    match command {
-        Command::Do { task, .. } => task_text(alloc, task, plant, joint),
-        Command::Gen { .. } => summary_text(alloc, plant, joint),
-    }
-}
-
-fn scans_of(command: Command) -> u32
-    ensures { result ≡ scans_of command }
-{
-    match command {
-        Command::Do { scans, .. } | Command::Gen { scans, .. } => scans,
+        Task::Replay => panel_of(alloc, plant, noted),
     }
 }
 
@@ -133,35 +119,70 @@ fn judges(task: Task) -> bool
     }
 }
 
-fn reads_journal(command: Command) -> bool
-    ensures { result ≡ reads_journal command }
-{
-    match command {
-        Command::Do { task, .. } => judges(task),
-        Command::Gen { .. } => false,
-    }
-}
-
-/// The joint history that a command is about: that of the journal, or of a run.
+/// The joint history that a task is about: that of the journal, or of a run.
 fn history_of(
     alloc: Global,
-    command: Command,
+    task: Task,
+    scans: u32,
     plant: &Plant,
     behind: &[u8],
 ) -> Result<Judged, AllocError>
-    requires command { IsCommandInRange command }
+    requires scans { IsNumberOfScans scans }
     requires plant { CanRunPlant plant.now }
-    ensures { IfOk result (IsFound command plant.now behind.now) }
+    ensures { IfOk result (IsFound (judges task) plant.now scans behind.now) }
 {
-    let scans = scans_of(command);
-    if reads_journal(command) {
+    if judges(task) {
         judge_journal(alloc, plant, scans, behind)
     } else {
-        Ok(Judged::Whole(run(alloc, plant, scans)?))
+        Ok(Judged::Whole(run_noted(alloc, plant, scans)?))
     }
 }
 
-/// The answer to a command with a plant that is accepted, by what its joint history came to.
+/// The answer to a task with a plant that is accepted, by what its joint history came to.
+fn answer_task(
+    alloc: Global,
+    task: Task,
+    scans: u32,
+    plant: &Plant,
+    behind: &[u8],
+) -> Result<Answer, AllocError>
+    requires scans { IsNumberOfScans scans }
+    requires plant { CanRunPlant plant.now }
+    ensures { IfOk result (λ answer.
+        IsDueWith (Command.Do task scans) plant.now behind.now (as_due answer)) }
+{
+    effects_are_right();
+    match history_of(alloc, task, scans, plant, behind)? {
+        Judged::Whole(noted) => {
+            journal_tells_all(plant, &noted.joint);
+            let text = task_text(alloc, task, plant, &noted)?;
+            Ok(Answer {
+                status: Status::Ok,
+                text,
+            })
+        }
+        Judged::Illegal(spot) => illegal(alloc, spot.as_str()),
+    }
+}
+
+/// The summary of a run of a plant, whatever number it stands for.
+fn answer_summary(alloc: Global, scans: u32, plant: &Plant) -> Result<Answer, AllocError>
+    requires scans { IsNumberOfScans scans }
+    requires plant { CanRunPlant plant.now }
+    ensures { IfOk result (λ answer. (number : ℕ) (behind : List ℕ)
+        → IsDueWith (Command.Gen number scans) plant.now behind (as_due answer)) }
+{
+    let counted = run_counted(alloc, plant, scans)?;
+    let joint = &counted.noted.joint;
+    journal_tells_all(plant, joint);
+    let text = summary_text(alloc, joint, counted.coils)?;
+    Ok(Answer {
+        status: Status::Ok,
+        text,
+    })
+}
+
+/// The answer to a command with a plant that is accepted.
 fn answer_with(
     alloc: Global,
     command: Command,
@@ -170,19 +191,14 @@ fn answer_with(
 ) -> Result<Answer, AllocError>
     requires command { IsCommandInRange command }
     requires plant { CanRunPlant plant.now }
-    ensures { IfOk result (λ answer. IsDueWith command plant.now behind.now (told answer)) }
+    ensures { IfOk result (λ answer. IsDueWith command plant.now behind.now (as_due answer)) }
 {
-    effects_are_right();
-    match history_of(alloc, command, plant, behind)? {
-        Judged::Whole(joint) => {
-            journal_tells_all(plant, &joint);
-            let text = text_of(alloc, command, plant, &joint)?;
-            Ok(Answer {
-                status: Status::Ok,
-                text,
-            })
+    match command {
+        Command::Do { task, scans } => answer_task(alloc, task, scans, plant, behind),
+        Command::Gen { scans, .. } => {
+            let answer = answer_summary(alloc, scans, plant)?;
+            Ok(answer)
         }
-        Judged::Illegal(spot) => illegal(alloc, spot.as_str()),
     }
 }
 
@@ -195,7 +211,7 @@ fn answer_over(
 ) -> Result<Answer, AllocError>
     requires { IsCommandInRange command }
     ensures { IfOk result (λ answer.
-        IsDueOf command behind.now (plant_of file.now) (told answer)) }
+        IsDueOf command behind.now (plant_of file.now) (as_due answer)) }
 {
     match load(alloc, file) {
         Ok(plant) => answer_with(alloc, command, &plant, behind),
@@ -208,7 +224,7 @@ fn answer_over(
 fn answer_to_task(alloc: Global, task: Task, scans: u32, input: &[u8]) -> Result<Answer, AllocError>
     requires { IsNumberOfScans scans }
     ensures { IfOk result (λ answer.
-        IsDue (Command.Do task scans) input.now (told answer)) }
+        IsDue (Command.Do task scans) input.now (as_due answer)) }
 {
     let command = Command::Do { task, scans };
     if judges(task) {
@@ -222,7 +238,7 @@ fn answer_to_task(alloc: Global, task: Task, scans: u32, input: &[u8]) -> Result
 /// The answer to a command over an input.
 pub fn answer_to(alloc: Global, command: Command, input: &[u8]) -> Result<Answer, AllocError>
     requires { IsCommandInRange command }
-    ensures { IfOk result (λ answer. IsDue command input.now (told answer)) }
+    ensures { IfOk result (λ answer. IsDue command input.now (as_due answer)) }
 {
     match command {
         Command::Do { task, scans } => answer_to_task(alloc, task, scans, input),

@@ -11,10 +11,8 @@ ghost use Rattle.plant984.specs.Words.{IsNumberOfScans, without_dashes};
 use clap::error::ErrorKind;
 use clap::{Arg, ArgMatches, Command};
 use itoa::Buffer;
+use plant_types::MOST_SCANS;
 use std::alloc::{AllocError, Global};
-
-/// The most scans of a run.
-const SCAN_LIMIT: u32 = 2000;
 
 /// The largest number that stands for a plant.
 const PLANT_LIMIT: u32 = 9999;
@@ -89,7 +87,7 @@ pub fn scans_of(alloc: Global, words: &[String]) -> Result<Option<u32>, AllocErr
     let Some(matches) = matches_of(command, words)? else {
         return Ok(None);
     };
-    Ok(number_among(&matches, "N", SCAN_LIMIT))
+    Ok(number_among(&matches, "N", MOST_SCANS))
 }
 
 /// The number of a plant and a number of scans, as the values of two arguments.
@@ -98,10 +96,10 @@ fn both_among(matches: &ArgMatches) -> Option<(u32, u32)>
         ↔ ((first_value (found_of matches.now) (codes "K") ≡ Some (decimal number))
         × IsFromTo 1 PLANT_LIMIT number
         × (first_value (found_of matches.now) (codes "N") ≡ Some (decimal scans))
-        × IsFromTo 1 SCAN_LIMIT scans) }
+        × IsFromTo 1 MOST_SCANS scans) }
 {
     match number_among(matches, "K", PLANT_LIMIT) {
-        Some(number) => match number_among(matches, "N", SCAN_LIMIT) {
+        Some(number) => match number_among(matches, "N", MOST_SCANS) {
             Some(scans) => Some((number, scans)),
             None => None,
         },

@@ -2,10 +2,11 @@
 ghost use Rattle.std.specs.Prelude.{◌≡◌, ◌≤◌, IfOk, string_bytes};
 ghost use Rattle.journal_text.specs.Fronts.{IsJournalOf};
 ghost use Rattle.joint_history.specs.Runnable.{CanRunPlant};
-ghost use Rattle.plant984.specs.Judged.{IsJudged, law_text, line_text, place_text, spot_text};
+ghost use Rattle.plant984.specs.Judged.{IsJudged, law_text, spot_place_text, spot_text};
+ghost use Rattle.plant984.specs.Judged.{wrong_line_text};
 
-use joint_history::Joint;
-use joint_law::{Spot, Verdict, judge};
+use joint_history::{Joint, Noted};
+use joint_law::{Judgement, Spot, judge_noted};
 use journal_text::{JournalFault, read_journal};
 use plant_types::Plant;
 use std::alloc::{AllocError, Global};
@@ -14,20 +15,20 @@ use std::fmt::Write;
 /// What a journal comes to.
 #[derive(Drop)]
 pub enum Judged {
-    /// The joint history of a complete run.
-    Whole(Joint),
+    /// The joint history of a complete run, with what its controllers noted of their panels.
+    Whole(Noted),
     /// The text of the spot at which it is not that of a complete run.
     Illegal(String),
 }
 
-fn line_text(alloc: Global, line: u32) -> Result<String, AllocError>
-    ensures { IfOk result (λ text. string_bytes text ≡ line_text line) }
+fn wrong_line_text(alloc: Global, line: u32) -> Result<String, AllocError>
+    ensures { IfOk result (λ text. string_bytes text ≡ wrong_line_text line) }
 {
     format!(in alloc; "text {line}\n")
 }
 
-fn place_text(alloc: Global, section: &str, node: u8, place: u32) -> Result<String, AllocError>
-    ensures { IfOk result (λ text. string_bytes text ≡ place_text section.now node place) }
+fn spot_place_text(alloc: Global, section: &str, node: u8, place: u32) -> Result<String, AllocError>
+    ensures { IfOk result (λ text. string_bytes text ≡ spot_place_text section.now node place) }
 {
     let mut text = String::new(alloc);
     write!(text, "{section} {node} {place}\n")?;
@@ -47,8 +48,8 @@ fn spot_text(alloc: Global, spot: Spot) -> Result<String, AllocError>
 {
     match spot {
         Spot::Sections => String::from_str(alloc, "sections\n"),
-        Spot::Controller { node, entry } => place_text(alloc, "C", node, entry),
-        Spot::Host { node, entry } => place_text(alloc, "H", node, entry),
+        Spot::Controller { node, entry } => spot_place_text(alloc, "C", node, entry),
+        Spot::Host { node, entry } => spot_place_text(alloc, "H", node, entry),
         Spot::Ring(entry) => format!(in alloc; "R {entry}\n"),
         Spot::Law { law, node, place } => law_text(alloc, law, node, place),
         Spot::Incomplete(node) => format!(in alloc; "D16 {node}\n"),
@@ -68,9 +69,9 @@ fn judge_joint(
     requires read { IsJournalOf joint journal.now }
     ensures { IfOk result (IsJudged plant.now scans journal.now) }
 {
-    match judge(alloc, plant, &joint, scans)? {
-        Verdict::Legal => Ok(Judged::Whole(joint)),
-        Verdict::Illegal(spot) => Ok(Judged::Illegal(spot_text(alloc, spot)?)),
+    match judge_noted(alloc, plant, &joint, scans)? {
+        Judgement::Legal(notes) => Ok(Judged::Whole(Noted { joint, notes })),
+        Judgement::Illegal(spot) => Ok(Judged::Illegal(spot_text(alloc, spot)?)),
     }
 }
 
@@ -87,7 +88,7 @@ pub fn judge_journal(
 {
     match read_journal(alloc, journal) {
         Ok(joint) => judge_joint(alloc, plant, scans, journal, joint),
-        Err(JournalFault::Text(line)) => Ok(Judged::Illegal(line_text(alloc, line)?)),
+        Err(JournalFault::Text(line)) => Ok(Judged::Illegal(wrong_line_text(alloc, line)?)),
         Err(JournalFault::NoMemory) => Err(AllocError),
     }
 }

@@ -15,8 +15,9 @@ pub fn one_due()
     verdicts_agree();
 }
 
-/// What `trace` and `live` write for a plant file is the journal and the panel of one joint history:
-/// `check` of that file and that journal can answer legal alone, and `replay` that panel alone.
+/// What `trace` and `live` write for a plant file is the journal and the panel of one joint
+/// history: `check` of that file and that journal can answer legal alone, and `replay` that panel
+/// alone.
 pub fn written_is_legal()
     ensures { WrittenIsLegal }
 {

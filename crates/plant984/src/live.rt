@@ -3,15 +3,15 @@ ghost use Rattle.std.specs.Prelude.{◌≡◌, ◌≤◌, ◌↔◌, IfOk, ℕ, 
 ghost use Rattle.plant_loader.specs.Plant.{plant_of};
 ghost use Rattle.joint_history.specs.Runnable.{CanRunPlant};
 ghost use Rattle.plant984.specs.Words.{IsNumberOfScans, SpellsLive, SpellsLiveBehind};
-ghost use Rattle.plant984.specs.Due.{IsLiveDue, IsLiveDueOf, IsLiveShown, told};
-ghost use Rattle.plant984.specs.Promise.{Answers, AsksInput, PromisedLive, always, side};
+ghost use Rattle.plant984.specs.Due.{IsLiveDue, IsLiveDueOf, IsLiveShown, as_due};
+ghost use Rattle.plant984.specs.Promise.{HasAnswered, AsksInput, PromisedLive, always, side};
 ghost use Rattle.plant984.specs.Promise.{WritesNothing};
 
 use crate::answering::{Answer, journal_tells_all, refused, trace_text};
 use crate::arguments::scans_of;
 use crate::serial::INPUT_LIMIT;
 use crate::status::Status;
-use live_run::{Meet, live};
+use live_run::{Meet, live_noted};
 use plant_io::{ReadEnd, Sink, Source, read_all, write_all};
 use plant_loader::{LoadEnd, load};
 use plant_types::Plant;
@@ -53,11 +53,11 @@ fn show_live<M: Meet + Sync, R: Threads + Wait + Clock + Sync>(
 ) -> Result<Answer, AllocError>
     requires scans { IsNumberOfScans scans }
     requires plant { CanRunPlant plant.now }
-    ensures { IfOk result (λ answer. IsLiveShown scans plant.now (told answer)) }
+    ensures { IfOk result (λ answer. IsLiveShown scans plant.now (as_due answer)) }
 {
-    let joint = live(rt, alloc, plant, scans, meet)?;
-    journal_tells_all(plant, &joint);
-    let text = trace_text(alloc, plant, &joint)?;
+    let noted = live_noted(rt, alloc, plant, scans, meet)?;
+    journal_tells_all(plant, &noted.joint);
+    let text = trace_text(alloc, plant, &noted)?;
     Ok(Answer {
         status: Status::Ok,
         text,
@@ -73,7 +73,7 @@ fn answer_live<M: Meet + Sync, R: Threads + Wait + Clock + Sync>(
     meet: &M,
 ) -> Result<Answer, AllocError>
     requires { IsNumberOfScans scans }
-    ensures { IfOk result (λ answer. IsLiveDueOf scans (plant_of input.now) (told answer)) }
+    ensures { IfOk result (λ answer. IsLiveDueOf scans (plant_of input.now) (as_due answer)) }
 {
     match load(alloc, input) {
         Ok(plant) => show_live(rt, alloc, scans, &plant, meet),
@@ -92,7 +92,7 @@ fn write_live<K: Sink, M: Meet + Sync, R: Threads + Wait + Clock + Sync>(
     meet: &M,
 ) -> Status
     requires { IsNumberOfScans scans }
-    ensures answers { Answers (IsLiveDue scans input.now)
+    ensures answers { HasAnswered (IsLiveDue scans input.now)
         (side (K.taken sink.old) (K.faults sink.old))
         (side (K.taken sink.new) (K.faults sink.new)) result }
     ensures later { K.faults sink.old ≤ K.faults sink.new }

@@ -4,6 +4,8 @@
 mod answering;
 mod arguments;
 mod cutting;
+#[cfg(test)]
+mod hostile;
 mod judging;
 mod laws;
 mod live;

@@ -2,14 +2,14 @@
 ghost use Rattle.plant_gen.specs.Text.{IsPlantNumber};
 
 use crate::status::Status;
-use crate::tests::{Outcome, outcome_over};
+use crate::tests::{ends_so, outcome_over};
 use plant_gen::plant_from;
 use plant_loader::load;
 use std::alloc::{AllocError, Global};
 use std::str;
 use std::test::Fail;
 
-// Node 2 reads two registers of node 5, which are 42 and 43.
+/// A plant whose node 2 reads two registers of node 5, which are 42 and 43.
 pub fn read2() -> &'static str {
     r#"version = 1
 [net]
@@ -79,7 +79,7 @@ S 2 N 5
 "
 }
 
-// Two pumps' controllers that read each other's registers, and a host that reads them.
+/// A plant of two pumps' controllers that read each other's registers, and a host that reads them.
 pub fn pumps() -> &'static str {
     r#"version = 1
 scan_time = 50
@@ -248,9 +248,23 @@ fn changed(alloc: Global, change: &Change) -> Result<String, Fail> {
     Ok(file)
 }
 
+// Whether these bytes are a text in which a part stands.
+fn has_text(bytes: &[u8], part: &str) -> bool {
+    match str::from_utf8(bytes) {
+        Ok(text) => text.contains(part),
+        Err(_) => false,
+    }
+}
+
+// Whether the run of the changed plant shows what it is to.
+fn comes_to_its_words(alloc: Global, change: &Change) -> Result<bool, Fail> {
+    let file = changed(alloc, change)?;
+    let outcome = outcome_over(alloc, change.words, file.as_bytes())?;
+    Ok(outcome.status == Status::Ok && has_text(outcome.written(), change.shown))
+}
+
 #[test]
 fn messages_come_to_their_words(rt: HostRuntime) -> Result<(), Fail> {
-    let alloc = rt.alloc();
     for change in [
         lost(),
         lost_once(),
@@ -262,11 +276,11 @@ fn messages_come_to_their_words(rt: HostRuntime) -> Result<(), Fail> {
         spent(),
         aborted(),
     ] {
-        let file = changed(alloc, &change)?;
-        let outcome = outcome_over(alloc, change.words, file.as_str())?;
-        let text = str::from_utf8(outcome.written.as_slice()).map_err(|_| "text")?;
-        assert!(rt; outcome.status == Status::Ok);
-        assert!(rt; text.contains(change.shown), "{text}");
+        assert!(rt;
+            comes_to_its_words(rt.alloc(), &change)?,
+            "{}",
+            change.shown
+        );
     }
     Ok(())
 }
@@ -274,58 +288,66 @@ fn messages_come_to_their_words(rt: HostRuntime) -> Result<(), Fail> {
 #[test]
 fn a_trace_is_the_journal_and_the_panel(rt: HostRuntime) -> Result<(), Fail> {
     let alloc = rt.alloc();
-    let outcome = outcome_over(alloc, "trace 2", read2())?;
     let wanted = format!(in alloc; "{}{}", read2_journal(), read2_panel())?;
-    assert!(rt; outcome.status == Status::Ok);
-    assert!(rt; outcome.written.as_slice() == wanted.as_bytes());
+    let plant = read2().as_bytes();
+    assert!(rt; ends_so(alloc, "trace 2", plant, Status::Ok, wanted.as_str())?);
     Ok(())
 }
 
 #[test]
 fn pumps_and_a_host_run(rt: HostRuntime) -> Result<(), Fail> {
-    let outcome = outcome_over(rt.alloc(), "run 6", pumps())?;
-    assert!(rt; outcome.status == Status::Ok);
-    assert!(rt; outcome.written.as_slice() == pumps_panel().as_bytes());
+    let plant = pumps().as_bytes();
+    assert!(rt; ends_so(rt.alloc(), "run 6", plant, Status::Ok, pumps_panel())?);
     Ok(())
 }
 
 #[test]
 fn made_plants_are_summed_up(rt: HostRuntime) -> Result<(), Fail> {
     let alloc = rt.alloc();
-    let small = outcome_over(alloc, "gen 15 1", "")?;
     let wanted = "controllers 2\nsolves 2\npeers 2\ngood 2\nbad 0\npasses 6\ncoils 6\n";
-    assert!(rt; small.status == Status::Ok && small.written.as_slice() == wanted.as_bytes());
-    let large = outcome_over(alloc, "gen 14 20", "")?;
+    assert!(rt; ends_so(alloc, "gen 15 1", &[], Status::Ok, wanted)?);
+    let large = outcome_over(alloc, "gen 14 20", &[])?;
     let front = b"controllers 16\nsolves 320\n".as_slice();
-    assert!(rt; large.status == Status::Ok && large.written.starts_with(front));
+    assert!(rt; large.status == Status::Ok && large.written().starts_with(front));
     Ok(())
 }
 
-// How a call over the first plant with this journal behind it ends, and what it writes.
-fn judged(alloc: Global, words: &str, journal: &str) -> Result<Outcome, Fail> {
+// Whether a call over the first plant with this journal behind it ends so.
+fn judged_so(
+    alloc: Global,
+    words: &str,
+    journal: &str,
+    status: Status,
+    text: &str,
+) -> Result<bool, AllocError> {
     let input = format!(in alloc; "{}{journal}", read2())?;
-    Ok(outcome_over(alloc, words, input.as_str())?)
+    ends_so(alloc, words, input.as_bytes(), status, text)
 }
 
-fn ends_so(outcome: &Outcome, status: Status, text: &str) -> bool {
-    outcome.status == status && outcome.written.as_slice() == text.as_bytes()
+// The journal of the first plant without the answer of node 5.
+fn unanswered(alloc: Global) -> Result<String, Fail> {
+    let answer = "P 2.1.1 0300000002 0304002a002b\n";
+    let (front, back) = read2_journal().split_once(answer).ok_or("the answer")?;
+    Ok(format!(in alloc; "{front}{back}")?)
 }
 
 #[test]
 fn journals_are_judged(rt: HostRuntime) -> Result<(), Fail> {
     let alloc = rt.alloc();
     let journal = read2_journal();
-    let legal = judged(alloc, "check 2", journal)?;
-    assert!(rt; ends_so(&legal, Status::Ok, "legal\n"));
-    let shown = judged(alloc, "replay 2", journal)?;
-    assert!(rt; ends_so(&shown, Status::Ok, read2_panel()));
-    let answer = "P 2.1.1 0300000002 0304002a002b\n";
-    let (front, back) = journal.split_once(answer).ok_or("the answer")?;
-    let other = format!(in alloc; "{front}{back}")?;
-    let unanswered = judged(alloc, "check 2", other.as_str())?;
-    assert!(rt; ends_so(&unanswered, Status::Illegal, "illegal J2 5 1\n"));
-    let none = judged(alloc, "replay 2", "")?;
-    assert!(rt; ends_so(&none, Status::Illegal, "illegal text 1\n"));
+    assert!(rt; judged_so(alloc, "check 2", journal, Status::Ok, "legal\n")?);
+    assert!(rt; judged_so(alloc, "replay 2", journal, Status::Ok, read2_panel())?);
+    let other = unanswered(alloc)?;
+    assert!(rt;
+        judged_so(
+            alloc,
+            "check 2",
+            other.as_str(),
+            Status::Illegal,
+            "illegal J2 5 1\n"
+        )?
+    );
+    assert!(rt; judged_so(alloc, "replay 2", "", Status::Illegal, "illegal text 1\n")?);
     Ok(())
 }
 

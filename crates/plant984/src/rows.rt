@@ -1,7 +1,6 @@
 // Runs of small plants, each with the text that it writes.
 use crate::status::Status;
-use crate::tests::outcome_of;
-use plant_io::{MemSink, MemSource};
+use crate::tests::ends_so;
 use std::alloc::{AllocError, Global};
 use std::test::Fail;
 
@@ -307,10 +306,8 @@ fn plant_of(alloc: Global, row: &Row) -> Result<Vec<u8>, AllocError> {
 
 // Whether the row's call ends with its status and its text.
 fn holds(alloc: Global, row: &Row) -> Result<bool, AllocError> {
-    let source = MemSource::new(plant_of(alloc, row)?, 64, Vec::new(alloc));
-    let sink = MemSink::new(alloc, 64, Vec::new(alloc));
-    let outcome = outcome_of(alloc, row.words, source, sink)?;
-    Ok(outcome.status == row.status && outcome.written.as_slice() == row.text.as_bytes())
+    let plant = plant_of(alloc, row)?;
+    ends_so(alloc, row.words, plant.as_slice(), row.status, row.text)
 }
 
 #[test]
@@ -350,14 +347,7 @@ fn plays_each_script(rt: HostRuntime) -> Result<(), Fail> {
 // A controller with no order of solve, no segments and no panel.
 #[test]
 fn a_scan_of_nothing_has_its_line(rt: HostRuntime) -> Result<(), Fail> {
-    let alloc = rt.alloc();
-    let plant = Vec::from_slice(alloc, b"version = 1\n[[controller]]\nnode = 1\n".as_slice())?;
-    let source = MemSource::new(plant, 64, Vec::new(alloc));
-    let sink = MemSink::new(alloc, 64, Vec::new(alloc));
-    let outcome = outcome_of(alloc, "run 2", source, sink)?;
-    assert!(rt;
-        outcome.status == Status::Ok
-            && outcome.written.as_slice() == b"S 1 N 1\nS 2 N 1\n".as_slice()
-    );
+    let plant = b"version = 1\n[[controller]]\nnode = 1\n".as_slice();
+    assert!(rt; ends_so(rt.alloc(), "run 2", plant, Status::Ok, "S 1 N 1\nS 2 N 1\n")?);
     Ok(())
 }

@@ -2,7 +2,7 @@
 ghost use Rattle.std.specs.Prelude.{◌≡◌, ◌≤◌, map, string_bytes};
 ghost use Rattle.plant984.specs.Words.{IsCommandInRange, SpellsCommand};
 ghost use Rattle.plant984.specs.Due.{IsDue, reads_input};
-ghost use Rattle.plant984.specs.Promise.{Answers, AsksInput, Promised, side, WritesNothing};
+ghost use Rattle.plant984.specs.Promise.{HasAnswered, AsksInput, Promised, side, WritesNothing};
 
 use crate::answering::{Answer, answer_to};
 use crate::status::Status;
@@ -22,7 +22,7 @@ fn reads_input(command: Command) -> bool
 /// Answers a command over an input, and writes the answer.
 fn write_answer<K: Sink>(alloc: Global, command: Command, input: &[u8], sink: &mut K) -> Status
     requires { IsCommandInRange command }
-    ensures answers { Answers (IsDue command input.now)
+    ensures answers { HasAnswered (IsDue command input.now)
         (side (K.taken sink.old) (K.faults sink.old))
         (side (K.taken sink.new) (K.faults sink.new)) result }
     ensures later { K.faults sink.old ≤ K.faults sink.new }

@@ -77,7 +77,15 @@ fn failing_at_a_write(
     }
 }
 
-pub fn words_of(alloc: Global, line: &str) -> Result<Vec<String>, AllocError> {
+// A call of the program: its words, what it reads, and what it writes to.
+#[derive(Drop)]
+pub struct Call {
+    pub words: Vec<String>,
+    pub source: MemSource,
+    pub sink: MemSink,
+}
+
+fn words_of(alloc: Global, line: &str) -> Result<Vec<String>, AllocError> {
     let mut words = Vec::new(alloc);
     for word in line.split_whitespace() {
         words.push(String::from_str(alloc, word)?)?;
@@ -85,51 +93,89 @@ pub fn words_of(alloc: Global, line: &str) -> Result<Vec<String>, AllocError> {
     Ok(words)
 }
 
-pub fn source_of(alloc: Global, input: &str, fails: &[u64]) -> Result<MemSource, AllocError> {
+fn source_of(alloc: Global, input: &[u8], fails: &[u64]) -> Result<MemSource, AllocError> {
     let fails = Vec::from_slice(alloc, fails)?;
-    let bytes = Vec::from_slice(alloc, input.as_bytes())?;
+    let bytes = Vec::from_slice(alloc, input)?;
     Ok(MemSource::new(bytes, 7, fails))
 }
 
-pub fn sink_of(alloc: Global, fails: &[u64]) -> Result<MemSink, AllocError> {
+fn sink_of(alloc: Global, fails: &[u64]) -> Result<MemSink, AllocError> {
     Ok(MemSink::new(alloc, 7, Vec::from_slice(alloc, fails)?))
 }
 
-// How a call ended, and what it wrote.
+// A call over this input, at which these reads and writes fail; 7 bytes are moved at a time.
+fn failing_call(
+    alloc: Global,
+    line: &str,
+    input: &[u8],
+    reads: &[u64],
+    writes: &[u64],
+) -> Result<Call, AllocError> {
+    let words = words_of(alloc, line)?;
+    let source = source_of(alloc, input, reads)?;
+    let sink = sink_of(alloc, writes)?;
+    Ok(Call {
+        words,
+        source,
+        sink,
+    })
+}
+
+// The same where nothing fails.
+pub fn call_over(alloc: Global, line: &str, input: &[u8]) -> Result<Call, AllocError> {
+    failing_call(alloc, line, input, &[], &[])
+}
+
+// How a call ended, and the sink that it wrote to.
 #[derive(Drop)]
 pub struct Outcome {
     pub status: Status,
-    pub written: Vec<u8>,
+    pub sink: MemSink,
 }
 
-pub fn outcome_of(
+impl Outcome {
+    pub fn written(&self) -> &[u8] {
+        self.sink.bytes()
+    }
+
+    pub fn is(&self, status: Status, text: &str) -> bool {
+        self.status == status && self.written() == text.as_bytes()
+    }
+}
+
+fn outcome_of(alloc: Global, call: Call) -> Outcome {
+    let Call {
+        words,
+        mut source,
+        mut sink,
+    } = call;
+    let status = plant_serial(alloc, &words, &mut source, &mut sink);
+    Outcome { status, sink }
+}
+
+// How a call over this input ends, where nothing fails.
+pub fn outcome_over(alloc: Global, line: &str, input: &[u8]) -> Result<Outcome, AllocError> {
+    let call = call_over(alloc, line, input)?;
+    Ok(outcome_of(alloc, call))
+}
+
+// Whether it ends with this status and this text.
+pub fn ends_so(
     alloc: Global,
     line: &str,
-    mut source: MemSource,
-    mut sink: MemSink,
-) -> Result<Outcome, AllocError> {
-    let words = words_of(alloc, line)?;
-    let status = plant_serial(alloc, &words, &mut source, &mut sink);
-    let written = Vec::from_slice(alloc, sink.bytes())?;
-    Ok(Outcome { status, written })
+    input: &[u8],
+    status: Status,
+    text: &str,
+) -> Result<bool, AllocError> {
+    let outcome = outcome_over(alloc, line, input)?;
+    Ok(outcome.is(status, text))
 }
 
-// The same over this input, where nothing fails.
-pub fn outcome_over(alloc: Global, line: &str, input: &str) -> Result<Outcome, AllocError> {
-    outcome_of(
-        alloc,
-        line,
-        source_of(alloc, input, &[])?,
-        sink_of(alloc, &[])?,
-    )
-}
-
-// Whether the case ends as it is to, over a source and a sink that take 7 bytes at a time.
+// Whether the case ends as it is to.
 fn holds(alloc: Global, case: &Case) -> Result<bool, AllocError> {
-    let sink = sink_of(alloc, case.failing_writes)?;
-    let source = source_of(alloc, case.input, case.failing_reads)?;
-    let outcome = outcome_of(alloc, case.words, source, sink)?;
-    Ok(outcome.status == case.status && outcome.written.as_slice() == case.text.as_bytes())
+    let (reads, writes) = (case.failing_reads, case.failing_writes);
+    let call = failing_call(alloc, case.words, case.input.as_bytes(), reads, writes)?;
+    Ok(outcome_of(alloc, call).is(case.status, case.text))
 }
 
 #[test]
@@ -180,11 +226,12 @@ fn each_status_has_its_number(rt: HostRuntime) {
 
 #[test]
 fn ends_with_the_number_of_its_status(rt: HostRuntime) -> Result<(), Fail> {
-    let alloc = rt.alloc();
-    let words = words_of(alloc, "run 1")?;
-    let mut sink = sink_of(alloc, &[])?;
-    let mut source = source_of(alloc, "", &[])?;
-    let code = exit_of(&rt, alloc, &words, &mut source, &mut sink, &NoMeet);
+    let Call {
+        words,
+        mut source,
+        mut sink,
+    } = call_over(rt.alloc(), "run 1", &[])?;
+    let code = exit_of(&rt, rt.alloc(), &words, &mut source, &mut sink, &NoMeet);
     assert_eq!(rt; code, ExitCode::from(5));
     Ok(())
 }
@@ -192,16 +239,16 @@ fn ends_with_the_number_of_its_status(rt: HostRuntime) -> Result<(), Fail> {
 // Whether the words of the line are told to be no command, and a run behind them still finds the
 // whole input.
 fn touches_nothing(alloc: Global, line: &str) -> Result<bool, AllocError> {
-    let words = words_of(alloc, line)?;
-    let mut sink = sink_of(alloc, &[])?;
-    let mut source = source_of(alloc, contact_and_coil(), &[])?;
-    let status = plant_serial(alloc, &words, &mut source, &mut sink);
-    let outcome = outcome_of(alloc, "run 1", source, sink)?;
-    Ok(
-        status == Status::Usage
-            && outcome.status == Status::Ok
-            && outcome.written.as_slice() == b"S 1 N 1 00001=1\n".as_slice(),
-    )
+    let run = words_of(alloc, "run 1")?;
+    let Call {
+        words,
+        mut source,
+        mut sink,
+    } = call_over(alloc, line, contact_and_coil().as_bytes())?;
+    let first = plant_serial(alloc, &words, &mut source, &mut sink);
+    let status = plant_serial(alloc, &run, &mut source, &mut sink);
+    let outcome = Outcome { status, sink };
+    Ok(first == Status::Usage && outcome.is(Status::Ok, "S 1 N 1 00001=1\n"))
 }
 
 #[test]
@@ -244,33 +291,42 @@ fn two_dashes_are_dropped_once(rt: HostRuntime) -> Result<(), Fail> {
     Ok(())
 }
 
-// The outcome of a run over so many bytes: a plant, and a comment behind it.
-fn with_comment(alloc: Global, len: usize) -> Result<Outcome, AllocError> {
+// Whether a run over so many bytes, a plant and a comment behind it, ends with this status and this
+// text.
+fn ends_behind_comment(
+    alloc: Global,
+    len: usize,
+    status: Status,
+    text: &str,
+) -> Result<bool, AllocError> {
+    let words = words_of(alloc, "run 1")?;
     let sink = sink_of(alloc, &[])?;
     let mut bytes = Vec::from_slice(alloc, contact_and_coil().as_bytes())?;
     bytes.resize(len, b'#')?;
     let source = MemSource::new(bytes, 65_536, Vec::new(alloc));
-    outcome_of(alloc, "run 1", source, sink)
+    let call = Call {
+        words,
+        source,
+        sink,
+    };
+    Ok(outcome_of(alloc, call).is(status, text))
 }
 
 #[test]
 fn stops_behind_the_limit(rt: HostRuntime) -> Result<(), Fail> {
-    let within = with_comment(rt.alloc(), INPUT_LIMIT)?;
-    assert!(rt; within.status == Status::Ok && !within.written.is_empty());
-    let beyond = with_comment(rt.alloc(), INPUT_LIMIT + 1)?;
-    assert!(rt; beyond.status == Status::TooLong && beyond.written.is_empty());
+    let alloc = rt.alloc();
+    let text = "S 1 N 1 00001=1\n";
+    assert!(rt; ends_behind_comment(alloc, INPUT_LIMIT, Status::Ok, text)?);
+    assert!(rt; ends_behind_comment(alloc, INPUT_LIMIT + 1, Status::TooLong, "")?);
     Ok(())
 }
 
 // The most scans that a run has, each with its line.
 #[test]
 fn runs_two_thousand_scans(rt: HostRuntime) -> Result<(), Fail> {
-    let alloc = rt.alloc();
-    let sink = sink_of(alloc, &[])?;
-    let source = source_of(alloc, contact_and_coil(), &[])?;
-    let outcome = outcome_of(alloc, "run 2000", source, sink)?;
+    let outcome = outcome_over(rt.alloc(), "run 2000", contact_and_coil().as_bytes())?;
     let end = b"S 1999 N 1 00001=1\nS 2000 N 1 00001=1\n".as_slice();
-    assert_eq!(rt; outcome.written.len(), 36_893);
-    assert!(rt; outcome.status == Status::Ok && outcome.written.ends_with(end));
+    assert_eq!(rt; outcome.written().len(), 36_893);
+    assert!(rt; outcome.status == Status::Ok && outcome.written().ends_with(end));
     Ok(())
 }

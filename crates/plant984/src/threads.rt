@@ -3,7 +3,7 @@ ghost use Rattle.plant984.specs.Words.{IsNumberOfScans};
 
 use crate::nets::{pumps, read2};
 use crate::status::Status;
-use crate::tests::{Outcome, outcome_over, sink_of, source_of, words_of};
+use crate::tests::{Call, Outcome, call_over, ends_so};
 use crate::top::plant_top;
 use controller_core::Entry;
 use crossbeam_utils::Backoff;
@@ -94,12 +94,28 @@ fn run_live<M: Meet + Sync, R: Threads + Wait + Clock + Sync>(
     plant: &str,
     meet: &M,
 ) -> Result<Outcome, AllocError> {
-    let words = words_of(alloc, line)?;
-    let mut source = source_of(alloc, plant, &[])?;
-    let mut sink = sink_of(alloc, &[])?;
+    let Call {
+        words,
+        mut source,
+        mut sink,
+    } = call_over(alloc, line, plant.as_bytes())?;
     let status = plant_top(rt, alloc, &words, &mut source, &mut sink, meet);
-    let written = Vec::from_slice(alloc, sink.bytes())?;
-    Ok(Outcome { status, written })
+    Ok(Outcome { status, sink })
+}
+
+// The journal of a live run of a plant, and the panel behind it.
+fn live_texts<M: Meet + Sync, R: Threads + Wait + Clock + Sync>(
+    rt: &R,
+    alloc: Global,
+    line: &str,
+    plant: &str,
+    meet: &M,
+) -> Result<(String, String), Fail> {
+    let outcome = run_live(rt, alloc, line, plant, meet)?;
+    if outcome.status != Status::Ok {
+        return Err("the status".into());
+    }
+    parted(alloc, outcome.written())
 }
 
 // The journal and the panel of a text.
@@ -167,33 +183,43 @@ fn has_good(joint: &Joint, node: u8) -> bool {
     false
 }
 
+// Whether the journal of a live run is that of a whole run in which the host was answered, and the
+// message of node 2 came to its words.
+fn all_came(alloc: Global, plant: &str, journal: &str) -> Result<bool, Fail> {
+    let joint = judged_legal(alloc, plant, 2, journal)?;
+    Ok(has_reply(&joint) && has_good(&joint, 2))
+}
+
 #[test]
 fn a_scan_and_a_host_meet(rt: HostRuntime) -> Result<(), Fail> {
     let alloc = rt.alloc();
     let host = "[[host]]\nnode = 1\nrequests = [\"1 5 0300000001\"]\n";
     let plant = format!(in alloc; "{}{host}", read2())?;
     let meeting = Meeting::new();
-    let outcome = run_live(&rt, alloc, "live 2", plant.as_str(), &meeting)?;
+    let (journal, _) = live_texts(&rt, alloc, "live 2", plant.as_str(), &meeting)?;
     assert!(rt; meeting.is_in_time(), "the turns ran out");
     assert!(rt; meeting.has_met(), "one of the two did not come");
-    assert_eq!(rt; outcome.status, Status::Ok);
-    let (journal, _) = parted(alloc, outcome.written.as_slice())?;
-    let joint = judged_legal(alloc, plant.as_str(), 2, journal.as_str())?;
-    assert!(rt; has_reply(&joint), "{journal}");
-    assert!(rt; has_good(&joint, 2), "{journal}");
+    assert!(rt;
+        all_came(alloc, plant.as_str(), journal.as_str())?,
+        "{journal}"
+    );
     Ok(())
+}
+
+// Whether the journal of a live run of the pumps is legal, and its replay is this panel.
+fn replays(alloc: Global, journal: &str, panel: &str) -> Result<bool, Fail> {
+    judged_legal(alloc, pumps(), 6, journal)?;
+    let input = format!(in alloc; "{}{journal}", pumps())?;
+    Ok(ends_so(alloc, "replay 6", input.as_bytes(), Status::Ok, panel)?)
 }
 
 #[test]
 fn pumps_run_live(rt: HostRuntime) -> Result<(), Fail> {
     let alloc = rt.alloc();
-    let outcome = run_live(&rt, alloc, "live 6", pumps(), &NoMeet)?;
-    assert_eq!(rt; outcome.status, Status::Ok);
-    let (journal, panel) = parted(alloc, outcome.written.as_slice())?;
-    judged_legal(alloc, pumps(), 6, journal.as_str())?;
-    let input = format!(in alloc; "{}{journal}", pumps())?;
-    let replayed = outcome_over(alloc, "replay 6", input.as_str())?;
-    assert_eq!(rt; replayed.status, Status::Ok);
-    assert_eq!(rt; replayed.written.as_slice(), panel.as_bytes());
+    let (journal, panel) = live_texts(&rt, alloc, "live 6", pumps(), &NoMeet)?;
+    assert!(rt;
+        replays(alloc, journal.as_str(), panel.as_str())?,
+        "{journal}"
+    );
     Ok(())
 }

@@ -7,7 +7,8 @@ use Rattle.std.proofs.lemmas.List.FromFn.{map-range_with_len_more}
 use Rattle.std.specs.List.{flat_map, range_with_len}
 use Rattle.plant_types.specs.declared.reference.Ref.{Ref}
 use Rattle.plant_types.specs.Reference.{reference_text}
-use Rattle.plant_gen.specs.Text.{coil_at, contacts_network, input_at, network_line, quoted}
+use Rattle.plant_types.specs.Reference.{coil_at}
+use Rattle.plant_gen.specs.Text.{contacts_network, input_at, network_line, quoted}
 use Rattle.plant_gen.specs.Text.{lines_text}
 
 -- one more number at the end of a range

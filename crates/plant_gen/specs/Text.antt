@@ -4,8 +4,8 @@ use Rattle.std.specs.Prelude.{map}
 use Rattle.std.specs.Fmt.{decimal, digits}
 use Rattle.std.specs.List.{flat_map, join_by, range_with_len}
 use Rattle.plant_types.specs.declared.reference.Ref.{Ref}
-use Rattle.plant_types.specs.declared.reference.RefKind.TheVariants.{Coil, Input}
-use Rattle.plant_types.specs.Reference.{reference_text}
+use Rattle.plant_types.specs.declared.reference.RefKind.TheVariants.{Input}
+use Rattle.plant_types.specs.Reference.{coil_at, reference_text}
 
 -- The numbers that stand for a plant.
 abbrev pub IsPlantNumber : ℕ → Type 0
@@ -52,9 +52,6 @@ script_line number node =
 -- One of the 16 inputs, counted from 0 and round behind the last.
 abbrev pub input_at : ℕ → Ref
 input_at place = record { kind = Input; number = 1 + place % 16 }
-
-abbrev pub coil_at : ℕ → Ref
-coil_at number = record { kind = Coil; number = number }
 
 -- The network of the coil with this number: one of two inputs' contacts and its own, in parallel,
 -- before a closed contact.

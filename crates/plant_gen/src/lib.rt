@@ -4,7 +4,8 @@
 ghost use Rattle.std.specs.Prelude.{◌≡◌, ◌++◌, ◌∷◌, [], ◌≤◌, ◌<◌, IfOk, OnOk, Some, map};
 ghost use Rattle.std.specs.Prelude.{string_bytes};
 ghost use Rattle.std.specs.List.{range_with_len};
-ghost use Rattle.plant_gen.specs.Text.{all_controller_lines, coil_at, coil_networks};
+ghost use Rattle.plant_types.specs.Reference.{coil_at};
+ghost use Rattle.plant_gen.specs.Text.{all_controller_lines, coil_networks};
 ghost use Rattle.plant_gen.specs.Text.{contacts_network, contacts_of, controller_lines};
 ghost use Rattle.plant_gen.specs.Text.{controllers_of, input_at, IsPlantNumber, message_networks};
 ghost use Rattle.plant_gen.specs.Text.{network_line, next_node, plant_text, script_line};

@@ -17,9 +17,6 @@ pub use reading::{ReadEnd, Source, read_all};
 pub use real::{StdSink, StdSource};
 pub use writing::{Sink, write_all};
 
-#[cfg(test)]
-mod tests;
-
 /// The outside failed.
 #[derive(Clone, Copy, Debug, PartialEq, Eq)]
 pub struct Failed;

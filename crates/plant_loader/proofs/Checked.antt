@@ -1,6 +1,5 @@
 -- What stays while pieces, networks and segments are read.
-use Rattle.std.proofs.Common.{◌≡◌, ℕ, ◌+◌, List, [], ◌∷◌, length, Ok, refl, ap}
-use Rattle.std.proofs.Common.{◌∙◌, length-append}
+use Rattle.std.proofs.Common.{◌≡◌, ℕ, ◌+◌, List, [], ◌∷◌, length, Ok, refl, ap, ◌∙◌, length-append}
 use Rattle.toml.specs.Data.{Members}
 use Rattle.plant_types.specs.declared.network.Network.{Network}
 use Rattle.plant_types.specs.declared.network.Segment.{Segment}
@@ -14,7 +13,8 @@ use Rattle.plant_loader.specs.Texts.{network_texts}
 use Rattle.plant_loader.specs.Pieces.{piece_behind, pieces_of}
 use Rattle.plant_loader.specs.Program.{ReadProgram, open_network, site_of, added, with_piece}
 use Rattle.plant_loader.specs.Program.{place_of_next, with_pieces, with_network, with_segment}
-use Rattle.plant_loader.specs.Program.{with_text, with_texts, with_segment_texts, with_table}
+use Rattle.plant_loader.specs.Program.{with_text, with_texts, with_segment_texts}
+use Rattle.plant_loader.specs.Program.{with_segment_table}
 use Rattle.plant_loader.proofs.Common.{ok_value, at_place-ok}
 
 -- what stays while the pieces of a network are read
@@ -110,13 +110,13 @@ with_segment_texts-more owner texts read next h c =
     rw (← same) more
 
 -- a table of a segment that is read has texts that are
-with_table-texts : (owner : Owner) (table : Members) (read next : ReadProgram) → with_table owner read table ≡ Ok next
+with_segment_table-texts : (owner : Owner) (table : Members) (read next : ReadProgram) → with_segment_table owner read table ≡ Ok next
     → (texts : List (List ℕ)) × (with_segment_texts owner read texts ≡ Ok next)
-unfolding with_table
-with_table-texts owner table read next h =
+unfolding with_segment_table
+with_segment_table-texts owner table read next h =
     let texts = step-ok (network_texts owner.position (length read.segments + 1) table) (with_segment_texts owner read) next h in (texts.0, texts.1.1)
 
 -- one table is one segment more, and nothing of the next
-pub with_table-more : (owner : Owner) (table : Members) (read next : ReadProgram) → with_table owner read table ≡ Ok next → read.cells ≡ []
+pub with_segment_table-more : (owner : Owner) (table : Members) (read next : ReadProgram) → with_segment_table owner read table ≡ Ok next → read.cells ≡ []
     → IsSegmentMore read next
-with_table-more owner table read next h c = let texts = with_table-texts owner table read next h in with_segment_texts-more owner texts.0 read next texts.1 c
+with_segment_table-more owner table read next h c = let texts = with_segment_table-texts owner table read next h in with_segment_texts-more owner texts.0 read next texts.1 c

@@ -1,7 +1,6 @@
 -- Drops that are read pass their tests.
-use Rattle.std.proofs.Common.{◌≡◌, ℕ, ◌+◌, ◌≤◌, Bool, true, not, ◌&&◌, List, [], ◌∷◌, ◌++◌}
-use Rattle.std.proofs.Common.{length, Ok, refl, eq-eqb}
-use Rattle.std.proofs.Common.{le-leb, arith}
+use Rattle.std.proofs.Common.{◌≡◌, ℕ, ◌+◌, ◌≤◌, Bool, true, not, ◌&&◌, List, [], ◌∷◌, ◌++◌, length}
+use Rattle.std.proofs.Common.{Ok, refl, eq-eqb, le-leb, arith}
 use Rattle.std.specs.Prelude.{codes, is_some, replicate, nat_le}
 use Rattle.std.proofs.lemmas.Bool.{and_from}
 use Rattle.std.proofs.lemmas.List.{length-replicate}
@@ -30,11 +29,12 @@ use Rattle.traffic_cop.specs.DropTests.{script_place, number_tests, placed_modul
 use Rattle.traffic_cop.specs.DropTests.{placed_row_tests, word_tests, part_tests, drop_tests}
 use Rattle.plant_loader.specs.declared.owner.Owner.{Owner}
 use Rattle.plant_loader.specs.InOrder.{numbered_from}
-use Rattle.plant_loader.specs.Keys.{keys_pass, number_at_key, texts_at}
+use Rattle.plant_loader.specs.declared.tables.TableKind.TheVariants as kinds
+use Rattle.plant_loader.specs.Tables.{table_passes}
+use Rattle.plant_loader.specs.Keys.{number_at_key, texts_at}
 use Rattle.plant_loader.specs.Drops.{module_spelled, module_from, module_of, numbered_module}
 use Rattle.plant_loader.specs.Drops.{modules_of, row_spelled, script_row, numbered_row, rows_of}
-use Rattle.plant_loader.specs.Drops.{or_zeros, drop_from, drop_with, drop_keys}
-use Rattle.plant_loader.specs.Drops.{drop_behind, drops_of}
+use Rattle.plant_loader.specs.Drops.{or_zeros, drop_from, drop_with, drop_behind, drops_of}
 use Rattle.plant_loader.proofs.Common.{ok_value, at_place-ok, both-hold, placed-hold}
 use Rattle.plant_loader.proofs.KeyLemmas.{number_at_key-within, texts_at-few}
 use Rattle.plant_loader.proofs.TestLemmas.{each_behind-tests, each_from-tests, each_from-length}
@@ -141,7 +141,7 @@ drop_behind-passes : (owner : Owner) (earlier : List IoDrop) (table : ℕ × Mem
 unfolding drop_behind
 drop_behind-passes owner earlier table d h =
     let place = drop_place owner.position table.0 in
-    let keys = step-ok (keys_pass place drop_keys table.1) _ d h in
+    let keys = step-ok (table_passes place kinds.Drop table.1) _ d h in
     let number = step-ok (number_at_key place BadValue (codes "number") 1 32 table.1) _ d keys.1.1 in
     let modules = step-ok (texts_at place module_limit (codes "modules") table.1) _ d number.1.1 in
     let rows = step-ok (texts_at place script_limit (codes "script") table.1) _ d modules.1.1 in

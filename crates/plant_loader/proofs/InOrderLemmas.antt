@@ -24,7 +24,8 @@ use Rattle.plant_loader.specs.Pieces.{piece_behind, placed_behind, pieces_of, ne
 use Rattle.plant_loader.specs.Pieces.{next_network, segment_behind, segments_of}
 use Rattle.plant_loader.specs.Program.{ReadProgram, nothing_read, added, with_tested, place_of_next}
 use Rattle.plant_loader.specs.Program.{with_piece, with_pieces, with_network, with_text, with_texts}
-use Rattle.plant_loader.specs.Program.{with_segment, with_segment_texts, with_table, with_tables}
+use Rattle.plant_loader.specs.Program.{with_segment, with_segment_texts, with_segment_table}
+use Rattle.plant_loader.specs.Program.{with_segment_tables}
 
 -- one item more
 length-more : {B : Type 0} (bs : List B) (b : B) → length (bs ++ b ∷ []) + 1 ≡ (length bs + 1) + 1
@@ -170,9 +171,9 @@ texts_in_order owner count segments texts =
 
 -- one segment more, by its table
 segment_in_order : (owner : Owner) (count : ℕ) (segments : List Segment) (table : Members)
-    → with_table owner (state_of count segments [] []) table
+    → with_segment_table owner (state_of count segments [] []) table
     ≡ (segment_behind owner count segments (length segments + 1, table) >>= λ segment. Ok (state_of count (segments ++ segment ∷ []) [] []))
-unfolding with_table segment_behind
+unfolding with_segment_table segment_behind
 segment_in_order owner count segments table =
     table_behind (network_texts owner.position (length segments + 1) table) (with_segment_texts owner (state_of count segments [] []))
     (λ texts. each_behind (next_network owner count segments) [] (with_positions texts))
@@ -180,10 +181,10 @@ segment_in_order owner count segments table =
 
 -- segments one after another
 segments_in_order : (owner : Owner) (count : ℕ) (tables : List Members) (segments : List Segment)
-    → with_tables owner (state_of count segments [] []) tables ≡
+    → with_segment_tables owner (state_of count segments [] []) tables ≡
     (each_behind (segment_behind owner count) segments (numbered_from (length segments + 1) tables) >>= λ all. Ok (state_of count all [] []))
-unfolding with_tables
-segments_in_order owner count = walk_behind (segment_behind owner count) (with_table owner) (with_tables owner)
+unfolding with_segment_tables
+segments_in_order owner count = walk_behind (segment_behind owner count) (with_segment_table owner) (with_segment_tables owner)
     (λ segments. state_of count segments [] []) (λ read. refl) (λ read table more. refl)
     (λ segments table. segment_in_order owner count segments table)
 
@@ -195,22 +196,22 @@ taken_out (Err e) make take back = refl
 
 -- the segments that are read one after another are those of the tables
 pub segments_of-read : (owner : Owner) (tables : List Members) →
-    (with_tables owner (nothing_read (length tables)) tables >>= λ read. Ok read.segments) ≡ segments_of owner tables
+    (with_segment_tables owner (nothing_read (length tables)) tables >>= λ read. Ok read.segments) ≡ segments_of owner tables
 segments_of-read owner tables =
     ap (λ (r : Result ReadProgram Refusal). r >>= λ read. Ok read.segments) (segments_in_order owner (length tables) tables [])
     ∙ taken_out (segments_of owner tables) (λ segments. state_of (length tables) segments [] []) (λ (read : ReadProgram). read.segments) (λ segments. refl)
 
 -- what was read from nothing gives the segments
 pub segments-given : (owner : Owner) (tables : List Members) (start next : ReadProgram) (segments : List Segment)
-    → start ≡ nothing_read (length tables) → with_tables owner start tables ≡ Ok next → segments ≡ next.segments → segments_of owner tables ≡ Ok segments
+    → start ≡ nothing_read (length tables) → with_segment_tables owner start tables ≡ Ok next → segments ≡ next.segments → segments_of owner tables ≡ Ok segments
 segments-given owner tables start next segments none read out =
-    sym (segments_of-read owner tables) ∙ ap (λ (s : ReadProgram). with_tables owner s tables >>= λ read. Ok read.segments) (sym none)
+    sym (segments_of-read owner tables) ∙ ap (λ (s : ReadProgram). with_segment_tables owner s tables >>= λ read. Ok read.segments) (sym none)
     ∙ ap (λ (r : Result ReadProgram Refusal). r >>= λ read. Ok read.segments) read ∙ ap Ok (sym out)
 
 -- what stops the reading from nothing stops the segments
 pub segments-stop : (owner : Owner) (tables : List Members) (start : ReadProgram) (end : LoadEnd) → start ≡ nothing_read (length tables)
-    → Stops end (with_tables owner start tables) → Stops end (segments_of owner tables)
+    → Stops end (with_segment_tables owner start tables) → Stops end (segments_of owner tables)
 segments-stop owner tables start ends.NoMemory none read = tt
 segments-stop owner tables start (ends.Refused fault place) none read =
-    sym (segments_of-read owner tables) ∙ ap (λ (s : ReadProgram). with_tables owner s tables >>= λ read. Ok read.segments) (sym none)
+    sym (segments_of-read owner tables) ∙ ap (λ (s : ReadProgram). with_segment_tables owner s tables >>= λ read. Ok read.segments) (sym none)
     ∙ ap (λ (r : Result ReadProgram Refusal). r >>= λ read. Ok read.segments) read

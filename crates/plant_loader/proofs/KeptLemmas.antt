@@ -29,7 +29,7 @@ use Rattle.plant_types.proofs.StandingLemmas.{cells_of_networks-push, cells_of_s
 use Rattle.plant_types.proofs.StandingLemmas.{message_count-push}
 use Rattle.plant_types.proofs.PlanLemmas.{parts-ok, two-ok, four-ok, cell_tests-ok}
 use Rattle.plant_loader.specs.Driven.{HoldsJust}
-use Rattle.plant_loader.specs.Kept.{IsKept}
+use Rattle.plant_loader.specs.Kept.{KeepsProgram}
 use Rattle.cell_text.specs.declared.piece.Piece.TheVariants as pieces
 use Rattle.plant_loader.specs.Program.{ReadProgram, nothing_read, open_network, cells_read, site_of}
 use Rattle.plant_loader.specs.Program.{added, with_network, with_segment}
@@ -73,11 +73,11 @@ passing-fits sizes read cell h =
     record { place = holds.place; shape = holds.shape; message = stands.1.1 }
 
 -- one more cell that passes
-pub IsKept-cell : (old new : List Ref) (messages more : ℕ) (sizes : Sizes) (read : ReadProgram) (cell : Cell) (drives : Option Ref)
+pub KeepsProgram-cell : (old new : List Ref) (messages more : ℕ) (sizes : Sizes) (read : ReadProgram) (cell : Cell) (drives : Option Ref)
     → first_failed (site_cell_tests (site_of sizes read) read.cells cell) ≡ Ok tt → drives ≡ driven_by cell.element
     → more ≡ messages + (if is_message cell.element then 1 else 0)
-    → IsKept old messages read → HoldsJust new (old ++ cons_option drives []) → IsKept new more (added read (pieces.Cell cell))
-IsKept-cell old new messages more sizes read cell drives passes d m kept gained =
+    → KeepsProgram old messages read → HoldsJust new (old ++ cons_option drives []) → KeepsProgram new more (added read (pieces.Cell cell))
+KeepsProgram-cell old new messages more sizes read cell drives passes d m kept gained =
     let fits = passing-fits sizes read cell passes in
     let clear = and_parts (is_within cell) (not (list_any (clashes cell) read.cells)) fits.shape in
     let cells = cells_read-cell read cell in
@@ -96,9 +96,9 @@ IsKept-cell old new messages more sizes read cell drives passes d m kept gained 
     }
 
 -- one more short at a free place
-pub IsKept-short : (keys : List Ref) (messages : ℕ) (read : ReadProgram) (short : Short) → first_failed (short_tests read.shorts short) ≡ Ok tt
-    → IsKept keys messages read → IsKept keys messages (added read (pieces.Short short))
-IsKept-short keys messages read short passes kept =
+pub KeepsProgram-short : (keys : List Ref) (messages : ℕ) (read : ReadProgram) (short : Short) → first_failed (short_tests read.shorts short) ≡ Ok tt
+    → KeepsProgram keys messages read → KeepsProgram keys messages (added read (pieces.Short short))
+KeepsProgram-short keys messages read short passes kept =
     let holds = two-ok (has_short_place short) (not (list_any (same_short short) read.shorts)) BadCell BadShape passes in
     record {
       driven = kept.driven;
@@ -117,9 +117,9 @@ unfolding IsDistinct
 none_apart = record { within = refl; distinct = tt }
 
 -- a network that is whole, and none of the next one yet
-pub IsKept-network : (keys : List Ref) (messages : ℕ) (read : ReadProgram) → length read.networks < 1000 → IsKept keys messages read
-    → IsKept keys messages (with_network read)
-IsKept-network keys messages read few kept = record {
+pub KeepsProgram-network : (keys : List Ref) (messages : ℕ) (read : ReadProgram) → length read.networks < 1000 → KeepsProgram keys messages read
+    → KeepsProgram keys messages (with_network read)
+KeepsProgram-network keys messages read few kept = record {
   driven = HoldsJust-same keys (cells_read read) (cells_read (with_network read)) (cells_read-network read) kept.driven;
   count = kept.count ∙ ap message_count (sym (cells_read-network read));
   few_messages = kept.few_messages;
@@ -130,9 +130,9 @@ IsKept-network keys messages read few kept = record {
 }
 
 -- a segment that is whole, and none of the next one yet
-pub IsKept-segment : (keys : List Ref) (messages : ℕ) (read : ReadProgram) → length read.segments < 32 → IsKept keys messages read
-    → IsKept keys messages (with_segment read)
-IsKept-segment keys messages read few kept = record {
+pub KeepsProgram-segment : (keys : List Ref) (messages : ℕ) (read : ReadProgram) → length read.segments < 32 → KeepsProgram keys messages read
+    → KeepsProgram keys messages (with_segment read)
+KeepsProgram-segment keys messages read few kept = record {
   driven = HoldsJust-same keys (cells_read read) (cells_read (with_segment read)) (cells_read-segment read) kept.driven;
   count = kept.count ∙ ap message_count (sym (cells_read-segment read));
   few_messages = kept.few_messages;
@@ -143,8 +143,8 @@ IsKept-segment keys messages read few kept = record {
 }
 
 -- nothing yet
-pub IsKept-none : (count : ℕ) (keys : List Ref) → keys ≡ [] → IsKept keys 0 (nothing_read count)
-IsKept-none count keys e = record {
+pub KeepsProgram-none : (count : ℕ) (keys : List Ref) → keys ≡ [] → KeepsProgram keys 0 (nothing_read count)
+KeepsProgram-none count keys e = record {
   driven = λ at. rw e refl;
   count = refl;
   few_messages = omega arith;
@@ -155,8 +155,8 @@ IsKept-none count keys e = record {
 }
 
 -- how many cells and shorts there are at most
-pub IsKept-few : (keys : List Ref) (messages : ℕ) (read : ReadProgram) → IsKept keys messages read → (length read.cells ≤ 96) × (length read.shorts ≤ 96)
-IsKept-few keys messages read kept =
+pub KeepsProgram-few : (keys : List Ref) (messages : ℕ) (read : ReadProgram) → KeepsProgram keys messages read → (length read.cells ≤ 96) × (length read.shorts ≤ 96)
+KeepsProgram-few keys messages read kept =
     let cell_count : length read.cells ≤ 96 = omega (
       arith,
       length-map {B = ℕ × ℕ} read.cells (λ (cell : Cell). (cell.row, cell.column)),

@@ -1,8 +1,7 @@
 -- A plant that is loaded can be run.
-use Rattle.std.proofs.Common.{◌≡◌, ◌≢◌, ℕ, ◌≤◌, ◌==◌, Bool, true, false, not, ◌&&◌, ◌||◌, List}
-use Rattle.std.proofs.Common.{[], ◌∷◌, ◌++◌, length, map, Option, Some, None, Result, Ok, Err}
-use Rattle.std.proofs.Common.{true≢false, eq-eqb, refl, sym, ap₂, ◌∙◌, length-append}
-use Rattle.std.proofs.Common.{arith}
+use Rattle.std.proofs.Common.{◌≡◌, ◌≢◌, ℕ, ◌≤◌, ◌==◌, Bool, true, false, not, ◌&&◌, ◌||◌, List, []}
+use Rattle.std.proofs.Common.{◌∷◌, ◌++◌, length, map, Option, Some, None, Result, Ok, Err}
+use Rattle.std.proofs.Common.{true≢false, eq-eqb, refl, sym, ap₂, ◌∙◌, length-append, arith}
 use Rattle.std.specs.Prelude.{codes, nat_le, nat_eq, if◌then◌else◌}
 use Rattle.std.specs.List.{list_any, All, AllByRecursion, IsDistinct}
 use Rattle.std.specs.List.Sorted.{IsPermutation, IsStrictlyIncreasing}
@@ -14,8 +13,7 @@ use Rattle.std.proofs.lemmas.List.Folds.{list_any-append}
 use Rattle.std.proofs.lemmas.List.Sorted.{All-permutation, IsPermutation-map, IsPermutation-append}
 use Rattle.std.proofs.lemmas.List.Sorted.{IsPermutation-sym, IsPermutation-trans}
 use Rattle.std.proofs.lemmas.List.Sorted.{length_permutation}
-use Rattle.toml.specs.Data.{Data, Members, as_str}
-use Rattle.toml.specs.Data.{get_member}
+use Rattle.toml.specs.Data.{Data, Members, as_str, get_member}
 use Rattle.plant_types.specs.declared.net.Fate.{Fate}
 use Rattle.plant_types.specs.declared.net.HostAsk.{HostAsk}
 use Rattle.plant_types.specs.declared.net.HostPlan.{HostPlan}
@@ -27,29 +25,28 @@ use Rattle.plant_types.specs.Plans.{IsFromTo, IsNode, IsNetPlan, IsAskOf, IsHost
 use Rattle.plant_types.specs.Plans.{IsPlant}
 use Rattle.cell_text.specs.Steps.{or_fault}
 use Rattle.cell_text.specs.Words.{text_words}
-use Rattle.plant_types.specs.Numerals.{value_of}
+use Rattle.plant_types.specs.Numerals.{is_numeral, value_of}
 use Rattle.cell_text.proofs.StepLemmas.{step-ok, or_fault-ok, or_fault-some, unless-ok, some-step}
 use Rattle.cell_text.proofs.StepLemmas.{some-guard}
 use Rattle.plant_loader.specs.declared.refusal.LoadEnd.{LoadEnd}
 use Rattle.plant_loader.specs.declared.net.NetRules.{NetRules}
-use Rattle.plant_loader.specs.declared.reading.Version.{Version}
-use Rattle.plant_loader.specs.Refusals.{Gives, plant_place, net_place, host_place}
+use Rattle.plant_loader.specs.declared.tables.Version.{Version}
+use Rattle.plant_loader.specs.Refusals.{Gives, plant_place, net_place, host_table_place}
 use Rattle.plant_loader.specs.Refusals.{request_place, bad_toml}
 use Rattle.plant_loader.specs.InOrder.{numbered_from}
-use Rattle.plant_loader.specs.Keys.{keys_pass, address_at, number_at_or}
-use Rattle.plant_loader.specs.Keys.{texts_at, table_at, tables_at}
-use Rattle.plant_loader.specs.Requests.{is_numeral, is_numeral_within, numeral_within}
-use Rattle.plant_loader.specs.Requests.{request_words, pdu_in, another, target_in, ask_from}
-use Rattle.plant_loader.specs.Requests.{request_of, numbered_request, requests_of}
+use Rattle.plant_loader.specs.declared.tables.TableKind.TheVariants as kinds
+use Rattle.plant_loader.specs.Tables.{table_passes}
+use Rattle.plant_loader.specs.Keys.{address_at, number_at_or, texts_at, table_at, tables_at}
+use Rattle.plant_loader.specs.Requests.{is_numeral_within, numeral_within, request_words, pdu_in}
+use Rattle.plant_loader.specs.Requests.{another, target_in, ask_from, host_request}
+use Rattle.plant_loader.specs.Requests.{numbered_request, requests_of}
 use Rattle.plant_loader.specs.Stations.{has_controller, controllers_of}
-use Rattle.plant_loader.specs.Hosts.{host_keys, request_limit, has_host, host_from}
-use Rattle.plant_loader.specs.Hosts.{host_behind, hosts_of}
+use Rattle.plant_loader.specs.Hosts.{request_limit, has_host, host_from, host_behind, hosts_of}
 use Rattle.plant_loader.specs.Rising.{by_node}
-use Rattle.plant_loader.specs.Net.{net_keys, fates_in, has_letters, fates_or, rules_from, rules_in}
-use Rattle.plant_loader.specs.Net.{rules_of, nodes_of, members_of, net_from, plant_from}
-use Rattle.plant_loader.specs.Plant.{document_of, version_of, plant_keys}
-use Rattle.plant_loader.specs.Plant.{controller_limit, host_limit, some_tables_at, plant_in}
-use Rattle.plant_loader.specs.Plant.{plant_at, plant_of}
+use Rattle.plant_loader.specs.Net.{fates_in, has_letters, fates_or, rules_from, rules_in, rules_of}
+use Rattle.plant_loader.specs.Net.{station_nodes, members_of, net_from, plant_from}
+use Rattle.plant_loader.specs.Plant.{document_of, version_of, controller_limit, host_limit}
+use Rattle.plant_loader.specs.Plant.{some_tables_at, plant_in, plant_at, plant_of}
 use Rattle.plant_loader.specs.Accepted.{IsSolvable, PassesDropTests}
 use Rattle.plant_loader.proofs.Common.{ok_value, some_value}
 use Rattle.plant_loader.proofs.KeyLemmas.{address_at-within, number_or-within, texts_at-few}
@@ -58,8 +55,7 @@ use Rattle.plant_loader.proofs.TestLemmas.{each_behind-keeps, each_behind-all, e
 use Rattle.plant_loader.proofs.TestLemmas.{each_from-length, each_of-length, with_positions-count}
 use Rattle.plant_loader.proofs.PlantLemmas.{IsRead, AreRead, controllers-read, none-node}
 use Rattle.plant_loader.proofs.PlantLemmas.{distinct-push, read-solvable}
-use Rattle.plant_loader.proofs.RisingLemmas.{to-all, by_node-moved, by_node-rises}
-use Rattle.plant_loader.proofs.RisingLemmas.{by_node-nodes}
+use Rattle.plant_loader.proofs.RisingLemmas.{to-all, by_node-moved, by_node-rises, by_node-nodes}
 
 -- ---- hosts
 
@@ -84,8 +80,8 @@ target-is node word to h =
     let other = another-is node read.0 to (read.0 == node) refl read.1.1 in
     (rw other.0 (numeral-within 1 64 word read.0 read.1.0), other.1)
 
-request-is : (node : ℕ) (place : Place) (text : List ℕ) (ask : HostAsk) → request_of node place text ≡ Ok ask → IsAskOf node ask
-unfolding request_of
+request-is : (node : ℕ) (place : Place) (text : List ℕ) (ask : HostAsk) → host_request node place text ≡ Ok ask → IsAskOf node ask
+unfolding host_request
 request-is node place text ask h =
     let words = step-ok (or_fault (BadValue, place) (request_words (text_words text))) _ ask h in
     let hold = step-ok (or_fault (BadValue, place) (numeral_within 1 10000 words.0.hold)) _ ask words.1.1 in
@@ -111,8 +107,8 @@ host-is : (controllers : List ControllerPlan) (earlier : List HostPlan) (table :
     → host_behind controllers earlier table ≡ Ok host → IsHost controllers earlier host
 unfolding host_behind
 host-is controllers earlier table host h =
-    let place = host_place table.0 in
-    let keys = step-ok (keys_pass place host_keys table.1) _ host h in
+    let place = host_table_place table.0 in
+    let keys = step-ok (table_passes place kinds.Host table.1) _ host h in
     let node = step-ok (address_at place table.1) _ host keys.1.1 in
     let texts = step-ok (texts_at place request_limit (codes "requests") table.1) _ host node.1.1 in
     let known = has_controller controllers node.0 || has_host earlier node.0 in
@@ -138,11 +134,11 @@ host-is controllers earlier table host h =
 -- the hosts of a plant beside its controllers
 record AreHosts (controllers : List ControllerPlan) (hosts : List HostPlan) : Type 0 where
   each : AllByRecursion IsHostPlan hosts
-  nodes : IsDistinct nat_eq (nodes_of controllers hosts)
+  nodes : IsDistinct nat_eq (station_nodes controllers hosts)
 
 -- a node that no controller and no host has is none of the nodes
 none-of : (controllers : List ControllerPlan) (hosts : List HostPlan) (n : ℕ)
-    → list_any (nat_eq n) (nodes_of controllers hosts) ≡ has_controller controllers n || has_host hosts n
+    → list_any (nat_eq n) (station_nodes controllers hosts) ≡ has_controller controllers n || has_host hosts n
 none-of controllers hosts n =
     list_any-append (nat_eq n) (map (λ (plan : ControllerPlan). plan.node) controllers) (map (λ (host : HostPlan). host.node) hosts)
     ∙ ap₂ (λ a b. a || b) (sym (none-node (λ (plan : ControllerPlan). plan.node) n controllers)) (sym (none-node (λ (host : HostPlan). host.node) n hosts))
@@ -150,11 +146,11 @@ none-of controllers hosts n =
 hosts-are : (controllers : List ControllerPlan) (tables : List Members) (hosts : List HostPlan)
     → IsDistinct nat_eq (map (λ (plan : ControllerPlan). plan.node) controllers) → hosts_of controllers tables ≡ Ok hosts → AreHosts controllers hosts
 hosts-are controllers tables hosts nodes h =
-    let none : IsDistinct nat_eq (nodes_of controllers []) = rw (append-nil (map (λ (plan : ControllerPlan). plan.node) controllers)) nodes in
+    let none : IsDistinct nat_eq (station_nodes controllers []) = rw (append-nil (map (λ (plan : ControllerPlan). plan.node) controllers)) nodes in
     record {
       each = each_behind-all IsHostPlan (host_behind controllers) (λ before table host e. (host-is controllers before table host e).plan)
           (numbered_from 1 tables) [] hosts tt h;
-      nodes = each_behind-keeps (λ hosts. IsDistinct nat_eq (nodes_of controllers hosts)) (host_behind controllers)
+      nodes = each_behind-keeps (λ hosts. IsDistinct nat_eq (station_nodes controllers hosts)) (host_behind controllers)
           (λ before table host e held. distinct-push (λ (host : HostPlan). host.node) (map (λ (plan : ControllerPlan). plan.node) controllers) before host held
           (none-of controllers before host.node ∙ (host-is controllers before table host e).fresh))
           (numbered_from 1 tables) [] hosts none h;
@@ -176,41 +172,41 @@ number-is : (place : Place) (key : List ℕ) (default low high : ℕ) (ms : Memb
     → number_at_or place key default low high ms ≡ Ok n → IsFromTo low high n
 number-is place key default low high ms n least most h = from_to low high n (number_or-within place default low high (get_member key ms) n least most h)
 
-fates-few : (value : Option Data) (fates : List Fate) → fates_or value ≡ Ok fates → IsFromTo 1 1000 (length fates)
+fates-few : (place : Place) (value : Option Data) (fates : List Fate) → fates_or place value ≡ Ok fates → IsFromTo 1 1000 (length fates)
 unfolding fates_or
-fates-few None fates h =
+fates-few place None fates h =
     let same = ok_value _ fates h in rw (← same) (from_to 1 1000 1 (omega arith, omega arith))
-fates-few (Some d) fates h =
-    let text = step-ok (or_fault (BadValue, net_place) (as_str d)) _ fates h in
-    let letters = unless-ok (has_letters text.0) (BadValue, net_place) (λ letters. fates_in text.0) fates text.1.1 in
+fates-few place (Some d) fates h =
+    let text = step-ok (or_fault (BadValue, place) (as_str d)) _ fates h in
+    let letters = unless-ok (has_letters text.0) (BadValue, place) (λ letters. fates_in place text.0) fates text.1.1 in
     let ranges = and_parts (nat_le 1 (length text.0)) (nat_le (length text.0) 1000) letters.0 in
     let count = each_of-length _ text.0 fates letters.1 in
     rw count (from_to 1 1000 (length text.0) (leb-true 1 (length text.0) ranges.0, leb-true (length text.0) 1000 ranges.1))
 
-rules-are : (ms : Members) (rules : NetRules) → rules_in ms ≡ Ok rules → AreRules rules
+rules-are : (place : Place) (ms : Members) (rules : NetRules) → rules_in place ms ≡ Ok rules → AreRules rules
 unfolding rules_in
-rules-are ms rules h =
-    let keys = step-ok (keys_pass net_place net_keys ms) _ rules h in
-    let fates = step-ok (fates_or (get_member (codes "fates") ms)) _ rules keys.1.1 in
-    let answer = step-ok (number_at_or net_place (codes "answer") 20 2 1000 ms) _ rules fates.1.1 in
-    let rotations = step-ok (number_at_or net_place (codes "rotations") 4 1 10 ms) _ rules answer.1.1 in
-    let rounds = step-ok (number_at_or net_place (codes "rounds") 2 1 100 ms) _ rules rotations.1.1 in
-    let holds = step-ok (number_at_or net_place (codes "holds") 100000 1 100000 ms)
+rules-are place ms rules h =
+    let keys = step-ok (table_passes place kinds.Net ms) _ rules h in
+    let fates = step-ok (fates_or place (get_member (codes "fates") ms)) _ rules keys.1.1 in
+    let answer = step-ok (number_at_or place (codes "answer") 20 2 1000 ms) _ rules fates.1.1 in
+    let rotations = step-ok (number_at_or place (codes "rotations") 4 1 10 ms) _ rules answer.1.1 in
+    let rounds = step-ok (number_at_or place (codes "rounds") 2 1 100 ms) _ rules rotations.1.1 in
+    let holds = step-ok (number_at_or place (codes "holds") 100000 1 100000 ms)
     (λ holds. Ok (rules_from fates.0 answer.0 rotations.0 rounds.0 holds)) rules rounds.1.1 in
     let whole : NetRules = rules_from fates.0 answer.0 rotations.0 rounds.0 holds.0 in
     let same : whole ≡ rules = ok_value whole rules holds.1.1 in
     let are : AreRules whole = record {
-      fates = fates-few (get_member (codes "fates") ms) fates.0 fates.1.0;
-      answer = number-is net_place (codes "answer") 20 2 1000 ms answer.0 (omega arith) (omega arith) answer.1.0;
-      rotations = number-is net_place (codes "rotations") 4 1 10 ms rotations.0 (omega arith) (omega arith) rotations.1.0;
-      rounds = number-is net_place (codes "rounds") 2 1 100 ms rounds.0 (omega arith) (omega arith) rounds.1.0;
-      holds = number-is net_place (codes "holds") 100000 1 100000 ms holds.0 (omega arith) (omega arith) holds.1.0;
+      fates = fates-few place (get_member (codes "fates") ms) fates.0 fates.1.0;
+      answer = number-is place (codes "answer") 20 2 1000 ms answer.0 (omega arith) (omega arith) answer.1.0;
+      rotations = number-is place (codes "rotations") 4 1 10 ms rotations.0 (omega arith) (omega arith) rotations.1.0;
+      rounds = number-is place (codes "rounds") 2 1 100 ms rounds.0 (omega arith) (omega arith) rounds.1.0;
+      holds = number-is place (codes "holds") 100000 1 100000 ms holds.0 (omega arith) (omega arith) holds.1.0;
     } in
     rw (← same) are
 
-rules_of-are : (table : Option Members) (rules : NetRules) → rules_of table ≡ Ok rules → AreRules rules
-rules_of-are None rules h = rules-are _ rules h
-rules_of-are (Some ms) rules h = rules-are ms rules h
+rules_of-are : (place : Place) (table : Option Members) (rules : NetRules) → rules_of place table ≡ Ok rules → AreRules rules
+rules_of-are place None rules h = rules-are place _ rules h
+rules_of-are place (Some ms) rules h = rules-are place ms rules h
 
 -- ---- the plant
 
@@ -245,10 +241,10 @@ host-addresses hosts each = all-of IsHostPlan (λ host. IsNode host.node) (λ ho
 pub record AreStations (controllers : List ControllerPlan) (hosts : List HostPlan) : Type 0 where
   pub controllers_read : AreRead controllers
   pub hosts_each : AllByRecursion IsHostPlan hosts
-  pub distinct : IsDistinct nat_eq (nodes_of controllers hosts)
+  pub distinct : IsDistinct nat_eq (station_nodes controllers hosts)
   pub controller_nodes_all : AllByRecursion (λ (plan : ControllerPlan). IsNode plan.node) controllers
   pub host_nodes_all : AllByRecursion (λ (host : HostPlan). IsNode host.node) hosts
-  pub nodes : AllByRecursion IsNode (nodes_of controllers hosts)
+  pub nodes : AllByRecursion IsNode (station_nodes controllers hosts)
 
 pub stations-are : (controller_tables host_tables : List Members) (controllers : List ControllerPlan) (hosts : List HostPlan)
     → controllers_of controller_tables ≡ Ok controllers → hosts_of controllers host_tables ≡ Ok hosts → AreStations controllers hosts
@@ -281,7 +277,7 @@ plant_from-loaded scan_time watchdog rules controllers hosts t w r s count few =
     let host_node = λ (host : HostPlan). host.node in
     let cs = by_node node controllers in
     let hs = by_node host_node hosts in
-    let nodes = nodes_of controllers hosts in
+    let nodes = station_nodes controllers hosts in
     let members = members_of controllers hosts in
     let moved_cs : IsPermutation controllers cs = by_node-moved node controllers s.controller_nodes_all in
     let moved_hs : IsPermutation hosts hs = by_node-moved host_node hosts s.host_nodes_all in
@@ -340,13 +336,13 @@ some-tables place most key ms tables h =
 plant_in-loaded : (version : Version) (top : Members) (plant : Plant) → plant_in version top ≡ Ok plant → IsLoaded plant
 unfolding plant_in
 plant_in-loaded version top plant h =
-    let keys = step-ok (keys_pass plant_place (plant_keys version) top) _ plant h in
+    let keys = step-ok (table_passes plant_place (kinds.Plant version) top) _ plant h in
     let scan_time = step-ok (number_at_or plant_place (codes "scan_time") 10 1 1000 top) _ plant keys.1.1 in
     let watchdog = step-ok (number_at_or plant_place (codes "watchdog") 500 1 10000 top) _ plant scan_time.1.1 in
     let net = step-ok (table_at plant_place (codes "net") top) _ plant watchdog.1.1 in
     let tables = step-ok (some_tables_at plant_place controller_limit (codes "controller") top) _ plant net.1.1 in
     let host_tables = step-ok (tables_at plant_place host_limit (codes "host") top) _ plant tables.1.1 in
-    let rules = step-ok (rules_of net.0) _ plant host_tables.1.1 in
+    let rules = step-ok (rules_of net_place net.0) _ plant host_tables.1.1 in
     let controllers = step-ok (controllers_of tables.0) _ plant rules.1.1 in
     let hosts = step-ok (hosts_of controllers.0 host_tables.0) (λ hosts. Ok (plant_from scan_time.0 watchdog.0 rules.0
     controllers.0 hosts)) plant controllers.1.1 in
@@ -361,7 +357,7 @@ plant_in-loaded version top plant h =
     let loaded : IsLoaded whole = plant_from-loaded scan_time.0 watchdog.0 rules.0 controllers.0 hosts.0
     (number-is plant_place (codes "scan_time") 10 1 1000 top scan_time.0 (omega arith) (omega arith) scan_time.1.0)
     (number-is plant_place (codes "watchdog") 500 1 10000 top watchdog.0 (omega arith) (omega arith) watchdog.1.0)
-    (rules_of-are net.0 rules.0 rules.1.0) stations
+    (rules_of-are net_place net.0 rules.0 rules.1.0) stations
     (record { from = omega (arith, count, found.1); to = omega (arith, count, few) }) (omega (arith, host_count, host_few)) in
     rw (← same) loaded
 

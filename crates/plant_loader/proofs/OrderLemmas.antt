@@ -1,7 +1,6 @@
 -- Order rows that are read pass the tests of a plan.
-use Rattle.std.proofs.Common.{◌≡◌, ℕ, ◌+◌, ◌==◌, Bool, true, false, ◌&&◌, List, [], ◌∷◌}
-use Rattle.std.proofs.Common.{length, Option, Some, None, Result, Ok, refl, ap}
-use Rattle.std.proofs.Common.{eq-eqb}
+use Rattle.std.proofs.Common.{◌≡◌, ℕ, ◌+◌, ◌==◌, Bool, true, false, ◌&&◌, List, [], ◌∷◌, length}
+use Rattle.std.proofs.Common.{Option, Some, None, Result, Ok, refl, ap, eq-eqb}
 use Rattle.std.specs.Prelude.{◌||◌, option_and_then, if◌then◌else◌}
 use Rattle.std.specs.List.{list_any}
 use Rattle.std.proofs.lemmas.Bool.{and_from}
@@ -27,8 +26,7 @@ use Rattle.plant_loader.specs.declared.owner.Owner.{Owner}
 use Rattle.plant_loader.specs.Refusals.{Refusal}
 use Rattle.plant_loader.specs.Orders.{is_solved, one_of, segment_in, names_nothing}
 use Rattle.plant_loader.specs.Orders.{reads_as_control, control_in, drop_number, known_drop}
-use Rattle.plant_loader.specs.Orders.{drop_of, order_words, order_from, order_row}
-use Rattle.plant_loader.specs.Orders.{orders_of}
+use Rattle.plant_loader.specs.Orders.{drop_of, order_words, order_from, order_row, orders_of}
 use Rattle.plant_loader.proofs.Common.{ok_value, some_value, placed-hold}
 use Rattle.plant_loader.proofs.TestLemmas.{each_from-tests}
 

@@ -1,7 +1,7 @@
 -- Controllers and hosts that are read pass their tests.
 use Rattle.std.proofs.Common.{◌≡◌, ℕ, ◌+◌, ◌≤◌, ◌==◌, Bool, true, false, not, ◌&&◌, ◌||◌, List, []}
-use Rattle.std.proofs.Common.{◌∷◌, ◌++◌, length, map, Option, Some, None, Ok, refl}
-use Rattle.std.proofs.Common.{sym, ap, ◌∙◌, append_assoc, arith, le-leb}
+use Rattle.std.proofs.Common.{◌∷◌, ◌++◌, length, map, Option, Some, None, Ok, refl, sym, ap, ◌∙◌}
+use Rattle.std.proofs.Common.{append_assoc, arith, le-leb}
 use Rattle.std.specs.Prelude.{codes, nat_le, nat_eq, is_some, if◌then◌else◌}
 use Rattle.std.specs.List.{list_any, list_all, AllByRecursion, IsDistinct}
 use Rattle.std.proofs.lemmas.Bool.{and_parts, and_from, not-true, leb-true}
@@ -18,7 +18,7 @@ use Rattle.plant_types.specs.declared.fault.PlantFault.TheVariants.{TooLarge}
 use Rattle.plant_types.specs.declared.fault.Place.{Place}
 use Rattle.plant_types.specs.Fault.{controller_place, panel_place}
 use Rattle.plant_types.specs.Reference.{is_discrete}
-use Rattle.plant_types.specs.Sizes.{Sizes, has_reference, cleared}
+use Rattle.plant_types.specs.Sizes.{Sizes, has_reference, cleared, sizes_from}
 use Rattle.plant_types.specs.Plans.{IsNode, PassesTests}
 use Rattle.plant_types.specs.Checks.{is_size, is_discrete_size, sizes_of, passes_check}
 use Rattle.plant_types.specs.FirstFault.{first_failed, tests_of_each}
@@ -39,16 +39,15 @@ use Rattle.traffic_cop.proofs.CheckLemmas.{checked-ready}
 use Rattle.plant_loader.specs.declared.owner.Owner.{Owner}
 use Rattle.plant_loader.specs.Refusals.{Refusal}
 use Rattle.plant_loader.specs.InOrder.{numbered_from}
-use Rattle.plant_loader.specs.Keys.{keys_pass, address_at, size_at, discrete_size_at, texts_at}
-use Rattle.plant_loader.specs.Keys.{tables_at}
-use Rattle.plant_loader.specs.Controller.{sizes_from, owner_from, owner_at, panel_item}
-use Rattle.plant_loader.specs.Controller.{panel_of}
+use Rattle.plant_loader.specs.declared.tables.TableKind.TheVariants as kinds
+use Rattle.plant_loader.specs.Tables.{table_passes}
+use Rattle.plant_loader.specs.Keys.{address_at, size_at, discrete_size_at, texts_at, tables_at}
+use Rattle.plant_loader.specs.Controller.{owner_from, owner_at, panel_item, panel_of}
 use Rattle.plant_loader.specs.Drops.{drops_of}
 use Rattle.plant_loader.specs.Pieces.{segments_of}
 use Rattle.plant_loader.specs.Orders.{nameable, orders_of}
-use Rattle.plant_loader.specs.Stations.{controller_keys, Arrays, arrays_from}
-use Rattle.plant_loader.specs.Stations.{arrays_at, plan_of, parts_of, has_controller}
-use Rattle.plant_loader.specs.Stations.{controller_behind, controllers_of}
+use Rattle.plant_loader.specs.Stations.{Arrays, arrays_from, arrays_at, plan_of, parts_of}
+use Rattle.plant_loader.specs.Stations.{has_controller, controller_behind, controllers_of}
 use Rattle.plant_loader.specs.Accepted.{HasOrders, IsSolvable, PassesDropTests}
 use Rattle.plant_loader.proofs.Common.{ok_value, both-hold, placed-hold}
 use Rattle.plant_loader.proofs.KeyLemmas.{address_at-within, size_at-is_size}
@@ -113,13 +112,13 @@ owner_at-has position ms owner h =
     rw (← same) has
 
 -- the arrays of a table are few
-record AreFew (arrays : Arrays) : Type 0 where
+record HasFewItems (arrays : Arrays) : Type 0 where
   panel : length arrays.panel ≤ panel_limit
   drops : length arrays.drops ≤ drop_limit
   segments : length arrays.segments ≤ segment_limit
   orders : length arrays.orders ≤ order_limit
 
-arrays_at-few : (place : Place) (ms : Members) (arrays : Arrays) → arrays_at place ms ≡ Ok arrays → AreFew arrays
+arrays_at-few : (place : Place) (ms : Members) (arrays : Arrays) → arrays_at place ms ≡ Ok arrays → HasFewItems arrays
 unfolding arrays_at
 arrays_at-few place ms arrays h =
     let panel = step-ok (texts_at place panel_limit (codes "panel") ms) _ arrays h in
@@ -129,7 +128,7 @@ arrays_at-few place ms arrays h =
     (λ orders. Ok (arrays_from panel.0 drops.0 segments.0 orders)) arrays segments.1.1 in
     let whole = arrays_from panel.0 drops.0 segments.0 orders.0 in
     let same : whole ≡ arrays = ok_value whole arrays orders.1.1 in
-    let few : AreFew whole = record {
+    let few : HasFewItems whole = record {
       panel = texts_at-few place panel_limit (codes "panel") ms panel.0 panel.1.0;
       drops = tables_at-few place drop_limit (codes "drop") ms drops.0 drops.1.0;
       segments = tables_at-few place segment_limit (codes "segment") ms segments.0 segments.1.0;
@@ -146,7 +145,7 @@ pub record IsRead (plan : ControllerPlan) : Type 0 where
 three-hold : {F : Type 0} (a b c : Bool) (f g k : F) → a ≡ true → b ≡ true → c ≡ true → first_failed ((a, f) ∷ (b, g) ∷ (c, k) ∷ []) ≡ Ok tt
 three-hold a b c f g k p q r = rw (p, q, r) refl
 
-parts_of-read : (owner : Owner) (arrays : Arrays) (plan : ControllerPlan) → HasNumbers owner → AreFew arrays
+parts_of-read : (owner : Owner) (arrays : Arrays) (plan : ControllerPlan) → HasNumbers owner → HasFewItems arrays
     → parts_of owner arrays ≡ Ok plan → IsRead plan
 unfolding parts_of
 parts_of-read owner arrays plan numbers few h =
@@ -214,7 +213,7 @@ controller-read : (earlier : List ControllerPlan) (table : ℕ × Members) (plan
 unfolding controller_behind
 controller-read earlier table plan h =
     let place = controller_place table.0 in
-    let keys = step-ok (keys_pass place controller_keys table.1) _ plan h in
+    let keys = step-ok (table_passes place kinds.Controller table.1) _ plan h in
     let owner = step-ok (owner_at table.0 table.1) _ plan keys.1.1 in
     let arrays = step-ok (arrays_at place table.1) _ plan owner.1.1 in
     let fresh = unless-ok (not (has_controller earlier owner.0.node)) (BadNode, place) _ plan arrays.1.1 in

@@ -1,7 +1,6 @@
 -- Segments that are read pass the tests of a plan.
-use Rattle.std.proofs.Common.{◌≡◌, ℕ, ◌+◌, ◌≤◌, true, List, [], ◌∷◌, ◌++◌}
-use Rattle.std.proofs.Common.{length, Result, Ok, Err, refl, sym, ap, subst}
-use Rattle.std.proofs.Common.{◌∙◌, le-leb, arith}
+use Rattle.std.proofs.Common.{◌≡◌, ℕ, ◌+◌, ◌≤◌, true, List, [], ◌∷◌, ◌++◌, length, Result, Ok, Err}
+use Rattle.std.proofs.Common.{refl, sym, ap, subst, ◌∙◌, le-leb, arith}
 use Rattle.std.specs.Prelude.{codes, nat_le}
 use Rattle.std.specs.List.{filter_map}
 use Rattle.std.proofs.lemmas.List.{append-nil}
@@ -27,16 +26,17 @@ use Rattle.cell_text.specs.Pieces.{piece_of}
 use Rattle.cell_text.proofs.StepLemmas.{step-ok}
 use Rattle.plant_loader.specs.declared.owner.Owner.{Owner}
 use Rattle.plant_loader.specs.InOrder.{numbered_from, each_behind}
-use Rattle.plant_loader.specs.Keys.{keys_pass}
-use Rattle.plant_loader.specs.Texts.{segment_keys, network_texts}
-use Rattle.plant_loader.specs.Pieces.{cell_in, short_in, network_from}
-use Rattle.plant_loader.specs.Pieces.{cell_behind, short_behind, tested_behind, piece_behind}
-use Rattle.plant_loader.specs.Pieces.{place_of_piece, site_behind, placed_behind, pieces_of}
-use Rattle.plant_loader.specs.Pieces.{network_behind, next_network, segment_behind, segments_of}
+use Rattle.plant_loader.specs.declared.tables.TableKind.TheVariants as kinds
+use Rattle.plant_loader.specs.Tables.{table_passes}
+use Rattle.plant_loader.specs.Texts.{network_texts}
+use Rattle.plant_loader.specs.Pieces.{cell_in, short_in, network_from, cell_behind, short_behind}
+use Rattle.plant_loader.specs.Pieces.{tested_behind, piece_behind, place_of_piece, site_behind}
+use Rattle.plant_loader.specs.Pieces.{placed_behind, pieces_of, network_behind, next_network}
+use Rattle.plant_loader.specs.Pieces.{segment_behind, segments_of}
 use Rattle.plant_loader.proofs.Common.{ok_value, at_place-ok, both-hold, placed-hold}
 use Rattle.plant_loader.proofs.KeyLemmas.{texts_at-few}
-use Rattle.plant_loader.proofs.TestLemmas.{each_behind-keeps, tests-push}
-use Rattle.plant_loader.proofs.TestLemmas.{each_behind-tests, with_positions-count}
+use Rattle.plant_loader.proofs.TestLemmas.{each_behind-keeps, tests-push, each_behind-tests}
+use Rattle.plant_loader.proofs.TestLemmas.{with_positions-count}
 
 -- pieces that pass as the cells and shorts of their network
 record Pass (site : Site) (ps : List Piece) : Type 0 where
@@ -139,7 +139,7 @@ network_texts-few : (controller number : ℕ) (table : Members) (texts : List (L
 unfolding network_texts
 network_texts-few controller number table texts h =
     let place = segment_place controller number in
-    let keys = step-ok (keys_pass place segment_keys table) _ texts h in
+    let keys = step-ok (table_passes place kinds.Segment table) _ texts h in
     texts_at-few place network_limit (codes "networks") table texts keys.1.1
 
 segment-passes : (owner : Owner) (plan : ControllerPlan) (count : ℕ) → sizes_of plan ≡ owner.sizes → count ≡ length plan.segments

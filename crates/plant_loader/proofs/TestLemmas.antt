@@ -1,6 +1,6 @@
 -- Items that are read pass their tests.
-use Rattle.std.proofs.Common.{◌≡◌, ℕ, ◌+◌, List, [], ◌∷◌, ◌++◌, length, Result, Ok, refl, ap}
-use Rattle.std.proofs.Common.{◌∙◌, length-append, arith}
+use Rattle.std.proofs.Common.{◌≡◌, ℕ, ◌+◌, List, [], ◌∷◌, ◌++◌, length, Result, Ok, refl, ap, ◌∙◌}
+use Rattle.std.proofs.Common.{length-append, arith}
 use Rattle.std.specs.List.{AllByRecursion}
 use Rattle.plant_types.specs.FirstFault.{Test, first_failed, tests_behind, tests_of_each}
 use Rattle.plant_types.proofs.FaultLemmas.{first_failed-held, tests_of_each-push}

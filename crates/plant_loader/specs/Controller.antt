@@ -4,7 +4,7 @@ use Rattle.toml.specs.Data.{Members}
 use Rattle.plant_types.specs.declared.reference.Ref.{Ref}
 use Rattle.plant_types.specs.declared.fault.PlantFault.TheVariants.{BadRef}
 use Rattle.plant_types.specs.declared.sizes.Sizes.{Sizes}
-use Rattle.plant_types.specs.Sizes.{has_reference}
+use Rattle.plant_types.specs.Sizes.{has_reference, sizes_from}
 use Rattle.cell_text.specs.Steps.{◌>>=◌, or_fault, unless}
 use Rattle.cell_text.specs.Words.{text_words, only_word}
 use Rattle.cell_text.specs.Numbers.{reference_of}
@@ -13,15 +13,6 @@ use Rattle.plant_loader.specs.declared.owner.Owner.{Owner}
 use Rattle.plant_loader.specs.Refusals.{Refusal}
 use Rattle.plant_loader.specs.Keys.{address_at, size_at, discrete_size_at}
 use Rattle.plant_loader.specs.InOrder.{each_from}
-
--- Sizes from four numbers.
-abbrev pub sizes_from : ℕ → ℕ → ℕ → ℕ → Sizes
-sizes_from coils inputs input_registers registers = record {
-  coils = coils;
-  inputs = inputs;
-  input_registers = input_registers;
-  registers = registers;
-}
 
 -- The controller of a position, by its node and its map.
 abbrev pub owner_from : ℕ → ℕ → Sizes → Owner

@@ -1,8 +1,8 @@
 -- The drops of a controller: their tables, and the texts of modules and script rows. This
 -- project's own.
-use Rattle.std.specs.Prelude.{codes, ℕ, ◌+◌, ◌*◌, Bool, not, ◌&&◌, ◌==◌, is_some}
-use Rattle.std.specs.Prelude.{if◌then◌else◌, List, [], ◌∷◌, length, fold, replicate, Option, Some}
-use Rattle.std.specs.Prelude.{None, option_and_then, Result, Ok, Err}
+use Rattle.std.specs.Prelude.{codes, ℕ, ◌+◌, ◌*◌, Bool, not, ◌&&◌, ◌==◌, is_some, if◌then◌else◌}
+use Rattle.std.specs.Prelude.{List, [], ◌∷◌, length, fold, replicate, Option, Some, None}
+use Rattle.std.specs.Prelude.{option_and_then, Result, Ok, Err}
 use Rattle.std.specs.List.{list_all}
 use Rattle.std.specs.Str.{bytes_eq}
 use Rattle.toml.specs.Data.{Members}
@@ -32,7 +32,9 @@ use Rattle.plant_loader.specs.declared.owner.Owner.{Owner}
 use Rattle.plant_loader.specs.declared.modules.SpelledModule.{SpelledModule as FoundModule}
 use Rattle.plant_loader.specs.Refusals.{Refusal}
 use Rattle.plant_loader.specs.Hex.{is_hex_digit, hex_digit}
-use Rattle.plant_loader.specs.Keys.{KeyTable, keys_from, keys_pass, number_at_key, texts_at}
+use Rattle.plant_loader.specs.declared.tables.TableKind.TheVariants as kinds
+use Rattle.plant_loader.specs.Tables.{table_passes}
+use Rattle.plant_loader.specs.Keys.{number_at_key, texts_at}
 use Rattle.plant_loader.specs.InOrder.{with_positions, each_behind, each_of, each_from}
 
 -- A module as its text has it: its kind, the word of its first reference, and how many words it
@@ -145,17 +147,11 @@ drop_with owner drop number module_texts row_texts = do
   rows ← rows_of owner.position modules drop row_texts
   Ok (drop_from number modules (or_zeros modules rows))
 
--- The keys of a drop, and those that it must have.
-abbrev pub drop_keys : KeyTable
-drop_keys =
-    keys_from (codes "number" ∷ codes "modules" ∷ codes "script" ∷ [])
-    (codes "number" ∷ codes "modules" ∷ [])
-
 -- A drop behind those before it, none of which has its number; a drop's place is its position.
 unfoldable pub drop_behind : Owner → List IoDrop → ℕ × Members → Result IoDrop Refusal
 drop_behind owner earlier table = do
   place ← Ok (drop_place owner.position table.0)
-  keys ← keys_pass place drop_keys table.1
+  keys ← table_passes place kinds.Drop table.1
   number ← number_at_key place BadValue (codes "number") 1 drop_limit table.1
   module_texts ← texts_at place module_limit (codes "modules") table.1
   row_texts ← texts_at place script_limit (codes "script") table.1

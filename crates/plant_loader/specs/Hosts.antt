@@ -7,16 +7,13 @@ use Rattle.plant_types.specs.declared.net.HostPlan.{HostPlan}
 use Rattle.plant_types.specs.declared.plan.ControllerPlan.{ControllerPlan}
 use Rattle.plant_types.specs.declared.fault.PlantFault.TheVariants.{BadNode}
 use Rattle.cell_text.specs.Steps.{◌>>=◌, unless}
-use Rattle.plant_loader.specs.Refusals.{Refusal, host_place}
-use Rattle.plant_loader.specs.Keys.{KeyTable, keys_from, node_required, keys_pass}
+use Rattle.plant_loader.specs.Refusals.{Refusal, host_table_place}
+use Rattle.plant_loader.specs.declared.tables.TableKind.TheVariants as kinds
+use Rattle.plant_loader.specs.Tables.{table_passes}
 use Rattle.plant_loader.specs.Keys.{address_at, texts_at}
 use Rattle.plant_loader.specs.InOrder.{with_positions, each_behind}
 use Rattle.plant_loader.specs.Stations.{has_controller}
 use Rattle.plant_loader.specs.Requests.{requests_of}
-
--- The keys of a host.
-abbrev pub host_keys : KeyTable
-host_keys = keys_from (codes "node" ∷ codes "requests" ∷ []) node_required
 
 -- The most requests of a host.
 abbrev pub request_limit : ℕ
@@ -35,8 +32,8 @@ host_from node requests = record { node = node; requests = requests }
 unfoldable pub host_behind : List ControllerPlan → List HostPlan → ℕ × Members
     → Result HostPlan Refusal
 host_behind controllers earlier table = do
-  place ← Ok (host_place table.0)
-  keys ← keys_pass place host_keys table.1
+  place ← Ok (host_table_place table.0)
+  keys ← table_passes place kinds.Host table.1
   node ← address_at place table.1
   texts ← texts_at place request_limit (codes "requests") table.1
   fresh ← unless (not (has_controller controllers node || has_host earlier node)) (BadNode, place)

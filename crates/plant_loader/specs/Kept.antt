@@ -10,7 +10,7 @@ use Rattle.plant_loader.specs.Program.{ReadProgram, cells_read}
 -- The keys of a set are just the coils that are driven; so many cells are messages, at most 64; no
 -- two cells and no two shorts stand at one place; there are at most 32 segments of at most 1000
 -- networks. This project's own.
-pub record IsKept (keys : List Ref) (messages : ℕ) (read : ReadProgram) : Type 0 where
+pub record KeepsProgram (keys : List Ref) (messages : ℕ) (read : ReadProgram) : Type 0 where
   pub driven : HoldsJust keys (coils_in (cells_read read))
   pub count : messages ≡ message_count (cells_read read)
   pub few_messages : messages ≤ message_limit

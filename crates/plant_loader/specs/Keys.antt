@@ -32,11 +32,7 @@ pub record KeyTable : Type 0 where
 abbrev pub keys_from : List (List ℕ) → List (List ℕ) → KeyTable
 keys_from known required = record { known = known; required = required }
 
--- The one key that each node must have.
-abbrev pub node_required : List (List ℕ)
-node_required = codes "node" ∷ []
-
--- A table at a place has no key but those that are known, and each that is required.
+-- A table at a place has no key but those that it can have, and each that it must have.
 abbrev pub keys_pass : Place → KeyTable → Members → Result (Unit {0}) Refusal
 keys_pass place keys ms =
     unless (has_only keys.known ms && has_each keys.required ms) (BadKey, place)

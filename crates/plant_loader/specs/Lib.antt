@@ -2,6 +2,7 @@ pub mod Refusals
 pub mod InOrder
 pub mod Given
 pub mod Keys
+pub mod Tables
 pub mod Hex
 pub mod Controller
 pub mod Texts

@@ -9,20 +9,15 @@ use Rattle.plant_types.specs.declared.net.HostPlan.{HostPlan}
 use Rattle.plant_types.specs.declared.plan.ControllerPlan.{ControllerPlan}
 use Rattle.plant_types.specs.declared.plan.Plant.{Plant}
 use Rattle.plant_types.specs.declared.fault.PlantFault.TheVariants.{BadValue}
+use Rattle.plant_types.specs.declared.fault.Place.{Place}
 use Rattle.cell_text.specs.Steps.{◌>>=◌, or_fault, unless}
 use Rattle.plant_loader.specs.declared.net.NetRules.{NetRules}
-use Rattle.plant_loader.specs.Refusals.{Refusal, net_place}
-use Rattle.plant_loader.specs.Keys.{KeyTable, keys_from, keys_pass, number_at_or}
+use Rattle.plant_loader.specs.Refusals.{Refusal}
+use Rattle.plant_loader.specs.declared.tables.TableKind.TheVariants as kinds
+use Rattle.plant_loader.specs.Tables.{table_passes}
+use Rattle.plant_loader.specs.Keys.{number_at_or}
 use Rattle.plant_loader.specs.InOrder.{each_of}
 use Rattle.plant_loader.specs.Rising.{by_node}
-
--- The keys of the network, of which it must have none.
-abbrev pub net_known : List (List ℕ)
-net_known =
-    codes "fates" ∷ codes "answer" ∷ codes "rotations" ∷ codes "rounds" ∷ codes "holds" ∷ []
-
-abbrev pub net_keys : KeyTable
-net_keys = keys_from net_known []
 
 -- What becomes of a transmission, by its letter.
 abbrev pub fate_of : ℕ → Option Fate
@@ -32,20 +27,20 @@ fate_of letter =
     else if letter == 65 then Some A
     else None
 
-abbrev pub fates_in : List ℕ → Result (List Fate) Refusal
-fates_in letters = each_of (λ letter. or_fault (BadValue, net_place) (fate_of letter)) letters
+abbrev pub fates_in : Place → List ℕ → Result (List Fate) Refusal
+fates_in place letters = each_of (λ letter. or_fault (BadValue, place) (fate_of letter)) letters
 
 -- A text has 1 to 1000 letters.
 abbrev pub has_letters : List ℕ → Bool
 has_letters text = nat_le 1 (length text) && nat_le (length text) 1000
 
 -- The fates of a text, or each transmission is delivered where there is none.
-unfoldable pub fates_or : Option Data → Result (List Fate) Refusal
-fates_or None = Ok (D ∷ [])
-fates_or (Some d) = do
-  text ← or_fault (BadValue, net_place) (as_str d)
-  letters ← unless (has_letters text) (BadValue, net_place)
-  fates_in text
+unfoldable pub fates_or : Place → Option Data → Result (List Fate) Refusal
+fates_or place None = Ok (D ∷ [])
+fates_or place (Some d) = do
+  text ← or_fault (BadValue, place) (as_str d)
+  letters ← unless (has_letters text) (BadValue, place)
+  fates_in place text
 
 -- How the network treats its members, from its parts.
 abbrev pub rules_from : List Fate → ℕ → ℕ → ℕ → ℕ → NetRules
@@ -57,29 +52,30 @@ rules_from fates answer rotations rounds holds = record {
   holds = holds;
 }
 
--- The rules of a table, with a default for each key.
-unfoldable pub rules_in : Members → Result NetRules Refusal
-rules_in ms = do
-  keys ← keys_pass net_place net_keys ms
-  fates ← fates_or (get_member (codes "fates") ms)
-  answer ← number_at_or net_place (codes "answer") 20 2 1000 ms
-  rotations ← number_at_or net_place (codes "rotations") 4 1 10 ms
-  rounds ← number_at_or net_place (codes "rounds") 2 1 100 ms
-  holds ← number_at_or net_place (codes "holds") 100000 1 100000 ms
+-- The rules of a table at a place, with a default for each key.
+unfoldable pub rules_in : Place → Members → Result NetRules Refusal
+rules_in place ms = do
+  keys ← table_passes place kinds.Net ms
+  fates ← fates_or place (get_member (codes "fates") ms)
+  answer ← number_at_or place (codes "answer") 20 2 1000 ms
+  rotations ← number_at_or place (codes "rotations") 4 1 10 ms
+  rounds ← number_at_or place (codes "rounds") 2 1 100 ms
+  holds ← number_at_or place (codes "holds") 100000 1 100000 ms
   Ok (rules_from fates answer rotations rounds holds)
 
--- The rules of the network by its table; without a table each is its default.
-abbrev pub rules_of : Option Members → Result NetRules Refusal
-rules_of None = rules_in no_members
-rules_of (Some ms) = rules_in ms
+-- The rules of a network by its table; without a table each is its default.
+abbrev pub rules_of : Place → Option Members → Result NetRules Refusal
+rules_of place None = rules_in place no_members
+rules_of place (Some ms) = rules_in place ms
 
 -- The nodes of controllers and hosts, in file order.
-abbrev pub nodes_of : List ControllerPlan → List HostPlan → List ℕ
-nodes_of controllers hosts = map (λ plan. plan.node) controllers ++ map (λ host. host.node) hosts
+abbrev pub station_nodes : List ControllerPlan → List HostPlan → List ℕ
+station_nodes controllers hosts =
+    map (λ plan. plan.node) controllers ++ map (λ host. host.node) hosts
 
 -- The members of the network: all nodes, rising.
 abbrev pub members_of : List ControllerPlan → List HostPlan → List ℕ
-members_of controllers hosts = by_node (λ node. node) (nodes_of controllers hosts)
+members_of controllers hosts = by_node (λ node. node) (station_nodes controllers hosts)
 
 abbrev pub net_from : NetRules → List ℕ → NetPlan
 net_from rules members = record {

@@ -1,6 +1,6 @@
 -- The pieces of the texts of networks, and the segments that they make.
-use Rattle.std.specs.Prelude.{ℕ, ◌+◌, Bool, not, ◌==◌, List, [], filter}
-use Rattle.std.specs.Prelude.{length, Option, Some, None, Result, Ok, Err}
+use Rattle.std.specs.Prelude.{ℕ, ◌+◌, Bool, not, ◌==◌, List, [], filter, length, Option, Some, None}
+use Rattle.std.specs.Prelude.{Result, Ok, Err}
 use Rattle.std.specs.List.{slice_split, flat_map, filter_map}
 use Rattle.std.specs.Str.Lines.{lines}
 use Rattle.toml.specs.Data.{Members}

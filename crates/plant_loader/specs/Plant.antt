@@ -1,6 +1,6 @@
 -- The plant that the bytes of a plant file stand for, or why they are refused. This project's own.
-use Rattle.std.specs.Prelude.{codes, ℕ, ℤ, pos, negsuc, ◌==◌, not, Some, if◌then◌else◌, List, [], ◌∷◌, length, Option}
-use Rattle.std.specs.Prelude.{None, Result, Ok}
+use Rattle.std.specs.Prelude.{codes, ℕ, ℤ, pos, negsuc, ◌==◌, not, Some, if◌then◌else◌, List, []}
+use Rattle.std.specs.Prelude.{◌∷◌, length, Option, None, Result, Ok}
 use Rattle.std.specs.Str.{is_utf8}
 use Rattle.toml.specs.Data.{Members, get_member, as_integer}
 use Rattle.toml.specs.Parse.{parse_document}
@@ -8,11 +8,12 @@ use Rattle.plant_types.specs.declared.plan.Plant.{Plant}
 use Rattle.plant_types.specs.declared.fault.PlantFault.TheVariants.{BadKey, BadValue, BadVersion}
 use Rattle.plant_types.specs.declared.fault.Place.{Place}
 use Rattle.cell_text.specs.Steps.{◌>>=◌, or_fault, unless}
-use Rattle.plant_loader.specs.Refusals.{Refusal, plant_place, bad_toml}
-use Rattle.plant_loader.specs.Keys.{KeyTable, keys_from, keys_pass, number_at_or}
-use Rattle.plant_loader.specs.Keys.{table_at, tables_at}
-use Rattle.plant_loader.specs.declared.reading.Version.{Version}
-use Rattle.plant_loader.specs.declared.reading.Version.TheVariants.{One}
+use Rattle.plant_loader.specs.Refusals.{Refusal, plant_place, net_place, bad_toml}
+use Rattle.plant_loader.specs.Tables.{table_passes}
+use Rattle.plant_loader.specs.Keys.{number_at_or, table_at, tables_at}
+use Rattle.plant_loader.specs.declared.tables.Version.{Version}
+use Rattle.plant_loader.specs.declared.tables.Version.TheVariants.{One}
+use Rattle.plant_loader.specs.declared.tables.TableKind.TheVariants as kinds
 use Rattle.plant_loader.specs.Stations.{controllers_of}
 use Rattle.plant_loader.specs.Hosts.{hosts_of}
 use Rattle.plant_loader.specs.Net.{rules_of, plant_from}
@@ -32,19 +33,6 @@ version_of top = do
   d ← or_fault (BadKey, plant_place) (get_member (codes "version") top)
   number ← or_fault (BadValue, plant_place) (as_integer d)
   or_fault (BadVersion, plant_place) (version_from number)
-
--- The keys of a plant of version 1, and those that it must have.
-abbrev pub plant_known : List (List ℕ)
-plant_known =
-    codes "version" ∷ codes "scan_time" ∷ codes "watchdog" ∷ codes "net" ∷ codes "controller"
-    ∷ codes "host" ∷ []
-
-abbrev pub plant_required : List (List ℕ)
-plant_required = codes "version" ∷ codes "controller" ∷ []
-
--- The keys of a plant by its version.
-abbrev pub plant_keys : Version → KeyTable
-plant_keys One = keys_from plant_known plant_required
 
 -- The most controllers and hosts of a plant.
 abbrev pub controller_limit : ℕ
@@ -68,13 +56,13 @@ controller_tables top = some_tables_at plant_place controller_limit (codes "cont
 -- of 1 to 10,000 networks, by default 500, the network, the controllers and the hosts.
 unfoldable pub plant_in : Version → Members → Result Plant Refusal
 plant_in version top = do
-  keys ← keys_pass plant_place (plant_keys version) top
+  keys ← table_passes plant_place (kinds.Plant version) top
   scan_time ← number_at_or plant_place (codes "scan_time") 10 1 1000 top
   watchdog ← number_at_or plant_place (codes "watchdog") 500 1 10000 top
   net ← table_at plant_place (codes "net") top
   tables ← controller_tables top
   host_tables ← tables_at plant_place host_limit (codes "host") top
-  rules ← rules_of net
+  rules ← rules_of net_place net
   controllers ← controllers_of tables
   hosts ← hosts_of controllers host_tables
   Ok (plant_from scan_time watchdog rules controllers hosts)

@@ -19,8 +19,8 @@ use Rattle.cell_text.specs.Steps.{◌>>=◌}
 use Rattle.plant_loader.specs.declared.owner.Owner.{Owner}
 use Rattle.plant_loader.specs.Refusals.{Refusal}
 use Rattle.plant_loader.specs.Texts.{network_texts}
-use Rattle.plant_loader.specs.Pieces.{site_behind, cell_behind, short_behind}
-use Rattle.plant_loader.specs.Pieces.{piece_behind, pieces_of}
+use Rattle.plant_loader.specs.Pieces.{site_behind, cell_behind, short_behind, piece_behind}
+use Rattle.plant_loader.specs.Pieces.{pieces_of}
 
 -- How many segments there are in all, those that are whole, the networks that are whole of the next
 -- one, and the cells and shorts so far of the network that is being read. This project's own.
@@ -137,17 +137,17 @@ with_segment_texts owner read texts = do
   Ok (with_segment next)
 
 -- One more segment by its table. This project's own.
-unfoldable pub with_table : Owner → ReadProgram → Members → Result ReadProgram Refusal
-with_table owner read table = do
+unfoldable pub with_segment_table : Owner → ReadProgram → Members → Result ReadProgram Refusal
+with_segment_table owner read table = do
   texts ← network_texts owner.position (length read.segments + 1) table
   with_segment_texts owner read texts
 
 -- Segments, each behind those before it. This project's own.
-unfoldable pub with_tables : Owner → ReadProgram → List Members → Result ReadProgram Refusal
-with_tables owner read [] = Ok read
-with_tables owner read (table ∷ tables) = do
-  next ← with_table owner read table
-  with_tables owner next tables
+unfoldable pub with_segment_tables : Owner → ReadProgram → List Members → Result ReadProgram Refusal
+with_segment_tables owner read [] = Ok read
+with_segment_tables owner read (table ∷ tables) = do
+  next ← with_segment_table owner read table
+  with_segment_tables owner next tables
 
 -- No network of the next segment was read yet. This project's own.
 pub record IsBetweenSegments (read : ReadProgram) : Type 0 where

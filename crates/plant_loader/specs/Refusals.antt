@@ -19,8 +19,8 @@ plant_place = record { part = parts.Plant; at = 0 ∷ 0 ∷ 0 ∷ 0 ∷ [] }
 abbrev pub net_place : Place
 net_place = record { part = parts.Net; at = 0 ∷ 0 ∷ 0 ∷ 0 ∷ [] }
 
-abbrev pub host_place : ℕ → Place
-host_place host = record { part = parts.Host; at = host ∷ 0 ∷ 0 ∷ 0 ∷ [] }
+abbrev pub host_table_place : ℕ → Place
+host_table_place host = record { part = parts.Host; at = host ∷ 0 ∷ 0 ∷ 0 ∷ [] }
 
 abbrev pub request_place : ℕ → ℕ → Place
 request_place host request =

@@ -8,16 +8,11 @@ use Rattle.plant_types.specs.declared.fault.Place.{Place}
 use Rattle.plant_types.specs.Words.{pdu_of}
 use Rattle.cell_text.specs.Steps.{◌>>=◌, or_fault, unless}
 use Rattle.cell_text.specs.Words.{text_words}
-use Rattle.plant_types.specs.Numerals.{is_digit, value_of, has_no_leading_zero}
+use Rattle.plant_types.specs.Numerals.{is_numeral, value_of}
 use Rattle.plant_loader.specs.declared.requests.RequestWords.{RequestWords as FoundWords}
 use Rattle.plant_loader.specs.Refusals.{Refusal, request_place}
 use Rattle.plant_loader.specs.Hex.{is_hex_digit, hex_pairs}
 use Rattle.plant_loader.specs.InOrder.{each_from}
-
--- Decimal digits, as many as there are, without a leading zero.
-abbrev pub is_numeral : List ℕ → Bool
-is_numeral word =
-    list_all is_digit word && (nat_le 1 (length word) && has_no_leading_zero word)
 
 -- The number of a word, where it reads and is from low to high.
 abbrev pub is_numeral_within : ℕ → ℕ → List ℕ → Bool
@@ -71,8 +66,8 @@ abbrev pub ask_from : ℕ → ℕ → List ℕ → HostAsk
 ask_from hold to pdu = record { hold = hold; to = to; pdu = pdu }
 
 -- The request of a text of the host of a node.
-unfoldable pub request_of : ℕ → Place → List ℕ → Result HostAsk Refusal
-request_of node place text = do
+unfoldable pub host_request : ℕ → Place → List ℕ → Result HostAsk Refusal
+host_request node place text = do
   words ← or_fault (BadValue, place) (request_words (text_words text))
   hold ← or_fault (BadValue, place) (numeral_within 1 10000 words.hold)
   number ← unless (is_numeral words.to) (BadValue, place)
@@ -81,7 +76,7 @@ request_of node place text = do
   Ok (ask_from hold to pdu)
 
 abbrev pub numbered_request : ℕ → ℕ → ℕ → List ℕ → Result HostAsk Refusal
-numbered_request node host number text = request_of node (request_place host number) text
+numbered_request node host number text = host_request node (request_place host number) text
 
 -- The requests of the host of a node at a position.
 abbrev pub requests_of : ℕ → ℕ → List (List ℕ) → Result (List HostAsk) Refusal

@@ -1,6 +1,5 @@
 -- The plans of controllers by their tables. This project's own.
-use Rattle.std.specs.Prelude.{codes, ℕ, ◌≤◌, ◌==◌, Bool, not, List, [], ◌∷◌, length, Result}
-use Rattle.std.specs.Prelude.{Ok}
+use Rattle.std.specs.Prelude.{codes, ℕ, ◌≤◌, ◌==◌, Bool, not, List, [], ◌∷◌, length, Result, Ok}
 use Rattle.std.specs.List.{list_any}
 use Rattle.toml.specs.Data.{Members}
 use Rattle.plant_types.specs.declared.reference.Ref.{Ref}
@@ -17,22 +16,14 @@ use Rattle.plant_loader.specs.declared.owner.Owner.{Owner}
 use Rattle.plant_loader.specs.declared.stations.Arrays.{Arrays as FoundArrays}
 use Rattle.plant_loader.specs.Refusals.{Refusal}
 use Rattle.plant_loader.specs.Given.{texts_in, tables_in}
-use Rattle.plant_loader.specs.Keys.{KeyTable, keys_from, node_required, keys_pass}
+use Rattle.plant_loader.specs.declared.tables.TableKind.TheVariants as kinds
+use Rattle.plant_loader.specs.Tables.{table_passes}
 use Rattle.plant_loader.specs.Keys.{texts_at, tables_at}
 use Rattle.plant_loader.specs.InOrder.{with_positions, each_behind}
 use Rattle.plant_loader.specs.Controller.{owner_at, panel_of}
 use Rattle.plant_loader.specs.Drops.{drops_of}
 use Rattle.plant_loader.specs.Pieces.{segments_of}
 use Rattle.plant_loader.specs.Orders.{nameable, orders_of}
-
--- The keys of a controller.
-abbrev pub controller_known : List (List ℕ)
-controller_known =
-    codes "node" ∷ codes "coils" ∷ codes "inputs" ∷ codes "input_registers" ∷ codes "registers"
-    ∷ codes "panel" ∷ codes "drop" ∷ codes "segment" ∷ codes "orders" ∷ []
-
-abbrev pub controller_keys : KeyTable
-controller_keys = keys_from controller_known node_required
 
 -- The arrays of a controller's table: the texts of its panel and of its orders, and the tables of
 -- its drops and of its segments.
@@ -52,7 +43,7 @@ read_arrays found =
     arrays_from (texts_in found.panel.items) (tables_in found.drops.items)
     (tables_in found.segments.items) (texts_in found.orders.items)
 
-pub record AreFew (found : FoundArrays) : Type 0 where
+pub record HasFewItems (found : FoundArrays) : Type 0 where
   pub panel : length found.panel.items ≤ panel_limit
   pub drops : length found.drops.items ≤ drop_limit
   pub segments : length found.segments.items ≤ segment_limit
@@ -101,7 +92,7 @@ unfoldable pub controller_behind : List ControllerPlan → ℕ × Members
     → Result ControllerPlan Refusal
 controller_behind earlier table = do
   place ← Ok (controller_place table.0)
-  keys ← keys_pass place controller_keys table.1
+  keys ← table_passes place kinds.Controller table.1
   owner ← owner_at table.0 table.1
   arrays ← arrays_at place table.1
   fresh ← unless (not (has_controller earlier owner.node)) (BadNode, place)

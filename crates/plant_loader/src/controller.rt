@@ -9,12 +9,9 @@ use crate::keys::{address_at, discrete_size_at, size_at};
 use crate::owner::Owner;
 use crate::refusal::{LoadEnd, Refusal};
 use cell_text::{only_word, reference_of};
-use plant_types::{List, Place, PlantFault, Ref, Sizes};
+use plant_types::{List, PANEL_LIMIT, Place, PlantFault, Ref, Sizes};
 use std::alloc::Global;
 use toml::Table;
-
-/// The most references of a panel.
-pub const PANEL_LIMIT: usize = 64;
 
 /// The numbers of the table of the controller at a position: its node, and how many references of
 /// each kind it has.

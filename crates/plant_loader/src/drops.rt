@@ -6,27 +6,16 @@ ghost use Rattle.plant_loader.specs.Orders.{drop_number};
 ghost use Rattle.plant_loader.specs.Refusals.{Gives};
 ghost use Rattle.plant_loader.specs.Drops.{modules_of, drop_with, drop_behind, drops_of};
 
-use crate::keys::{Keys, keys_pass, number_at_key, texts_at};
+use crate::keys::{number_at_key, texts_at};
 use crate::modules::module_of;
 use crate::owner::Owner;
 use crate::refusal::LoadEnd;
-use crate::scripts::{SCRIPT_LIMIT, or_zeros, rows_of};
-use plant_types::{IoDrop, List, Module, PlantFault};
+use crate::scripts::{or_zeros, rows_of};
+use crate::tables::{TableKind, table_passes};
+use plant_types::{DROP_LIMIT, IoDrop, List, MODULE_LIMIT, Module, PlantFault, SCRIPT_LIMIT};
 use std::alloc::Global;
 use toml::Table;
 use traffic_cop::{drop_place, has_few_words, module_place};
-
-/// The most drops of a controller, and the highest number of one.
-pub const DROP_LIMIT: usize = 32;
-
-/// The most modules of a drop.
-const MODULE_LIMIT: usize = 16;
-
-/// The keys of a drop.
-const DROP_KEYS: [&str; 3] = ["number", "modules", "script"];
-
-/// Those that it must have.
-const DROP_REQUIRED: [&str; 2] = ["number", "modules"];
 
 /// The number of the drop that has this number, where there is one.
 #[tactic(auto, unfolding(traffic_cop::specs::Drops::drop_named))]
@@ -102,11 +91,7 @@ fn drop_behind(
         (drop_behind owner earlier.now (position, table_view table.now)) }
 {
     let place = drop_place(owner.position, position);
-    let keys = Keys {
-        known: &DROP_KEYS,
-        required: &DROP_REQUIRED,
-    };
-    keys_pass(place, &keys, table)?;
+    table_passes(place, TableKind::Drop, table)?;
     let number = number_at_key(
         place,
         PlantFault::BadValue,

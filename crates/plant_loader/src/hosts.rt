@@ -5,19 +5,17 @@ ghost use Rattle.plant_loader.specs.Given.{tables_in};
 ghost use Rattle.plant_loader.specs.Refusals.{Gives};
 ghost use Rattle.plant_loader.specs.Hosts.{has_host, host_behind, hosts_of};
 
-use crate::keys::{Keys, NODE_REQUIRED, address_at, keys_pass, texts_at};
-use crate::refusal::{LoadEnd, host_place};
-use crate::requests::{REQUEST_LIMIT, requests_of};
+use crate::keys::{address_at, texts_at};
+use crate::refusal::{LoadEnd, host_table_place};
+use crate::requests::requests_of;
 use crate::stations::has_controller;
-use plant_types::{ControllerPlan, HostPlan, PlantFault};
+use crate::tables::{TableKind, table_passes};
+use plant_types::{ControllerPlan, HostPlan, PlantFault, REQUEST_LIMIT};
 use std::alloc::Global;
 use toml::Table;
 
 /// The most hosts of a plant.
 pub const HOST_LIMIT: usize = 16;
-
-/// The keys of a host.
-const HOST_KEYS: [&str; 2] = ["node", "requests"];
 
 /// Whether one of these hosts has this node.
 pub fn has_host(hosts: &[HostPlan], node: u8) -> bool
@@ -37,12 +35,8 @@ fn host_behind(
     ensures { Gives (λ host. host) result
         (host_behind controllers.now earlier.now (position, table_view table.now)) }
 {
-    let place = host_place(position);
-    let keys = Keys {
-        known: &HOST_KEYS,
-        required: &NODE_REQUIRED,
-    };
-    keys_pass(place, &keys, table)?;
+    let place = host_table_place(position);
+    table_passes(place, TableKind::Host, table)?;
     let node = address_at(place, table)?;
     let texts = texts_at(alloc, place, REQUEST_LIMIT, "requests", table)?;
     if has_controller(controllers, node) || has_host(earlier, node) {

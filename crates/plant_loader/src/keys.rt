@@ -1,6 +1,5 @@
 //! The values at the keys of a table.
-ghost use Rattle.std.specs.Prelude.{◌≡◌, ◌≤◌, length, map, option_map, string_bytes, IfOk};
-ghost use Rattle.std.specs.Prelude.{OnOk};
+ghost use Rattle.std.specs.Prelude.{◌≡◌, ◌≤◌, length, map, option_map, string_bytes, IfOk, OnOk};
 ghost use Rattle.std.specs.BTreeMap as tree;
 ghost use Rattle.std.specs.Str.{bytes_eq};
 ghost use Rattle.std.specs.List.{list_any, list_all};
@@ -8,47 +7,18 @@ ghost use Rattle.toml.specs.Data.{as_str, as_table, get_member};
 ghost use Rattle.toml.specs.View.{view, items_view, table_view};
 ghost use Rattle.plant_loader.specs.Given.{tables_in, texts_in};
 ghost use Rattle.plant_loader.specs.Refusals.{Gives, Sees};
-ghost use Rattle.plant_loader.specs.Keys.{has_only, has_each, keys_pass, number_within, InRange};
-ghost use Rattle.plant_loader.specs.Keys.{number_at_key, address_at, number_at_or, size_at};
-ghost use Rattle.plant_loader.specs.Keys.{discrete_size_at, array_at, are_few, items_as};
+ghost use Rattle.plant_loader.specs.Keys.{has_only, has_each, keys_from, keys_pass, number_within};
+ghost use Rattle.plant_loader.specs.Keys.{InRange, number_at_key, address_at, number_at_or};
+ghost use Rattle.plant_loader.specs.Keys.{size_at, discrete_size_at, array_at, are_few, items_as};
 ghost use Rattle.plant_loader.specs.Keys.{texts_at, tables_at, table_at};
 
 use crate::refusal::{LoadEnd, Refusal};
-use plant_types::{Place, PlantFault};
+use plant_types::{NODE_LIMIT, Place, PlantFault, REFERENCE_LIMIT};
 use std::alloc::Global;
-use std::marker::Model;
 use toml::{Table, Value};
-
-/// The highest number of a reference.
-const REFERENCE_LIMIT: u32 = 9984;
-
-/// The highest address of a node.
-const NODE_LIMIT: u32 = 64;
 
 /// Discretes come in so many.
 const GROUP: u16 = 16;
-
-/// The one key that each node must have.
-pub const NODE_REQUIRED: [&str; 1] = ["node"];
-
-/// The keys that a table can have, and those that it must have.
-#[derive(Drop)]
-pub struct Keys<'a> {
-    pub known: &'a [&'a str],
-    pub required: &'a [&'a str],
-}
-
-impl<'a> Model for Keys<'a> {
-    ghost use Rattle.std.specs.Prelude.{map};
-    ghost use Rattle.plant_loader.specs.Keys.{KeyTable};
-
-    ghost Value = { KeyTable };
-
-    ghost view = { λ keys. record {
-      known = map (λ key. key.now) keys.known.now;
-      required = map (λ key. key.now) keys.required.now;
-    } };
-}
 
 /// What stands at a key.
 pub fn value_at<'a>(table: &'a Table, key: &str) -> Option<&'a Value>
@@ -88,10 +58,16 @@ fn has_each(table: &Table, keys: &[&str]) -> bool
 }
 
 /// A table has no key but those that are known, and each that is required.
-pub fn keys_pass(place: Place, keys: &Keys, table: &Table) -> Result<(), Refusal>
-    ensures { result ≡ keys_pass place keys.now (table_view table.now) }
+pub fn keys_pass(
+    place: Place,
+    known: &[&str],
+    required: &[&str],
+    table: &Table,
+) -> Result<(), Refusal>
+    ensures { let keys = keys_from (texts_in known.now) (texts_in required.now) in
+        result ≡ keys_pass place keys (table_view table.now) }
 {
-    if has_only(table, keys.known) && has_each(table, keys.required) {
+    if has_only(table, known) && has_each(table, required) {
         Ok(())
     } else {
         Err((PlantFault::BadKey, place))
@@ -146,7 +122,14 @@ pub fn address_at(place: Place, table: &Table) -> Result<u8, Refusal>
     ensures read { result ≡ address_at place (table_view table.now) }
     ensures within { IfOk result (InRange 1 64) }
 {
-    let node = number_at_key(place, PlantFault::BadNode, "node", 1, NODE_LIMIT, table)?;
+    let node = number_at_key(
+        place,
+        PlantFault::BadNode,
+        "node",
+        1,
+        u32::from(NODE_LIMIT),
+        table,
+    )?;
     Ok(node as u8)
 }
 
@@ -173,7 +156,7 @@ pub fn number_at_or(
 pub fn size_at(place: Place, key: &str, table: &Table) -> Result<u16, Refusal>
     ensures { result ≡ size_at place key.now (table_view table.now) }
 {
-    let size = number_at_or(place, key, 0, 0, REFERENCE_LIMIT, table)?;
+    let size = number_at_or(place, key, 0, 0, u32::from(REFERENCE_LIMIT), table)?;
     Ok(size as u16)
 }
 

@@ -18,6 +18,7 @@ mod refusal;
 mod requests;
 mod scripts;
 mod stations;
+mod tables;
 mod texts;
 
 pub use reading::load;

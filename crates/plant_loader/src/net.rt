@@ -4,21 +4,19 @@ ghost use Rattle.std.specs.List.{AllByRecursion};
 ghost use Rattle.toml.specs.Data.{get_member};
 ghost use Rattle.toml.specs.View.{view, table_view};
 ghost use Rattle.plant_types.specs.Plans.{IsNode};
-ghost use Rattle.plant_loader.specs.Refusals.{Gives, Makes, net_place};
+ghost use Rattle.plant_loader.specs.Refusals.{Gives, Makes};
 ghost use Rattle.plant_loader.specs.InOrder.{each_of};
-ghost use Rattle.plant_loader.specs.Net.{fate_of, fates_in, fates_or, rules_in, rules_of, nodes_of};
-ghost use Rattle.plant_loader.specs.Net.{members_of, net_from, plant_from};
+ghost use Rattle.plant_loader.specs.Net.{fate_of, fates_in, fates_or, rules_in, rules_of};
+ghost use Rattle.plant_loader.specs.Net.{station_nodes, members_of, net_from, plant_from};
 ghost use Rattle.plant_loader.specs.Rising.{by_node};
 
-use crate::keys::{Keys, keys_pass, number_at_or, value_at};
-use crate::refusal::{LoadEnd, net_place};
-use plant_types::{ControllerPlan, Fate, HostPlan, List, NetPlan, Plant, PlantFault};
+use crate::keys::{number_at_or, value_at};
+use crate::refusal::LoadEnd;
+use crate::tables::{TableKind, table_passes};
+use plant_types::{ControllerPlan, Fate, HostPlan, List, NetPlan, Place, Plant, PlantFault};
 use std::alloc::Global;
 use std::collections::BTreeMap;
 use toml::{Table, Value};
-
-/// The keys of the network.
-const NET_KEYS: [&str; 5] = ["fates", "answer", "rotations", "rounds", "holds"];
 
 /// The most letters of its fates.
 const FATE_LIMIT: usize = 1000;
@@ -44,10 +42,10 @@ fn fate_of(letter: u8) -> Option<Fate>
     }
 }
 
-fn fates_in(alloc: Global, letters: &[u8]) -> Result<List<Fate>, LoadEnd>
-    ensures { Gives (λ fates. fates) result (fates_in letters.now) }
+fn fates_in(alloc: Global, place: Place, letters: &[u8]) -> Result<List<Fate>, LoadEnd>
+    ensures { Gives (λ fates. fates) result (fates_in place letters.now) }
 {
-    let refused = LoadEnd::Refused(PlantFault::BadValue, net_place());
+    let refused = LoadEnd::Refused(PlantFault::BadValue, place);
     let mut fates = List::new(alloc);
     for letter in letters {
         let Some(fate) = fate_of(*letter) else {
@@ -68,13 +66,14 @@ fn delivered(alloc: Global) -> Result<List<Fate>, LoadEnd>
 
 /// The fates of a text of 1 to 1000 letters, or the default.
 #[tactic(auto, unfolding(crate::specs::Net::fates_or))]
-fn fates_or(alloc: Global, value: Option<&Value>) -> Result<List<Fate>, LoadEnd>
-    ensures { Gives (λ fates. fates) result (fates_or (option_map (λ v. view v.now) value.entry)) }
+fn fates_or(alloc: Global, place: Place, value: Option<&Value>) -> Result<List<Fate>, LoadEnd>
+    ensures { Gives (λ fates. fates) result
+        (fates_or place (option_map (λ v. view v.now) value.entry)) }
 {
     let Some(value) = value else {
         return delivered(alloc);
     };
-    let refused = LoadEnd::Refused(PlantFault::BadValue, net_place());
+    let refused = LoadEnd::Refused(PlantFault::BadValue, place);
     let Some(text) = value.as_str() else {
         return Err(refused);
     };
@@ -82,20 +81,15 @@ fn fates_or(alloc: Global, value: Option<&Value>) -> Result<List<Fate>, LoadEnd>
     if letters.is_empty() || letters.len() > FATE_LIMIT {
         return Err(refused);
     }
-    fates_in(alloc, letters)
+    fates_in(alloc, place, letters)
 }
 
 #[tactic(auto, unfolding(crate::specs::Net::rules_in))]
-fn rules_in(alloc: Global, table: &Table) -> Result<NetRules, LoadEnd>
-    ensures { Gives (λ rules. rules) result (rules_in (table_view table.now)) }
+fn rules_in(alloc: Global, place: Place, table: &Table) -> Result<NetRules, LoadEnd>
+    ensures { Gives (λ rules. rules) result (rules_in place (table_view table.now)) }
 {
-    let place = net_place();
-    let keys = Keys {
-        known: &NET_KEYS,
-        required: &[],
-    };
-    keys_pass(place, &keys, table)?;
-    let fates = fates_or(alloc, value_at(table, "fates"))?;
+    table_passes(place, TableKind::Net, table)?;
+    let fates = fates_or(alloc, place, value_at(table, "fates"))?;
     let answer = number_at_or(place, "answer", 20, 2, 1000, table)?;
     let rotations = number_at_or(place, "rotations", 4, 1, 10, table)?;
     let rounds = number_at_or(place, "rounds", 2, 1, 100, table)?;
@@ -109,14 +103,14 @@ fn rules_in(alloc: Global, table: &Table) -> Result<NetRules, LoadEnd>
     })
 }
 
-/// The rules of the network by its table, or all defaults.
-pub fn rules_of(alloc: Global, table: Option<&Table>) -> Result<NetRules, LoadEnd>
+/// The rules of a network by its table, or all defaults.
+pub fn rules_of(alloc: Global, place: Place, table: Option<&Table>) -> Result<NetRules, LoadEnd>
     ensures { Gives (λ rules. rules) result
-        (rules_of (option_map (λ t. table_view t.now) table.entry)) }
+        (rules_of place (option_map (λ t. table_view t.now) table.entry)) }
 {
     match table {
-        Some(table) => rules_in(alloc, table),
-        None => rules_in(alloc, &BTreeMap::new(alloc)),
+        Some(table) => rules_in(alloc, place, table),
+        None => rules_in(alloc, place, &BTreeMap::new(alloc)),
     }
 }
 
@@ -157,7 +151,7 @@ fn members_of(
     controllers: &[ControllerPlan],
     hosts: &[HostPlan],
 ) -> Result<List<u8>, LoadEnd>
-    requires { AllByRecursion IsNode (nodes_of controllers.now hosts.now) }
+    requires { AllByRecursion IsNode (station_nodes controllers.now hosts.now) }
     ensures { Makes result (λ members. members ≡ members_of controllers.now hosts.now) }
 {
     let nodes = controller_nodes(alloc, controllers)?;
@@ -190,7 +184,7 @@ pub fn plant_from(
     controllers: Vec<ControllerPlan>,
     hosts: Vec<HostPlan>,
 ) -> Result<Plant, LoadEnd>
-    requires nodes { AllByRecursion IsNode (nodes_of controllers.items hosts.items) }
+    requires nodes { AllByRecursion IsNode (station_nodes controllers.items hosts.items) }
     requires controllers { AllByRecursion (λ plan. IsNode plan.node) controllers.items }
     requires hosts { AllByRecursion (λ host. IsNode host.node) hosts.items }
     ensures { Makes result (λ plant. plant

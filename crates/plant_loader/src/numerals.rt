@@ -1,23 +1,13 @@
 //! Decimal numbers of any length.
 ghost use Rattle.std.specs.Prelude.{◌≡◌, ◌<◌, min, true};
 ghost use Rattle.std.specs.List.{list_all};
-ghost use Rattle.plant_types.specs.Numerals.{is_digit, value_of};
-ghost use Rattle.plant_loader.specs.Requests.{is_numeral, numeral_within, most_told};
+ghost use Rattle.plant_types.specs.Numerals.{is_digit, is_numeral, value_of};
+ghost use Rattle.plant_loader.specs.Requests.{numeral_within, most_told};
+
+use plant_types::are_digits;
 
 /// Numbers from here on are told apart from lower ones alone.
 const MOST_TOLD: u32 = 100_000;
-
-fn is_digit(byte: u8) -> bool
-    ensures { result ≡ is_digit byte }
-{
-    b'0' <= byte && byte <= b'9'
-}
-
-fn are_digits(word: &[u8]) -> bool
-    ensures { result ≡ list_all is_digit word.now }
-{
-    word.iter().all(|byte| is_digit(*byte))
-}
 
 /// Whether a word is decimal digits without a leading zero.
 pub fn is_numeral(word: &[u8]) -> bool

@@ -3,22 +3,19 @@ ghost use Rattle.std.specs.Prelude.{◌≡◌, ◌≤◌, length, map, option_ma
 ghost use Rattle.cell_text.specs.Words.{text_words};
 ghost use Rattle.plant_loader.specs.Given.{texts_in};
 ghost use Rattle.plant_loader.specs.Refusals.{Gives};
-ghost use Rattle.plant_loader.specs.Orders.{order_in, order_words, nameable, is_solved};
-ghost use Rattle.plant_loader.specs.Orders.{segment_in, names_nothing, reads_as_control};
-ghost use Rattle.plant_loader.specs.Orders.{control_in, drop_of, order_row, orders_of};
+ghost use Rattle.plant_loader.specs.Orders.{order_in, order_words, nameable, is_solved, segment_in};
+ghost use Rattle.plant_loader.specs.Orders.{names_nothing, reads_as_control, control_in, drop_of};
+ghost use Rattle.plant_loader.specs.Orders.{order_row, orders_of};
 
 use crate::drops::drop_number;
 use crate::owner::Owner;
 use crate::refusal::{LoadEnd, Refusal};
 use cell_text::{is_reference_word, is_text, next_word, reference_of, spelled_number};
 use plant_types::{
-    IoDrop, List, OrderRow, Place, PlantFault, Ref, Segment, Sizes, has_control, is_segment,
-    is_subroutines,
+    IoDrop, List, ORDER_LIMIT, OrderRow, Place, PlantFault, Ref, Segment, Sizes, has_control,
+    is_segment, is_subroutines,
 };
 use std::alloc::Global;
-
-/// The most order rows of a controller.
-pub const ORDER_LIMIT: usize = 32;
 
 /// The four words of an order row.
 #[derive(Clone, Copy)]

@@ -4,19 +4,18 @@ ghost use Rattle.plant_loader.specs.Given.{tables_in, texts_in};
 ghost use Rattle.plant_loader.specs.Refusals.{Gives};
 ghost use Rattle.plant_types.specs.Fault.{at_place};
 ghost use Rattle.toml.specs.View.{table_view};
-ghost use Rattle.plant_loader.specs.Pieces.{plant_fault, has_word};
-ghost use Rattle.plant_loader.specs.Pieces.{pieces_of_line, pieces_of, segments_of};
+ghost use Rattle.plant_loader.specs.Pieces.{plant_fault, has_word, pieces_of_line, pieces_of};
+ghost use Rattle.plant_loader.specs.Pieces.{segments_of};
 ghost use Rattle.plant_loader.specs.Program.{with_next_piece, with_piece, with_pieces, with_text};
-ghost use Rattle.plant_loader.specs.Program.{with_texts};
-ghost use Rattle.plant_loader.specs.Program.{with_segment_texts, with_table, with_tables};
-ghost use Rattle.plant_loader.specs.Program.{IsBetweenSegments};
+ghost use Rattle.plant_loader.specs.Program.{with_texts, with_segment_texts, with_segment_table};
+ghost use Rattle.plant_loader.specs.Program.{with_segment_tables, IsBetweenSegments};
 
 use crate::owner::Owner;
-use crate::program::{NETWORK_LIMIT, Program, SEGMENT_LIMIT};
+use crate::program::Program;
 use crate::refusal::LoadEnd;
 use crate::texts::network_texts;
 use cell_text::{CellFault, Piece, next_word, read_cell};
-use plant_types::{List, Place, PlantFault, Segment, Sizes};
+use plant_types::{List, NETWORK_LIMIT, Place, PlantFault, SEGMENT_LIMIT, Segment, Sizes};
 use std::alloc::Global;
 use toml::Table;
 
@@ -115,8 +114,8 @@ fn with_segment_texts(
     program.with_segment(alloc)
 }
 
-#[tactic(auto, unfolding(crate::specs::Program::with_table))]
-fn with_table(
+#[tactic(auto, unfolding(crate::specs::Program::with_segment_table))]
+fn with_segment_table(
     alloc: Global,
     program: Program,
     owner: Owner,
@@ -124,14 +123,14 @@ fn with_table(
 ) -> Result<Program, LoadEnd>
     requires segments { length program.segments < SEGMENT_LIMIT }
     requires between { IsBetweenSegments program }
-    ensures { Gives (λ p. p) result (with_table owner program (table_view table.now)) }
+    ensures { Gives (λ p. p) result (with_segment_table owner program (table_view table.now)) }
 {
     let texts = network_texts(alloc, owner.position, program.segment_number(), table)?;
     with_segment_texts(alloc, program, owner, texts.as_slice())
 }
 
-#[tactic(auto, unfolding(crate::specs::Program::with_tables))]
-fn with_tables(
+#[tactic(auto, unfolding(crate::specs::Program::with_segment_tables))]
+fn with_segment_tables(
     alloc: Global,
     mut program: Program,
     owner: Owner,
@@ -139,12 +138,13 @@ fn with_tables(
 ) -> Result<Program, LoadEnd>
     requires few { length program.segments + length tables.now ≤ SEGMENT_LIMIT }
     requires between { IsBetweenSegments program }
-    ensures read { Gives (λ p. p) result (with_tables owner program (tables_in tables.now)) }
+    ensures read { Gives (λ p. p) result
+        (with_segment_tables owner program (tables_in tables.now)) }
     ensures count { IfOk result
         (λ p. length p.segments ≡ length program.segments + length tables.now) }
 {
     for table in tables {
-        program = with_table(alloc, program, owner, table)?;
+        program = with_segment_table(alloc, program, owner, table)?;
     }
     Ok(program)
 }
@@ -156,6 +156,6 @@ pub fn segments_of(alloc: Global, owner: Owner, tables: &[&Table]) -> Result<Lis
         (segments_of owner (tables_in tables.now)) }
     ensures count { IfOk result (λ segments. length segments ≡ length tables.now) }
 {
-    let program = with_tables(alloc, Program::new(alloc, tables.len()), owner, tables)?;
+    let program = with_segment_tables(alloc, Program::new(alloc, tables.len()), owner, tables)?;
     Ok(program.into_segments())
 }

@@ -4,8 +4,8 @@ ghost use Rattle.std.specs.Prelude.{[], length, Ok, if◌then◌else◌};
 ghost use Rattle.std.specs.List.{cons_option, list_any};
 ghost use Rattle.plant_types.specs.FirstFault.{first_failed};
 ghost use Rattle.plant_types.specs.Standing.{cells_before, is_label_of, is_message, repeats_label};
-ghost use Rattle.plant_types.specs.Standing.{standing_of};
-ghost use Rattle.plant_types.specs.Standing.{coils_in, is_driven, message_count, message_limit};
+ghost use Rattle.plant_types.specs.Standing.{standing_of, coils_in, is_driven, message_count};
+ghost use Rattle.plant_types.specs.Standing.{message_limit};
 ghost use Rattle.plant_types.specs.Network.{driven_by};
 ghost use Rattle.plant_types.specs.PlanTests.{site_cell_tests};
 ghost use Rattle.plant_types.specs.FirstFault.{short_tests};
@@ -18,18 +18,12 @@ ghost use Rattle.plant_loader.specs.Program.{with_network, with_segment, with_sh
 
 use crate::refusal::LoadEnd;
 use plant_types::{
-    Cell, Element, List, MESSAGE_LIMIT, Network, Place, PlantFault, Ref, Segment, Short, Sizes,
-    Standing, driven_by, is_label, is_message,
+    Cell, Element, List, MESSAGE_LIMIT, NETWORK_LIMIT, Network, Place, PlantFault, Ref,
+    SEGMENT_LIMIT, Segment, Short, Sizes, Standing, driven_by, is_label, is_message,
 };
 use std::alloc::Global;
 use std::collections::BTreeSet;
 use std::marker::Model;
-
-/// The most networks of a segment.
-pub const NETWORK_LIMIT: usize = 1000;
-
-/// The most segments of a controller.
-pub const SEGMENT_LIMIT: usize = 32;
 
 /// How many segments there are in all, those that are whole, the networks of the next one that are
 /// whole, the cells and shorts of the network that is being read, the coils that all cells drive,
@@ -47,7 +41,7 @@ pub struct Program {
 
 impl Model for Program {
     ghost use Rattle.plant_loader.specs.Program.{ReadProgram};
-    ghost use Rattle.plant_loader.specs.Kept.{IsKept};
+    ghost use Rattle.plant_loader.specs.Kept.{KeepsProgram};
 
     ghost Value = { ReadProgram };
 
@@ -59,7 +53,7 @@ impl Model for Program {
       shorts = p.shorts;
     } };
 
-    ghost invariant = { λ p. IsKept p.driven.keys p.messages
+    ghost invariant = { λ p. KeepsProgram p.driven.keys p.messages
         (record {
           count = p.count;
           segments = p.segments;

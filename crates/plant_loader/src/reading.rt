@@ -6,40 +6,20 @@ ghost use Rattle.plant_types.specs.Plans.{IsPlant};
 ghost use Rattle.cell_text.specs.Steps.{or_fault};
 ghost use Rattle.plant_loader.specs.Given.{tables_in};
 ghost use Rattle.plant_loader.specs.Refusals.{Gives, bad_toml, plant_place};
-ghost use Rattle.plant_loader.specs.Keys.{keys_pass};
-ghost use Rattle.plant_loader.specs.Plant.{controller_tables, document_of, plant_keys, version_of};
-ghost use Rattle.plant_loader.specs.Plant.{plant_at, plant_in, plant_of};
+ghost use Rattle.plant_loader.specs.Plant.{controller_tables, document_of, version_of, plant_at};
+ghost use Rattle.plant_loader.specs.Plant.{plant_in, plant_of};
 ghost use Rattle.plant_loader.specs.Accepted.{IsSolvable, PassesDropTests};
 
 use crate::hosts::{HOST_LIMIT, hosts_of};
-use crate::keys::{Keys, keys_pass, number_at_or, table_at, tables_at, value_at};
+use crate::keys::{number_at_or, table_at, tables_at, value_at};
 use crate::net::{plant_from, rules_of};
-use crate::refusal::{LoadEnd, Refusal, bad_toml};
+use crate::refusal::{LoadEnd, Refusal, bad_toml, net_place};
 use crate::stations::{CONTROLLER_LIMIT, controllers_of};
+use crate::tables::{TableKind, Version, table_passes};
 use plant_types::{Place, Plant, PlantFault};
 use std::alloc::Global;
 use std::str;
 use toml::Table;
-
-/// The versions of plant files.
-#[derive(Clone, Copy, Debug, PartialEq, Eq)]
-pub enum Version {
-    /// One network.
-    One,
-}
-
-/// The keys of a plant of version 1.
-const PLANT_KEYS: [&str; 6] = [
-    "version",
-    "scan_time",
-    "watchdog",
-    "net",
-    "controller",
-    "host",
-];
-
-/// Those that it must have.
-const PLANT_REQUIRED: [&str; 2] = ["version", "controller"];
 
 fn document(alloc: Global, bytes: &[u8]) -> Result<Table, LoadEnd>
     ensures { Gives table_view result (or_fault bad_toml (document_of bytes.now)) }
@@ -74,19 +54,6 @@ fn version_of(top: &Table) -> Result<Version, Refusal>
     }
 }
 
-/// The keys of a plant are those of its version.
-fn plant_keys_pass(version: Version, top: &Table) -> Result<(), Refusal>
-    ensures { result ≡ keys_pass plant_place (plant_keys version) (table_view top.now) }
-{
-    let keys = match version {
-        Version::One => Keys {
-            known: &PLANT_KEYS,
-            required: &PLANT_REQUIRED,
-        },
-    };
-    keys_pass(Place::PLANT, &keys, top)
-}
-
 /// The tables of the array at `controller`, which must have one at least.
 fn controller_tables(alloc: Global, top: &Table) -> Result<Vec<&Table>, LoadEnd>
     ensures read { Gives (λ tables. tables_in tables.items) result
@@ -105,13 +72,13 @@ fn controller_tables(alloc: Global, top: &Table) -> Result<Vec<&Table>, LoadEnd>
 fn plant_in(alloc: Global, version: Version, top: &Table) -> Result<Plant, LoadEnd>
     ensures { Gives (λ plant. plant) result (plant_in version (table_view top.now)) }
 {
-    plant_keys_pass(version, top)?;
+    table_passes(Place::PLANT, TableKind::Plant(version), top)?;
     let scan_time = number_at_or(Place::PLANT, "scan_time", 10, 1, 1000, top)?;
     let watchdog = number_at_or(Place::PLANT, "watchdog", 500, 1, 10_000, top)?;
     let net = table_at(Place::PLANT, "net", top)?;
     let controllers = controller_tables(alloc, top)?;
     let hosts = tables_at(alloc, Place::PLANT, HOST_LIMIT, "host", top)?;
-    let rules = rules_of(alloc, net)?;
+    let rules = rules_of(alloc, net_place(), net)?;
     let controllers = controllers_of(alloc, controllers.as_slice())?;
     let hosts = hosts_of(alloc, controllers.as_slice(), hosts.as_slice())?;
     plant_from(alloc, scan_time, watchdog, rules, controllers, hosts)

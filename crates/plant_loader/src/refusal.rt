@@ -1,7 +1,7 @@
 //! How loading ends without a plant.
 ghost use Rattle.std.specs.Prelude.{◌≡◌};
 ghost use Rattle.plant_loader.specs.declared.refusal.LoadEnd.TheVariants.{Refused, NoMemory};
-ghost use Rattle.plant_loader.specs.Refusals.{Refusal, plant_place, net_place, host_place};
+ghost use Rattle.plant_loader.specs.Refusals.{Refusal, plant_place, net_place, host_table_place};
 ghost use Rattle.plant_loader.specs.Refusals.{request_place};
 
 use plant_types::{Part, Place, PlantFault};
@@ -53,8 +53,8 @@ pub fn net_place() -> Place
 }
 
 /// A host's table.
-pub fn host_place(host: u32) -> Place
-    ensures { result ≡ host_place host }
+pub fn host_table_place(host: u32) -> Place
+    ensures { result ≡ host_table_place host }
 {
     Place {
         part: Part::Host,

@@ -7,17 +7,14 @@ ghost use Rattle.plant_loader.specs.Given.{texts_in};
 ghost use Rattle.plant_loader.specs.Hex.{is_hex_digit, hex_pairs};
 ghost use Rattle.plant_loader.specs.Refusals.{Gives, Makes};
 ghost use Rattle.plant_loader.specs.Requests.{request_in, request_words, pdu_in, target_in};
-ghost use Rattle.plant_loader.specs.Requests.{request_of, requests_of};
+ghost use Rattle.plant_loader.specs.Requests.{host_request, requests_of};
 
 use crate::hex::{are_hex_digits, hex_digit};
 use crate::numerals::{is_numeral, numeral_within};
 use crate::refusal::{LoadEnd, request_place};
 use cell_text::next_word;
-use plant_types::{HostAsk, List, Pdu, Place, PlantFault};
+use plant_types::{HostAsk, List, NODE_LIMIT, Pdu, Place, PlantFault, REQUEST_LIMIT};
 use std::alloc::Global;
-
-/// The most requests of a host.
-pub const REQUEST_LIMIT: usize = 1000;
 
 /// The three words of a request.
 #[derive(Clone, Copy)]
@@ -74,7 +71,7 @@ fn pdu_in(alloc: Global, place: Place, word: &[u8]) -> Result<Pdu, LoadEnd>
 fn target_in(node: u8, word: &[u8]) -> Option<u8>
     ensures { result ≡ target_in node word.now }
 {
-    let to = numeral_within(1, 64, word)?;
+    let to = numeral_within(1, u32::from(NODE_LIMIT), word)?;
     if to == u32::from(node) {
         None
     } else {
@@ -82,9 +79,9 @@ fn target_in(node: u8, word: &[u8]) -> Option<u8>
     }
 }
 
-#[tactic(auto, unfolding(crate::specs::Requests::request_of))]
-fn request_of(alloc: Global, node: u8, place: Place, text: &str) -> Result<HostAsk, LoadEnd>
-    ensures { Gives (λ ask. ask) result (request_of node place text.now) }
+#[tactic(auto, unfolding(crate::specs::Requests::host_request))]
+fn host_request(alloc: Global, node: u8, place: Place, text: &str) -> Result<HostAsk, LoadEnd>
+    ensures { Gives (λ ask. ask) result (host_request node place text.now) }
 {
     let bad_value = LoadEnd::Refused(PlantFault::BadValue, place);
     let Some(words) = request_words(text.as_bytes()) else {
@@ -117,7 +114,7 @@ pub fn requests_of(
     let mut number = 0;
     for text in texts {
         number += 1;
-        let ask = request_of(alloc, node, request_place(host, number), text)?;
+        let ask = host_request(alloc, node, request_place(host, number), text)?;
         asks.push(ask)?;
     }
     Ok(asks)

@@ -6,20 +6,18 @@ ghost use Rattle.traffic_cop.specs.Exchange.{input_total};
 ghost use Rattle.plant_loader.specs.Given.{texts_in};
 ghost use Rattle.plant_loader.specs.InOrder.{each_of};
 ghost use Rattle.plant_loader.specs.Refusals.{Gives, Makes};
-ghost use Rattle.plant_loader.specs.Drops.{word_spelled, row_spelled, script_row, rows_of, or_zeros};
+ghost use Rattle.plant_loader.specs.Drops.{word_spelled, row_spelled, script_row, rows_of};
+ghost use Rattle.plant_loader.specs.Drops.{or_zeros};
 
 use crate::hex::{are_hex_digits, hex_digit};
 use crate::refusal::{LoadEnd, Refusal};
 use cell_text::{has_words, next_word};
-use plant_types::{List, Module, Place, PlantFault, ScriptRow, Words};
+use plant_types::{List, Module, Place, PlantFault, SCRIPT_LIMIT, ScriptRow, Words};
 use std::alloc::Global;
 use traffic_cop::{fits_row, input_total, script_place};
 
 /// The most input words of a drop.
 const WORD_LIMIT: usize = 64;
-
-/// The most script rows of a drop.
-pub const SCRIPT_LIMIT: usize = 10_000;
 
 fn word_spelled(place: Place, word: &[u8]) -> Result<u16, Refusal>
     ensures { result ≡ word_spelled place word.now }
@@ -35,7 +33,8 @@ fn word_spelled(place: Place, word: &[u8]) -> Result<u16, Refusal>
 }
 
 fn hex_words(alloc: Global, place: Place, text: &[u8]) -> Result<Vec<u16>, LoadEnd>
-    ensures { Gives (λ words. words.items) result (each_of (word_spelled place) (text_words text.now)) }
+    ensures { Gives (λ words. words.items) result
+        (each_of (word_spelled place) (text_words text.now)) }
 {
     let mut words = Vec::new(alloc);
     let mut rest = text;

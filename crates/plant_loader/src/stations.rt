@@ -4,36 +4,25 @@ ghost use Rattle.std.specs.List.{list_any};
 ghost use Rattle.toml.specs.View.{table_view};
 ghost use Rattle.plant_loader.specs.Given.{tables_in};
 ghost use Rattle.plant_loader.specs.Refusals.{Gives};
-ghost use Rattle.plant_loader.specs.Stations.{read_arrays, AreFew, arrays_at, parts_of};
+ghost use Rattle.plant_loader.specs.Stations.{read_arrays, HasFewItems, arrays_at, parts_of};
 ghost use Rattle.plant_loader.specs.Stations.{has_controller, controller_behind, controllers_of};
 
-use crate::controller::{PANEL_LIMIT, owner_at, panel_of};
-use crate::drops::{DROP_LIMIT, drops_of};
-use crate::keys::{Keys, NODE_REQUIRED, keys_pass, tables_at, texts_at};
-use crate::orders::{ORDER_LIMIT, orders_of};
+use crate::controller::{owner_at, panel_of};
+use crate::drops::drops_of;
+use crate::keys::{tables_at, texts_at};
+use crate::orders::orders_of;
 use crate::owner::Owner;
 use crate::pieces::segments_of;
-use crate::program::SEGMENT_LIMIT;
 use crate::refusal::LoadEnd;
-use plant_types::{ControllerPlan, Place, PlantFault};
+use crate::tables::{TableKind, table_passes};
+use plant_types::{
+    ControllerPlan, DROP_LIMIT, ORDER_LIMIT, PANEL_LIMIT, Place, PlantFault, SEGMENT_LIMIT,
+};
 use std::alloc::Global;
 use toml::Table;
 
 /// The most controllers of a plant.
 pub const CONTROLLER_LIMIT: usize = 16;
-
-/// The keys of a controller.
-const CONTROLLER_KEYS: [&str; 9] = [
-    "node",
-    "coils",
-    "inputs",
-    "input_registers",
-    "registers",
-    "panel",
-    "drop",
-    "segment",
-    "orders",
-];
 
 /// The arrays of a controller's table: the texts of its panel and of its orders, and the tables of
 /// its drops and of its segments.
@@ -48,7 +37,7 @@ struct Arrays<'a> {
 #[tactic(auto, unfolding(crate::specs::Stations::arrays_at))]
 fn arrays_at<'a>(alloc: Global, place: Place, table: &'a Table) -> Result<Arrays<'a>, LoadEnd>
     ensures read { Gives read_arrays result (arrays_at place (table_view table.now)) }
-    ensures few { IfOk result (λ arrays. AreFew arrays) }
+    ensures few { IfOk result (λ arrays. HasFewItems arrays) }
 {
     let panel = texts_at(alloc, place, PANEL_LIMIT, "panel", table)?;
     let drops = tables_at(alloc, place, DROP_LIMIT, "drop", table)?;
@@ -64,7 +53,7 @@ fn arrays_at<'a>(alloc: Global, place: Place, table: &'a Table) -> Result<Arrays
 
 #[tactic(auto, unfolding(crate::specs::Stations::parts_of))]
 fn parts_of(alloc: Global, owner: Owner, arrays: &Arrays) -> Result<ControllerPlan, LoadEnd>
-    requires { AreFew arrays.now }
+    requires { HasFewItems arrays.now }
     ensures { Gives (λ plan. plan) result (parts_of owner (read_arrays arrays.now)) }
 {
     let drops = drops_of(alloc, owner, arrays.drops.as_slice())?;
@@ -108,11 +97,7 @@ fn controller_behind(
         (controller_behind earlier.now (position, table_view table.now)) }
 {
     let place = Place::controller(position);
-    let keys = Keys {
-        known: &CONTROLLER_KEYS,
-        required: &NODE_REQUIRED,
-    };
-    keys_pass(place, &keys, table)?;
+    table_passes(place, TableKind::Controller, table)?;
     let owner = owner_at(position, table)?;
     let arrays = arrays_at(alloc, place, table)?;
     if has_controller(earlier, owner.node) {

@@ -5,15 +5,12 @@ ghost use Rattle.plant_loader.specs.Given.{texts_in};
 ghost use Rattle.plant_loader.specs.Refusals.{Gives};
 ghost use Rattle.plant_loader.specs.Texts.{network_texts};
 
-use crate::keys::{Keys, keys_pass, texts_at};
-use crate::program::NETWORK_LIMIT;
+use crate::keys::texts_at;
 use crate::refusal::LoadEnd;
-use plant_types::Place;
+use crate::tables::{TableKind, table_passes};
+use plant_types::{NETWORK_LIMIT, Place};
 use std::alloc::Global;
 use toml::Table;
-
-/// The one key of a segment.
-const SEGMENT_KEYS: [&str; 1] = ["networks"];
 
 /// The texts of the networks of the segment of a number, at most 1000.
 #[tactic(auto, unfolding(crate::specs::Texts::network_texts))]
@@ -28,10 +25,6 @@ pub fn network_texts<'a>(
     ensures few { IfOk result (λ texts. length texts.items ≤ NETWORK_LIMIT) }
 {
     let place = Place::segment(controller, number);
-    let keys = Keys {
-        known: &SEGMENT_KEYS,
-        required: &SEGMENT_KEYS,
-    };
-    keys_pass(place, &keys, table)?;
+    table_passes(place, TableKind::Segment, table)?;
     texts_at(alloc, place, NETWORK_LIMIT, "networks", table)
 }

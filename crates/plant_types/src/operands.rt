@@ -84,7 +84,7 @@ impl Element {
             | Element::Fall(at)
             | Element::Coil(at)
             | Element::Latch(at) => Operands::of(&[Operand::At(at)]),
-            Element::Wire => Operands::new(),
+            Element::Wire | Element::Return => Operands::new(),
             Element::Timer { preset, acc, .. } | Element::Counter { preset, acc, .. } => {
                 Operands::of(&[preset, Operand::At(acc)])
             }
@@ -103,7 +103,6 @@ impl Element {
             } => Operands::of(&[top, Operand::At(mid), Operand::Const(length)]),
             Element::Skip(number) | Element::Call(number) => Operands::of(&[number]),
             Element::Label(number) => Operands::of(&[Operand::Const(number)]),
-            Element::Return => Operands::new(),
             Element::Mstr {
                 control,
                 area,

@@ -19,6 +19,7 @@ struct Station {
     left: bool,
 }
 
+/// A net of hosts 1 and 2.
 fn net_of(alloc: Global, fates: &[Fate]) -> Result<NetPlan, AllocError>
     ensures { IfOk result (λ net. net.members ≡ 1 ∷ 2 ∷ []) }
 {
@@ -32,6 +33,7 @@ fn net_of(alloc: Global, fates: &[Fate]) -> Result<NetPlan, AllocError>
     })
 }
 
+/// The ring of a net, on which nothing has happened.
 fn ring_of(rt: &impl Abort, alloc: Global, net: &NetPlan) -> Result<Ring, AllocError>
     ensures net { IfOk result (λ ring. ring.net ≡ net.now) }
     ensures empty { IfOk result (λ ring. ring.history ≡ []) }
@@ -41,24 +43,32 @@ fn ring_of(rt: &impl Abort, alloc: Global, net: &NetPlan) -> Result<Ring, AllocE
     Ring::new(alloc, net)
 }
 
+/// From which hold on a request for one register goes to which node.
+fn request_of(alloc: Global, hold: u32, to: u8) -> Result<HostAsk, AllocError> {
+    match Pdu::of(alloc, &[3, 0, 0, 0, 1])? {
+        Some(pdu) => Ok(HostAsk { hold, to, pdu }),
+        None => Err(AllocError),
+    }
+}
+
+/// These requests.
+fn requests_of(alloc: Global, asks: &[(u32, u8)]) -> Result<List<HostAsk>, AllocError> {
+    let mut requests = List::new(alloc);
+    for (hold, to) in asks {
+        requests.push(request_of(alloc, *hold, *to)?)?;
+    }
+    Ok(requests)
+}
+
 /// From which hold on a node asks which other for one register.
 fn plan_of(alloc: Global, node: u8, asks: &[(u32, u8)]) -> Result<HostPlan, AllocError>
     ensures { IfOk result (λ plan. plan.node ≡ node) }
 {
-    let mut requests = List::new(alloc);
-    for (hold, to) in asks {
-        let Some(pdu) = Pdu::of(alloc, &[3, 0, 0, 0, 1])? else {
-            return Err(AllocError);
-        };
-        requests.push(HostAsk {
-            hold: *hold,
-            to: *to,
-            pdu,
-        })?;
-    }
+    let requests = requests_of(alloc, asks)?;
     Ok(HostPlan { node, requests })
 }
 
+/// The host of a plan, which has asked nothing.
 fn host_of(
     rt: &impl Abort,
     alloc: Global,
@@ -72,6 +82,7 @@ fn host_of(
     Host::new(alloc, plan, net)
 }
 
+/// The station of a node that asks this.
 fn station_of(
     rt: &impl Abort,
     alloc: Global,
@@ -85,9 +96,9 @@ fn station_of(
         (λ station. station.worker ≡ record { node = node; budget = true; passes = 0 }) }
     ensures left { IfOk result (λ station. station.left ≡ false) }
 {
+    let worker = HostWorker::new(alloc, node, net, true)?;
     let plan = plan_of(alloc, node, asks)?;
     let host = host_of(rt, alloc, &plan, net)?;
-    let worker = HostWorker::new(alloc, node, net, true)?;
     Ok(Station {
         host,
         worker,
@@ -139,6 +150,7 @@ fn hold_next(one: &mut Station, two: &mut Station, ring: &mut Ring) -> Result<()
     Ok(())
 }
 
+/// So many holds, each of whoever has the token then.
 fn hold_all(
     one: &mut Station,
     two: &mut Station,
@@ -193,24 +205,65 @@ fn last_end(entries: &[HostEntry]) -> u16 {
     last
 }
 
-/// What goes over a ring of hosts 1 and 2 that ask this, and what the last call of 1 ended with.
+/// The letters of a ring's entries.
+fn letters_of(alloc: Global, entries: &[RingEntry]) -> Result<Vec<u8>, AllocError> {
+    let mut text = Vec::new(alloc);
+    for entry in entries {
+        text.push(letter(entry))?;
+    }
+    Ok(text)
+}
+
+/// Forty holds of two stations, and then the letters of the ring's entries.
+fn held_text(
+    alloc: Global,
+    one: &mut Station,
+    two: &mut Station,
+    ring: &mut Ring,
+) -> Result<Vec<u8>, AllocError>
+    requires one { HostIsReady 1 one.old.host one.old.worker one.old.left ring.old.net
+        ring.old.history }
+    requires two { HostIsReady 2 two.old.host two.old.worker two.old.left ring.old.net
+        ring.old.history }
+{
+    hold_all(one, two, ring, 40)?;
+    letters_of(alloc, ring.history())
+}
+
+/// A text, if there is one, with the word that ended a call.
+fn with_end(text: Result<Vec<u8>, AllocError>, end: u16) -> Result<(Vec<u8>, u16), AllocError> {
+    Ok((text?, end))
+}
+
+/// What goes over the ring of a net whose hosts 1 and 2 ask this, and what the last call of 1 ended
+/// with.
 fn ring_text(
     rt: &impl Abort,
     alloc: Global,
-    fates: &[Fate],
+    net: &NetPlan,
     asks: &[(u32, u8)],
     other_asks: &[(u32, u8)],
-) -> Result<(Vec<u8>, u16), AllocError> {
+) -> Result<(Vec<u8>, u16), AllocError>
+    requires { net.now.members ≡ 1 ∷ 2 ∷ [] }
+{
+    let mut one = station_of(rt, alloc, 1, asks, net)?;
+    let mut two = station_of(rt, alloc, 2, other_asks, net)?;
+    let mut ring = ring_of(rt, alloc, net)?;
+    let text = held_text(alloc, &mut one, &mut two, &mut ring);
+    with_end(text, last_end(one.host.history()))
+}
+
+/// Whether this goes over the ring of hosts 1 and 2 that ask this, and the last call of 1 ends so.
+fn ring_tells(
+    rt: &impl Abort,
+    alloc: Global,
+    fates: &[Fate],
+    asks: (&[(u32, u8)], &[(u32, u8)]),
+    told: (&[u8], u16),
+) -> Result<bool, AllocError> {
     let net = net_of(alloc, fates)?;
-    let mut one = station_of(rt, alloc, 1, asks, &net)?;
-    let mut two = station_of(rt, alloc, 2, other_asks, &net)?;
-    let mut ring = ring_of(rt, alloc, &net)?;
-    hold_all(&mut one, &mut two, &mut ring, 40)?;
-    let mut text = Vec::new(alloc);
-    for entry in ring.history() {
-        text.push(letter(entry))?;
-    }
-    Ok((text, last_end(one.host.history())))
+    let (text, end) = ring_text(rt, alloc, &net, asks.0, asks.1)?;
+    Ok(text.as_slice() == told.0 && end == told.1)
 }
 
 #[test]
@@ -242,8 +295,7 @@ fn hosts_ask_in_their_holds(rt: HostRuntime) -> Result<(), Fail> {
         ),
     ];
     for (fates, asks, other_asks, text, end) in rows {
-        let (went, ended) = ring_text(&rt, alloc, fates, asks, other_asks)?;
-        assert!(rt; went.as_slice() == text && ended == end);
+        assert!(rt; ring_tells(&rt, alloc, fates, (asks, other_asks), (text, end))?);
     }
     Ok(())
 }

@@ -6,6 +6,7 @@ use std::alloc::{AllocError, Global};
 use std::process::Abort;
 use std::test::Fail;
 
+/// The PDU of these bytes.
 fn pdu_of(alloc: Global, bytes: &[u8]) -> Result<Pdu, AllocError> {
     match Pdu::of(alloc, bytes)? {
         Some(pdu) => Ok(pdu),
@@ -13,8 +14,8 @@ fn pdu_of(alloc: Global, bytes: &[u8]) -> Result<Pdu, AllocError> {
     }
 }
 
-/// The plan of host 1: from which hold on it asks which node for its device.
-fn plan_of(alloc: Global, asks: &[(u32, u8)]) -> Result<HostPlan, AllocError> {
+/// Asks each node for its device, from these holds on.
+fn asks_of(alloc: Global, asks: &[(u32, u8)]) -> Result<List<HostAsk>, AllocError> {
     let mut requests = List::new(alloc);
     for (hold, to) in asks {
         let pdu = pdu_of(alloc, &[17])?;
@@ -24,9 +25,16 @@ fn plan_of(alloc: Global, asks: &[(u32, u8)]) -> Result<HostPlan, AllocError> {
             pdu,
         })?;
     }
+    Ok(requests)
+}
+
+/// The plan of host 1: from which hold on it asks which node for its device.
+fn plan_of(alloc: Global, asks: &[(u32, u8)]) -> Result<HostPlan, AllocError> {
+    let requests = asks_of(alloc, asks)?;
     Ok(HostPlan { node: 1, requests })
 }
 
+/// A net that no host looks at.
 fn net_of(alloc: Global) -> NetPlan {
     NetPlan {
         members: List::new(alloc),
@@ -38,6 +46,7 @@ fn net_of(alloc: Global) -> NetPlan {
     }
 }
 
+/// Host 1, which has asked nothing.
 fn host_of(rt: &impl Abort, alloc: Global, asks: &[(u32, u8)]) -> Result<Host, AllocError> {
     let plan = plan_of(alloc, asks)?;
     let can = is_host_plan(&plan);
@@ -45,6 +54,7 @@ fn host_of(rt: &impl Abort, alloc: Global, asks: &[(u32, u8)]) -> Result<Host, A
     Host::new(alloc, &plan, &net_of(alloc))
 }
 
+/// The name of a call of host 1.
 const fn call(path: u8, seq: u32) -> CallId {
     CallId { node: 1, path, seq }
 }
@@ -55,6 +65,17 @@ fn asked(host: &mut Host, hold: u32) -> Result<Option<(u8, u8, u32)>, AllocError
     Ok(request.map(|frame| (frame.to, frame.id.path, frame.id.seq)))
 }
 
+/// Whether it asks this at these holds, one after another.
+fn asks(host: &mut Host, rows: &[(u32, Option<(u8, u8, u32)>)]) -> Result<bool, AllocError> {
+    for (hold, due) in rows {
+        if asked(host, *hold)? != *due {
+            return Ok(false);
+        }
+    }
+    Ok(true)
+}
+
+/// Ends a call that is out.
 fn answer(rt: &impl Abort, host: &mut Host, id: CallId) -> Result<(), AllocError> {
     let out = host.is_out(id);
     assert!(rt; out);
@@ -73,53 +94,89 @@ fn asks_come_in_order_when_their_hold_has_come(rt: HostRuntime) -> Result<(), Fa
         (9, Some((7, 4, 1))),
         (9, None),
     ];
-    for (hold, due) in rows {
-        assert!(rt; asked(&mut host, hold)? == due);
-    }
+    assert!(rt; asks(&mut host, &rows)?);
     Ok(())
+}
+
+/// Whether a host waits for an answer before its fifth ask, and then takes the path that is free.
+fn waits_with_the_fifth(rt: &impl Abort, host: &mut Host) -> Result<bool, AllocError> {
+    let four = [
+        (1, Some((5, 1, 1))),
+        (1, Some((5, 2, 1))),
+        (1, Some((5, 3, 1))),
+        (1, Some((5, 4, 1))),
+        (1, None),
+    ];
+    let in_four = asks(host, &four)?;
+    answer(rt, host, call(2, 1))?;
+    let one_ended = !host.is_out(call(2, 1)) && host.is_out(call(3, 1));
+    let fifth = asks(host, &[(1, Some((5, 2, 2)))])?;
+    let out = host.is_out(call(2, 2)) && !host.is_out(call(2, 1));
+    Ok(in_four && one_ended && fifth && out)
 }
 
 #[test]
 fn the_fifth_ask_waits_for_an_answer(rt: HostRuntime) -> Result<(), Fail> {
     let mut host = host_of(&rt, rt.alloc(), &[(1, 5), (1, 5), (1, 5), (1, 5), (1, 5)])?;
-    for path in [1, 2, 3, 4] {
-        assert!(rt; asked(&mut host, 1)? == Some((5, path, 1)));
-    }
-    assert!(rt; asked(&mut host, 1)? == None);
-    answer(&rt, &mut host, call(2, 1))?;
-    assert!(rt; !host.is_out(call(2, 1)) && host.is_out(call(3, 1)));
-    assert!(rt; asked(&mut host, 1)? == Some((5, 2, 2)));
-    assert!(rt; host.is_out(call(2, 2)) && !host.is_out(call(2, 1)));
+    assert!(rt; waits_with_the_fifth(&rt, &mut host)?);
     Ok(())
+}
+
+/// Whether a host with one ask is done just behind its answer.
+fn is_done_behind_the_answer(rt: &impl Abort, host: &mut Host) -> Result<bool, AllocError> {
+    let before = host.is_done();
+    let asked = asked(host, 1)?.is_some();
+    let out = host.is_done();
+    answer(rt, host, call(1, 1))?;
+    Ok(!before && asked && !out && host.is_done() && host.history().len() == 2)
 }
 
 #[test]
 fn a_host_is_done_when_each_ask_has_its_answer(rt: HostRuntime) -> Result<(), Fail> {
     let mut host = host_of(&rt, rt.alloc(), &[(1, 5)])?;
-    assert!(rt; !host.is_done());
-    assert!(rt; asked(&mut host, 1)?.is_some() && !host.is_done());
-    answer(&rt, &mut host, call(1, 1))?;
-    assert!(rt; host.is_done() && host.history().len() == 2);
+    assert!(rt; is_done_behind_the_answer(&rt, &mut host)?);
+    Ok(())
+}
+
+#[test]
+fn a_host_without_an_ask_is_done(rt: HostRuntime) -> Result<(), Fail> {
     let idle = host_of(&rt, rt.alloc(), &[])?;
     assert!(rt; idle.is_done());
     Ok(())
 }
 
-#[test]
-fn whatever_a_host_is_asked_is_refused(rt: HostRuntime) -> Result<(), Fail> {
-    let alloc = rt.alloc();
-    let mut host = host_of(&rt, alloc, &[])?;
+/// Whether a host answers a request with these bytes.
+fn serves(
+    alloc: Global,
+    host: &mut Host,
+    request: &[u8],
+    due: [u8; 2],
+) -> Result<bool, AllocError> {
+    let request = pdu_of(alloc, request)?;
+    let reply = host.serve(call(1, 1), &request)?;
+    Ok(reply.bytes() == due.as_slice())
+}
+
+/// Whether a host refuses each of three requests, and notes them.
+fn refuses_all(alloc: Global, host: &mut Host) -> Result<bool, AllocError> {
     let rows = [
         (&[3, 0, 0, 0, 1][..], [0x83, 1]),
         (&[0x90][..], [0x90, 1]),
         (&[0][..], [0x80, 1]),
     ];
     for (request, due) in rows {
-        let request = pdu_of(alloc, request)?;
-        let reply = host.serve(call(1, 1), &request)?;
-        assert!(rt; reply.bytes() == due.as_slice());
+        if !serves(alloc, host, request, due)? {
+            return Ok(false);
+        }
     }
-    assert!(rt; host.into_history().as_slice().len() == 3);
+    Ok(host.history().len() == 3)
+}
+
+#[test]
+fn whatever_a_host_is_asked_is_refused(rt: HostRuntime) -> Result<(), Fail> {
+    let alloc = rt.alloc();
+    let mut host = host_of(&rt, alloc, &[])?;
+    assert!(rt; refuses_all(alloc, &mut host)?);
     Ok(())
 }
 
@@ -129,11 +186,36 @@ fn ask_as(alloc: Global, id: CallId) -> Result<HostEntry, AllocError> {
     Ok(HostEntry::Ask { id, to: 5, pdu })
 }
 
-fn answer_to(id: CallId) -> HostEntry {
+/// The answer to a call, with an error word.
+const fn answer_to(id: CallId) -> HostEntry {
     HostEntry::Answer {
         id,
         result: HostResult::Bad(0x6103),
     }
+}
+
+/// The Ask (`Q`) or else the answer under a name.
+fn entry_of(alloc: Global, sort: u8, id: CallId) -> Result<HostEntry, AllocError> {
+    if sort == b'Q' {
+        ask_as(alloc, id)
+    } else {
+        Ok(answer_to(id))
+    }
+}
+
+/// Whether a host follows just those of these entries that are told to be legal.
+fn follows(
+    alloc: Global,
+    host: &mut Host,
+    rows: &[(u8, CallId, bool)],
+) -> Result<bool, AllocError> {
+    for (sort, id, may) in rows {
+        let entry = entry_of(alloc, *sort, *id)?;
+        if host.follow(&entry)? != *may {
+            return Ok(false);
+        }
+    }
+    Ok(true)
 }
 
 #[test]
@@ -141,18 +223,16 @@ fn only_legal_entries_are_followed(rt: HostRuntime) -> Result<(), Fail> {
     let alloc = rt.alloc();
     let mut host = host_of(&rt, alloc, &[(7, 5), (7, 5)])?;
     let rows = [
-        (ask_as(alloc, call(2, 1))?, false),
-        (ask_as(alloc, call(1, 1))?, true),
-        (answer_to(call(2, 1)), false),
-        (answer_to(call(1, 1)), true),
-        (answer_to(call(1, 1)), false),
-        (ask_as(alloc, call(1, 1))?, false),
-        (ask_as(alloc, call(1, 2))?, true),
-        (ask_as(alloc, call(2, 1))?, false),
+        (b'Q', call(2, 1), false),
+        (b'Q', call(1, 1), true),
+        (b'A', call(2, 1), false),
+        (b'A', call(1, 1), true),
+        (b'A', call(1, 1), false),
+        (b'Q', call(1, 1), false),
+        (b'Q', call(1, 2), true),
+        (b'Q', call(2, 1), false),
     ];
-    for (entry, may) in &rows {
-        assert!(rt; host.follow(entry)? == *may);
-    }
+    assert!(rt; follows(alloc, &mut host, &rows)?);
     assert!(rt; host.history().len() == 3);
     Ok(())
 }

@@ -24,14 +24,16 @@ const ROW: OrderRow = OrderRow {
     output: None,
 };
 
-fn register(number: u16) -> Ref {
+/// The holding register of this number.
+const fn register(number: u16) -> Ref {
     Ref {
         kind: RefKind::Register,
         number,
     }
 }
 
-fn cell(row: u8, column: u8, element: Element) -> Cell {
+/// An element at a place.
+const fn cell(row: u8, column: u8, element: Element) -> Cell {
     Cell {
         row,
         column,
@@ -40,7 +42,7 @@ fn cell(row: u8, column: u8, element: Element) -> Cell {
 }
 
 /// A number that an ADD in column 1 puts into a register.
-fn put(row: u8, number: u16, low: u16) -> Cell {
+const fn put(row: u8, number: u16, low: u16) -> Cell {
     let element = Element::Math {
         op: MathOp::Add,
         top: Operand::Const(number),
@@ -50,6 +52,7 @@ fn put(row: u8, number: u16, low: u16) -> Cell {
     cell(row, 1, element)
 }
 
+/// A network of these cells, without shorts.
 fn network(alloc: Global, cells: &[Cell]) -> Result<Network, AllocError> {
     Ok(Network {
         cells: List::from_vec(Vec::from_slice(alloc, cells)?),
@@ -65,12 +68,17 @@ fn networks(alloc: Global) -> Result<List<Network>, AllocError> {
         length: 10,
     };
     let mut networks = List::new(alloc);
-    networks.push(network(alloc, &[put(1, 2, 1), put(4, 2, 3)])?)?;
-    networks.push(network(alloc, &[put(1, 1, 4), put(4, 5, 5)])?)?;
-    networks.push(network(alloc, &[cell(1, 1, Element::Wire), cell(1, 2, message)])?)?;
+    for cells in [
+        [put(1, 2, 1), put(4, 2, 3)],
+        [put(1, 1, 4), put(4, 5, 5)],
+        [cell(1, 1, Element::Wire), cell(1, 2, message)],
+    ] {
+        networks.push(network(alloc, &cells)?)?;
+    }
     Ok(networks)
 }
 
+/// The order of solve: the one segment, always.
 fn one_row(alloc: Global) -> Result<List<OrderRow>, AllocError>
     ensures { IfOk result (λ rows. rows ≡ ROW ∷ []) }
 {
@@ -79,6 +87,7 @@ fn one_row(alloc: Global) -> Result<List<OrderRow>, AllocError>
     Ok(rows)
 }
 
+/// The one segment, of these networks.
 fn one_segment(alloc: Global) -> Result<List<Segment>, AllocError>
     ensures { IfOk result (λ segments. length segments ≡ 1) }
 {
@@ -103,10 +112,13 @@ fn checked(plan: ControllerPlan) -> Option<ControllerPlan>
     }
 }
 
+/// The plan of node 2, if it passes its tests.
 fn plan_of(alloc: Global) -> Result<Option<ControllerPlan>, AllocError>
     ensures runs { IfOk result (λ plan. IfSome plan CanRun) }
     ensures node { IfOk result (λ plan. IfSome plan (λ plan. plan.node ≡ 2)) }
 {
+    let orders = one_row(alloc)?;
+    let segments = one_segment(alloc)?;
     Ok(checked(ControllerPlan {
         node: 2,
         coils: 16,
@@ -114,9 +126,9 @@ fn plan_of(alloc: Global) -> Result<Option<ControllerPlan>, AllocError>
         input_registers: 0,
         registers: 20,
         panel: List::new(alloc),
-        orders: one_row(alloc)?,
+        orders,
         drops: List::new(alloc),
-        segments: one_segment(alloc)?,
+        segments,
     }))
 }
 
@@ -162,13 +174,6 @@ fn net_of(alloc: Global, others: &[u8], fates: &[Fate], holds: u32) -> Result<Ne
     })
 }
 
-/// What a controller and the ring noted.
-#[derive(Drop)]
-struct Noted {
-    controller: List<Entry>,
-    ring: List<RingEntry>,
-}
-
 /// One turn of a worker that begins.
 fn turn_on(
     alloc: Global,
@@ -207,21 +212,46 @@ fn turn_at(
     let mut ring = Ring::new(alloc, net)?;
     let holder = ring.holder();
     assert!(rt; holder == 2);
-    turn_on(alloc, net, controller, &mut ring)?;
-    Ok(ring.into_history())
+    let turned = turn_on(alloc, net, controller, &mut ring);
+    let entries = ring.into_history();
+    turned?;
+    Ok(entries)
 }
 
-/// The first turn, after one scan.
+/// What a new ring notes of the first turn, which comes after one scan.
+fn scan_and_turn(
+    rt: &impl Abort,
+    alloc: Global,
+    net: &NetPlan,
+    controller: &mut Controller,
+) -> Result<List<RingEntry>, AllocError>
+    requires node { controller.old.fixed.plan.node ≡ 2 }
+    requires events { filter is_ours controller.old.history ≡ [] }
+    requires first { HasFirst 2 net.now.members }
+    requires answer { net.now.answer ≡ 20 }
+{
+    scan(controller)?;
+    turn_at(rt, alloc, net, controller)
+}
+
+/// What a controller and the ring noted.
+#[derive(Drop)]
+struct Noted {
+    controller: List<Entry>,
+    ring: List<RingEntry>,
+}
+
+/// What the reader and the ring of a net noted in the first turn.
 fn first_turn(rt: &impl Abort, alloc: Global, net: &NetPlan) -> Result<Noted, Fail>
     requires first { HasFirst 2 net.now.members }
     requires answer { net.now.answer ≡ 20 }
 {
     let mut controller = reader(alloc)?;
-    scan(&mut controller)?;
-    let ring = turn_at(rt, alloc, net, &mut controller)?;
+    let turned = scan_and_turn(rt, alloc, net, &mut controller);
+    let controller = controller.into_history();
     Ok(Noted {
-        controller: controller.into_history(),
-        ring,
+        controller,
+        ring: turned?,
     })
 }
 
@@ -244,134 +274,137 @@ fn is_read(calls: &[Call]) -> bool {
     }
 }
 
-/// Whether a controller noted the scan and the read, and nothing more.
-fn is_asked(entries: &[Entry]) -> bool {
-    match entries {
-        [
-            Entry::Begin,
-            Entry::Solve(1),
-            Entry::End,
-            Entry::Collect(calls),
-        ] => { is_read(calls.as_slice()) }
-        _ => false,
+/// A letter for an event of the controller: Begin, Solve of segment 1, End, a Collect of the read
+/// alone, a Finish of it with an error word; `?` for another.
+fn event_letter(entry: &Entry) -> u8 {
+    match entry {
+        Entry::Begin => b'B',
+        Entry::Solve(1) => b'S',
+        Entry::End => b'E',
+        Entry::Collect(calls) => {
+            if is_read(calls.as_slice()) {
+                b'C'
+            } else {
+                b'?'
+            }
+        }
+        Entry::Finish {
+            id: CALL,
+            result: MstrResult::Bad(_),
+        } => b'F',
+        _ => b'?',
     }
 }
 
-/// Whether it noted then that the read ended with this word.
-fn is_refused(entries: &[Entry], word: u16) -> bool {
-    match entries {
-        [
-            Entry::Begin,
-            Entry::Solve(1),
-            Entry::End,
-            Entry::Collect(calls),
-            Entry::Finish {
-                id: CALL,
-                result: MstrResult::Bad(told),
-            },
-        ] => is_read(calls.as_slice()) && *told == word,
-        _ => false,
+/// A letter for an entry of node 2: a Post, a Send that was acknowledged (A) or not (s), a GiveUp
+/// of the read, a Pass that says not done (n), a Leave with its Passes spent; `?` for another.
+fn ring_letter(entry: &RingEntry) -> u8 {
+    match entry {
+        RingEntry::Post { node: 2, .. } => b'P',
+        RingEntry::Send {
+            node: 2,
+            heard: Heard::Acked,
+        } => b'A',
+        RingEntry::Send {
+            node: 2,
+            heard: Heard::Silent,
+        } => b's',
+        RingEntry::GiveUp { id: CALL, .. } => b'G',
+        RingEntry::Pass {
+            node: 2,
+            done: false,
+            ..
+        } => b'n',
+        RingEntry::Leave {
+            node: 2,
+            cause: LeaveCause::Spent,
+        } => b'L',
+        _ => b'?',
     }
 }
 
-#[test]
-fn a_turn_asks_and_passes(rt: HostRuntime) -> Result<(), Fail> {
-    let alloc = rt.alloc();
-    let net = net_of(alloc, &[5], &[Fate::D], 9)?;
-    let noted = first_turn(&rt, alloc, &net)?;
-    assert!(rt; is_asked(noted.controller.as_slice()));
-    assert!(rt;
-        matches!(
-            noted.ring.as_slice(),
-            [
-                RingEntry::Post { node: 2, .. },
-                RingEntry::Send {
-                    node: 2,
-                    heard: Heard::Acked
-                },
-                RingEntry::Pass {
-                    node: 2,
-                    done: false,
-                    ..
-                },
-            ]
-        )
-    );
-    Ok(())
-}
-
-/// Whether the ring noted that the read was sent three times in vain and ended with this word.
-fn is_given_up(entries: &[RingEntry], told: u16) -> bool {
-    match entries {
-        [
-            RingEntry::Post { node: 2, .. },
-            RingEntry::Send {
-                heard: Heard::Silent,
-                ..
-            },
-            RingEntry::Send {
-                heard: Heard::Silent,
-                ..
-            },
-            RingEntry::Send {
-                heard: Heard::Silent,
-                ..
-            },
-            RingEntry::GiveUp { id: CALL, word },
-            RingEntry::Pass { done: false, .. },
-        ] => *word == told,
-        _ => false,
+/// The word with which the read ended at the controller; 0 where it has not.
+fn finished_with(entries: &[Entry]) -> u16 {
+    let mut last = 0;
+    for entry in entries {
+        if let Entry::Finish {
+            result: MstrResult::Bad(word),
+            ..
+        } = entry
+        {
+            last = *word;
+        }
     }
+    last
+}
+
+/// The word with which the ring gave the read up; 0 where it has not.
+fn given_up_with(entries: &[RingEntry]) -> u16 {
+    let mut last = 0;
+    for entry in entries {
+        if let RingEntry::GiveUp { word, .. } = entry {
+            last = *word;
+        }
+    }
+    last
+}
+
+/// Whether the events have these letters.
+fn events_spell(entries: &[Entry], letters: &[u8]) -> bool {
+    entries.len() == letters.len()
+        && entries
+            .iter()
+            .zip(letters)
+            .all(|(entry, letter)| event_letter(entry) == *letter)
+}
+
+/// Whether the entries have these letters.
+fn entries_spell(entries: &[RingEntry], letters: &[u8]) -> bool {
+    entries.len() == letters.len()
+        && entries
+            .iter()
+            .zip(letters)
+            .all(|(entry, letter)| ring_letter(entry) == *letter)
+}
+
+/// Whether both lists have these letters, and the read ended in both with this word.
+fn is_told(noted: &Noted, events: &[u8], entries: &[u8], word: u16) -> bool {
+    let (controller, ring) = (noted.controller.as_slice(), noted.ring.as_slice());
+    events_spell(controller, events)
+        && entries_spell(ring, entries)
+        && finished_with(controller) == word
+        && given_up_with(ring) == word
+}
+
+/// Whether the first turn on a net tells this.
+fn turn_tells(
+    rt: &impl Abort,
+    alloc: Global,
+    others: &[u8],
+    fate: Fate,
+    holds: u32,
+    told: (&[u8], &[u8], u16),
+) -> Result<bool, Fail> {
+    let net = net_of(alloc, others, &[fate], holds)?;
+    let noted = first_turn(rt, alloc, &net)?;
+    Ok(is_told(&noted, told.0, told.1, told.2))
 }
 
 #[test]
-fn a_request_to_nobody_ends_at_once(rt: HostRuntime) -> Result<(), Fail> {
+fn the_first_turn_is_told(rt: HostRuntime) -> Result<(), Fail> {
     let alloc = rt.alloc();
-    let net = net_of(alloc, &[], &[Fate::D], 9)?;
-    let noted = first_turn(&rt, alloc, &net)?;
-    assert!(rt; is_refused(noted.controller.as_slice(), 0x6103));
-    assert!(rt; is_given_up(noted.ring.as_slice(), 0x6103));
-    Ok(())
-}
-
-#[test]
-fn a_request_that_is_never_acknowledged_ends_too(rt: HostRuntime) -> Result<(), Fail> {
-    let alloc = rt.alloc();
-    let net = net_of(alloc, &[5], &[Fate::A], 9)?;
-    let noted = first_turn(&rt, alloc, &net)?;
-    assert!(rt; is_refused(noted.controller.as_slice(), 0x6101));
-    assert!(rt; is_given_up(noted.ring.as_slice(), 0x6101));
-    Ok(())
-}
-
-/// Whether the ring noted that the read was acknowledged, and ended as its node left.
-fn is_left(entries: &[RingEntry]) -> bool {
-    matches!(
-        entries,
-        [
-            RingEntry::Post { node: 2, .. },
-            RingEntry::Send {
-                heard: Heard::Acked,
-                ..
-            },
-            RingEntry::Leave {
-                node: 2,
-                cause: LeaveCause::Spent,
-            },
-            RingEntry::GiveUp {
-                id: CALL,
-                word: 0x6103,
-            },
-        ]
-    )
-}
-
-#[test]
-fn a_node_that_leaves_gives_up_its_calls(rt: HostRuntime) -> Result<(), Fail> {
-    let alloc = rt.alloc();
-    let net = net_of(alloc, &[5], &[Fate::D], 0)?;
-    let noted = first_turn(&rt, alloc, &net)?;
-    assert!(rt; is_refused(noted.controller.as_slice(), 0x6103));
-    assert!(rt; is_left(noted.ring.as_slice()));
+    let rows: [(&[u8], Fate, u32, (&[u8], &[u8], u16)); 4] = [
+        // A turn asks and passes.
+        (&[5], Fate::D, 9, (b"BSEC", b"PAn", 0)),
+        // A request to nobody ends at once.
+        (&[], Fate::D, 9, (b"BSECF", b"PsssGn", 0x6103)),
+        // A request that is never acknowledged ends too.
+        (&[5], Fate::A, 9, (b"BSECF", b"PsssGn", 0x6101)),
+        // A node that leaves gives up its calls.
+        (&[5], Fate::D, 0, (b"BSECF", b"PALG", 0x6103)),
+    ];
+    for (others, fate, holds, told) in rows {
+        assert!(rt; turn_tells(&rt, alloc, others, fate, holds, told)?);
+    }
     Ok(())
 }

@@ -1,140 +1,94 @@
-//! Who leaves, and who holds the token then.
-use crate::script::Call::{Ask, GiveUp, Leave, Pass, Reply, Send, Take};
-use crate::script::Told::{Done, No, Nothing};
-use crate::script::{agrees, early, holder, id, ring_of};
-use plant_types::Fate;
-use ring_core::{LeaveCause, RingNo};
-use std::alloc::AllocError;
+//! How the token goes round, who leaves, and who holds the token then.
+use crate::script::plays;
+use std::test::Fail;
 
-// The greatest leaves to the least, the least to the one above, and the last to nobody.
-#[test]
-fn one_after_another(rt: HostRuntime) -> Result<(), AllocError> {
-    let alloc = rt.alloc();
-    let mut ring = ring_of(&rt, alloc, &[2, 5, 64], &[Fate::D])?;
-    let round = [
-        (Pass(2, true), Done),
-        (Pass(5, true), Done),
-        (Pass(64, true), Done),
-    ];
-    assert!(rt; agrees(&rt, alloc, &mut ring, &round)? == 3);
-    let greatest = [
-        (Pass(2, true), Done),
-        (Pass(5, true), Done),
-        (Leave(64, LeaveCause::Ended), Done),
-    ];
-    assert!(rt; agrees(&rt, alloc, &mut ring, &greatest)? == 3 && ring.holder() == 2);
-    assert!(rt;
-        agrees(
-            &rt,
-            alloc,
-            &mut ring,
-            &[(Leave(2, LeaveCause::Ended), Done)]
-        )? == 1
-    );
-    assert!(rt; ring.holder() == 5 && ring.successor(5) == 5);
-    assert!(rt;
-        agrees(
-            &rt,
-            alloc,
-            &mut ring,
-            &[(Leave(5, LeaveCause::Ended), Done)]
-        )? == 1
-    );
-    assert!(rt; ring.holder() == 0 && ring.successor(2) == 0);
-    Ok(())
-}
+const SCRIPT: &str = "\
+# The token goes round, to the least behind the greatest.
+D 2 5 64
+5 passes = No(NotHolder(2))
+5 ends = No(NotHolder(2))
+2 passes_done = Done
+2 sees = Sees { holder: 5, next: 5 }
+5 ends = No(NotDue { held: 0, needed: 1 })
+5 passes_done = Done
+64 sees = Sees { holder: 64, next: 2 }
+64 passes_done = Done
+2 passes_done = Done
+5 ends = Done
+5 sees = Sees { holder: 64, next: 64 }
+64 passes_done = Done
+2 passes_done = Done
+2 sees = Sees { holder: 64, next: 64 }
+5 passes = No(NotMember)
+# One alone passes the token to itself.
+D 7
+7 passes = Done
+7 sees = Sees { holder: 7, next: 7 }
+# The greatest leaves to the least, the least to the one above, and the last to nobody.
+D 2 5 64
+2 passes_done = Done
+5 passes_done = Done
+64 passes_done = Done
+2 passes_done = Done
+5 passes_done = Done
+64 ends = Done
+2 sees = Sees { holder: 2, next: 5 }
+2 ends = Done
+5 sees = Sees { holder: 5, next: 5 }
+5 ends = Done
+2 sees = Sees { holder: 0, next: 0 }
+# One that is neither leaves to the next above; who has left is never handed the token.
+D 2 5 64
+2 passes_done = Done
+5 passes_done = Done
+64 passes_done = Done
+2 passes_done = Done
+5 ends = Done
+2 passes_done = No(NotHolder(64))
+5 passes_done = No(NotMember)
+64 passes_done = Done
+2 passes_done = Done
+2 sees = Sees { holder: 64, next: 64 }
+# After a Pass that says that there is more to do the count starts again, for all members.
+D 2 5
+2 ends = No(NotDue { held: 0, needed: 1 })
+2 passes_done = Done
+5 ends = No(NotDue { held: 0, needed: 1 })
+5 passes_done = Done
+2 passes = Done
+5 ends = No(NotDue { held: 0, needed: 1 })
+5 passes_done = Done
+2 passes_done = Done
+5 ends = Done
+2 ends = Done
+2 sees = Sees { holder: 0, next: 0 }
+# Three Passes are used up, whatever they said.
+D 7
+7 is_spent = No(NotDue { held: 0, needed: 3 })
+7 passes = Done
+7 passes_done = Done
+7 is_spent = No(NotDue { held: 2, needed: 3 })
+7 passes = Done
+7 ends = No(NotDue { held: 0, needed: 1 })
+7 is_spent = Done
+7 is_spent = No(NotMember)
+7 sees = Sees { holder: 0, next: 0 }
+# What is let through of a node that has left, and what is not.
+D 2 5
+2 passes_done = Done
+5 passes_done = Done
+2 ends = Done
+2 sends = No(NotMember)
+2 takes = No(NotMember)
+2 is_spent = No(NotMember)
+2 asks 5 1 1 = Done
+2 asks 5 1 2 = No(PathTaken(1))
+2 replies 5 1 1 = Done
+2 gives_up 1 1 = NobodyThere
+5 takes = Nothing
+";
 
-// One that is neither leaves to the next above; the token is never handed to who has left.
 #[test]
-fn in_the_middle(rt: HostRuntime) -> Result<(), AllocError> {
-    let alloc = rt.alloc();
-    let mut ring = ring_of(&rt, alloc, &[2, 5, 64], &[Fate::D])?;
-    let rows = [
-        (Pass(2, true), Done),
-        (Pass(5, true), Done),
-        (Pass(64, true), Done),
-        (Pass(2, true), Done),
-        (Leave(5, LeaveCause::Ended), Done),
-        (Pass(2, true), holder(64)),
-        (Pass(5, true), No(RingNo::NotMember)),
-        (Pass(64, true), Done),
-        (Pass(2, true), Done),
-    ];
-    assert!(rt; agrees(&rt, alloc, &mut ring, &rows)? == rows.len() && ring.holder() == 64);
-    Ok(())
-}
-
-// After a Pass that says that there is more to do the count starts again, for all members.
-#[test]
-fn ended(rt: HostRuntime) -> Result<(), AllocError> {
-    let alloc = rt.alloc();
-    let mut ring = ring_of(&rt, alloc, &[2, 5], &[Fate::D])?;
-    let rows = [
-        (Leave(2, LeaveCause::Ended), early(0, 1)),
-        (Pass(2, true), Done),
-        (Leave(5, LeaveCause::Ended), early(0, 1)),
-        (Pass(5, true), Done),
-        (Pass(2, false), Done),
-        (Leave(5, LeaveCause::Ended), early(0, 1)),
-        (Pass(5, true), Done),
-        (Pass(2, true), Done),
-        (Leave(5, LeaveCause::Ended), Done),
-        (Leave(2, LeaveCause::Ended), Done),
-    ];
-    assert!(rt; agrees(&rt, alloc, &mut ring, &rows)? == rows.len() && ring.holder() == 0);
-    Ok(())
-}
-
-// Three Passes are used up, whatever they said.
-#[test]
-fn spent(rt: HostRuntime) -> Result<(), AllocError> {
-    let alloc = rt.alloc();
-    let mut ring = ring_of(&rt, alloc, &[7], &[Fate::D])?;
-    let rows = [
-        (Leave(7, LeaveCause::Spent), early(0, 3)),
-        (Pass(7, false), Done),
-        (Pass(7, true), Done),
-        (Leave(7, LeaveCause::Spent), early(2, 3)),
-        (Pass(7, false), Done),
-        (Leave(7, LeaveCause::Ended), early(0, 1)),
-        (Leave(7, LeaveCause::Spent), Done),
-        (Leave(7, LeaveCause::Spent), No(RingNo::NotMember)),
-    ];
-    assert!(rt; agrees(&rt, alloc, &mut ring, &rows)? == rows.len() && ring.holder() == 0);
-    Ok(())
-}
-
-// What is let through of a node that has left, and what is not.
-#[test]
-fn after_leaving(rt: HostRuntime) -> Result<(), AllocError> {
-    let alloc = rt.alloc();
-    let mut ring = ring_of(&rt, alloc, &[2, 5], &[Fate::D])?;
-    let call = id(2, 1, 1);
-    let rows = [
-        (Pass(2, true), Done),
-        (Pass(5, true), Done),
-        (Leave(2, LeaveCause::Ended), Done),
-        (Send(2), No(RingNo::NotMember)),
-        (Take(2), No(RingNo::NotMember)),
-        (Leave(2, LeaveCause::Spent), No(RingNo::NotMember)),
-        (Ask { to: 5, id: call }, Done),
-        (
-            Ask {
-                to: 5,
-                id: id(2, 1, 2),
-            },
-            No(RingNo::PathTaken(1)),
-        ),
-        (
-            Reply {
-                by: 2,
-                id: id(5, 1, 1),
-            },
-            Done,
-        ),
-        (GiveUp(call), crate::script::Told::Word(0x6103)),
-        (Take(5), Nothing),
-    ];
-    assert!(rt; agrees(&rt, alloc, &mut ring, &rows)? == rows.len());
-    Ok(())
+fn the_token_and_who_leaves(rt: HostRuntime) -> Result<(), Fail> {
+    plays(&rt, rt.alloc(), SCRIPT)
 }

@@ -1,8 +1,6 @@
-//! Tables of calls on a ring and their answers, worked out by hand.
+//! Scripts of calls on rings with their answers, worked out by hand.
 #![tactic(auto)]
 
-#[cfg(test)]
-mod exchanges;
 #[cfg(test)]
 mod fates;
 #[cfg(test)]

@@ -1,4 +1,22 @@
-//! Rows of calls on a ring, each with its answer.
+//! Scripts of calls on rings, and how they are played.
+//!
+//! A script has scenarios. Each begins with `#` and what it shows; its second line has the letters
+//! of the transmissions and the members of the ring, and each further line a call and its answer.
+//! A call says which node makes it, what it does, and up to three numbers:
+//!
+//! | Call | Means |
+//! |---|---|
+//! | `2 asks 5 1 3` | node 2 posts a Request to node 5 on path 1 with number 3 |
+//! | `5 replies 2 1 3` | node 5 posts the Reply to that call |
+//! | `2 sends`, `5 takes` | a frame is transmitted, or taken out of the inbox |
+//! | `2 gives_up 1 3` | the call of path 1 with number 3 is given up |
+//! | `2 passes`, `2 passes_done` | the token is passed, with more to do or with nothing |
+//! | `2 ends`, `2 is_spent` | the node leaves: all are done, or its Passes are used up |
+//! | `2 puts 7 8` | the node puts two global words |
+//! | `5 hears 2 1` | the answer to a GetGlobal of one word of node 2 |
+//! | `5 counts 2 1 3` | the node's statistics, for the call 2 1 3 |
+//! | `5 clears 2 1 3` | the same call clears them |
+//! | `5 sees` | who holds the token, and the successor of node 5 |
 ghost use Rattle.ring_core.specs.Legal.{HasRoom};
 
 use mstr_block::{CallId, MstrResult};
@@ -8,85 +26,104 @@ use ring_core::{
 };
 use std::alloc::{AllocError, Global};
 use std::process::Abort;
+use std::test::Fail;
 
-// A call on a ring.
-#[derive(Clone, Copy, Debug)]
-pub(crate) enum Call {
-    // The caller, which the id names, posts a Request.
-    Ask { to: u8, id: CallId },
-    // A node posts a Reply to the caller.
-    Reply { by: u8, id: CallId },
-    Send(u8),
-    Take(u8),
-    GiveUp(CallId),
-    // Whether the node has nothing to do.
-    Pass(u8, bool),
-    Leave(u8, LeaveCause),
-    // A node puts global words.
-    Put { node: u8, words: [u16; 2] },
-    // A node clears its statistics, asked for by the id's node.
-    Clear { node: u8, id: CallId },
+#[derive(Clone, Copy)]
+// A call: which node makes it, what it does, and its numbers.
+struct Call<'a> {
+    node: u8,
+    does: &'a str,
+    numbers: [u32; 3],
 }
 
-// What a call answers.
-#[derive(Clone, Copy, Debug, PartialEq, Eq)]
-pub(crate) enum Told {
+// What a call answers, as scripts have it.
+#[derive(Clone, Copy, Debug)]
+enum Told {
     Done,
     Heard(Heard),
-    // The Request of this call was taken.
-    Request(CallId),
-    // The Reply of this call was taken.
-    Reply(CallId),
+    // The Request, or the Reply, of a call: its node, path and number.
+    Request(u8, u8, u32),
+    Reply(u8, u8, u32),
     Nothing,
-    Word(u16),
+    // The word of a call that is given up: 6101, 6103, 6105.
+    NoAnswer,
+    NobodyThere,
+    InboxFull,
+    OtherWord(u16),
+    Sees { holder: u8, next: u8 },
     No(RingNo),
 }
 
-pub(crate) const ACKED: Told = Told::Heard(Heard::Acked);
-
-pub(crate) const SILENT: Told = Told::Heard(Heard::Silent);
-
-pub(crate) const BUSY: Told = Told::Heard(Heard::Busy);
-
-pub(crate) fn id(node: u8, path: u8, seq: u32) -> CallId {
-    CallId { node, path, seq }
+fn number(word: Option<&str>) -> u32 {
+    match word {
+        None => 0,
+        Some(word) => word.parse::<u32>().unwrap_or(0),
+    }
 }
 
-// A node posts its first Request on a path.
-pub(crate) fn asks(node: u8, path: u8, to: u8) -> (Call, Told) {
-    let id = id(node, path, 1);
-    (Call::Ask { to, id }, Told::Done)
+fn byte(number: u32) -> u8 {
+    u8::try_from(number).unwrap_or(0)
 }
 
-pub(crate) fn holder(node: u8) -> Told {
-    Told::No(RingNo::NotHolder(node))
+fn word(number: u32) -> u16 {
+    u16::try_from(number).unwrap_or(0)
 }
 
-pub(crate) fn early(held: u64, needed: u64) -> Told {
-    Told::No(RingNo::NotDue { held, needed })
+fn call_of(text: &str) -> Call<'_> {
+    let mut words = text.split_whitespace();
+    let node = number(words.next());
+    let does = words.next().unwrap_or("");
+    let first = number(words.next());
+    let second = number(words.next());
+    let third = number(words.next());
+    Call {
+        node: byte(node),
+        does,
+        numbers: [first, second, third],
+    }
 }
 
-// A ring on which a call is given up after 2 own Passes, and that is left after 1 round or 3
-// Passes.
-pub(crate) fn ring_of(
-    rt: &impl Abort,
-    alloc: Global,
-    members: &[u8],
-    fates: &[Fate],
-) -> Result<Ring, AllocError> {
-    let plan = NetPlan {
-        members: List::from_vec(Vec::from_slice(alloc, members)?),
-        fates: List::from_vec(Vec::from_slice(alloc, fates)?),
+fn fates(alloc: Global, letters: &str) -> Result<Vec<Fate>, AllocError> {
+    let mut fates = Vec::new(alloc);
+    for letter in letters.chars() {
+        let fate = match letter {
+            'D' => Fate::D,
+            'L' => Fate::L,
+            _ => Fate::A,
+        };
+        fates.push(fate)?;
+    }
+    Ok(fates)
+}
+
+fn members(alloc: Global, words: &str) -> Result<Vec<u8>, AllocError> {
+    let mut members = Vec::new(alloc);
+    for word in words.split_whitespace() {
+        members.push(byte(number(Some(word))))?;
+    }
+    Ok(members)
+}
+
+// A net in which a call is given up after 2 own Passes, and that is left after 1 round or 3 Passes.
+fn plan_of(alloc: Global, net: &str) -> Result<NetPlan, Fail> {
+    let (letters, words) = net.split_once(" ").ok_or("members")?;
+    let fates = fates(alloc, letters)?;
+    let members = members(alloc, words)?;
+    Ok(NetPlan {
+        members: List::from_vec(members),
+        fates: List::from_vec(fates),
         answer: 2,
         rotations: 1,
         rounds: 1,
         holds: 3,
-    };
+    })
+}
+
+fn ring_of(rt: &impl Abort, alloc: Global, net: &str) -> Result<Ring, Fail> {
+    let plan = plan_of(alloc, net)?;
     let can = is_net(&plan);
     assert!(rt; can);
-    let mut ring = Ring::new(alloc, &plan)?;
-    ring.reserve(4)?;
-    Ok(ring)
+    Ok(Ring::new(alloc, &plan)?)
 }
 
 fn frame(alloc: Global, kind: FrameKind, to: u8, id: CallId) -> Result<Frame, AllocError> {
@@ -120,14 +157,30 @@ fn send(rt: &impl Abort, ring: &mut Ring, node: u8) -> Told {
     }
 }
 
+fn taken(frame: &Frame) -> Told {
+    let id = frame.id;
+    match frame.kind {
+        FrameKind::Request => Told::Request(id.node, id.path, id.seq),
+        FrameKind::Reply => Told::Reply(id.node, id.path, id.seq),
+    }
+}
+
 fn take(rt: &impl Abort, ring: &mut Ring, node: u8) -> Told {
     let can = ring.is_member(node);
     assert!(rt; can);
     match ring.take(node) {
-        Ok(Some(frame)) if frame.kind == FrameKind::Request => Told::Request(frame.id),
-        Ok(Some(frame)) => Told::Reply(frame.id),
+        Ok(Some(frame)) => taken(&frame),
         Ok(None) => Told::Nothing,
         Err(why) => Told::No(why),
+    }
+}
+
+fn word_told(word: u16) -> Told {
+    match word {
+        0x6101 => Told::NoAnswer,
+        0x6103 => Told::NobodyThere,
+        0x6105 => Told::InboxFull,
+        _ => Told::OtherWord(word),
     }
 }
 
@@ -135,7 +188,7 @@ fn give_up(rt: &impl Abort, ring: &mut Ring, id: CallId) -> Told {
     let can = ring.is_member(id.node) && is_path(id.path);
     assert!(rt; can);
     match ring.give_up(id) {
-        Ok(word) => Told::Word(word),
+        Ok(word) => word_told(word),
         Err(why) => Told::No(why),
     }
 }
@@ -155,7 +208,7 @@ fn leave(rt: &impl Abort, ring: &mut Ring, node: u8, cause: LeaveCause) -> Told 
 }
 
 // A local call; at most 32 words are put.
-pub(crate) fn local(
+fn local(
     rt: &impl Abort,
     ring: &mut Ring,
     node: u8,
@@ -169,70 +222,148 @@ pub(crate) fn local(
     ring.local(node, id, op)
 }
 
-// A local call that answers no words.
-fn silent(res: Result<MstrResult, RingNo>) -> Told {
+// The words that a local call answers, or why there are none.
+fn words_told(alloc: Global, res: Result<MstrResult, RingNo>) -> Result<String, AllocError> {
     match res {
-        Ok(MstrResult::Good(_)) => Told::Done,
-        Ok(MstrResult::Bad(word)) => Told::Word(word),
-        Err(why) => Told::No(why),
+        Ok(MstrResult::Good(found)) => format!(in alloc; "{:?}", found.words()),
+        Ok(MstrResult::Bad(word)) => format!(in alloc; "{word:x}"),
+        Err(why) => format!(in alloc; "No({why:?})"),
     }
 }
 
-// Whether a local call was answered with these words.
-pub(crate) fn gives(res: &Result<MstrResult, RingNo>, words: &[u16]) -> bool {
-    matches!(res, Ok(MstrResult::Good(found)) if found.words() == words)
+fn id(node: u8, path: u8, seq: u32) -> CallId {
+    CallId { node, path, seq }
 }
 
-fn answer(rt: &impl Abort, alloc: Global, ring: &mut Ring, call: Call) -> Result<Told, AllocError> {
-    let told = match call {
-        Call::Ask { to, id } => {
-            post(rt, ring, id.node, frame(alloc, FrameKind::Request, to, id)?)
+// What a node is asked for by a call of its own, and by one of another node.
+fn statistics(node: u8, id: CallId) -> LocalOp
+    ensures { HasRoom result }
+{
+    if id.node == node {
+        LocalOp::GetStats
+    } else {
+        LocalOp::RemoteGet
+    }
+}
+
+fn clear(node: u8, id: CallId) -> LocalOp
+    ensures { HasRoom result }
+{
+    if id.node == node {
+        LocalOp::ClearStats
+    } else {
+        LocalOp::RemoteClear
+    }
+}
+
+fn seen(ring: &Ring, node: u8) -> Told {
+    Told::Sees {
+        holder: ring.holder(),
+        next: ring.successor(node),
+    }
+}
+
+fn called(
+    rt: &impl Abort,
+    alloc: Global,
+    ring: &mut Ring,
+    call: &Call<'_>,
+) -> Result<Told, AllocError> {
+    let node = call.node;
+    let [first, second, third] = call.numbers;
+    let to = byte(first);
+    let told = match call.does {
+        "asks" => {
+            let id = id(node, byte(second), third);
+            post(rt, ring, node, frame(alloc, FrameKind::Request, to, id)?)
         }
-        Call::Reply { by, id } => post(rt, ring, by, frame(alloc, FrameKind::Reply, id.node, id)?),
-        Call::Send(node) => send(rt, ring, node),
-        Call::Take(node) => take(rt, ring, node),
-        Call::GiveUp(id) => give_up(rt, ring, id),
-        Call::Pass(node, finished) => pass(rt, ring, node, finished),
-        Call::Leave(node, cause) => leave(rt, ring, node, cause),
-        Call::Put { node, words } => {
-            let op = LocalOp::PutGlobal(Words::of(alloc, &words)?);
-            silent(local(rt, ring, node, id(node, 0, 1), op))
+        "replies" => {
+            let id = id(to, byte(second), third);
+            post(rt, ring, node, frame(alloc, FrameKind::Reply, to, id)?)
         }
-        Call::Clear { node, id } => {
-            let op = if id.node == node {
-                LocalOp::ClearStats
-            } else {
-                LocalOp::RemoteClear
-            };
-            silent(local(rt, ring, node, id, op))
-        }
+        "sends" => send(rt, ring, node),
+        "takes" => take(rt, ring, node),
+        "gives_up" => give_up(rt, ring, id(node, byte(first), second)),
+        "passes" => pass(rt, ring, node, false),
+        "passes_done" => pass(rt, ring, node, true),
+        "ends" => leave(rt, ring, node, LeaveCause::Ended),
+        "is_spent" => leave(rt, ring, node, LeaveCause::Spent),
+        _ => seen(ring, node),
     };
     Ok(told)
 }
 
-// How many of the rows, from the first on, were answered as they say.
-pub(crate) fn agrees(
+fn answer(
     rt: &impl Abort,
     alloc: Global,
     ring: &mut Ring,
-    rows: &[(Call, Told)],
-) -> Result<usize, AllocError> {
-    for (at, (call, told)) in rows.iter().enumerate() {
-        if answer(rt, alloc, ring, *call)? != *told {
-            return Ok(at);
+    call: &Call<'_>,
+) -> Result<String, AllocError> {
+    let node = call.node;
+    let [first, second, third] = call.numbers;
+    let own = id(node, 0, 1);
+    let named = id(byte(first), byte(second), third);
+    match call.does {
+        "puts" => {
+            let words = Words::of(alloc, &[word(first), word(second)])?;
+            words_told(alloc, local(rt, ring, node, own, LocalOp::PutGlobal(words)))
+        }
+        "hears" => {
+            let op = LocalOp::GetGlobal {
+                node: byte(first),
+                length: word(second),
+            };
+            words_told(alloc, local(rt, ring, node, own, op))
+        }
+        "counts" => words_told(alloc, local(rt, ring, node, named, statistics(node, named))),
+        "clears" => words_told(alloc, local(rt, ring, node, named, clear(node, named))),
+        _ => {
+            let told = called(rt, alloc, ring, call)?;
+            format!(in alloc; "{told:?}")
         }
     }
-    Ok(rows.len())
 }
 
-// The same on a new ring.
-pub(crate) fn answers(
+fn plays_row(
     rt: &impl Abort,
     alloc: Global,
-    members: &[u8],
-    fates: &[Fate],
-    rows: &[(Call, Told)],
-) -> Result<usize, AllocError> {
-    let mut ring = ring_of(rt, alloc, members, fates)?;
-    agrees(rt, alloc, &mut ring, rows)
+    ring: &mut Ring,
+    shows: &str,
+    row: &str,
+) -> Result<(), Fail> {
+    let (call, want) = row.split_once(" = ").ok_or("an answer")?;
+    let got = answer(rt, alloc, ring, &call_of(call))?;
+    assert_eq!(rt; got.as_str(), want, "{shows}: {call}");
+    Ok(())
+}
+
+fn plays_rows(
+    rt: &impl Abort,
+    alloc: Global,
+    ring: &mut Ring,
+    shows: &str,
+    rows: &str,
+) -> Result<(), Fail> {
+    ring.reserve(4)?;
+    for row in rows.lines() {
+        plays_row(rt, alloc, ring, shows, row)?;
+    }
+    Ok(())
+}
+
+fn plays_scenario(rt: &impl Abort, alloc: Global, scenario: &str) -> Result<(), Fail> {
+    let (shows, rest) = scenario.split_once("\n").ok_or("a net")?;
+    let (net, rows) = rest.split_once("\n").ok_or("calls")?;
+    let mut ring = ring_of(rt, alloc, net)?;
+    plays_rows(rt, alloc, &mut ring, shows, rows)
+}
+
+// Each call of a script is answered as it says.
+pub(crate) fn plays(rt: &impl Abort, alloc: Global, script: &str) -> Result<(), Fail> {
+    for scenario in script.split('#') {
+        if !scenario.is_empty() {
+            plays_scenario(rt, alloc, scenario)?;
+        }
+    }
+    Ok(())
 }

@@ -118,17 +118,6 @@ fn results(alloc: Global, joint: &Joint) -> Result<Vec<u16>, AllocError> {
     Ok(words)
 }
 
-/// The first events of all controllers.
-fn begins(alloc: Global, joint: &Joint) -> Result<Vec<u8>, AllocError> {
-    let mut text = Vec::new(alloc);
-    for log in joint.controllers.as_slice() {
-        if let Some(entry) = log.entries.as_slice().first() {
-            text.push(scan_letter(entry).unwrap_or(b'-'))?;
-        }
-    }
-    Ok(text)
-}
-
 /// How often a node left for a cause.
 fn leaves(ring: &[RingEntry], of: u8, why: LeaveCause) -> u64 {
     let mut count = 0u64;
@@ -145,17 +134,46 @@ fn has_ended(ring: &[RingEntry], node: u8) -> bool {
     leaves(ring, node, LeaveCause::Ended) == 1 && leaves(ring, node, LeaveCause::Spent) == 0
 }
 
+/// What a live run of READ2 tells.
+#[derive(Drop)]
+struct Shown {
+    /// The events of the scans of all controllers.
+    events: Vec<u8>,
+    /// Each controller's node, and behind it what its calls brought.
+    words: Vec<u16>,
+    /// Both nodes left once, each as it had come to its end.
+    ended: bool,
+}
+
+fn told_by(alloc: Global, joint: &Joint) -> Result<Shown, AllocError> {
+    let ring = joint.ring.as_slice();
+    let ended = has_ended(ring, 2) && has_ended(ring, 5);
+    let events = scans(alloc, joint)?;
+    let words = results(alloc, joint)?;
+    Ok(Shown {
+        events,
+        words,
+        ended,
+    })
+}
+
+fn ran_shown<M: Meet + Sync, R: Threads + Wait + Clock + Sync>(
+    rt: &R,
+    alloc: Global,
+    meet: &M,
+) -> Result<Shown, AllocError> {
+    let joint = ran(rt, alloc, meet)?;
+    told_by(alloc, &joint)
+}
+
 #[test]
 fn a_call_is_answered(rt: HostRuntime) -> Result<(), AllocError> {
-    let joint = ran(&rt, rt.alloc(), &NoMeet)?;
-    let events = scans(rt.alloc(), &joint)?;
-    assert!(rt; events.as_slice() == b"BSEBSE BSEBSE ".as_slice());
+    let shown = ran_shown(&rt, rt.alloc(), &NoMeet)?;
+    assert!(rt; shown.events.as_slice() == b"BSEBSE BSEBSE ".as_slice());
     // Node 5 is asked before its first scan, or after it.
-    let words = results(rt.alloc(), &joint)?;
-    let words = words.as_slice();
+    let words = shown.words.as_slice();
     assert!(rt; words == [2, 42, 43, 5].as_slice() || words == [2, 0, 0, 5].as_slice());
-    assert!(rt; has_ended(joint.ring.as_slice(), 2));
-    assert!(rt; has_ended(joint.ring.as_slice(), 5));
+    assert!(rt; shown.ended);
     Ok(())
 }
 
@@ -189,13 +207,10 @@ fn a_call_brings_words(rt: HostRuntime) -> Result<(), AllocError> {
     let meet = FiveFirst {
         solved: AtomicU64::new(0),
     };
-    let joint = ran(&rt, rt.alloc(), &meet)?;
-    let first = begins(rt.alloc(), &joint)?;
-    assert!(rt; first.as_slice() == b"BB".as_slice());
-    let words = results(rt.alloc(), &joint)?;
-    assert!(rt; words.as_slice() == [2, 42, 43, 5].as_slice());
-    assert!(rt; has_ended(joint.ring.as_slice(), 2));
-    assert!(rt; has_ended(joint.ring.as_slice(), 5));
+    let shown = ran_shown(&rt, rt.alloc(), &meet)?;
+    assert!(rt; shown.events.as_slice() == b"BSEBSE BSEBSE ".as_slice());
+    assert!(rt; shown.words.as_slice() == [2, 42, 43, 5].as_slice());
+    assert!(rt; shown.ended);
     Ok(())
 }
 
@@ -271,15 +286,24 @@ fn made(joint: &Joint, node: u8) -> [u64; 2] {
     [solves, entries]
 }
 
+/// What both nodes made in a live run.
+fn ran_made<M: Meet + Sync, R: Threads + Wait + Clock + Sync>(
+    rt: &R,
+    alloc: Global,
+    meet: &M,
+) -> Result<[[u64; 2]; 2], AllocError> {
+    let joint = ran(rt, alloc, meet)?;
+    Ok([made(&joint, 2), made(&joint, 5)])
+}
+
 #[test]
 fn each_solve_and_each_entry_is_told(rt: HostRuntime) -> Result<(), AllocError> {
     let meet = Counts {
         two: Told::new(),
         others: Told::new(),
     };
-    let joint = ran(&rt, rt.alloc(), &meet)?;
-    assert!(rt; made(&joint, 2) == meet.two.counts());
-    assert!(rt; made(&joint, 5) == meet.others.counts());
+    let made = ran_made(&rt, rt.alloc(), &meet)?;
+    assert!(rt; made == [meet.two.counts(), meet.others.counts()]);
     let [solves, entries] = meet.two.counts();
     assert!(rt; solves == 2 && entries > 2);
     Ok(())

@@ -76,36 +76,45 @@ fn network(alloc: Global, cells: &[Cell]) -> Result<Network, AllocError> {
     })
 }
 
-fn message(alloc: Global) -> Result<Network, AllocError> {
+/// The networks of these cells, one after another.
+fn networks(alloc: Global, each: &[&[Cell]]) -> Result<List<Network>, AllocError> {
+    let mut networks = List::new(alloc);
+    for cells in each {
+        networks.push(network(alloc, cells)?)?;
+    }
+    Ok(networks)
+}
+
+fn message() -> [Cell; 5] {
     let message = Element::Mstr {
         control: register(1),
         area: register(11),
         length: 10,
     };
-    let cells = [
+    [
         cell(1, 1, Element::Wire),
         cell(1, 2, message),
         cell(1, 3, coil(1)),
         cell(2, 3, coil(2)),
         cell(3, 3, coil(3)),
-    ];
-    network(alloc, &cells)
+    ]
 }
 
 /// What node 2 solves.
 fn asking(alloc: Global, to: u16) -> Result<List<Network>, AllocError> {
-    let mut networks = List::new(alloc);
-    networks.push(network(alloc, &[sum(1, 2, 0, 1), sum(4, 2, 0, 3)])?)?;
-    networks.push(network(alloc, &[sum(1, 1, 0, 4), sum(4, to, 0, 5)])?)?;
-    networks.push(message(alloc)?)?;
-    Ok(networks)
+    let first = [sum(1, 2, 0, 1), sum(4, 2, 0, 3)];
+    let second = [sum(1, 1, 0, 4), sum(4, to, 0, 5)];
+    let third = message();
+    networks(
+        alloc,
+        &[first.as_slice(), second.as_slice(), third.as_slice()],
+    )
 }
 
 /// What node 5 solves.
 fn asked(alloc: Global) -> Result<List<Network>, AllocError> {
-    let mut networks = List::new(alloc);
-    networks.push(network(alloc, &[sum(1, 41, 1, 1), sum(4, 43, 0, 2)])?)?;
-    Ok(networks)
+    let only = [sum(1, 41, 1, 1), sum(4, 43, 0, 2)];
+    networks(alloc, &[only.as_slice()])
 }
 
 fn one_row(alloc: Global) -> Result<List<OrderRow>, AllocError>

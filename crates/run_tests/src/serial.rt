@@ -77,19 +77,36 @@ fn letters(alloc: Global, joint: &Joint) -> Result<Vec<u8>, AllocError> {
     Ok(text)
 }
 
-fn turned(alloc: Global, change: Change, scans: u32, order: &[Turn]) -> Result<Vec<u8>, AllocError>
+fn turned(alloc: Global, change: Change, scans: u32, order: &[Turn]) -> Result<Joint, AllocError>
     requires { scans ≤ 2000 }
 {
     let plant = read2(alloc, change)?;
-    let joint = turns(alloc, &plant, scans, order)?;
+    turns(alloc, &plant, scans, order)
+}
+
+/// The letters of a joint history that is made by turns.
+fn turned_letters(
+    alloc: Global,
+    change: Change,
+    scans: u32,
+    order: &[Turn],
+) -> Result<Vec<u8>, AllocError>
+    requires { scans ≤ 2000 }
+{
+    let joint = turned(alloc, change, scans, order)?;
     letters(alloc, &joint)
 }
 
-fn ran(alloc: Global, change: Change, scans: u32) -> Result<Vec<u8>, AllocError>
+fn ran(alloc: Global, change: Change, scans: u32) -> Result<Joint, AllocError>
     requires { scans ≤ 2000 }
 {
     let plant = read2(alloc, change)?;
-    let joint = run(alloc, &plant, scans)?;
+    run(alloc, &plant, scans)
+}
+
+/// The letters of a serial run.
+fn ran_letters(alloc: Global, change: Change, scans: u8) -> Result<Vec<u8>, AllocError> {
+    let joint = ran(alloc, change, u32::from(scans))?;
     letters(alloc, &joint)
 }
 
@@ -97,7 +114,7 @@ fn ran(alloc: Global, change: Change, scans: u32) -> Result<Vec<u8>, AllocError>
 fn turns_come_in_any_order(rt: HostRuntime) -> Result<(), AllocError> {
     let alloc = rt.alloc();
     let scan = [Turn::Step(2), Turn::Step(2), Turn::Step(2), Turn::Hold];
-    let text = turned(alloc, AS_IT_IS, 2, &scan)?;
+    let text = turned_letters(alloc, AS_IT_IS, 2, &scan)?;
     assert!(rt; text.as_slice() == b"BSEL  2Q2A2n".as_slice());
 
     // No serial run begins with the token, steps by halves or knows node 9.
@@ -122,7 +139,7 @@ fn turns_come_in_any_order(rt: HostRuntime) -> Result<(), AllocError> {
         Turn::Hold,
         Turn::Visit(2),
     ];
-    let text = turned(alloc, AS_IT_IS, 1, &order)?;
+    let text = turned_letters(alloc, AS_IT_IS, 1, &order)?;
     assert!(rt; text.as_slice() == b"BSELF BSPE 2n5n2Q2A2n5T5R5A5n2T2d5d2E5E".as_slice());
     Ok(())
 }
@@ -145,33 +162,15 @@ fn a_node_that_has_left_ends_its_calls(rt: HostRuntime) -> Result<(), AllocError
         Turn::Visit(2),
         Turn::Visit(2),
     ];
-    let text = turned(rt.alloc(), change, 2, &order)?;
+    let text = turned_letters(rt.alloc(), change, 2, &order)?;
     assert!(rt; text.as_slice() == b"BSELf  2n5n2X5X2Q2G".as_slice());
     Ok(())
 }
 
-#[test]
-fn a_run_brings_words(rt: HostRuntime) -> Result<(), AllocError> {
+/// READ2 with one change each, how many scans it runs, and its letters.
+fn runs() -> [(Change, u8, &'static [u8]); 6] {
     let nobody = Change { to: 9, ..AS_IT_IS };
     let own = Change { to: 2, ..AS_IT_IS };
-    let rows: [(Change, u32, &[u8]); 3] = [
-        (
-            AS_IT_IS,
-            2,
-            b"BSELFBSE BSEPBSE 2Q2A2n5T5R5A5n2T2n5n2d5d2E5E",
-        ),
-        (nobody, 2, b"BSELfBSE BSEBSE 2Q2S2S2S2G2n5n2n5n2d5d2E5E"),
-        (own, 2, b"BSEBSE BSEBSE 2n5n2n5n2d5d2E5E"),
-    ];
-    for (change, scans, text) in rows {
-        let ran = ran(rt.alloc(), change, scans)?;
-        assert!(rt; ran.as_slice() == text);
-    }
-    Ok(())
-}
-
-#[test]
-fn a_run_loses_frames_and_spends_passes(rt: HostRuntime) -> Result<(), AllocError> {
     let silent = Change {
         fates: &[Fate::A],
         ..AS_IT_IS
@@ -184,7 +183,14 @@ fn a_run_loses_frames_and_spends_passes(rt: HostRuntime) -> Result<(), AllocErro
         holds: 1,
         ..AS_IT_IS
     };
-    let rows: [(Change, u32, &[u8]); 3] = [
+    [
+        (
+            AS_IT_IS,
+            2,
+            b"BSELFBSE BSEPBSE 2Q2A2n5T5R5A5n2T2n5n2d5d2E5E",
+        ),
+        (nobody, 2, b"BSELfBSE BSEBSE 2Q2S2S2S2G2n5n2n5n2d5d2E5E"),
+        (own, 2, b"BSEBSE BSEBSE 2n5n2n5n2d5d2E5E"),
         (
             silent,
             2,
@@ -200,9 +206,13 @@ fn a_run_loses_frames_and_spends_passes(rt: HostRuntime) -> Result<(), AllocErro
             4,
             b"BSELFBSEBSELfBSE BSEPBSEBSEBSE 2Q2A2n5T5R5A5n2T2X5X2Q2G",
         ),
-    ];
-    for (change, scans, text) in rows {
-        let ran = ran(rt.alloc(), change, scans)?;
+    ]
+}
+
+#[test]
+fn a_run_brings_words_loses_frames_and_spends_passes(rt: HostRuntime) -> Result<(), AllocError> {
+    for (change, scans, text) in runs() {
+        let ran = ran_letters(rt.alloc(), change, scans)?;
         assert!(rt; ran.as_slice() == text);
     }
     Ok(())

@@ -6,7 +6,7 @@ use Rattle.std.proofs.lemmas.Option.{slice_get_cases}
 use Rattle.plant_types.specs.declared.plan.ControllerPlan.{ControllerPlan}
 use Rattle.scan_order.specs.declared.due.ScanPlace.TheVariants as places
 use Rattle.scan_order.specs.declared.due.ScanStep.TheVariants as steps
-use Rattle.scan_order.specs.Due.{row_of, input_of, output_of, step_with, row_steps, output_steps}
+use Rattle.scan_order.specs.Due.{row_of, input_of, step_with, row_steps, output_steps}
 use Rattle.scan_order.specs.Due.{rows_from, due_after}
 
 -- the steps from a row of the plan on are those of the row, and those from the next row on
@@ -29,28 +29,20 @@ rows_from-end plan row h =
     ap (λ n. flat_map (row_steps plan) (range_with_len row n) ++ steps.End ∷ []) count
 
 -- the steps of a row that names an input drop begin with its In
-pub rows_from-in : (plan : ControllerPlan) (row drop : ℕ) → row ≤ length plan.orders → input_of (row_of plan row) ≡ Some drop
-    → rows_from plan row ≡ steps.In row ∷ due_after plan (places.DidIn row)
-rows_from-in plan row drop h named =
+pub rows_from-in : (plan : ControllerPlan) (scan row drop : ℕ) → row ≤ length plan.orders
+    → input_of (row_of plan row) ≡ Some drop
+    → rows_from plan row ≡ steps.In row ∷ due_after plan scan (places.DidIn row)
+rows_from-in plan scan row drop h named =
     rows_from-row plan row h
     ∙ ap (λ d. (step_with d (steps.In row) ++ (steps.Solve row ∷ output_steps plan row)) ++ rows_from plan (row + 1)) named
 
 -- and those of a row that names none with its Solve
-pub rows_from-solve : (plan : ControllerPlan) (row : ℕ) → row ≤ length plan.orders → input_of (row_of plan row) ≡ None
-    → rows_from plan row ≡ steps.Solve row ∷ due_after plan (places.DidSolve row)
-rows_from-solve plan row h none =
+pub rows_from-solve : (plan : ControllerPlan) (scan row : ℕ) → row ≤ length plan.orders
+    → input_of (row_of plan row) ≡ None
+    → rows_from plan row ≡ steps.Solve row ∷ due_after plan scan (places.DidSolve row)
+rows_from-solve plan scan row h none =
     rows_from-row plan row h
     ∙ ap (λ d. (step_with d (steps.In row) ++ (steps.Solve row ∷ output_steps plan row)) ++ rows_from plan (row + 1)) none
-
--- behind the Solve of a row that names an output drop is its Out
-pub behind-out : (plan : ControllerPlan) (row drop : ℕ) → output_of (row_of plan row) ≡ Some drop
-    → due_after plan (places.DidSolve row) ≡ steps.Out row ∷ due_after plan (places.DidOut row)
-behind-out plan row drop named = ap (λ d. step_with d (steps.Out row) ++ rows_from plan (row + 1)) named
-
--- and of one that names none the next row
-pub behind-none : (plan : ControllerPlan) (row : ℕ) → output_of (row_of plan row) ≡ None
-    → due_after plan (places.DidSolve row) ≡ rows_from plan (row + 1)
-behind-none plan row none = ap (λ d. step_with d (steps.Out row) ++ rows_from plan (row + 1)) none
 
 -- where there is no row, all rows are before
 pub past_rows : (plan : ControllerPlan) (row : ℕ) → row_of plan row ≡ None → 1 ≤ row → length plan.orders < row

@@ -49,14 +49,15 @@ rows_from plan row =
 abbrev pub due : ControllerPlan → ℕ → List ScanStep
 due plan scan = steps.Begin ∷ rows_from plan 1
 
--- What of it is left behind a place. This project's own.
-abbrev pub due_after : ControllerPlan → ScanPlace → List ScanStep
-due_after plan places.Start = steps.Begin ∷ rows_from plan 1
-due_after plan places.Began = rows_from plan 1
-due_after plan (places.DidIn row) =
+-- What of it is left behind a place, where the scan of this number runs, or is the next one. This
+-- project's own.
+abbrev pub due_after : ControllerPlan → ℕ → ScanPlace → List ScanStep
+due_after plan scan places.Start = due plan scan
+due_after plan scan places.Began = rows_from plan 1
+due_after plan scan (places.DidIn row) =
     steps.Solve row ∷ (output_steps plan row ++ rows_from plan (row + 1))
-due_after plan (places.DidSolve row) = output_steps plan row ++ rows_from plan (row + 1)
-due_after plan (places.DidOut row) = rows_from plan (row + 1)
+due_after plan scan (places.DidSolve row) = output_steps plan row ++ rows_from plan (row + 1)
+due_after plan scan (places.DidOut row) = rows_from plan (row + 1)
 
 -- The place behind a step. This project's own.
 abbrev pub place_after : ScanStep → ScanPlace
@@ -67,9 +68,9 @@ place_after (steps.Out row) = places.DidOut row
 place_after steps.End = places.Start
 
 -- What is left of the same scan behind a step. This project's own.
-abbrev pub rest_after : ControllerPlan → ScanStep → List ScanStep
-rest_after plan steps.End = []
-rest_after plan step = due_after plan (place_after step)
+abbrev pub rest_after : ControllerPlan → ℕ → ScanStep → List ScanStep
+rest_after plan scan steps.End = []
+rest_after plan scan step = due_after plan scan (place_after step)
 
 -- A row of the plan. This project's own.
 abbrev pub IsRow : ControllerPlan → ℕ → Type 0

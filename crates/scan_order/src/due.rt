@@ -34,10 +34,10 @@ pub fn row_of(plan: &ControllerPlan, row: u16) -> Option<OrderRow>
     plan.orders.as_slice().get(usize::from(row - 1)).copied()
 }
 
-/// The first step from a row on.
-fn first_from(plan: &ControllerPlan, row: u16) -> ScanStep
+/// The first step of a scan from a row on.
+fn first_from(plan: &ControllerPlan, scan: u32, row: u16) -> ScanStep
     requires { 1 ≤ row }
-    ensures next { rows_from plan.now row ≡ result ∷ rest_after plan.now result }
+    ensures next { rows_from plan.now row ≡ result ∷ rest_after plan.now scan result }
     ensures step { IsStep plan.now result }
 {
     let Some(found) = row_of(plan, row) else {
@@ -49,36 +49,37 @@ fn first_from(plan: &ControllerPlan, row: u16) -> ScanStep
     }
 }
 
-/// The first step behind the Solve of a row.
-fn first_behind(plan: &ControllerPlan, row: u16) -> ScanStep
+/// The first step of a scan behind the Solve of a row.
+fn first_behind(plan: &ControllerPlan, scan: u32, row: u16) -> ScanStep
     requires row { IsPlace plan.now (ScanPlace.DidSolve row) }
     requires rows { length plan.now.orders ≤ 32 }
-    ensures next { due_after plan.now (ScanPlace.DidSolve row)
-        ≡ result ∷ rest_after plan.now result }
+    ensures next { due_after plan.now scan (ScanPlace.DidSolve row)
+        ≡ result ∷ rest_after plan.now scan result }
     ensures step { IsStep plan.now result }
 {
     let Some(found) = row_of(plan, row) else {
-        return first_from(plan, row + 1);
+        return first_from(plan, scan, row + 1);
     };
     match found.output {
         Some(_) => ScanStep::Out(row),
-        None => first_from(plan, row + 1),
+        None => first_from(plan, scan, row + 1),
     }
 }
 
-/// The event that is due behind a place. Takes no memory.
-pub fn next_due(plan: &ControllerPlan, at: ScanPlace) -> ScanStep
+/// The event that is due behind a place, where the scan of this number, from 1 on, runs or is the
+/// next one. Takes no memory.
+pub fn next_due(plan: &ControllerPlan, scan: u32, at: ScanPlace) -> ScanStep
     requires place { IsPlace plan.now at }
     requires rows { length plan.now.orders ≤ 32 }
-    ensures next { due_after plan.now at ≡ result ∷ rest_after plan.now result }
+    ensures next { due_after plan.now scan at ≡ result ∷ rest_after plan.now scan result }
     ensures step { IsStep plan.now result }
 {
     match at {
         ScanPlace::Start => ScanStep::Begin,
-        ScanPlace::Began => first_from(plan, 1),
+        ScanPlace::Began => first_from(plan, scan, 1),
         ScanPlace::DidIn(row) => ScanStep::Solve(row),
-        ScanPlace::DidSolve(row) => first_behind(plan, row),
-        ScanPlace::DidOut(row) => first_from(plan, row + 1),
+        ScanPlace::DidSolve(row) => first_behind(plan, scan, row),
+        ScanPlace::DidOut(row) => first_from(plan, scan, row + 1),
     }
 }
 

@@ -45,21 +45,30 @@ fn plan_of(alloc: Global, rows: &[OrderRow]) -> Result<ControllerPlan, AllocErro
 #[test]
 fn a_scan_goes_row_by_row(rt: HostRuntime) -> Result<(), AllocError> {
     let plan = plan_of(rt.alloc(), &ROWS)?;
-    assert_eq!(rt; next_due(&plan, ScanPlace::Start), ScanStep::Begin);
-    assert_eq!(rt; next_due(&plan, ScanPlace::Began), ScanStep::Solve(1));
-    assert_eq!(rt; next_due(&plan, ScanPlace::DidSolve(1)), ScanStep::In(2));
-    assert_eq!(rt; next_due(&plan, ScanPlace::DidIn(2)), ScanStep::Solve(2));
-    assert_eq!(rt; next_due(&plan, ScanPlace::DidSolve(2)), ScanStep::Out(2));
-    assert_eq!(rt; next_due(&plan, ScanPlace::DidOut(2)), ScanStep::Solve(3));
-    assert_eq!(rt; next_due(&plan, ScanPlace::DidSolve(3)), ScanStep::Out(3));
-    assert_eq!(rt; next_due(&plan, ScanPlace::DidOut(3)), ScanStep::End);
+    assert_eq!(rt; next_due(&plan, 1, ScanPlace::Start), ScanStep::Begin);
+    assert_eq!(rt; next_due(&plan, 1, ScanPlace::Began), ScanStep::Solve(1));
+    assert_eq!(rt; next_due(&plan, 1, ScanPlace::DidSolve(1)), ScanStep::In(2));
+    assert_eq!(rt; next_due(&plan, 1, ScanPlace::DidIn(2)), ScanStep::Solve(2));
+    assert_eq!(rt;
+        next_due(&plan, 1, ScanPlace::DidSolve(2)),
+        ScanStep::Out(2)
+    );
+    assert_eq!(rt;
+        next_due(&plan, 1, ScanPlace::DidOut(2)),
+        ScanStep::Solve(3)
+    );
+    assert_eq!(rt;
+        next_due(&plan, 1, ScanPlace::DidSolve(3)),
+        ScanStep::Out(3)
+    );
+    assert_eq!(rt; next_due(&plan, 1, ScanPlace::DidOut(3)), ScanStep::End);
     Ok(())
 }
 
 #[test]
 fn a_scan_without_rows_begins_and_ends(rt: HostRuntime) -> Result<(), AllocError> {
     let plan = plan_of(rt.alloc(), &[])?;
-    assert_eq!(rt; next_due(&plan, ScanPlace::Start), ScanStep::Begin);
-    assert_eq!(rt; next_due(&plan, ScanPlace::Began), ScanStep::End);
+    assert_eq!(rt; next_due(&plan, 1, ScanPlace::Start), ScanStep::Begin);
+    assert_eq!(rt; next_due(&plan, 1, ScanPlace::Began), ScanStep::End);
     Ok(())
 }

@@ -28,7 +28,8 @@ use Rattle.serial_run.proofs.Standings.{stands-scans}
 -- a station whose controller made a scan
 pub record Scanned (s t : ControllerStation) : Type 0 where
   pub same : t ≡ record s { controller = t.controller }
-  pub made : MadeEvents (with_scan s.controller.fixed s.controller.history) s.controller t.controller
+  pub made : MadeEvents (with_scan s.controller.fixed s.controller.history) s.controller
+      t.controller
   pub between : IsBetweenScans t.controller
   pub less : LessensScan s.controller t.controller
 
@@ -42,56 +43,68 @@ pub record SomeScanned (first now : List ControllerStation) (at : ℕ) : Type 0 
 pub none-scanned : (first : List ControllerStation) → SomeScanned first first 0
 none-scanned first = record { front = []; size = refl; each = tt; is = refl }
 
-drop-at : (xs : List ControllerStation) (at : ℕ) (d : ControllerStation) → at < length xs → drop at xs ≡ get_or xs at d ∷ drop (suc at) xs
+drop-at : (xs : List ControllerStation) (at : ℕ) (d : ControllerStation) → at < length xs
+    → drop at xs ≡ get_or xs at d ∷ drop (suc at) xs
 drop-at [] at d low = absurd (omega arith)
 drop-at (x ∷ xs) zero d low = refl
 drop-at (x ∷ xs) (suc at) d low = drop-at xs at d (omega arith)
 
-take-at : (xs : List ControllerStation) (at : ℕ) (d : ControllerStation) → at < length xs → take (suc at) xs ≡ take at xs ++ get_or xs at d ∷ []
+take-at : (xs : List ControllerStation) (at : ℕ) (d : ControllerStation) → at < length xs
+    → take (suc at) xs ≡ take at xs ++ get_or xs at d ∷ []
 take-at [] at d low = absurd (omega arith)
 take-at (x ∷ xs) zero d low = refl
 take-at (x ∷ xs) (suc at) d low = λ i. x ∷ take-at xs at d (omega arith) i
 
-set-behind : (front rest : List ControllerStation) (x y : ControllerStation) → set (front ++ x ∷ rest) (length front) y ≡ (front ++ y ∷ []) ++ rest
+set-behind : (front rest : List ControllerStation) (x y : ControllerStation)
+    → set (front ++ x ∷ rest) (length front) y ≡ (front ++ y ∷ []) ++ rest
 set-behind [] rest x y = refl
 set-behind (f ∷ front) rest x y = λ i. f ∷ set-behind front rest x y i
 
-get-behind : (front rest : List ControllerStation) (x d : ControllerStation) → get_or (front ++ x ∷ rest) (length front) d ≡ x
+get-behind : (front rest : List ControllerStation) (x d : ControllerStation)
+    → get_or (front ++ x ∷ rest) (length front) d ≡ x
 get-behind [] rest x d = refl
 get-behind (f ∷ front) rest x d = get-behind front rest x d
 
-zip-last : (xs ys : List ControllerStation) (x y : ControllerStation) → AllZip Scanned xs ys → Scanned x y → AllZip Scanned (xs ++ x ∷ []) (ys ++ y ∷ [])
+zip-last : (xs ys : List ControllerStation) (x y : ControllerStation) → AllZip Scanned xs ys
+    → Scanned x y → AllZip Scanned (xs ++ x ∷ []) (ys ++ y ∷ [])
 zip-last [] [] x y all it = (it, tt)
 zip-last [] (b ∷ ys) x y all it = absurd all
 zip-last (a ∷ xs) [] x y all it = absurd all
 zip-last (a ∷ xs) (b ∷ ys) x y all it = (all.0, zip-last xs ys x y all.1 it)
 
 -- the station of the place is the first one still
-pub still-first : (first now : List ControllerStation) (at : ℕ) (d : ControllerStation) → SomeScanned first now at → at < length first
+pub still-first : (first now : List ControllerStation) (at : ℕ) (d : ControllerStation)
+    → SomeScanned first now at → at < length first
     → get_or now at d ≡ get_or first at d
 still-first first now at d some low =
-    let split : now ≡ some.front ++ get_or first at d ∷ drop (suc at) first = some.is ∙ ap (λ l. some.front ++ l) (drop-at first at d low) in
+    let split : now ≡ some.front ++ get_or first at d ∷ drop (suc at) first = some.is ∙ ap
+    (λ l. some.front ++ l) (drop-at first at d low) in
     ap (λ l. get_or l at d) split
     ∙ (ap (λ k. get_or (some.front ++ get_or first at d ∷ drop (suc at) first) k d) (sym some.size)
     ∙ get-behind some.front (drop (suc at) first) (get_or first at d) d)
 
-pub one-more-scanned : (first now : List ControllerStation) (at : ℕ) (s t : ControllerStation) → SomeScanned first now at → at < length first
+pub one-more-scanned : (first now : List ControllerStation) (at : ℕ) (s t : ControllerStation)
+    → SomeScanned first now at → at < length first
     → s ≡ get_or now at s → Scanned s t → SomeScanned first (set now at t) (at + 1)
 one-more-scanned first now at s t some low is it =
     let there : s ≡ get_or first at s = is ∙ still-first first now at s some low in
-    let split : now ≡ some.front ++ get_or first at s ∷ drop (suc at) first = some.is ∙ ap (λ l. some.front ++ l) (drop-at first at s low) in
+    let split : now ≡ some.front ++ get_or first at s ∷ drop (suc at) first = some.is ∙ ap
+    (λ l. some.front ++ l) (drop-at first at s low) in
     let changed : set now at t ≡ (some.front ++ t ∷ []) ++ drop (suc at) first =
-    (λ i. set (split i) (sym some.size i) t) ∙ set-behind some.front (drop (suc at) first) (get_or first at s) t in
+    (λ i. set (split i) (sym some.size i) t) ∙ set-behind some.front (drop (suc at) first)
+    (get_or first at s) t in
     let suc-at : suc at ≡ at + 1 = omega arith in
     subst (SomeScanned first (set now at t)) suc-at
     (record {
       front = some.front ++ t ∷ [];
       size = long some.front t ∙ ap suc some.size;
       each = subst (λ l. AllZip Scanned l (some.front ++ t ∷ [])) (sym (take-at first at s low))
-          (zip-last (take at first) some.front (get_or first at s) t some.each (subst (λ (x : ControllerStation). Scanned x t) there it));
+          (zip-last (take at first) some.front (get_or first at s) t some.each
+          (subst (λ (x : ControllerStation). Scanned x t) there it));
       is = changed;
     }) where
-      long : (xs : List ControllerStation) (y : ControllerStation) → length (xs ++ y ∷ []) ≡ suc (length xs)
+      long : (xs : List ControllerStation) (y : ControllerStation)
+          → length (xs ++ y ∷ []) ≡ suc (length xs)
       long [] y = refl
       long (x ∷ xs) y = ap suc (long xs y)
 
@@ -103,21 +116,28 @@ drop-everything : (xs : List ControllerStation) → drop (length xs) xs ≡ []
 drop-everything [] = refl
 drop-everything (x ∷ xs) = drop-everything xs
 
-pub everyone-scanned : (first now : List ControllerStation) (at : ℕ) → at ≡ length first → SomeScanned first now at → AllZip Scanned first now
+pub everyone-scanned : (first now : List ControllerStation) (at : ℕ) → at ≡ length first
+    → SomeScanned first now at → AllZip Scanned first now
 everyone-scanned first now at is some =
     let none : drop at first ≡ [] = ap (λ k. drop k first) is ∙ drop-everything first in
-    let same : now ≡ some.front = some.is ∙ (ap (λ l. some.front ++ l) none ∙ append-nil some.front) in
-    subst (AllZip Scanned first) (sym same) (subst (λ l. AllZip Scanned l some.front) (ap (λ k. take k first) is ∙ take-everything first) some.each)
+    let same : now ≡ some.front = some.is ∙ (ap (λ l. some.front ++ l) none ∙ append-nil some.front)
+    in
+    subst (AllZip Scanned first) (sym same)
+    (subst (λ l. AllZip Scanned l some.front)
+    (ap (λ k. take k first) is ∙ take-everything first) some.each)
 
 -- ---- what that makes of all stations
 
-module _ (old new : Stations) (hosts : new.hosts.items ≡ old.hosts.items) (ring : new.ring ≡ old.ring)
+module _ (old new : Stations) (hosts : new.hosts.items ≡ old.hosts.items)
+    (ring : new.ring ≡ old.ring)
     (each : AllZip Scanned old.controllers.items new.controllers.items) where
   scanned-stands : (plant : Plant) (scans : ℕ) (plan : ControllerPlan) (s t : ControllerStation)
-      → StandsController plant scans old.ring.history plan s → Scanned s t → StandsController plant scans old.ring.history plan t
+      → StandsController plant scans old.ring.history plan s → Scanned s t
+      → StandsController plant scans old.ring.history plan t
   scanned-stands plant scans plan s t st it =
       subst (StandsController plant scans old.ring.history plan) (sym it.same)
-      (stands-scans plant scans old.ring.history plan s t.controller (with_scan s.controller.fixed s.controller.history) it.made st)
+      (stands-scans plant scans old.ring.history plan s t.controller
+      (with_scan s.controller.fixed s.controller.history) it.made st)
 
   all-stand : (plant : Plant) (scans : ℕ) → StandAll plant scans old → StandAll plant scans new
   all-stand plant scans all =
@@ -126,14 +146,19 @@ module _ (old new : Stations) (hosts : new.hosts.items ≡ old.hosts.items) (rin
         sound = all.sound;
         net = ap (λ r. r.net) ring ∙ all.net;
         legal = subst (IsLegalRing plant.net) (sym history) all.legal;
-        controllers = subst (λ (l : List RingEntry). AllZip (StandsController plant scans l) plant.controllers new.controllers.items) (sym history)
-            (zip-both (StandsController plant scans old.ring.history) Scanned (StandsController plant scans old.ring.history) plant.controllers
-            old.controllers.items new.controllers.items all.controllers each (scanned-stands plant scans));
-        hosts = subst (λ (l : List RingEntry). AllZip (StandsHost plant l) plant.hosts new.hosts.items) (sym history)
+        controllers = subst (λ (l : List RingEntry). AllZip (StandsController plant scans l)
+            plant.controllers new.controllers.items) (sym history)
+            (zip-both (StandsController plant scans old.ring.history) Scanned
+            (StandsController plant scans old.ring.history) plant.controllers
+            old.controllers.items new.controllers.items all.controllers each
+            (scanned-stands plant scans));
+        hosts = subst (λ (l : List RingEntry). AllZip (StandsHost plant l) plant.hosts
+            new.hosts.items) (sym history)
             (subst (AllZip (StandsHost plant old.ring.history) plant.hosts) (sym hosts) all.hosts);
       }
 
-  logs-by : (plant : Plant) (scans : ℕ) (ring : List RingEntry) (plans : List ControllerPlan) (xs ys : List ControllerStation)
+  logs-by : (plant : Plant) (scans : ℕ) (ring : List RingEntry) (plans : List ControllerPlan)
+      (xs ys : List ControllerStation)
       → AllZip (StandsController plant scans ring) plans xs → AllZip Scanned xs ys
       → map log_of ys ≡ map (log_with_scan plant scans) (zip plans (map log_of xs))
   logs-by plant scans ring [] [] [] a b = refl
@@ -145,29 +170,40 @@ module _ (old new : Stations) (hosts : new.hosts.items ≡ old.hosts.items) (rin
       let node : y.node ≡ x.node = ap (λ (s : ControllerStation). s.node) b.0.same in
       let history : y.controller.history ≡ with_scan (fixed_of plant scans p) x.controller.history =
       b.0.made.history_is ∙ ap (λ (f : Fixed). with_scan f x.controller.history) a.0.fixed in
-      λ i. record { node = node i; entries = history i } ∷ logs-by plant scans ring plans xs ys a.1 b.1 i
+      λ i. record { node = node i; entries = history i } ∷ logs-by plant scans ring plans xs ys a.1
+      b.1 i
 
   pub scan-all-did : Did (λ plant scans before behind. behind ≡ scanned plant scans before) old new
   scan-all-did = record {
     stand = all-stand;
     made = λ plant scans all.
-        let logs = logs-by plant scans old.ring.history plant.controllers old.controllers.items new.controllers.items all.controllers each in
-        λ i. record { controllers = logs i; hosts = map host_log_of (hosts i); ring = (ring i).history };
+        let logs = logs-by plant scans old.ring.history plant.controllers old.controllers.items
+        new.controllers.items all.controllers each in
+        λ i. record {
+          controllers = logs i;
+          hosts = map host_log_of (hosts i);
+          ring = (ring i).history;
+        };
   }
 
-between-all : (xs ys : List ControllerStation) → AllZip Scanned xs ys → All (λ (s : ControllerStation). IsBetweenScans s.controller) ys
+between-all : (xs ys : List ControllerStation) → AllZip Scanned xs ys
+    → All (λ (s : ControllerStation). IsBetweenScans s.controller) ys
 between-all [] [] all = All-nil (λ (s : ControllerStation). IsBetweenScans s.controller)
 between-all [] (y ∷ ys) all = absurd all
 between-all (x ∷ xs) [] all = absurd all
-between-all (x ∷ xs) (y ∷ ys) all = All-cons (λ (s : ControllerStation). IsBetweenScans s.controller) y ys all.0.between (between-all xs ys all.1)
+between-all (x ∷ xs) (y ∷ ys) all = All-cons
+    (λ (s : ControllerStation). IsBetweenScans s.controller) y ys all.0.between
+    (between-all xs ys all.1)
 
-pub scan-all-between : (old new : Stations) → AllZip Scanned old.controllers.items new.controllers.items → AreBetweenScans new
+pub scan-all-between : (old new : Stations)
+    → AllZip Scanned old.controllers.items new.controllers.items → AreBetweenScans new
 scan-all-between old new each = between-all old.controllers.items new.controllers.items each
 
 abbrev steps_of : ControllerStation → ℕ
 steps_of s = length (left_of s.controller.fixed s.controller.history)
 
-steps-no-more : (xs ys : List ControllerStation) → AllZip Scanned xs ys → sum_by steps_of ys ≤ sum_by steps_of xs
+steps-no-more : (xs ys : List ControllerStation) → AllZip Scanned xs ys
+    → sum_by steps_of ys ≤ sum_by steps_of xs
 steps-no-more [] [] all = omega arith
 steps-no-more [] (y ∷ ys) all = absurd all
 steps-no-more (x ∷ xs) [] all = absurd all
@@ -182,7 +218,8 @@ and-second : (b c : Bool) → (b && c) ≡ false → b ≡ true → c ≡ false
 and-second true c is on = is
 and-second false c is on = absurd (cc)
 
-steps-less : (xs ys : List ControllerStation) → AllZip Scanned xs ys → list_all (λ (s : ControllerStation). has_ended s.controller) xs ≡ false
+steps-less : (xs ys : List ControllerStation) → AllZip Scanned xs ys
+    → list_all (λ (s : ControllerStation). has_ended s.controller) xs ≡ false
     → sum_by steps_of ys < sum_by steps_of xs
 steps-less [] [] all open' = absurd (cc)
 steps-less [] (y ∷ ys) all open' = absurd all
@@ -193,7 +230,9 @@ steps-less (x ∷ xs) (y ∷ ys) all open' =
     ⊎_elim
     (λ (ended : has_ended x.controller ≡ true).
     let here = all.0.less.no_more in
-    let rest = steps-less xs ys all.1 (and-second (has_ended x.controller) (list_all (λ (s : ControllerStation). has_ended s.controller) xs) open' ended) in
+    let rest = steps-less xs ys all.1
+    (and-second (has_ended x.controller)
+    (list_all (λ (s : ControllerStation). has_ended s.controller) xs) open' ended) in
     omega (arith, here, rest, a, b))
     (λ (goes : has_ended x.controller ≡ false).
     let here = all.0.less.less goes in
@@ -201,6 +240,7 @@ steps-less (x ∷ xs) (y ∷ ys) all open' =
     omega (arith, here, rest, a, b))
     (cases_Bool (has_ended x.controller))
 
-pub scan-all-less : (old new : Stations) → AllZip Scanned old.controllers.items new.controllers.items → have_ended old ≡ false
+pub scan-all-less : (old new : Stations)
+    → AllZip Scanned old.controllers.items new.controllers.items → have_ended old ≡ false
     → steps_left new < steps_left old
 scan-all-less old new each open' = steps-less old.controllers.items new.controllers.items each open'

@@ -26,12 +26,12 @@ use Rattle.serial_run.specs.declared.order.Turn.TheVariants.{Step, Hold, Visit}
 use Rattle.serial_run.specs.declared.stations.ControllerStation.{ControllerStation}
 use Rattle.serial_run.specs.declared.stations.HostStation.{HostStation}
 use Rattle.serial_run.specs.declared.stations.Stations.{Stations}
-use Rattle.serial_run.specs.Turns.{has_left, controller_place, host_place, stepped_list}
+use Rattle.serial_run.specs.Turns.{has_left, place_of_controller, place_of_host, stepped_list}
 use Rattle.serial_run.specs.Turns.{visit_is_due, with_list}
 use Rattle.serial_run.specs.Turns.{MakesTurn, MakesHold, MakesStep, MakesVisit, VisitsWhere}
 use Rattle.serial_run.specs.Stations.{StandsController, StandAll, Did, MadeEvents, log_of}
 use Rattle.serial_run.specs.Stations.{host_log_of}
-use Rattle.serial_run.specs.Stations.{joint_of, ram_side, ring_side}
+use Rattle.serial_run.specs.Stations.{joint_of, plain_ram_side, ring_side}
 use Rattle.serial_run.specs.Held.{StaysStation, HeldController, StandsBeside, HasToken}
 use Rattle.serial_run.specs.Held.{HostStandsBeside, HeldHost, VisitedController, VisitedWhere}
 use Rattle.turn_laws.specs.KeepsOn.{HostKeepsOn, KeepsOn}
@@ -47,46 +47,63 @@ use Rattle.serial_run.proofs.TurnsMade.{host-joint-is}
 
 -- ---- before a turn: the station stands beside the ring, and its node holds the token
 
-pub stands-beside : (plant : Plant) (scans : ℕ) (run : Stations) (at : ℕ) (s : ControllerStation) → StandAll plant scans run
+pub stands-beside : (plant : Plant) (scans : ℕ) (run : Stations) (at : ℕ) (s : ControllerStation)
+    → StandAll plant scans run
     → slice_get run.controllers.items at ≡ Some s → StandsBeside s run.ring
 stands-beside plant scans run at s all is =
-    subst (λ (net : NetPlan). Standing s.worker (ram_side s.controller) s.controller.history (ring_side net) run.ring.history) (sym all.net)
+    subst (λ (net : NetPlan). Standing s.worker (plain_ram_side s.controller) s.controller.history
+    (ring_side net) run.ring.history) (sym all.net)
     (at-place plant scans run at s all is).stands.standing
 
-pub host-stands-beside : (plant : Plant) (scans : ℕ) (run : Stations) (at : ℕ) (s : HostStation) → StandAll plant scans run
+pub host-stands-beside : (plant : Plant) (scans : ℕ) (run : Stations) (at : ℕ) (s : HostStation)
+    → StandAll plant scans run
     → slice_get run.hosts.items at ≡ Some s → HostStandsBeside s run.ring
 host-stands-beside plant scans run at s all is =
     let p = host-at-place plant scans run at s all is in
     record {
-      ties = subst (λ (net : NetPlan). HostTies s.worker.node s.host (ring_side net) run.ring.history) (sym all.net)
-          (subst (λ (n : ℕ). HostTies n s.host (ring_side plant.net) run.ring.history) (sym p.stands.worker_node) p.stands.ties);
+      ties = subst (λ (net : NetPlan). HostTies s.worker.node s.host (ring_side net)
+          run.ring.history) (sym all.net)
+          (subst (λ (n : ℕ). HostTies n s.host (ring_side plant.net) run.ring.history)
+          (sym p.stands.worker_node) p.stands.ties);
       counts = p.stands.counts;
     }
 
 -- whoever holds the token and has an address is there
-token-by : (net : NetPlan) (history : List RingEntry) (n : ℕ) → 1 ≤ n → (ring_after net history).holder ≡ n → Holds net history n
+token-by : (net : NetPlan) (history : List RingEntry) (n : ℕ) → 1 ≤ n
+    → (ring_after net history).holder ≡ n → Holds net history n
 token-by net history n low holder = ⊎_elim
     (λ (there : (ring_node (ring_after net history) (ring_after net history).holder).here ≡ true).
-    record { holder = holder; here = ap (λ (k : ℕ). (ring_node (ring_after net history) k).here) (sym holder) ∙ there })
-    (λ (none : ((ring_after net history).holder ≡ 0) × ((k : ℕ) → (ring_node (ring_after net history) k).here ≡ false)).
+    record {
+      holder = holder;
+      here = ap (λ (k : ℕ). (ring_node (ring_after net history) k).here)
+          (sym holder) ∙ there;
+    })
+    (λ (none : ((ring_after net history).holder ≡ 0) ×
+    ((k : ℕ) → (ring_node (ring_after net history) k).here ≡ false)).
     absurd (let z = none.0 in omega (arith, z, holder, low)))
     (holder-there net history)
 
-pub has-token : (plant : Plant) (scans : ℕ) (run : Stations) (at : ℕ) (s : ControllerStation) → StandAll plant scans run
-    → slice_get run.controllers.items at ≡ Some s → (s.node == (ring_of run.ring).holder) ≡ true → HasToken s.worker.node run.ring
+pub has-token : (plant : Plant) (scans : ℕ) (run : Stations) (at : ℕ) (s : ControllerStation)
+    → StandAll plant scans run
+    → slice_get run.controllers.items at ≡ Some s → (s.node == (ring_of run.ring).holder) ≡ true
+    → HasToken s.worker.node run.ring
 has-token plant scans run at s all is holds =
     let p = at-place plant scans run at s all is in
-    let node = member-node plant all.sound p.plan.node (controller-member plant all.sound at p.plan p.plan_is) in
+    let node = member-node plant all.sound p.plan.node
+    (controller-member plant all.sound at p.plan p.plan_is) in
     let low = node.from in
     let worker : s.worker.node ≡ p.plan.node = p.stands.worker_node in
     token-by run.ring.net run.ring.history s.worker.node (omega (arith, low, worker))
     (sym (eqb-true s.node (ring_of run.ring).holder holds) ∙ (p.stands.node ∙ sym worker))
 
-pub host-has-token : (plant : Plant) (scans : ℕ) (run : Stations) (at : ℕ) (s : HostStation) → StandAll plant scans run
-    → slice_get run.hosts.items at ≡ Some s → (s.node == (ring_of run.ring).holder) ≡ true → HasToken s.worker.node run.ring
+pub host-has-token : (plant : Plant) (scans : ℕ) (run : Stations) (at : ℕ) (s : HostStation)
+    → StandAll plant scans run
+    → slice_get run.hosts.items at ≡ Some s → (s.node == (ring_of run.ring).holder) ≡ true
+    → HasToken s.worker.node run.ring
 host-has-token plant scans run at s all is holds =
     let p = host-at-place plant scans run at s all is in
-    let node = member-node plant all.sound p.plan.node (host-member plant all.sound at p.plan p.plan_is) in
+    let node = member-node plant all.sound p.plan.node
+    (host-member plant all.sound at p.plan p.plan_is) in
     let low = node.from in
     let worker : s.worker.node ≡ p.plan.node = p.stands.worker_node in
     token-by run.ring.net run.ring.history s.worker.node (omega (arith, low, worker))
@@ -94,60 +111,75 @@ host-has-token plant scans run at s all is holds =
 
 -- ---- the due step
 
-stepped-by : (v : ControllerIs) (due : Option _) → (made v due).history ≡ (made (controller_at v.fixed v.history) due).history
+stepped-by : (v : ControllerIs) (due : Option _)
+    → (made v due).history ≡ (made (controller_at v.fixed v.history) due).history
 stepped-by v None = refl
 stepped-by v (Some step) = refl
 
-stepped-is : (v : ControllerIs) (fixed : Fixed) → v.fixed ≡ fixed → (stepped v).history ≡ stepped_list fixed v.history
-stepped-is v fixed same = stepped-by v (due_step v) ∙ ap (λ (f : Fixed). stepped_list f v.history) same
+stepped-is : (v : ControllerIs) (fixed : Fixed) → v.fixed ≡ fixed
+    → (stepped v).history ≡ stepped_list fixed v.history
+stepped-is v fixed same = stepped-by v (due_step v) ∙ ap (λ (f : Fixed). stepped_list f v.history)
+    same
 
 module _ (old new : Stations) (at : ℕ) (s : ControllerStation) (w : ControllerIs)
     (is : slice_get old.controllers.items at ≡ Some s)
     (items : new.controllers.items ≡ set old.controllers.items at (record s { controller = w }))
     (hosts : new.hosts.items ≡ old.hosts.items) (ring : new.ring ≡ old.ring) (h : List Entry)
     (made-events : MadeEvents h s.controller w) where
-  pub scan-stands : (plant : Plant) (scans : ℕ) → StandAll plant scans old → StandAll plant scans new
+  pub scan-stands : (plant : Plant) (scans : ℕ) → StandAll plant scans old
+      → StandAll plant scans new
   scan-stands plant scans all =
       let t : ControllerStation = record s { controller = w } in
       let p = at-place plant scans old at s all is in
-      let it : StandsController plant scans old.ring.history p.plan t = stands-scans plant scans old.ring.history p.plan s w h made-events p.stands in
+      let it : StandsController plant scans old.ring.history p.plan t = stands-scans plant scans
+      old.ring.history p.plan s w h made-events p.stands in
       let same = ap (λ r. r.history) ring in
       stand-with plant scans old new at s t all is items hosts
       (subst (λ (l : List RingEntry). StandsController plant scans l p.plan t) (sym same) it)
       (ap (λ r. r.net) ring ∙ all.net)
-      (subst (λ (l : List RingEntry). Further (is_of p.plan.node) old.ring.history l) (sym same) (further-none (is_of p.plan.node) old.ring.history))
+      (subst (λ (l : List RingEntry). Further (is_of p.plan.node) old.ring.history l) (sym same)
+      (further-none (is_of p.plan.node) old.ring.history))
       (subst (IsLegalRing plant.net) (sym same) all.legal)
 
-  pub scan-joint : (plant : Plant) (scans : ℕ) → StandAll plant scans old → joint_of new ≡ with_list at (log_of s) h (joint_of old)
+  pub scan-joint : (plant : Plant) (scans : ℕ) → StandAll plant scans old
+      → joint_of new ≡ with_list at (log_of s) h (joint_of old)
   scan-joint plant scans all =
       let t : ControllerStation = record s { controller = w } in
       joint-is plant scans old new at s t all is items hosts refl
-      ∙ (λ i. record (with_list at (log_of s) (made-events.history_is i) (joint_of old)) { ring = (ring i).history })
+      ∙ (λ i. record (with_list at (log_of s) (made-events.history_is i) (joint_of old))
+      { ring = (ring i).history })
 
 pub step-did : (old new : Stations) (node at : ℕ) (s : ControllerStation) (w : ControllerIs)
-    → slice_get old.controllers.items at ≡ Some s → position (λ (s : ControllerStation). s.node == node) old.controllers.items ≡ Some at
-    → new.controllers.items ≡ set old.controllers.items at (record s { controller = w }) → new.hosts.items ≡ old.hosts.items → new.ring ≡ old.ring
-    → MadeEvents (stepped s.controller).history s.controller w → Did (λ plant scans. MakesTurn plant scans (Step node)) old new
+    → slice_get old.controllers.items at ≡ Some s
+    → position (λ (s : ControllerStation). s.node == node) old.controllers.items ≡ Some at
+    → new.controllers.items ≡ set old.controllers.items at (record s { controller = w })
+    → new.hosts.items ≡ old.hosts.items → new.ring ≡ old.ring
+    → MadeEvents (stepped s.controller).history s.controller w
+    → Did (λ plant scans. MakesTurn plant scans (Step node)) old new
 step-did old new node at s w is found items hosts ring events = record {
   stand = scan-stands old new at s w is items hosts ring (stepped s.controller).history events;
-  made = λ plant scans all. subst (λ (o : Option ℕ). MakesStep plant scans o (joint_of old) (joint_of new))
+  made = λ plant scans all. subst
+      (λ (o : Option ℕ). MakesStep plant scans o (joint_of old) (joint_of new))
       (sym found ∙ place-is plant scans old node all)
       (let p = at-place plant scans old at s all is in
       record {
         plan = p.plan;
         log = log_of s;
         is = is-at plant scans old new at s (record s { controller = w }) all is items hosts;
-        made = scan-joint old new at s w is items hosts ring (stepped s.controller).history events plant scans all
+        made = scan-joint old new at s w is items hosts ring (stepped s.controller).history events
+            plant scans all
             ∙ ap (λ (l : List Entry). with_list at (log_of s) l (joint_of old))
             (stepped-is s.controller (fixed_of plant scans p.plan) p.stands.fixed);
       });
 }
 
-pub no-step-did : (old : Stations) (node : ℕ) → position (λ (s : ControllerStation). s.node == node) old.controllers.items ≡ None
+pub no-step-did : (old : Stations) (node : ℕ)
+    → position (λ (s : ControllerStation). s.node == node) old.controllers.items ≡ None
     → Did (λ plant scans. MakesTurn plant scans (Step node)) old old
 no-step-did old node none = record {
   stand = λ plant scans all. all;
-  made = λ plant scans all. subst (λ (o : Option ℕ). MakesStep plant scans o (joint_of old) (joint_of old))
+  made = λ plant scans all. subst
+      (λ (o : Option ℕ). MakesStep plant scans o (joint_of old) (joint_of old))
       (sym none ∙ place-is plant scans old node all) refl;
 }
 
@@ -159,8 +191,10 @@ module _ (old new : Stations) (at : ℕ) (s t : ControllerStation)
     (hosts : new.hosts.items ≡ old.hosts.items)
     (stays : StaysStation s t old.ring new.ring)
     (further : Further (is_of s.worker.node) old.ring.history new.ring.history)
-    (left : (plant : Plant) (scans : ℕ) → StandAll plant scans old → t.left ≡ has_left old.ring.net new.ring.history s.worker.node)
-    (keeps : KeepsOn s.controller.fixed old.ring.net s.worker.node t.controller.history new.ring.history t.left) where
+    (left : (plant : Plant) (scans : ℕ) → StandAll plant scans old
+    → t.left ≡ has_left old.ring.net new.ring.history s.worker.node)
+    (keeps : KeepsOn s.controller.fixed old.ring.net s.worker.node t.controller.history
+    new.ring.history t.left) where
   pub own-stands : (plant : Plant) (scans : ℕ) → StandAll plant scans old → StandAll plant scans new
   own-stands plant scans all =
       let p = at-place plant scans old at s all is in
@@ -173,12 +207,16 @@ module _ (old new : Stations) (at : ℕ) (s t : ControllerStation)
         budget = ap (λ (w : WorkerIs). w.budget) stays.worker ∙ p.stands.budget;
         fixed = stays.fixed ∙ p.stands.fixed;
         legal = stays.legal;
-        standing = subst (λ (net : NetPlan). Standing t.worker (ram_side t.controller) t.controller.history (ring_side net) new.ring.history)
+        standing = subst (λ (net : NetPlan). Standing t.worker (plain_ram_side t.controller)
+            t.controller.history (ring_side net) new.ring.history)
             net stays.stands;
         left = left plant scans all ∙ (λ i. has_left (all.net i) new.ring.history (worker i));
-        keeps = subst (λ (f : Fixed). KeepsOn f plant.net p.plan.node t.controller.history new.ring.history t.left) p.stands.fixed
-            (subst (λ (net : NetPlan). KeepsOn s.controller.fixed net p.plan.node t.controller.history new.ring.history t.left) all.net
-            (subst (λ (n : ℕ). KeepsOn s.controller.fixed old.ring.net n t.controller.history new.ring.history t.left) worker keeps));
+        keeps = subst (λ (f : Fixed). KeepsOn f plant.net p.plan.node t.controller.history
+            new.ring.history t.left) p.stands.fixed
+            (subst (λ (net : NetPlan). KeepsOn s.controller.fixed net p.plan.node
+            t.controller.history new.ring.history t.left) all.net
+            (subst (λ (n : ℕ). KeepsOn s.controller.fixed old.ring.net n t.controller.history
+            new.ring.history t.left) worker keeps));
       })
       net
       (subst (λ (n : ℕ). Further (is_of n) old.ring.history new.ring.history) worker further)
@@ -186,19 +224,25 @@ module _ (old new : Stations) (at : ℕ) (s t : ControllerStation)
 
 pub hold-did : (old new : Stations) (at : ℕ) (s t : ControllerStation)
     → slice_get old.controllers.items at ≡ Some s
-    → position (λ (s : ControllerStation). s.node == (ring_of old.ring).holder) old.controllers.items ≡ Some at
+    → position (λ (s : ControllerStation). s.node == (ring_of old.ring).holder)
+    old.controllers.items ≡ Some at
     → new.controllers.items ≡ set old.controllers.items at t → new.hosts.items ≡ old.hosts.items
-    → s.worker.budget ≡ true → HeldController s t old.ring new.ring → Did (λ plant scans. MakesTurn plant scans Hold) old new
+    → s.worker.budget ≡ true → HeldController s t old.ring new.ring
+    → Did (λ plant scans. MakesTurn plant scans Hold) old new
 hold-did old new at s t is found items hosts budget held = record {
   stand = own-stands old new at s t is items hosts held.stays
-      (turn-ring s.controller.fixed old.ring.net s.worker.node s.controller.history t.controller.history old.ring.history new.ring.history t.left turn)
+      (turn-ring s.controller.fixed old.ring.net s.worker.node s.controller.history
+      t.controller.history old.ring.history new.ring.history t.left turn)
       (λ plant scans all. held.left) held.keeps;
   made = λ plant scans all.
       let p = at-place plant scans old at s all is in
       let holder : (ring_of old.ring).holder ≡ (ring_after plant.net old.ring.history).holder =
       ap (λ (net : NetPlan). (ring_after net old.ring.history).holder) all.net in
-      subst (λ (o : Option ℕ). MakesHold plant scans o (host_place plant (ring_after plant.net old.ring.history).holder) (joint_of old) (joint_of new))
-      (sym found ∙ (place-is plant scans old (ring_of old.ring).holder all ∙ ap (controller_place plant) holder))
+      subst (λ (o : Option ℕ). MakesHold plant scans o
+      (place_of_host plant (ring_after plant.net old.ring.history).holder) (joint_of old)
+      (joint_of new))
+      (sym found ∙ (place-is plant scans old (ring_of old.ring).holder all ∙ ap
+      (place_of_controller plant) holder))
       (record {
         plan = p.plan;
         log = log_of s;
@@ -206,18 +250,23 @@ hold-did old new at s t is found items hosts budget held = record {
         entries = t.controller.history;
         ring = new.ring.history;
         left = t.left;
-        turn = subst (λ (f : Fixed). HoldsTurn true true f plant.net p.plan.node true s.controller.history t.controller.history
+        turn = subst (λ (f : Fixed). HoldsTurn true true f plant.net p.plan.node true
+            s.controller.history t.controller.history
             old.ring.history new.ring.history t.left) p.stands.fixed
-            (subst (λ (net : NetPlan). HoldsTurn true true s.controller.fixed net p.plan.node true s.controller.history t.controller.history
+            (subst (λ (net : NetPlan). HoldsTurn true true s.controller.fixed net p.plan.node true
+            s.controller.history t.controller.history
             old.ring.history new.ring.history t.left) all.net
-            (subst (λ (n : ℕ). HoldsTurn true true s.controller.fixed old.ring.net n true s.controller.history t.controller.history
+            (subst (λ (n : ℕ). HoldsTurn true true s.controller.fixed old.ring.net n true
+            s.controller.history t.controller.history
             old.ring.history new.ring.history t.left) p.stands.worker_node turn));
         made = joint-is plant scans old new at s t all is items hosts held.stays.node;
       });
 } where
-  turn : HoldsTurn true true s.controller.fixed old.ring.net s.worker.node true s.controller.history t.controller.history
+  turn : HoldsTurn true true s.controller.fixed old.ring.net s.worker.node true s.controller.history
+      t.controller.history
       old.ring.history new.ring.history t.left
-  turn = subst (λ (b : Bool). HoldsTurn true true s.controller.fixed old.ring.net s.worker.node b s.controller.history t.controller.history
+  turn = subst (λ (b : Bool). HoldsTurn true true s.controller.fixed old.ring.net s.worker.node b
+      s.controller.history t.controller.history
       old.ring.history new.ring.history t.left) budget held.turn
 
 -- ---- a host's hold turn
@@ -227,14 +276,18 @@ module _ (old new : Stations) (at : ℕ) (s t : HostStation)
     (items : new.hosts.items ≡ set old.hosts.items at t)
     (controllers : new.controllers.items ≡ old.controllers.items)
     (budget : s.worker.budget ≡ true) (held : HeldHost s t old.ring new.ring) where
-  host-turn : HoldsHostTurn true old.ring.net s.worker.node s.host.plan true s.host.history t.host.history old.ring.history new.ring.history t.left
-  host-turn = subst (λ (b : Bool). HoldsHostTurn true old.ring.net s.worker.node s.host.plan b s.host.history t.host.history old.ring.history
+  host-turn : HoldsHostTurn true old.ring.net s.worker.node s.host.plan true s.host.history
+      t.host.history old.ring.history new.ring.history t.left
+  host-turn = subst (λ (b : Bool). HoldsHostTurn true old.ring.net s.worker.node s.host.plan b
+      s.host.history t.host.history old.ring.history
       new.ring.history t.left) budget held.turn
 
   pub host-further : Further (is_of s.worker.node) old.ring.history new.ring.history
-  host-further = host-turn-ring old.ring.net s.worker.node s.host.plan s.host.history t.host.history old.ring.history new.ring.history t.left host-turn
+  host-further = host-turn-ring old.ring.net s.worker.node s.host.plan s.host.history t.host.history
+      old.ring.history new.ring.history t.left host-turn
 
-  pub host-hold-stands : (plant : Plant) (scans : ℕ) → StandAll plant scans old → StandAll plant scans new
+  pub host-hold-stands : (plant : Plant) (scans : ℕ) → StandAll plant scans old
+      → StandAll plant scans new
   host-hold-stands plant scans all =
       let p = host-at-place plant scans old at s all is in
       let net : new.ring.net ≡ plant.net = held.net ∙ all.net in
@@ -246,19 +299,25 @@ module _ (old new : Stations) (at : ℕ) (s t : HostStation)
         worker_node = now;
         budget = held.budget ∙ p.stands.budget;
         plan_is = held.plan ∙ p.stands.plan_is;
-        ties = subst (λ (net : NetPlan). HostTies p.plan.node t.host (ring_side net) new.ring.history) net
-            (subst (λ (n : ℕ). HostTies n t.host (ring_side new.ring.net) new.ring.history) now held.stands.ties);
+        ties = subst (λ (net : NetPlan). HostTies p.plan.node t.host (ring_side net)
+            new.ring.history) net
+            (subst (λ (n : ℕ). HostTies n t.host (ring_side new.ring.net) new.ring.history) now
+            held.stands.ties);
         counts = held.stands.counts;
         left = held.left ∙ (λ i. has_left (all.net i) new.ring.history (worker i));
-        keeps = subst (λ (plan : HostPlan). HostKeepsOn plan plant.net t.host.history new.ring.history t.left) p.stands.plan_is
-            (subst (λ (net : NetPlan). HostKeepsOn s.host.plan net t.host.history new.ring.history t.left) all.net held.keeps);
+        keeps = subst (λ (plan : HostPlan). HostKeepsOn plan plant.net t.host.history
+            new.ring.history t.left) p.stands.plan_is
+            (subst (λ (net : NetPlan). HostKeepsOn s.host.plan net t.host.history new.ring.history
+            t.left) all.net held.keeps);
       })
       net
       (subst (λ (n : ℕ). Further (is_of n) old.ring.history new.ring.history) worker host-further)
       (subst (λ (net : NetPlan). IsLegalRing net new.ring.history) net held.ring_legal)
 
-  pub host-hold-did : position (λ (s : ControllerStation). s.node == (ring_of old.ring).holder) old.controllers.items ≡ None
-      → position (λ (s : HostStation). s.node == (ring_of old.ring).holder) old.hosts.items ≡ Some at
+  pub host-hold-did : position (λ (s : ControllerStation). s.node == (ring_of old.ring).holder)
+      old.controllers.items ≡ None
+      → position (λ (s : HostStation). s.node == (ring_of old.ring).holder) old.hosts.items ≡ Some
+      at
       → Did (λ plant scans. MakesTurn plant scans Hold) old new
   host-hold-did none found = record {
     stand = host-hold-stands;
@@ -266,10 +325,14 @@ module _ (old new : Stations) (at : ℕ) (s t : HostStation)
         let p = host-at-place plant scans old at s all is in
         let holder : (ring_of old.ring).holder ≡ (ring_after plant.net old.ring.history).holder =
         ap (λ (net : NetPlan). (ring_after net old.ring.history).holder) all.net in
-        subst (λ (o : Option ℕ). MakesHold plant scans o (host_place plant (ring_after plant.net old.ring.history).holder) (joint_of old) (joint_of new))
-        (sym none ∙ (place-is plant scans old (ring_of old.ring).holder all ∙ ap (controller_place plant) holder))
+        subst (λ (o : Option ℕ). MakesHold plant scans o
+        (place_of_host plant (ring_after plant.net old.ring.history).holder) (joint_of old)
+        (joint_of new))
+        (sym none ∙ (place-is plant scans old (ring_of old.ring).holder all ∙ ap
+        (place_of_controller plant) holder))
         (subst (λ (o : Option ℕ). MakesHold plant scans None o (joint_of old) (joint_of new))
-        (sym found ∙ (host-place-is plant scans old (ring_of old.ring).holder all ∙ ap (host_place plant) holder))
+        (sym found ∙ (host-place-is plant scans old (ring_of old.ring).holder all ∙ ap
+        (place_of_host plant) holder))
         (record {
           plan = p.plan;
           log = host_log_of s;
@@ -277,18 +340,23 @@ module _ (old new : Stations) (at : ℕ) (s t : HostStation)
           entries = t.host.history;
           ring = new.ring.history;
           left = t.left;
-          turn = subst (λ (plan : HostPlan). HoldsHostTurn true plant.net p.plan.node plan true s.host.history t.host.history
+          turn = subst (λ (plan : HostPlan). HoldsHostTurn true plant.net p.plan.node plan true
+              s.host.history t.host.history
               old.ring.history new.ring.history t.left) p.stands.plan_is
-              (subst (λ (net : NetPlan). HoldsHostTurn true net p.plan.node s.host.plan true s.host.history t.host.history
+              (subst (λ (net : NetPlan). HoldsHostTurn true net p.plan.node s.host.plan true
+              s.host.history t.host.history
               old.ring.history new.ring.history t.left) all.net
-              (subst (λ (n : ℕ). HoldsHostTurn true old.ring.net n s.host.plan true s.host.history t.host.history
+              (subst (λ (n : ℕ). HoldsHostTurn true old.ring.net n s.host.plan true s.host.history
+              t.host.history
               old.ring.history new.ring.history t.left) p.stands.worker_node host-turn));
           made = host-joint-is plant scans old new at s t all is items controllers held.node;
         }));
   }
 
 -- nobody holds the token
-pub no-hold-did : (old : Stations) → position (λ (s : ControllerStation). s.node == (ring_of old.ring).holder) old.controllers.items ≡ None
+pub no-hold-did : (old : Stations)
+    → position (λ (s : ControllerStation). s.node == (ring_of old.ring).holder)
+    old.controllers.items ≡ None
     → position (λ (s : HostStation). s.node == (ring_of old.ring).holder) old.hosts.items ≡ None
     → Did (λ plant scans. MakesTurn plant scans Hold) old old
 no-hold-did old none no-host = record {
@@ -296,10 +364,14 @@ no-hold-did old none no-host = record {
   made = λ plant scans all.
       let holder : (ring_of old.ring).holder ≡ (ring_after plant.net old.ring.history).holder =
       ap (λ (net : NetPlan). (ring_after net old.ring.history).holder) all.net in
-      subst (λ (o : Option ℕ). MakesHold plant scans o (host_place plant (ring_after plant.net old.ring.history).holder) (joint_of old) (joint_of old))
-      (sym none ∙ (place-is plant scans old (ring_of old.ring).holder all ∙ ap (controller_place plant) holder))
+      subst (λ (o : Option ℕ). MakesHold plant scans o
+      (place_of_host plant (ring_after plant.net old.ring.history).holder) (joint_of old)
+      (joint_of old))
+      (sym none ∙ (place-is plant scans old (ring_of old.ring).holder all ∙ ap
+      (place_of_controller plant) holder))
       (subst (λ (o : Option ℕ). MakesHold plant scans None o (joint_of old) (joint_of old))
-      (sym no-host ∙ (host-place-is plant scans old (ring_of old.ring).holder all ∙ ap (host_place plant) holder)) refl);
+      (sym no-host ∙ (host-place-is plant scans old (ring_of old.ring).holder all ∙ ap
+      (place_of_host plant) holder)) refl);
 }
 
 -- ---- a visit
@@ -315,74 +387,101 @@ not-true false is = refl
 module _ (old new : Stations) (at : ℕ) (s t : ControllerStation)
     (is : slice_get old.controllers.items at ≡ Some s)
     (items : new.controllers.items ≡ set old.controllers.items at t)
-    (hosts : new.hosts.items ≡ old.hosts.items) (visited : VisitedController s t old.ring new.ring) where
-  further-by : (b : Bool) → VisitedWhere b s t old.ring new.ring → Further (is_of s.worker.node) old.ring.history new.ring.history
-  further-by true v = visit-ring s.controller.fixed old.ring.net s.worker.node s.controller.history t.controller.history old.ring.history
-      new.ring.history v
-  further-by false v = subst (λ (l : List RingEntry). Further (is_of s.worker.node) old.ring.history l) (sym (ap (λ r. r.history) v.1))
-      (further-none (is_of s.worker.node) old.ring.history)
+    (hosts : new.hosts.items ≡ old.hosts.items) (visited : VisitedController s t old.ring new.ring)
+  where
+    further-by : (b : Bool) → VisitedWhere b s t old.ring new.ring
+        → Further (is_of s.worker.node) old.ring.history new.ring.history
+    further-by true v = visit-ring s.controller.fixed old.ring.net s.worker.node s.controller.history
+        t.controller.history old.ring.history
+        new.ring.history v
+    further-by false v = subst (λ (l : List RingEntry). Further (is_of s.worker.node) old.ring.history
+        l) (sym (ap (λ r. r.history) v.1))
+        (further-none (is_of s.worker.node) old.ring.history)
 
-  visit-further : Further (is_of s.worker.node) old.ring.history new.ring.history
-  visit-further = further-by (s.left && has_started s.controller) visited.visit
+    visit-further : Further (is_of s.worker.node) old.ring.history new.ring.history
+    visit-further = further-by (s.left && has_started s.controller) visited.visit
 
-  -- who had not left has not left now
-  left-still : (b : Bool) → (s.left && has_started s.controller) ≡ b → VisitedWhere b s t old.ring new.ring
-      → s.left ≡ has_left old.ring.net old.ring.history s.worker.node → s.left ≡ has_left old.ring.net new.ring.history s.worker.node
-  left-still false due v is-left = is-left ∙ ap (λ r. has_left old.ring.net r.history s.worker.node) (sym v.1)
-  left-still true due v is-left =
-      let s-left : s.left ≡ true = and-first s.left (has_started s.controller) due in
-      let here : (ring_node (ring_after old.ring.net old.ring.history) s.worker.node).here ≡ false = not-true _ (sym is-left ∙ s-left) in
-      s-left ∙ sym (ap not (ap (λ (l : List RingEntry). (ring_node (ring_after old.ring.net l) s.worker.node).here) visit-further.is
-      ∙ gone-stays old.ring.net old.ring.history visit-further.more s.worker.node here))
+    -- who had not left has not left now
+    left-still : (b : Bool) → (s.left && has_started s.controller) ≡ b
+        → VisitedWhere b s t old.ring new.ring
+        → s.left ≡ has_left old.ring.net old.ring.history s.worker.node
+        → s.left ≡ has_left old.ring.net new.ring.history s.worker.node
+    left-still false due v is-left = is-left ∙ ap (λ r. has_left old.ring.net r.history s.worker.node)
+        (sym v.1)
+    left-still true due v is-left =
+        let s-left : s.left ≡ true = and-first s.left (has_started s.controller) due in
+        let here : (ring_node (ring_after old.ring.net old.ring.history) s.worker.node).here ≡
+        false = not-true _ (sym is-left ∙ s-left) in
+        s-left ∙ sym (ap not (ap (λ (l : List RingEntry).
+        (ring_node (ring_after old.ring.net l) s.worker.node).here) visit-further.is
+        ∙ gone-stays old.ring.net old.ring.history visit-further.more s.worker.node here))
 
-  visit-left : (plant : Plant) (scans : ℕ) → StandAll plant scans old → t.left ≡ has_left old.ring.net new.ring.history s.worker.node
-  visit-left plant scans all =
-      let p = at-place plant scans old at s all is in
-      visited.left ∙ left-still (s.left && has_started s.controller) refl visited.visit
-      (p.stands.left ∙ (λ i. has_left (sym all.net i) old.ring.history (sym p.stands.worker_node i)))
+    visit-left : (plant : Plant) (scans : ℕ) → StandAll plant scans old
+        → t.left ≡ has_left old.ring.net new.ring.history s.worker.node
+    visit-left plant scans all =
+        let p = at-place plant scans old at s all is in
+        visited.left ∙ left-still (s.left && has_started s.controller) refl visited.visit
+        (p.stands.left ∙ (λ i. has_left (sym all.net i) old.ring.history
+        (sym p.stands.worker_node i)))
 
-  visits-by : (plant : Plant) (scans : ℕ) (all : StandAll plant scans old) (b : Bool) → VisitedWhere b s t old.ring new.ring
-      → VisitsWhere b plant scans at (at-place plant scans old at s all is).plan (log_of s) (joint_of old) (joint_of new)
-  visits-by plant scans all true v =
-      let p = at-place plant scans old at s all is in
-      record {
-        entries = t.controller.history;
-        ring = new.ring.history;
-        visit = subst (λ (f : Fixed). VisitsEnd true true f plant.net p.plan.node s.controller.history t.controller.history
-            old.ring.history new.ring.history) p.stands.fixed
-            (subst (λ (net : NetPlan). VisitsEnd true true s.controller.fixed net p.plan.node s.controller.history t.controller.history
-            old.ring.history new.ring.history) all.net
-            (subst (λ (n : ℕ). VisitsEnd true true s.controller.fixed old.ring.net n s.controller.history t.controller.history
-            old.ring.history new.ring.history) p.stands.worker_node v));
-        made = joint-is plant scans old new at s t all is items hosts visited.stays.node;
-      }
-  visits-by plant scans all false v =
-      let same : new.controllers.items ≡ old.controllers.items =
-      items ∙ (ap (set old.controllers.items at) v.0 ∙ set-there old.controllers.items at s is) in
-      λ i. record { controllers = map log_of (same i); hosts = map host_log_of (hosts i); ring = (v.1 i).history }
-
-  pub visit-did : (node : ℕ) → position (λ (s : ControllerStation). s.node == node) old.controllers.items ≡ Some at
-      → Did (λ plant scans. MakesTurn plant scans (Visit node)) old new
-  visit-did node found = record {
-    stand = own-stands old new at s t is items hosts visited.stays visit-further visit-left visited.keeps;
-    made = λ plant scans all. subst (λ (o : Option ℕ). MakesVisit plant scans o (joint_of old) (joint_of new))
-        (sym found ∙ place-is plant scans old node all)
-        (let p = at-place plant scans old at s all is in
-        let due : (s.left && has_started s.controller) ≡ visit_is_due plant scans p.plan s.controller.history old.ring.history =
-        λ i. p.stands.left i && has_started_at (p.stands.fixed i) s.controller.history in
+    visits-by : (plant : Plant) (scans : ℕ) (all : StandAll plant scans old) (b : Bool)
+        → VisitedWhere b s t old.ring new.ring
+        → VisitsWhere b plant scans at (at-place plant scans old at s all is).plan (log_of s)
+        (joint_of old) (joint_of new)
+    visits-by plant scans all true v =
+        let p = at-place plant scans old at s all is in
         record {
-          plan = p.plan;
-          log = log_of s;
-          is = is-at plant scans old new at s t all is items hosts;
-          visits = subst (λ (b : Bool). VisitsWhere b plant scans at p.plan (log_of s) (joint_of old) (joint_of new)) due
-              (visits-by plant scans all (s.left && has_started s.controller) visited.visit);
-        });
-  }
+          entries = t.controller.history;
+          ring = new.ring.history;
+          visit = subst (λ (f : Fixed). VisitsEnd true true f plant.net p.plan.node
+              s.controller.history t.controller.history
+              old.ring.history new.ring.history) p.stands.fixed
+              (subst (λ (net : NetPlan). VisitsEnd true true s.controller.fixed net p.plan.node
+              s.controller.history t.controller.history
+              old.ring.history new.ring.history) all.net
+              (subst (λ (n : ℕ). VisitsEnd true true s.controller.fixed old.ring.net n
+              s.controller.history t.controller.history
+              old.ring.history new.ring.history) p.stands.worker_node v));
+          made = joint-is plant scans old new at s t all is items hosts visited.stays.node;
+        }
+    visits-by plant scans all false v =
+        let same : new.controllers.items ≡ old.controllers.items =
+        items ∙ (ap (set old.controllers.items at) v.0 ∙ set-there old.controllers.items at s is) in
+        λ i. record {
+          controllers = map log_of (same i);
+          hosts = map host_log_of (hosts i);
+          ring = (v.1 i).history;
+        }
 
-pub no-visit-did : (old : Stations) (node : ℕ) → position (λ (s : ControllerStation). s.node == node) old.controllers.items ≡ None
+    pub visit-did : (node : ℕ) → position (λ (s : ControllerStation). s.node == node)
+        old.controllers.items ≡ Some at
+        → Did (λ plant scans. MakesTurn plant scans (Visit node)) old new
+    visit-did node found = record {
+      stand = own-stands old new at s t is items hosts visited.stays visit-further visit-left
+          visited.keeps;
+      made = λ plant scans all. subst
+          (λ (o : Option ℕ). MakesVisit plant scans o (joint_of old) (joint_of new))
+          (sym found ∙ place-is plant scans old node all)
+          (let p = at-place plant scans old at s all is in
+          let due : (s.left && has_started s.controller) ≡ visit_is_due plant scans p.plan
+          s.controller.history old.ring.history =
+          λ i. p.stands.left i && has_started_at (p.stands.fixed i) s.controller.history in
+          record {
+            plan = p.plan;
+            log = log_of s;
+            is = is-at plant scans old new at s t all is items hosts;
+            visits = subst (λ (b : Bool). VisitsWhere b plant scans at p.plan (log_of s)
+                (joint_of old) (joint_of new)) due
+                (visits-by plant scans all (s.left && has_started s.controller) visited.visit);
+          });
+    }
+
+pub no-visit-did : (old : Stations) (node : ℕ)
+    → position (λ (s : ControllerStation). s.node == node) old.controllers.items ≡ None
     → Did (λ plant scans. MakesTurn plant scans (Visit node)) old old
 no-visit-did old node none = record {
   stand = λ plant scans all. all;
-  made = λ plant scans all. subst (λ (o : Option ℕ). MakesVisit plant scans o (joint_of old) (joint_of old))
+  made = λ plant scans all. subst
+      (λ (o : Option ℕ). MakesVisit plant scans o (joint_of old) (joint_of old))
       (sym none ∙ place-is plant scans old node all) refl;
 }

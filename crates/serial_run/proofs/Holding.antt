@@ -27,70 +27,100 @@ use Rattle.serial_run.proofs.Measures.{controller-less, host-less, lessens, own-
 use Rattle.serial_run.proofs.Measures.{scans-with}
 use Rattle.serial_run.proofs.TurnsMade.{at-place, host-at-place}
 
-module _ (old new : Stations) (at : ℕ) (s t : ControllerStation) (is : slice_get old.controllers.items at ≡ Some s)
-    (items : new.controllers.items ≡ set old.controllers.items at t) (budget : s.worker.budget ≡ true)
+module _ (old new : Stations) (at : ℕ) (s t : ControllerStation)
+    (is : slice_get old.controllers.items at ≡ Some s)
+    (items : new.controllers.items ≡ set old.controllers.items at t)
+    (budget : s.worker.budget ≡ true)
     (held : HeldController s t old.ring new.ring) where
-  held-turn : HoldsTurn true true s.controller.fixed old.ring.net s.worker.node true s.controller.history t.controller.history
+  held-turn : HoldsTurn true true s.controller.fixed old.ring.net s.worker.node true
+      s.controller.history t.controller.history
       old.ring.history new.ring.history t.left
-  held-turn = subst (λ (b : Bool). HoldsTurn true true s.controller.fixed old.ring.net s.worker.node b s.controller.history t.controller.history
+  held-turn = subst (λ (b : Bool). HoldsTurn true true s.controller.fixed old.ring.net s.worker.node
+      b s.controller.history t.controller.history
       old.ring.history new.ring.history t.left) budget held.turn
 
   pub hold-scans : KeepScans old new
   hold-scans = scans-with old new at s t is items held.stays.fixed
-      (turn-known s.controller.fixed old.ring.net s.worker.node s.controller.history t.controller.history old.ring.history new.ring.history t.left held-turn)
+      (turn-known s.controller.fixed old.ring.net s.worker.node s.controller.history
+      t.controller.history old.ring.history new.ring.history t.left held-turn)
 
-pub hold-lessens : (plant : Plant) (scans : ℕ) (old new : Stations) (at : ℕ) (s t : ControllerStation) → StandAll plant scans old
-    → slice_get old.controllers.items at ≡ Some s → new.controllers.items ≡ set old.controllers.items at t → new.hosts.items ≡ old.hosts.items
+pub hold-lessens : (plant : Plant) (scans : ℕ) (old new : Stations) (at : ℕ)
+    (s t : ControllerStation) → StandAll plant scans old
+    → slice_get old.controllers.items at ≡ Some s
+    → new.controllers.items ≡ set old.controllers.items at t → new.hosts.items ≡ old.hosts.items
     → HasToken s.worker.node old.ring → HeldController s t old.ring new.ring → Lessens old new
 hold-lessens plant scans old new at s t all is items hosts token held =
     let p = at-place plant scans old at s all is in
     let n = s.worker.node in
     let turn = held-turn old new at s t is items p.stands.budget held in
     let node : n ≡ s.node = p.stands.worker_node ∙ sym p.stands.node in
-    let ended = turn-ended s.controller.fixed old.ring.net n s.controller.history t.controller.history old.ring.history new.ring.history t.left turn in
-    let further = turn-ring s.controller.fixed old.ring.net n s.controller.history t.controller.history old.ring.history new.ring.history t.left turn in
+    let ended = turn-ended s.controller.fixed old.ring.net n s.controller.history
+    t.controller.history old.ring.history new.ring.history t.left turn in
+    let further = turn-ring s.controller.fixed old.ring.net n s.controller.history
+    t.controller.history old.ring.history new.ring.history t.left turn in
     let was : s.left ≡ false =
-    p.stands.left ∙ ((λ i. has_left (sym all.net i) old.ring.history (sym p.stands.worker_node i)) ∙ ap not token.here) in
+    p.stands.left ∙ ((λ i. has_left (sym all.net i) old.ring.history (sym p.stands.worker_node i))
+    ∙ ap not token.here) in
     let less = own-turns old.ring new.ring n t.left s.left held.stays.net was
     (turn-less old.ring.net n old.ring.history new.ring.history t.left
-    (subst (λ (net : NetPlan). All (λ m. m < addresses) net.members) (sym all.net) (low-members plant all.sound))
-    (subst (λ (net : NetPlan). IsLegalRing net new.ring.history) held.stays.net held.stays.ring_legal) ended) in
-    lessens old new (controller-less plant scans old new at s t all is items hosts held.stays.net held.stays.node
+    (subst (λ (net : NetPlan). All (λ m. m < addresses) net.members) (sym all.net)
+    (low-members plant all.sound))
+    (subst (λ (net : NetPlan). IsLegalRing net new.ring.history) held.stays.net
+    held.stays.ring_legal) ended) in
+    lessens old new (controller-less plant scans old new at s t all is items hosts held.stays.net
+    held.stays.node
     (subst (λ (k : ℕ). Further (is_of k) old.ring.history new.ring.history) node further)
-    (subst (λ (k : ℕ). turns_of new.ring.net new.ring.history k t.left < turns_of old.ring.net old.ring.history k s.left) node less))
+    (subst (λ (k : ℕ). turns_of new.ring.net new.ring.history k t.left < turns_of old.ring.net
+    old.ring.history k s.left) node less))
 
-pub host-hold-lessens : (plant : Plant) (scans : ℕ) (old new : Stations) (at : ℕ) (s t : HostStation) → StandAll plant scans old
-    → slice_get old.hosts.items at ≡ Some s → new.hosts.items ≡ set old.hosts.items at t → new.controllers.items ≡ old.controllers.items
+pub host-hold-lessens : (plant : Plant) (scans : ℕ) (old new : Stations) (at : ℕ)
+    (s t : HostStation) → StandAll plant scans old
+    → slice_get old.hosts.items at ≡ Some s → new.hosts.items ≡ set old.hosts.items at t
+    → new.controllers.items ≡ old.controllers.items
     → HasToken s.worker.node old.ring → HeldHost s t old.ring new.ring → Lessens old new
 host-hold-lessens plant scans old new at s t all is items controllers token held =
     let p = host-at-place plant scans old at s all is in
     let n = s.worker.node in
-    let turn : HoldsHostTurn true old.ring.net n s.host.plan true s.host.history t.host.history old.ring.history new.ring.history t.left =
-    subst (λ (b : Bool). HoldsHostTurn true old.ring.net n s.host.plan b s.host.history t.host.history old.ring.history
+    let turn : HoldsHostTurn true old.ring.net n s.host.plan true s.host.history t.host.history
+    old.ring.history new.ring.history t.left =
+    subst (λ (b : Bool). HoldsHostTurn true old.ring.net n s.host.plan b s.host.history
+    t.host.history old.ring.history
     new.ring.history t.left) p.stands.budget held.turn in
     let node : n ≡ s.node = p.stands.worker_node ∙ sym p.stands.node in
-    let ended = host-turn-ended old.ring.net n s.host.plan s.host.history t.host.history old.ring.history new.ring.history t.left turn in
-    let further = host-turn-ring old.ring.net n s.host.plan s.host.history t.host.history old.ring.history new.ring.history t.left turn in
+    let ended = host-turn-ended old.ring.net n s.host.plan s.host.history t.host.history
+    old.ring.history new.ring.history t.left turn in
+    let further = host-turn-ring old.ring.net n s.host.plan s.host.history t.host.history
+    old.ring.history new.ring.history t.left turn in
     let was : s.left ≡ false =
-    p.stands.left ∙ ((λ i. has_left (sym all.net i) old.ring.history (sym p.stands.worker_node i)) ∙ ap not token.here) in
+    p.stands.left ∙ ((λ i. has_left (sym all.net i) old.ring.history (sym p.stands.worker_node i))
+    ∙ ap not token.here) in
     let less = own-turns old.ring new.ring n t.left s.left held.net was
     (turn-less old.ring.net n old.ring.history new.ring.history t.left
-    (subst (λ (net : NetPlan). All (λ m. m < addresses) net.members) (sym all.net) (low-members plant all.sound))
+    (subst (λ (net : NetPlan). All (λ m. m < addresses) net.members) (sym all.net)
+    (low-members plant all.sound))
     (subst (λ (net : NetPlan). IsLegalRing net new.ring.history) held.net held.ring_legal) ended) in
-    lessens old new (host-less plant scans old new at s t all is items controllers held.net held.node
+    lessens old new (host-less plant scans old new at s t all is items controllers held.net
+    held.node
     (subst (λ (k : ℕ). Further (is_of k) old.ring.history new.ring.history) node further)
-    (subst (λ (k : ℕ). turns_of new.ring.net new.ring.history k t.left < turns_of old.ring.net old.ring.history k s.left) node less))
+    (subst (λ (k : ℕ). turns_of new.ring.net new.ring.history k t.left < turns_of old.ring.net
+    old.ring.history k s.left) node less))
 
 -- a visit leaves all scans
-pub visit-scans : (old new : Stations) (at : ℕ) (s t : ControllerStation) → slice_get old.controllers.items at ≡ Some s
-    → new.controllers.items ≡ set old.controllers.items at t → VisitedController s t old.ring new.ring → KeepScans old new
-visit-scans old new at s t is items visited = by (s.left && has_started s.controller) visited.visit where
-  by : (b : Bool) → VisitedWhere b s t old.ring new.ring → KeepScans old new
-  by true v = scans-with old new at s t is items visited.stays.fixed
-      (visit-known s.controller.fixed old.ring.net s.worker.node s.controller.history t.controller.history old.ring.history new.ring.history v)
-  by false v = scans-same old new (items ∙ (ap (set old.controllers.items at) v.0 ∙ set-there old.controllers.items at s is))
+pub visit-scans : (old new : Stations) (at : ℕ) (s t : ControllerStation)
+    → slice_get old.controllers.items at ≡ Some s
+    → new.controllers.items ≡ set old.controllers.items at t
+    → VisitedController s t old.ring new.ring → KeepScans old new
+visit-scans old new at s t is items visited = by (s.left && has_started s.controller) visited.visit
+  where
+    by : (b : Bool) → VisitedWhere b s t old.ring new.ring → KeepScans old new
+    by true v = scans-with old new at s t is items visited.stays.fixed
+        (visit-known s.controller.fixed old.ring.net s.worker.node s.controller.history
+        t.controller.history old.ring.history new.ring.history v)
+    by false v = scans-same old new
+        (items ∙ (ap (set old.controllers.items at) v.0 ∙ set-there old.controllers.items at s is))
 
-pub knows-left : (plant : Plant) (scans : ℕ) (run : Stations) (at : ℕ) (s : ControllerStation) → StandAll plant scans run
+pub knows-left : (plant : Plant) (scans : ℕ) (run : Stations) (at : ℕ) (s : ControllerStation)
+    → StandAll plant scans run
     → slice_get run.controllers.items at ≡ Some s → KnowsLeft s run.ring
 knows-left plant scans run at s all is =
     let p = at-place plant scans run at s all is in

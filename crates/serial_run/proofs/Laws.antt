@@ -1,6 +1,5 @@
 -- The joint history of stations that stand is legal, and its lists keep the laws.
 use Rattle.std.proofs.Common.{ℕ, List, [], ◌∷◌, ◌++◌, map, refl, sym, subst, ◌∙◌, All}
-use Rattle.std.proofs.Common.{Result, Ok, Err, IfOk}
 use Rattle.std.specs.List.{AllZip}
 use Rattle.std.proofs.lemmas.List.Elements.{All-cons, All-nil}
 use Rattle.plant_types.specs.declared.net.HostPlan.{HostPlan}
@@ -24,55 +23,77 @@ use Rattle.serial_run.specs.Turns.{MakesTurn, MakesTurns}
 use Rattle.serial_run.specs.Stations.{StandAll, StandsController, StandsHost, host_log_of, joint_of}
 use Rattle.serial_run.specs.Stations.{log_of}
 
-zip-map : {A B C : Type 0} (R : A → B → Type 0) (S : A → C → Type 0) (g : B → C) (xs : List A) (ys : List B) → AllZip R xs ys
+zip-map : {A B C : Type 0} (R : A → B → Type 0) (S : A → C → Type 0) (g : B → C) (xs : List A)
+    (ys : List B) → AllZip R xs ys
     → ((x : A) (y : B) → R x y → S x (g y)) → AllZip S xs (map g ys)
 zip-map R S g [] [] all f = tt
 zip-map R S g [] (y ∷ ys) all f = absurd all
 zip-map R S g (x ∷ xs) [] all f = absurd all
 zip-map R S g (x ∷ xs) (y ∷ ys) all f = (f x y all.0, zip-map R S g xs ys all.1 f)
 
-zip-all : {A B C : Type 0} (R : A → B → Type 0) (P : C → Type 0) (g : B → C) (xs : List A) (ys : List B) → AllZip R xs ys
+zip-all : {A B C : Type 0} (R : A → B → Type 0) (P : C → Type 0) (g : B → C) (xs : List A)
+    (ys : List B) → AllZip R xs ys
     → ((x : A) (y : B) → R x y → P (g y)) → All P (map g ys)
 zip-all R P g [] [] all f = All-nil P
 zip-all R P g [] (y ∷ ys) all f = absurd all
 zip-all R P g (x ∷ xs) [] all f = absurd all
-zip-all R P g (x ∷ xs) (y ∷ ys) all f = All-cons P (g y) (map g ys) (f x y all.0) (zip-all R P g xs ys all.1 f)
+zip-all R P g (x ∷ xs) (y ∷ ys) all f = All-cons P (g y) (map g ys) (f x y all.0)
+    (zip-all R P g xs ys all.1 f)
 
-pub stand-legal : (plant : Plant) (scans : ℕ) (run : Stations) → StandAll plant scans run → IsLegalJoint plant scans (joint_of run)
+pub stand-legal : (plant : Plant) (scans : ℕ) (run : Stations) → StandAll plant scans run
+    → IsLegalJoint plant scans (joint_of run)
 stand-legal plant scans run all = record {
-  controllers = zip-map (StandsController plant scans run.ring.history) (IsLegalLog plant scans) log_of plant.controllers run.controllers.items
-      all.controllers (λ plan s st. (st.node, subst (λ (f : Fixed). IsLegal f s.controller.history) st.fixed st.legal));
-  hosts = zip-map (StandsHost plant run.ring.history) IsLegalHostLog host_log_of plant.hosts run.hosts.items all.hosts
-      (λ plan s st. (st.node, subst (λ (p : HostPlan). IsHostHistory p s.host.history) st.plan_is st.ties.legal));
+  controllers = zip-map (StandsController plant scans run.ring.history) (IsLegalLog plant scans)
+      log_of plant.controllers run.controllers.items
+      all.controllers (λ plan s st. (
+        st.node,
+        subst (λ (f : Fixed). IsLegal f s.controller.history)
+            st.fixed st.legal,
+      ));
+  hosts = zip-map (StandsHost plant run.ring.history) IsLegalHostLog host_log_of plant.hosts
+      run.hosts.items all.hosts
+      (λ plan s st. (
+        st.node,
+        subst (λ (p : HostPlan). IsHostHistory p s.host.history) st.plan_is
+            st.ties.legal,
+      ));
   ring = all.legal;
 }
 
-pub stand-joint : (plant : Plant) (scans : ℕ) (run : Stations) → StandAll plant scans run → IsJoint (joint_of run)
+pub stand-joint : (plant : Plant) (scans : ℕ) (run : Stations) → StandAll plant scans run
+    → IsJoint (joint_of run)
 stand-joint plant scans run all = record {
-  controllers = zip-all (StandsController plant scans run.ring.history) (IsTiedController run.ring.history) log_of plant.controllers
+  controllers = zip-all (StandsController plant scans run.ring.history)
+      (IsTiedController run.ring.history) log_of plant.controllers
       run.controllers.items all.controllers
-      (λ plan s st. subst (λ (n : ℕ). Tied AController (items_of s.controller.history) (own n run.ring.history))
+      (λ plan s st. subst (λ (n : ℕ). Tied AController (items_of s.controller.history)
+      (own n run.ring.history))
       (st.worker_node ∙ sym st.node) st.standing.tied);
-  hosts = zip-all (StandsHost plant run.ring.history) (IsTiedHost run.ring.history) host_log_of plant.hosts run.hosts.items all.hosts
-      (λ plan s st. subst (λ (n : ℕ). Tied AHost (host_items_of s.host.history) (own n run.ring.history)) (sym st.node) st.ties.tied);
+  hosts = zip-all (StandsHost plant run.ring.history) (IsTiedHost run.ring.history) host_log_of
+      plant.hosts run.hosts.items all.hosts
+      (λ plan s st. subst (λ (n : ℕ). Tied AHost (host_items_of s.host.history)
+      (own n run.ring.history)) (sym st.node) st.ties.tied);
 }
 
-pub stand-in-time : (plant : Plant) (scans : ℕ) (run : Stations) → StandAll plant scans run → StationsAreInTime (joint_of run)
+pub stand-in-time : (plant : Plant) (scans : ℕ) (run : Stations) → StandAll plant scans run
+    → StationsAreInTime (joint_of run)
 stand-in-time plant scans run all = record {
-  controllers = zip-all (StandsController plant scans run.ring.history) (IsControllerInTime run.ring.history) log_of plant.controllers
+  controllers = zip-all (StandsController plant scans run.ring.history)
+      (IsControllerInTime run.ring.history) log_of plant.controllers
       run.controllers.items all.controllers
-      (λ plan s st. subst (λ (n : ℕ). InTime s.controller.history (own n run.ring.history)) (sym st.node) st.keeps.timely.timely);
-  hosts = zip-all (StandsHost plant run.ring.history) (IsHostInTime run.ring.history) host_log_of plant.hosts run.hosts.items all.hosts
-      (λ plan s st. subst (λ (n : ℕ). HostInTime s.host.history (own n run.ring.history)) (sym st.node) st.keeps.timely.timely);
+      (λ plan s st. subst (λ (n : ℕ). InTime s.controller.history (own n run.ring.history))
+      (sym st.node) st.keeps.timely.timely);
+  hosts = zip-all (StandsHost plant run.ring.history) (IsHostInTime run.ring.history) host_log_of
+      plant.hosts run.hosts.items all.hosts
+      (λ plan s st. subst (λ (n : ℕ). HostInTime s.host.history (own n run.ring.history))
+      (sym st.node) st.keeps.timely.timely);
 }
 
 -- turns one after another, and one more
-pub one-more-turn : (plant : Plant) (scans : ℕ) (turns : List Turn) (turn : Turn) (first next last : Joint) → MakesTurns plant scans turns first next
+pub one-more-turn : (plant : Plant) (scans : ℕ) (turns : List Turn) (turn : Turn)
+    (first next last : Joint) → MakesTurns plant scans turns first next
     → MakesTurn plant scans turn next last → MakesTurns plant scans (turns ++ turn ∷ []) first last
-one-more-turn plant scans [] turn first next last made it = (last, subst (λ (j : Joint). MakesTurn plant scans turn j last) made it, refl)
+one-more-turn plant scans [] turn first next last made
+    it = (last, subst (λ (j : Joint). MakesTurn plant scans turn j last) made it, refl)
 one-more-turn plant scans (t ∷ turns) turn first next last made it =
     (made.0, made.1, one-more-turn plant scans turns turn made.0 next last made.2 it)
-
-pub if-ok : {T E : Type 0} {P Q : T → Type 0} (r : Result T E) → ((x : T) → P x → Q x) → IfOk r P → IfOk r Q
-if-ok (Ok x) f p = f x p
-if-ok (Err e) f p = p

@@ -17,3 +17,4 @@ pub mod Collecting
 pub mod Keeping
 pub mod Collected
 pub mod Finished
+pub mod Handed

@@ -26,7 +26,8 @@ use Rattle.joint_history.specs.Complete.{is_pass}
 use Rattle.turn_laws.proofs.Holders.{seen-set, seen-sent}
 
 -- a write of another node
-pub other-set : (nodes : List NodeIs) (m k : ℕ) (c : NodeIs) → m ≢ k → part_of (set nodes m c) k ≡ part_of nodes k
+pub other-set : (nodes : List NodeIs) (m k : ℕ) (c : NodeIs) → m ≢ k
+    → part_of (set nodes m c) k ≡ part_of nodes k
 other-set [] m k c e = refl
 other-set (d ∷ ds) zero zero c e = absurd (e refl)
 other-set (d ∷ ds) zero (suc k) c e = refl
@@ -34,14 +35,16 @@ other-set (d ∷ ds) (suc m) zero c e = refl
 other-set (d ∷ ds) (suc m) (suc k) c e = other-set ds m k c (λ is. e (omega (arith, is)))
 
 -- a write of the node
-pub same-set : (nodes : List NodeIs) (m : ℕ) (c : NodeIs) → m < length nodes → part_of (set nodes m c) m ≡ c
+pub same-set : (nodes : List NodeIs) (m : ℕ) (c : NodeIs) → m < length nodes
+    → part_of (set nodes m c) m ≡ c
 same-set [] m c low = absurd (omega arith)
 same-set (d ∷ ds) zero c low = refl
 same-set (d ∷ ds) (suc m) c low = same-set ds m c (omega arith)
 
 -- ---- how many Passes a node has made
 
-pub count-more : {X : Type 0} (p : X → Bool) (xs ys : List X) → count_by p (xs ++ ys) ≡ count_by p xs + count_by p ys
+pub count-more : {X : Type 0} (p : X → Bool) (xs ys : List X)
+    → count_by p (xs ++ ys) ≡ count_by p xs + count_by p ys
 count-more p xs ys = sum_by-append (λ x. cond (p x) 1 0) xs ys
 
 abbrev passes : RingIs → ℕ → ℕ
@@ -51,22 +54,30 @@ abbrev passed : ℕ → List RingEntry → ℕ
 passed n es = count_by is_pass (own n es)
 
 quiet-entry : (n m : ℕ) (e : RingEntry) → is_pass e ≡ false → passed n (e ∷ []) ≡ 0
-quiet-entry n m e no' = cond_both (maker e == n) (e ∷ []) [] (λ (es : List RingEntry). count_by is_pass es ≡ 0)
-    (λ _. let z : cond {A = ℕ} (is_pass e) 1 0 ≡ 0 = ap (λ (b : Bool). cond {A = ℕ} b 1 0) no' in omega arith) (λ _. refl)
+quiet-entry n m e no' = cond_both (maker e == n) (e ∷ []) []
+    (λ (es : List RingEntry). count_by is_pass es ≡ 0)
+    (λ _. let z : cond {A = ℕ} (is_pass e) 1 0 ≡ 0 = ap (λ (b : Bool). cond {A = ℕ} b 1 0) no' in
+    omega arith) (λ _. refl)
 
-passes-with : (nodes : List NodeIs) (holder sent m n : ℕ) (done : Bool) (words : List ℕ) → (m ≡ n → m < length nodes)
-    → (part_of (set nodes m (after_pass (part_of nodes m) done)) n).passes ≡ (part_of nodes n).passes + passed n (Pass m done words ∷ [])
+passes-with : (nodes : List NodeIs) (holder sent m n : ℕ) (done : Bool) (words : List ℕ)
+    → (m ≡ n → m < length nodes)
+    → (part_of (set nodes m (after_pass (part_of nodes m) done)) n).passes ≡
+    (part_of nodes n).passes + passed n (Pass m done words ∷ [])
 passes-with nodes holder sent m n done words low = ⊎_elim
     (λ (e : m ≡ n).
-    let counts : passed n (Pass m done words ∷ []) ≡ 1 = ap (λ (b : Bool). count_by is_pass (cond b (Pass m done words ∷ []) [])) (eq-eqb m n e) in
+    let counts : passed n (Pass m done words ∷ []) ≡ 1 = ap
+    (λ (b : Bool). count_by is_pass (cond b (Pass m done words ∷ []) [])) (eq-eqb m n e) in
     let it = same-set nodes m (after_pass (part_of nodes m) done) (low e) in
-    let there : (part_of (set nodes m (after_pass (part_of nodes m) done)) n).passes ≡ (part_of nodes n).passes + 1 =
+    let there : (part_of (set nodes m (after_pass (part_of nodes m) done)) n).passes ≡
+    (part_of nodes n).passes + 1 =
     ap (λ (k : ℕ). (part_of (set nodes m (after_pass (part_of nodes m) done)) k).passes) (sym e)
     ∙ (ap (λ (c : NodeIs). c.passes) it ∙ ap (λ (k : ℕ). (part_of nodes k).passes + 1) e) in
     there ∙ ap (λ (k : ℕ). (part_of nodes n).passes + k) (sym counts))
     (λ (other : m ≡ n → ⊥).
-    let counts : passed n (Pass m done words ∷ []) ≡ 0 = ap (λ (b : Bool). count_by is_pass (cond b (Pass m done words ∷ []) [])) (ne_eqb m n other) in
-    let it : (part_of (set nodes m (after_pass (part_of nodes m) done)) n).passes ≡ (part_of nodes n).passes =
+    let counts : passed n (Pass m done words ∷ []) ≡ 0 = ap
+    (λ (b : Bool). count_by is_pass (cond b (Pass m done words ∷ []) [])) (ne_eqb m n other) in
+    let it : (part_of (set nodes m (after_pass (part_of nodes m) done)) n).passes ≡
+    (part_of nodes n).passes =
     ap (λ (c : NodeIs). c.passes) (other-set nodes m n _ other) in
     omega (arith, counts, it))
     (cases_eq m n)
@@ -74,17 +85,24 @@ passes-with nodes holder sent m n done words low = ⊎_elim
 none-more : (a b k : ℕ) → a ≡ b → k ≡ 0 → a ≡ b + k
 none-more a b k is none = omega (arith, is, none)
 
-passes-after : (net : NetPlan) (past : List RingEntry) (r : RingIs) (n : ℕ) (e : RingEntry) → length r.nodes ≡ addresses
-    → All (λ m. m < addresses) net.members → IsRingStep net past e → passes (after net r e) n ≡ passes r n + passed n (e ∷ [])
+passes-after : (net : NetPlan) (past : List RingEntry) (r : RingIs) (n : ℕ) (e : RingEntry)
+    → length r.nodes ≡ addresses
+    → All (λ m. m < addresses) net.members → IsRingStep net past e
+    → passes (after net r e) n ≡ passes r n + passed n (e ∷ [])
 passes-after net past r n (Post m f) size low step =
-    none-more _ _ _ (ap (λ (p : Bool × ℕ). p.1) (seen-set r.nodes m n _ refl)) (quiet-entry n m (Post m f) refl)
+    none-more _ _ _ (ap (λ (p : Bool × ℕ). p.1) (seen-set r.nodes m n _ refl))
+    (quiet-entry n m (Post m f) refl)
 passes-after net past r n (Send m heard) size low step =
-    none-more _ _ _ (ap (λ (p : Bool × ℕ). p.1) (seen-sent net r m (ring_node r m).outbox n)) (quiet-entry n m (Send m heard) refl)
+    none-more _ _ _ (ap (λ (p : Bool × ℕ). p.1) (seen-sent net r m (ring_node r m).outbox n))
+    (quiet-entry n m (Send m heard) refl)
 passes-after net past r n (Take m f) size low step =
-    none-more _ _ _ (ap (λ (p : Bool × ℕ). p.1) (seen-set r.nodes m n _ refl)) (quiet-entry n m (Take m f) refl)
-passes-after net past r n (Local m id op result) size low step = none-more _ _ _ refl (quiet-entry n m (Local m id op result) refl)
+    none-more _ _ _ (ap (λ (p : Bool × ℕ). p.1) (seen-set r.nodes m n _ refl))
+    (quiet-entry n m (Take m f) refl)
+passes-after net past r n (Local m id op result) size low step = none-more _ _ _ refl
+    (quiet-entry n m (Local m id op result) refl)
 passes-after net past r n (GiveUp id word) size low step =
-    none-more _ _ _ (ap (λ (p : Bool × ℕ). p.1) (seen-set r.nodes id.node n _ refl)) (quiet-entry n id.node (GiveUp id word) refl)
+    none-more _ _ _ (ap (λ (p : Bool × ℕ). p.1) (seen-set r.nodes id.node n _ refl))
+    (quiet-entry n id.node (GiveUp id word) refl)
 passes-after net past r n (Pass m done words) size low step =
     let small : m < addresses = All-contains (λ k. k < addresses) net.members m low step.0 in
     passes-with r.nodes r.holder r.sent m n done words (λ _. omega (arith, size, small))
@@ -101,20 +119,25 @@ passes-after net past r n (Leave m cause) size low step =
       left-passes (d ∷ ds) (suc a) zero e = refl
       left-passes (d ∷ ds) (suc a) (suc b) e = left-passes ds a b (omega (arith, e))
 
-counted-from : (net : NetPlan) (n : ℕ) (past es : List RingEntry) → (k : ℕ) → IsSoundRing k (ring_after net past)
+counted-from : (net : NetPlan) (n : ℕ) (past es : List RingEntry) → (k : ℕ)
+    → IsSoundRing k (ring_after net past)
     → All (λ m. m < addresses) net.members → IsRun net past es
     → passes (ring_after net (past ++ es)) n ≡ passes (ring_after net past) n + passed n es
 counted-from net n past [] k sound low run =
-    none-more _ _ _ (ap (λ (l : List RingEntry). passes (ring_after net l) n) (append-nil past)) refl
+    none-more _ _ _ (ap (λ (l : List RingEntry). passes (ring_after net l) n) (append-nil past))
+    refl
 counted-from net n past (e ∷ es) k sound low run =
     let r = ring_after net past in
     let one : passes (ring_after net (past ++ e ∷ [])) n ≡ passes r n + passed n (e ∷ []) =
-    ap (λ (x : RingIs). passes x n) (next-ring net past e) ∙ passes-after net past r n e sound.size low run.0 in
+    ap (λ (x : RingIs). passes x n) (next-ring net past e) ∙ passes-after net past r n e sound.size
+    low run.0 in
     let now : IsSoundRing (k + 1) (ring_after net (past ++ e ∷ [])) =
     subst (IsSoundRing (k + 1)) (sym (next-ring net past e)) (after-sound net k r e sound) in
     let more = counted-from net n (past ++ e ∷ []) es (k + 1) now low run.1 in
-    let whole : passes (ring_after net (past ++ e ∷ es)) n ≡ passes (ring_after net ((past ++ e ∷ []) ++ es)) n =
-    ap (λ (l : List RingEntry). passes (ring_after net l) n) (sym (append_assoc past (e ∷ []) es)) in
+    let whole : passes (ring_after net (past ++ e ∷ es)) n ≡ passes
+    (ring_after net ((past ++ e ∷ []) ++ es)) n =
+    ap (λ (l : List RingEntry). passes (ring_after net l) n) (sym (append_assoc past (e ∷ []) es))
+    in
     let split : passed n (e ∷ es) ≡ passed n (e ∷ []) + passed n es = own-split (maker e == n) in
     omega (arith, one, more, whole, split) where
       own-split : (b : Bool) → count_by is_pass (cond b (e ∷ own n es) (own n es))
@@ -122,15 +145,18 @@ counted-from net n past (e ∷ es) k sound low run =
       own-split true = count-more is_pass (e ∷ []) (own n es)
       own-split false = omega arith
 
-opening-passes : (nodes : List NodeIs) (ms : List ℕ) (n : ℕ) → ((k : ℕ) → (part_of nodes k).passes ≡ 0) → (part_of (with_members nodes ms) n).passes ≡ 0
+opening-passes : (nodes : List NodeIs) (ms : List ℕ) (n : ℕ)
+    → ((k : ℕ) → (part_of nodes k).passes ≡ 0) → (part_of (with_members nodes ms) n).passes ≡ 0
 opening-passes nodes [] n none = none n
-opening-passes nodes (m ∷ ms) n none = opening-passes (set nodes m (fresh true)) ms n (zero-set nodes m none) where
-  zero-set : (ns : List NodeIs) (m : ℕ) → ((k : ℕ) → (part_of ns k).passes ≡ 0) → (k : ℕ) → (part_of (set ns m (fresh true)) k).passes ≡ 0
-  zero-set [] m z k = refl
-  zero-set (d ∷ ds) zero z zero = refl
-  zero-set (d ∷ ds) zero z (suc k) = z (suc k)
-  zero-set (d ∷ ds) (suc m) z zero = z 0
-  zero-set (d ∷ ds) (suc m) z (suc k) = zero-set ds m (λ j. z (suc j)) k
+opening-passes nodes (m ∷ ms) n none = opening-passes (set nodes m (fresh true)) ms n
+    (zero-set nodes m none) where
+      zero-set : (ns : List NodeIs) (m : ℕ) → ((k : ℕ) → (part_of ns k).passes ≡ 0) → (k : ℕ)
+          → (part_of (set ns m (fresh true)) k).passes ≡ 0
+      zero-set [] m z k = refl
+      zero-set (d ∷ ds) zero z zero = refl
+      zero-set (d ∷ ds) zero z (suc k) = z (suc k)
+      zero-set (d ∷ ds) (suc m) z zero = z 0
+      zero-set (d ∷ ds) (suc m) z (suc k) = zero-set ds m (λ j. z (suc j)) k
 
 fresh-passes : (size n : ℕ) → (part_of (replicate size (fresh false)) n).passes ≡ 0
 fresh-passes zero n = refl
@@ -138,10 +164,12 @@ fresh-passes (suc size) zero = refl
 fresh-passes (suc size) (suc n) = fresh-passes size n
 
 -- the Passes of a node are those of its list
-pub passes-counted : (net : NetPlan) (history : List RingEntry) (n : ℕ) → All (λ m. m < addresses) net.members → IsLegal net history
+pub passes-counted : (net : NetPlan) (history : List RingEntry) (n : ℕ)
+    → All (λ m. m < addresses) net.members → IsLegal net history
     → (ring_node (ring_after net history) n).passes ≡ count_by is_pass (own n history)
 passes-counted net history n low legal =
-    let start : passes (ring_after net []) n ≡ 0 = opening-passes (replicate addresses (fresh false)) net.members n (fresh-passes addresses) in
+    let start : passes (ring_after net []) n ≡ 0 = opening-passes
+    (replicate addresses (fresh false)) net.members n (fresh-passes addresses) in
     let all = counted-from net n [] history 0 (opening-sound net) low legal in
     omega (arith, start, all)
 
@@ -166,6 +194,8 @@ no-leave n es none = from-none es (none-by n es none) where
 pub here-stays : (net : NetPlan) (past more : List RingEntry) (n : ℕ) → own n more ≡ []
     → (ring_node (ring_after net (past ++ more)) n).here ≡ (ring_node (ring_after net past) n).here
 here-stays net past more n none = ⊎_elim
-    (λ (there : (ring_node (ring_after net past) n).here ≡ true). member-stays net past more n there (no-leave n more none) ∙ sym there)
-    (λ (left : (ring_node (ring_after net past) n).here ≡ false). ap (λ (c : NodeIs). c.here) (left-stays net past more n left (none-by n more none)))
+    (λ (there : (ring_node (ring_after net past) n).here ≡ true). member-stays net past more n there
+    (no-leave n more none) ∙ sym there)
+    (λ (left : (ring_node (ring_after net past) n).here ≡ false). ap (λ (c : NodeIs). c.here)
+    (left-stays net past more n left (none-by n more none)))
     (cases_Bool (ring_node (ring_after net past) n).here)

@@ -31,34 +31,41 @@ use Rattle.serial_run.specs.Scans.{LessensScan}
 use Rattle.controller_core.proofs.Keeping.{replay_more, scan_steps-more, scan_steps-quiet}
 use Rattle.controller_core.proofs.Keeping.{told_entry}
 use Rattle.controller_core.proofs.NextEntry.{stop_stays}
-use Rattle.serial_run.specs.Scans.{IsBetweenScans, KeepsScan}
+use Rattle.serial_run.specs.Scans.{IsBetweenScans, KeepsStepsLeft}
 
-drop-first : (n : ℕ) (xs : List ScanStep) (x : ScanStep) (rest : List ScanStep) → drop n xs ≡ x ∷ rest → drop (suc n) xs ≡ rest
+drop-first : (n : ℕ) (xs : List ScanStep) (x : ScanStep) (rest : List ScanStep)
+    → drop n xs ≡ x ∷ rest → drop (suc n) xs ≡ rest
 drop-first zero [] x rest is = absurd cc
 drop-first zero (y ∷ xs) x rest is = cc
 drop-first (suc n) [] x rest is = absurd cc
 drop-first (suc n) (y ∷ xs) x rest is = drop-first n xs x rest is
 
 -- what is left behind one more step
-left-more : (f : Fixed) (s : State) (h : List Entry) (step : ScanStep) (rest : List ScanStep) → left_of f h ≡ step ∷ rest
+left-more : (f : Fixed) (s : State) (h : List Entry) (step : ScanStep) (rest : List ScanStep)
+    → left_of f h ≡ step ∷ rest
     → left_of f (h ++ entry_of f s step ∷ []) ≡ rest
 left-more f s h step rest left =
     let more = scan_steps-more f s h step in
     let long : length (scan_steps (h ++ entry_of f s step ∷ [])) ≡ suc (length (scan_steps h)) =
     omega (arith, ap length more, length-append (scan_steps h) (step ∷ [])) in
-    ap (λ n. drop n (all_due f)) long ∙ drop-first (length (scan_steps h)) (all_due f) step rest left
+    ap (λ n. drop n (all_due f)) long ∙ drop-first (length (scan_steps h)) (all_due f) step rest
+    left
 
 entries-first : (f : Fixed) (s : State) (step : ScanStep) (rest : List ScanStep) → s.stop ≡ 0
-    → entries_from f s (step ∷ rest) ≡ entry_of f s step ∷ entries_from f (apply f s (entry_of f s step)) rest
+    → entries_from f s (step ∷ rest) ≡ entry_of f s step ∷ entries_from f
+    (apply f s (entry_of f s step)) rest
 unfolding entries_from
 entries-first f s step rest goes =
-    ap (λ n. if n == 0 then entry_of f s step ∷ entries_from f (apply f s (entry_of f s step)) rest else []) goes
+    ap (λ n. if n == 0 then entry_of f s step ∷ entries_from f (apply f s (entry_of f s step)) rest
+    else []) goes
 
-entries-none : (f : Fixed) (s : State) (due : List ScanStep) → (s.stop == 0) ≡ false → entries_from f s due ≡ []
+entries-none : (f : Fixed) (s : State) (due : List ScanStep) → (s.stop == 0) ≡ false
+    → entries_from f s due ≡ []
 unfolding entries_from
 entries-none f s [] stopped = refl
 entries-none f s (step ∷ rest) stopped =
-    ap (λ b. if b then entry_of f s step ∷ entries_from f (apply f s (entry_of f s step)) rest else []) stopped
+    ap (λ b. if b then entry_of f s step ∷ entries_from f (apply f s (entry_of f s step)) rest else
+    []) stopped
 
 entries-end : (f : Fixed) (s : State) → entries_from f s [] ≡ []
 unfolding entries_from
@@ -95,7 +102,8 @@ no-ends-row plan row = no-ends-both (input_steps plan row) (steps.Solve row ∷ 
 
 no-ends-rows : (plan : ControllerPlan) (rows : List ℕ) → NoEnds (flat_map (row_steps plan) rows)
 no-ends-rows plan [] = tt
-no-ends-rows plan (row ∷ rows) = no-ends-both (row_steps plan row) (flat_map (row_steps plan) rows) (no-ends-row plan row) (no-ends-rows plan rows)
+no-ends-rows plan (row ∷ rows) = no-ends-both (row_steps plan row) (flat_map (row_steps plan) rows)
+    (no-ends-row plan row) (no-ends-rows plan rows)
 
 due-once : (plan : ControllerPlan) (scan : ℕ) → EndsOnce (due plan scan)
 unfolding rows_from
@@ -107,7 +115,8 @@ due-once plan scan = record {
 
 -- ---- one step of a scan
 
-read-stop : (drops : List IoDrop) (drop : Option ℕ) (s : State) → (read_in drops drop s).stop ≡ s.stop
+read-stop : (drops : List IoDrop) (drop : Option ℕ) (s : State)
+    → (read_in drops drop s).stop ≡ s.stop
 read-stop drops None s = refl
 read-stop drops (Some d) s = refl
 
@@ -116,20 +125,25 @@ record Closes (step : ScanStep) (stop : ℕ) : Type 0 where
   pub over : closes_scan step stop ≡ true → stop ≢ 0
 
 goes-on : (step : ScanStep) (stop : ℕ) → closes_scan step stop ≡ false → stop ≡ 0 → Closes step stop
-goes-on step stop open' zero' = record { goes_on = λ _. zero'; over = λ is. absurd (let no' : false ≡ true = sym open' ∙ is in cc) }
+goes-on step stop open' zero' = record
+    { goes_on = λ _. zero'; over = λ is. absurd (let no' : false ≡ true = sym open' ∙ is in cc) }
 
-closes : (f : Fixed) (s : State) (step : ScanStep) → s.stop ≡ 0 → IsNoEnd step → Closes step (apply f s (entry_of f s step)).stop
+closes : (f : Fixed) (s : State) (step : ScanStep) → s.stop ≡ 0 → IsNoEnd step
+    → Closes step (apply f s (entry_of f s step)).stop
 closes f s steps.Begin zero' no' = goes-on steps.Begin _ refl zero'
-closes f s (steps.In row) zero' no' = goes-on (steps.In row) _ refl (read-stop f.plan.drops (input_of (row_of f.plan row)) s ∙ zero')
-closes f s (steps.Solve row) zero' no' = solved-closes (apply f s (entry_of f s (steps.Solve row))).stop where
-  solved-closes : (stop : ℕ) → Closes (steps.Solve row) stop
-  solved-closes stop = record {
-    goes_on = λ is. eqb-true stop 0 (twice (stop == 0) is);
-    over = λ is e. let t = eq-eqb stop 0 e in let no'' : false ≡ true = ap not (sym t) ∙ is in absurd (cc);
-  } where
-    twice : (b : Bool) → not b ≡ false → b ≡ true
-    twice true is = refl
-    twice false is = absurd (cc)
+closes f s (steps.In row) zero' no' = goes-on (steps.In row) _ refl
+    (read-stop f.plan.drops (input_of (row_of f.plan row)) s ∙ zero')
+closes f s (steps.Solve row) zero' no' = solved-closes
+    (apply f s (entry_of f s (steps.Solve row))).stop where
+      solved-closes : (stop : ℕ) → Closes (steps.Solve row) stop
+      solved-closes stop = record {
+        goes_on = λ is. eqb-true stop 0 (twice (stop == 0) is);
+        over = λ is e. let t = eq-eqb stop 0 e in let no'' : false ≡ true = ap not (sym t) ∙ is in
+            absurd (cc);
+      } where
+        twice : (b : Bool) → not b ≡ false → b ≡ true
+        twice true is = refl
+        twice false is = absurd (cc)
 closes f s (steps.Out row) zero' no' = goes-on (steps.Out row) _ refl zero'
 closes f s steps.End zero' no' = absurd no'
 
@@ -139,16 +153,19 @@ pub record InScan (target : List Entry) (v : ControllerIs) : Type 0 where
   pub next : ℕ
   pub many : ℕ
   pub runs : v.history ++ entries_from v.fixed (state_of v) rest ≡ target
-  pub left : (state_of v).stop ≡ 0 → left_of v.fixed v.history ≡ rest ++ scans_from v.fixed next many
+  pub left : (state_of v).stop ≡ 0
+      → left_of v.fixed v.history ≡ rest ++ scans_from v.fixed next many
   pub goes : v.reserved ≡ true → ((state_of v).stop ≡ 0) × EndsOnce rest
   pub over : v.reserved ≡ false → ((state_of v).stop ≢ 0) ⊎ (rest ≡ [])
 
-module _ (target : List Entry) (v : ControllerIs) (scan : InScan target v) (kept : v.reserved ≡ true) where
+module _ (target : List Entry) (v : ControllerIs) (scan : InScan target v)
+    (kept : v.reserved ≡ true) where
   stop-is : (state_of v).stop ≡ 0
   stop-is = (scan.goes kept).0
 
   made-runs : (step : ScanStep) (rest : List ScanStep) → scan.rest ≡ step ∷ rest
-      → (made v (Some step)).history ++ entries_from v.fixed (state_of (made v (Some step))) rest ≡ target
+      → (made v (Some step)).history ++ entries_from v.fixed (state_of (made v (Some step))) rest ≡
+      target
   made-runs step rest is =
       let f = v.fixed in
       let h = v.history in
@@ -161,17 +178,24 @@ module _ (target : List Entry) (v : ControllerIs) (scan : InScan target v) (kept
       ∙ (ap (λ (l : List ScanStep). h ++ entries_from f s l) (sym is) ∙ scan.runs)))
 
   made-left : (step : ScanStep) (rest : List ScanStep) → scan.rest ≡ step ∷ rest
-      → left_of v.fixed (made v (Some step)).history ≡ rest ++ scans_from v.fixed scan.next scan.many
+      → left_of v.fixed (made v (Some step)).history ≡ rest ++ scans_from v.fixed scan.next
+      scan.many
   made-left step rest is =
       left-more v.fixed (state_of v) v.history step (rest ++ scans_from v.fixed scan.next scan.many)
-      (scan.left stop-is ∙ ap (λ (l : List ScanStep). l ++ scans_from v.fixed scan.next scan.many) is)
+      (scan.left stop-is ∙ ap (λ (l : List ScanStep). l ++ scans_from v.fixed scan.next scan.many)
+      is)
 
-  made-stop : (step : ScanStep) → (state_of (made v (Some step))).stop ≡ (apply v.fixed (state_of v) (entry_of v.fixed (state_of v) step)).stop
-  made-stop step = ap (λ (t : State). t.stop) (replay_more v.fixed (start v.fixed.plan) v.history (entry_of v.fixed (state_of v) step))
+  made-stop : (step : ScanStep) → (state_of (made v (Some step))).stop ≡
+      (apply v.fixed (state_of v) (entry_of v.fixed (state_of v) step)).stop
+  made-stop step = ap (λ (t : State). t.stop)
+      (replay_more v.fixed (start v.fixed.plan) v.history (entry_of v.fixed (state_of v) step))
 
   made-kept : (step : ScanStep) → (made v (Some step)).reserved
-      ≡ not (closes_scan step (apply v.fixed (state_of v) (entry_of v.fixed (state_of v) step)).stop)
-  made-kept step = ap (λ b. b && not (closes_scan step (apply v.fixed (state_of v) (entry_of v.fixed (state_of v) step)).stop)) kept
+      ≡ not (closes_scan step (apply v.fixed (state_of v)
+      (entry_of v.fixed (state_of v) step)).stop)
+  made-kept step = ap (λ b. b && not
+      (closes_scan step (apply v.fixed (state_of v) (entry_of v.fixed (state_of v) step)).stop))
+      kept
 
   made-end : scan.rest ≡ steps.End ∷ [] → InScan target (made v (Some steps.End))
   made-end is = record {
@@ -184,7 +208,8 @@ module _ (target : List Entry) (v : ControllerIs) (scan : InScan target v) (kept
     over = λ _. inr refl;
   }
 
-  made-on : (step : ScanStep) (front : List ScanStep) → IsNoEnd step → NoEnds front → scan.rest ≡ step ∷ (front ++ steps.End ∷ [])
+  made-on : (step : ScanStep) (front : List ScanStep) → IsNoEnd step → NoEnds front
+      → scan.rest ≡ step ∷ (front ++ steps.End ∷ [])
       → InScan target (made v (Some step))
   made-on step front no' none is =
       let c = closes v.fixed (state_of v) step stop-is no' in
@@ -194,8 +219,13 @@ module _ (target : List Entry) (v : ControllerIs) (scan : InScan target v) (kept
         many = scan.many;
         runs = made-runs step (front ++ steps.End ∷ []) is;
         left = λ _. made-left step (front ++ steps.End ∷ []) is;
-        goes = λ on. (made-stop step ∙ c.goes_on (opened _ (sym (made-kept step) ∙ on)), record { front = front; none = none; is = refl });
-        over = λ off. inl (λ z. c.over (closed _ (sym (made-kept step) ∙ off)) (sym (made-stop step) ∙ z));
+        goes = λ on. (
+          made-stop step ∙ c.goes_on (opened _ (sym (made-kept step) ∙ on)),
+          record
+              { front = front; none = none; is = refl },
+        );
+        over = λ off. inl (λ z. c.over (closed _ (sym (made-kept step) ∙ off))
+            (sym (made-stop step) ∙ z));
       } where
         opened : (b : Bool) → not b ≡ true → b ≡ false
         opened true is = absurd (cc)
@@ -205,10 +235,12 @@ module _ (target : List Entry) (v : ControllerIs) (scan : InScan target v) (kept
         closed true is = refl
         closed false is = absurd (cc)
 
-  due-is : (step : ScanStep) (rest : List ScanStep) → scan.rest ≡ step ∷ rest → due_step v ≡ Some step
+  due-is : (step : ScanStep) (rest : List ScanStep) → scan.rest ≡ step ∷ rest
+      → due_step v ≡ Some step
   due-is step rest is =
       ap (λ n. if n == 0 then first_of (left_of v.fixed v.history) else None) stop-is
-      ∙ ap first_of (scan.left stop-is ∙ ap (λ (l : List ScanStep). l ++ scans_from v.fixed scan.next scan.many) is)
+      ∙ ap first_of (scan.left stop-is ∙ ap
+      (λ (l : List ScanStep). l ++ scans_from v.fixed scan.next scan.many) is)
 
   -- the scan goes on
   record Next : Type 0 where
@@ -220,23 +252,33 @@ module _ (target : List Entry) (v : ControllerIs) (scan : InScan target v) (kept
   next-by : (front : List ScanStep) → NoEnds front → scan.rest ≡ front ++ steps.End ∷ [] → Next
   next-by [] none is = record { step = steps.End; rest = []; is = is; within = made-end is }
   next-by (step ∷ front) none is =
-      record { step = step; rest = front ++ steps.End ∷ []; is = is; within = made-on step front none.0 none.1 is }
+      record {
+        step = step;
+        rest = front ++ steps.End ∷ [];
+        is = is;
+        within = made-on step front
+            none.0 none.1 is;
+      }
 
   the-next : Next
   the-next = let once = (scan.goes kept).1 in next-by once.front once.none once.is
 
   pub scan-goes-on : InScan target (stepped v)
-  scan-goes-on = subst (λ (due : Option ScanStep). InScan target (made v due)) (sym (due-is the-next.step the-next.rest the-next.is)) the-next.within
+  scan-goes-on = subst (λ (due : Option ScanStep). InScan target (made v due))
+      (sym (due-is the-next.step the-next.rest the-next.is)) the-next.within
 
   -- and less is left
-  pub scan-shorter : length (left_of (stepped v).fixed (stepped v).history) < length (left_of v.fixed v.history)
+  pub scan-shorter : length (left_of (stepped v).fixed (stepped v).history) < length
+      (left_of v.fixed v.history)
   scan-shorter =
       let n = the-next in
       let more = scans_from v.fixed scan.next scan.many in
       let old : left_of v.fixed v.history ≡ n.step ∷ (n.rest ++ more) =
       scan.left stop-is ∙ ap (λ (l : List ScanStep). l ++ more) n.is in
-      let new : left_of v.fixed (made v (Some n.step)).history ≡ n.rest ++ more = made-left n.step n.rest n.is in
-      let P : Option ScanStep → Type 0 = λ due. length (left_of (made v due).fixed (made v due).history) < length (left_of v.fixed v.history) in
+      let new : left_of v.fixed (made v (Some n.step)).history ≡ n.rest ++ more = made-left n.step
+      n.rest n.is in
+      let P : Option ScanStep → Type 0 = λ due. length
+      (left_of (made v due).fixed (made v due).history) < length (left_of v.fixed v.history) in
       let a = ap length old in
       let b = ap length new in
       subst P (sym (due-is n.step n.rest n.is)) (omega (arith, a, b))
@@ -244,16 +286,20 @@ module _ (target : List Entry) (v : ControllerIs) (scan : InScan target v) (kept
 -- ---- the ends of a scan
 
 -- behind the last step
-pub scan-over : (target : List Entry) (v : ControllerIs) → InScan target v → v.reserved ≡ false → v.history ≡ target
-scan-over target v scan off = sym (append-nil v.history) ∙ (ap (λ (l : List Entry). v.history ++ l) (sym nothing) ∙ scan.runs) where
-  is-not : (n : ℕ) → n ≢ 0 → (n == 0) ≡ false
-  is-not n other = ne_eqb n 0 other
+pub scan-over : (target : List Entry) (v : ControllerIs) → InScan target v → v.reserved ≡ false
+    → v.history ≡ target
+scan-over target v scan off = sym (append-nil v.history)
+    ∙ (ap (λ (l : List Entry). v.history ++ l) (sym nothing) ∙ scan.runs) where
+      is-not : (n : ℕ) → n ≢ 0 → (n == 0) ≡ false
+      is-not n other = ne_eqb n 0 other
 
-  nothing : entries_from v.fixed (state_of v) scan.rest ≡ []
-  nothing = ⊎_elim
-      (λ (stopped : (state_of v).stop ≢ 0). entries-none v.fixed (state_of v) scan.rest (is-not (state_of v).stop stopped))
-      (λ (none : scan.rest ≡ []). ap (entries_from v.fixed (state_of v)) none ∙ entries-end v.fixed (state_of v))
-      (scan.over off)
+      nothing : entries_from v.fixed (state_of v) scan.rest ≡ []
+      nothing = ⊎_elim
+          (λ (stopped : (state_of v).stop ≢ 0). entries-none v.fixed (state_of v) scan.rest
+          (is-not (state_of v).stop stopped))
+          (λ (none : scan.rest ≡ []). ap (entries_from v.fixed (state_of v)) none ∙ entries-end v.fixed
+          (state_of v))
+          (scan.over off)
 
 -- a controller that has not ended goes on
 pub open-stop : (v : ControllerIs) → has_ended v ≡ false → (state_of v).stop ≡ 0
@@ -261,11 +307,14 @@ open-stop v open' = by ((state_of v).stop == 0) refl where
   by : (b : Bool) → ((state_of v).stop == 0) ≡ b → (state_of v).stop ≡ 0
   by true is = eqb-true (state_of v).stop 0 is
   by false is =
-      let ended : has_ended v ≡ true = ap (λ b. is_none (if b then first_of (left_of v.fixed v.history) else None)) is in
+      let ended : has_ended v ≡ true = ap
+      (λ b. is_none (if b then first_of (left_of v.fixed v.history) else None)) is in
       let no' : true ≡ false = sym ended ∙ open' in absurd (cc)
 
-open-left : (v : ControllerIs) → has_ended v ≡ false → is_none (first_of (left_of v.fixed v.history)) ≡ false
-open-left v open' = sym (ap (λ n. is_none (if n == 0 then first_of (left_of v.fixed v.history) else None)) (open-stop v open')) ∙ open'
+open-left : (v : ControllerIs) → has_ended v ≡ false
+    → is_none (first_of (left_of v.fixed v.history)) ≡ false
+open-left v open' = sym (ap (λ n. is_none
+    (if n == 0 then first_of (left_of v.fixed v.history) else None)) (open-stop v open')) ∙ open'
 
 -- one whole scan is to come
 record Whole (v : ControllerIs) : Type 0 where
@@ -273,15 +322,18 @@ record Whole (v : ControllerIs) : Type 0 where
   pub many : ℕ
   pub left : left_of v.fixed v.history ≡ due v.fixed.plan next ++ scans_from v.fixed (next + 1) many
 
-whole-by : (v : ControllerIs) (next many : ℕ) → has_ended v ≡ false → left_of v.fixed v.history ≡ scans_from v.fixed next many → Whole v
+whole-by : (v : ControllerIs) (next many : ℕ) → has_ended v ≡ false
+    → left_of v.fixed v.history ≡ scans_from v.fixed next many → Whole v
 whole-by v next zero open' left =
-    let none : is_none (first_of (left_of v.fixed v.history)) ≡ true = ap (λ (l : List ScanStep). is_none (first_of l)) left in
+    let none : is_none (first_of (left_of v.fixed v.history)) ≡ true = ap
+    (λ (l : List ScanStep). is_none (first_of l)) left in
     let no' : true ≡ false = sym none ∙ open-left v open' in absurd (cc)
 whole-by v next (suc many) open' left = record { next = next; many = many; left = left }
 
 -- where a scan begins
 pub scan-begins : (v : ControllerIs) (scan : ℕ) → has_ended v ≡ false → IsBetweenScans v
-    → InScan (v.history ++ entries_from v.fixed (state_of v) (due v.fixed.plan scan)) (record v { reserved = true })
+    → InScan (v.history ++ entries_from v.fixed (state_of v) (due v.fixed.plan scan))
+    (record v { reserved = true })
 scan-begins v scan open' between =
     let w = whole-by v between.next between.many open' (between.left (open-stop v open')) in
     record {
@@ -296,23 +348,27 @@ scan-begins v scan open' between =
 
 -- ---- what the communication leaves of the scans
 
-pub quiet-scan : (v : ControllerIs) (added : List Entry) (reserved : Bool) → AreOf Communication added → KeepsScan v (grown v added reserved)
+pub quiet-scan : (v : ControllerIs) (added : List Entry) (reserved : Bool)
+    → AreOf Communication added → KeepsStepsLeft v (grown v added reserved)
 quiet-scan v added reserved of = record {
   fixed = refl;
-  left = ap (λ (l : List ScanStep). drop (length l) (all_due v.fixed)) (steps-stay v.history added of);
+  left = ap (λ (l : List ScanStep). drop (length l) (all_due v.fixed))
+      (steps-stay v.history added of);
   stop = stop_stays v added of;
 } where
-  steps-stay : (h added : List Entry) → AreOf Communication added → scan_steps (h ++ added) ≡ scan_steps h
+  steps-stay : (h added : List Entry) → AreOf Communication added
+      → scan_steps (h ++ added) ≡ scan_steps h
   steps-stay h [] of = ap scan_steps (append-nil h)
   steps-stay h (e ∷ added) of =
       ap scan_steps (sym (append_assoc h (e ∷ []) added))
       ∙ (steps-stay (h ++ e ∷ []) added of.1 ∙ scan_steps-quiet h e (told_entry e of.0).step)
 
-pub between-kept : (v w : ControllerIs) → KeepsScan v w → IsBetweenScans v → IsBetweenScans w
+pub between-kept : (v w : ControllerIs) → KeepsStepsLeft v w → IsBetweenScans v → IsBetweenScans w
 between-kept v w keeps b = record {
   next = b.next;
   many = b.many;
-  left = λ goes. keeps.left ∙ (b.left (sym keeps.stop ∙ goes) ∙ ap (λ (f : Fixed). scans_from f b.next b.many) (sym keeps.fixed));
+  left = λ goes. keeps.left ∙ (b.left (sym keeps.stop ∙ goes) ∙ ap
+      (λ (f : Fixed). scans_from f b.next b.many) (sym keeps.fixed));
 }
 
 -- ---- a scan that runs
@@ -322,13 +378,15 @@ pub record IsScanning (first v : ControllerIs) : Type 0 where
   pub events : List Entry
   pub went_on : WentOn Scan events first v
   pub no_more : length (left_of v.fixed v.history) ≤ length (left_of first.fixed first.history)
-  pub less : v.reserved ≡ false → length (left_of v.fixed v.history) < length (left_of first.fixed first.history)
+  pub less : v.reserved ≡ false → length (left_of v.fixed v.history) < length
+      (left_of first.fixed first.history)
 
 are-both : (xs ys : List Entry) → AreOf Scan xs → AreOf Scan ys → AreOf Scan (xs ++ ys)
 are-both [] ys a b = b
 are-both (x ∷ xs) ys a b = (a.0, are-both xs ys a.1 b)
 
-pub went-both : (xs ys : List Entry) (u v w : ControllerIs) → WentOn Scan xs u v → WentOn Scan ys v w → WentOn Scan (xs ++ ys) u w
+pub went-both : (xs ys : List Entry) (u v w : ControllerIs) → WentOn Scan xs u v
+    → WentOn Scan ys v w → WentOn Scan (xs ++ ys) u w
 went-both xs ys u v w a b = record {
   fixed = b.fixed ∙ a.fixed;
   history = b.history ∙ (ap (λ (l : List Entry). l ++ ys) a.history ∙ append_assoc u.history xs ys);
@@ -338,15 +396,19 @@ went-both xs ys u v w a b = record {
 
 -- the history with which a scan ends, where the controller goes on
 pub scan-target : (v : ControllerIs) → has_ended v ≡ false
-    → with_scan v.fixed v.history ≡ v.history ++ entries_from v.fixed (state_of v) (due v.fixed.plan ((state_of v).ended + 1))
+    → with_scan v.fixed v.history ≡ v.history ++ entries_from v.fixed (state_of v)
+    (due v.fixed.plan ((state_of v).ended + 1))
 scan-target v open' =
-    ap (λ b. if b then v.history else v.history ++ entries_from v.fixed (state_of v) (due v.fixed.plan ((state_of v).ended + 1))) open'
+    ap (λ b. if b then v.history else v.history ++ entries_from v.fixed (state_of v)
+    (due v.fixed.plan ((state_of v).ended + 1))) open'
 
-pub scanning-begins : (v w : ControllerIs) (events : List Entry) → has_ended v ≡ false → IsBetweenScans v → w ≡ record v { reserved = true }
+pub scanning-begins : (v w : ControllerIs) (events : List Entry) → has_ended v ≡ false
+    → IsBetweenScans v → w ≡ record v { reserved = true }
     → WentOn Scan events v w → IsScanning v w
 scanning-begins v w events open' between is went = record {
   within = subst (λ (target : List Entry). InScan target w) (sym (scan-target v open'))
-      (subst (InScan (v.history ++ entries_from v.fixed (state_of v) (due v.fixed.plan ((state_of v).ended + 1)))) (sym is)
+      (subst (InScan (v.history ++ entries_from v.fixed (state_of v)
+      (due v.fixed.plan ((state_of v).ended + 1)))) (sym is)
       (scan-begins v ((state_of v).ended + 1) open' between));
   events = events;
   went_on = went;
@@ -354,31 +416,40 @@ scanning-begins v w events open' between is went = record {
       let same : length (left_of w.fixed w.history) ≡ length (left_of v.fixed v.history) =
       ap (λ (u : ControllerIs). length (left_of u.fixed u.history)) is in
       omega (arith, same);
-  less = λ off. absurd (let no' : true ≡ false = sym (ap (λ (u : ControllerIs). u.reserved) is) ∙ off in cc);
+  less = λ off. absurd (let no' : true ≡ false = sym (ap (λ (u : ControllerIs). u.reserved) is)
+      ∙ off in cc);
 }
 
-pub scanning-shorter : (first v w : ControllerIs) → IsScanning first v → v.reserved ≡ true → w ≡ stepped v
+pub scanning-shorter : (first v w : ControllerIs) → IsScanning first v → v.reserved ≡ true
+    → w ≡ stepped v
     → length (left_of w.fixed w.history) < length (left_of v.fixed v.history)
 scanning-shorter first v w s kept is =
-    subst (λ (u : ControllerIs). length (left_of u.fixed u.history) < length (left_of v.fixed v.history)) (sym is)
+    subst (λ (u : ControllerIs). length (left_of u.fixed u.history) < length
+    (left_of v.fixed v.history)) (sym is)
     (scan-shorter (with_scan first.fixed first.history) v s.within kept)
 
-pub scanning-goes-on : (first v w : ControllerIs) (events : List Entry) → IsScanning first v → v.reserved ≡ true → w ≡ stepped v
+pub scanning-goes-on : (first v w : ControllerIs) (events : List Entry) → IsScanning first v
+    → v.reserved ≡ true → w ≡ stepped v
     → WentOn Scan events v w → IsScanning first w
 scanning-goes-on first v w events s kept is went = record {
-  within = subst (InScan (with_scan first.fixed first.history)) (sym is) (scan-goes-on (with_scan first.fixed first.history) v s.within kept);
+  within = subst (InScan (with_scan first.fixed first.history)) (sym is)
+      (scan-goes-on (with_scan first.fixed first.history) v s.within kept);
   events = s.events ++ events;
   went_on = went-both s.events events first v w s.went_on went;
-  no_more = let shorter = scanning-shorter first v w s kept is in let before = s.no_more in omega (arith, shorter, before);
-  less = λ off. let shorter = scanning-shorter first v w s kept is in let before = s.no_more in omega (arith, shorter, before);
+  no_more = let shorter = scanning-shorter first v w s kept is in let before = s.no_more in omega
+      (arith, shorter, before);
+  less = λ off. let shorter = scanning-shorter first v w s kept is in let before = s.no_more in
+      omega (arith, shorter, before);
 }
 
-pub scanning-made : (first v : ControllerIs) → IsScanning first v → v.reserved ≡ false → MadeEvents (with_scan first.fixed first.history) first v
+pub scanning-made : (first v : ControllerIs) → IsScanning first v → v.reserved ≡ false
+    → MadeEvents (with_scan first.fixed first.history) first v
 scanning-made first v s off = record {
   history_is = scan-over (with_scan first.fixed first.history) v s.within off;
   events = s.events;
   went_on = s.went_on;
 }
 
-pub scanning-lessens : (first v : ControllerIs) → IsScanning first v → v.reserved ≡ false → LessensScan first v
+pub scanning-lessens : (first v : ControllerIs) → IsScanning first v → v.reserved ≡ false
+    → LessensScan first v
 scanning-lessens first v s off = record { no_more = s.no_more; less = λ open'. s.less off }

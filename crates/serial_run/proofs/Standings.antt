@@ -31,21 +31,28 @@ use Rattle.joint_history.specs.JointLaws.{fixed_of}
 use Rattle.serial_run.proofs.Distinct.{low-members}
 use Rattle.serial_run.specs.declared.stations.ControllerStation.{ControllerStation}
 use Rattle.serial_run.specs.declared.stations.HostStation.{HostStation}
-use Rattle.serial_run.specs.Stations.{StandsController, StandsHost, MadeEvents, ram_side, ring_side}
+use Rattle.serial_run.specs.Stations.{StandsController, StandsHost, MadeEvents, plain_ram_side, ring_side}
 use Rattle.serial_run.proofs.Grown.{Further, others-own, others-left, others-none}
 
 -- ---- others have their turns
 
-comm-others : (plant : Plant) (w : WorkerIs) (v : ControllerIs) (n : ℕ) (old new : List RingEntry) → IsPlant plant → IsMember plant.net w.node → w.node ≢ n
-    → Further (is_of n) old new → IsLegalRing plant.net new → Standing w (ram_side v) v.history (ring_side plant.net) old
-    → Standing w (ram_side v) v.history (ring_side plant.net) new
+comm-others : (plant : Plant) (w : WorkerIs) (v : ControllerIs) (n : ℕ) (old new : List RingEntry)
+    → IsPlant plant → IsMember plant.net w.node → w.node ≢ n
+    → Further (is_of n) old new → IsLegalRing plant.net new
+    → Standing w (plain_ram_side v) v.history (ring_side plant.net) old
+    → Standing w (plain_ram_side v) v.history (ring_side plant.net) new
 comm-others plant w v n old new sound member other f legal s =
-    subst (Standing w (ram_side v) v.history (ring_side plant.net)) (sym f.is)
-    (standing-others w (ram_side v) v.history (ring_side plant.net) old f.more
-    (record { members = low-members plant sound; legal = subst (IsLegalRing plant.net) f.is legal; member = member })
+    subst (Standing w (plain_ram_side v) v.history (ring_side plant.net)) (sym f.is)
+    (standing-others w (plain_ram_side v) v.history (ring_side plant.net) old f.more
+    (record {
+      members = low-members plant sound;
+      legal = subst (IsLegalRing plant.net) f.is legal;
+      member = member;
+    })
     (others-none n w.node old new other f) s)
 
-ties-others : (net : NetPlan) (host : _) (m n : ℕ) (old new : List RingEntry) → m ≢ n → Further (is_of n) old new → IsLegalRing net new
+ties-others : (net : NetPlan) (host : _) (m n : ℕ) (old new : List RingEntry) → m ≢ n
+    → Further (is_of n) old new → IsLegalRing net new
     → HostTies m host (ring_side net) old → HostTies m host (ring_side net) new
 ties-others net host m n old new other f legal s =
     let same = others-own n m old new other f in
@@ -58,24 +65,31 @@ ties-others net host m n old new other f legal s =
       paths = subst (PathsAgree host.history) (sym same) s.paths;
     }
 
-pub stands-others : (plant : Plant) (scans n : ℕ) (old new : List RingEntry) (plan : ControllerPlan) (s : ControllerStation) → IsPlant plant
+pub stands-others : (plant : Plant) (scans n : ℕ) (old new : List RingEntry) (plan : ControllerPlan)
+    (s : ControllerStation) → IsPlant plant
     → IsMember plant.net plan.node → plan.node ≢ n
-    → Further (is_of n) old new → IsLegalRing plant.net new → StandsController plant scans old plan s → StandsController plant scans new plan s
+    → Further (is_of n) old new → IsLegalRing plant.net new
+    → StandsController plant scans old plan s → StandsController plant scans new plan s
 stands-others plant scans n old new plan s sound member other f legal st = record {
   node = st.node;
   worker_node = st.worker_node;
   budget = st.budget;
   fixed = st.fixed;
   legal = st.legal;
-  standing = comm-others plant s.worker s.controller n old new sound (subst (IsMember plant.net) (sym st.worker_node) member)
+  standing = comm-others plant s.worker s.controller n old new sound
+      (subst (IsMember plant.net) (sym st.worker_node) member)
       (λ e. other (sym st.worker_node ∙ e)) f legal st.standing;
   left = st.left ∙ sym (others-left plant.net n plan.node old new other f);
-  keeps = subst (λ (l : List RingEntry). KeepsOn (fixed_of plant scans plan) plant.net plan.node s.controller.history l s.left) (sym f.is)
-      (others (fixed_of plant scans plan) plant.net plan.node s.controller.history old f.more s.left (others-none n plan.node old new other f) st.keeps);
+  keeps = subst (λ (l : List RingEntry). KeepsOn (fixed_of plant scans plan) plant.net plan.node
+      s.controller.history l s.left) (sym f.is)
+      (others (fixed_of plant scans plan) plant.net plan.node s.controller.history old f.more s.left
+      (others-none n plan.node old new other f) st.keeps);
 }
 
-pub host-stands-others : (plant : Plant) (n : ℕ) (old new : List RingEntry) (plan : HostPlan) (s : HostStation) → plan.node ≢ n
-    → Further (is_of n) old new → IsLegalRing plant.net new → StandsHost plant old plan s → StandsHost plant new plan s
+pub host-stands-others : (plant : Plant) (n : ℕ) (old new : List RingEntry) (plan : HostPlan)
+    (s : HostStation) → plan.node ≢ n
+    → Further (is_of n) old new → IsLegalRing plant.net new → StandsHost plant old plan s
+    → StandsHost plant new plan s
 host-stands-others plant n old new plan s other f legal st = record {
   node = st.node;
   worker_node = st.worker_node;
@@ -85,8 +99,10 @@ host-stands-others plant n old new plan s other f legal st = record {
   counts = subst (λ (b : List RingEntry). s.worker.passes ≡ min (count_by is_pass b) 4294967295)
       (sym (others-own n s.worker.node old new (λ e. other (sym st.worker_node ∙ e)) f)) st.counts;
   left = st.left ∙ sym (others-left plant.net n plan.node old new other f);
-  keeps = subst (λ (l : List RingEntry). HostKeepsOn plan plant.net s.host.history l s.left) (sym f.is)
-      (host-others plan plant.net s.host.history old f.more s.left (others-none n plan.node old new other f) st.keeps);
+  keeps = subst (λ (l : List RingEntry). HostKeepsOn plan plant.net s.host.history l s.left)
+      (sym f.is)
+      (host-others plan plant.net s.host.history old f.more s.left
+      (others-none n plan.node old new other f) st.keeps);
 }
 
 -- ---- events of the scan
@@ -102,14 +118,20 @@ no-items (entries.Collect calls ∷ added) of = absurd (let is = of.0 in cc)
 no-items (entries.Peer id request reply ∷ added) of = absurd (let is = of.0 in cc)
 no-items (entries.Finish id result ∷ added) of = absurd (let is = of.0 in cc)
 
-comm-scans : (net : NetPlan) (worker : WorkerIs) (added : List Entry) (v w : ControllerIs) (ring : List RingEntry) → WentOn Scan added v w
-    → Standing worker (ram_side v) v.history (ring_side net) ring → Standing worker (ram_side w) w.history (ring_side net) ring
+comm-scans : (net : NetPlan) (worker : WorkerIs) (added : List Entry) (v w : ControllerIs)
+    (ring : List RingEntry) → WentOn Scan added v w
+    → Standing worker (plain_ram_side v) v.history (ring_side net) ring
+    → Standing worker (plain_ram_side w) w.history (ring_side net) ring
 comm-scans net worker added v w ring went s =
-    subst (λ (f : Fixed). Standing worker (record { fixed = f; place = tt }) w.history (ring_side net) ring) (sym went.fixed)
-    (subst (λ (h : List Entry). Standing worker (ram_side v) h (ring_side net) ring) (sym went.history)
-    (standing-scans worker (ram_side v) v.history added (ring_side net) ring (no-items added went.made) s))
+    subst (λ (f : Fixed). Standing worker (record { fixed = f; place = tt }) w.history
+    (ring_side net) ring) (sym went.fixed)
+    (subst (λ (h : List Entry). Standing worker (plain_ram_side v) h (ring_side net) ring)
+    (sym went.history)
+    (standing-scans worker (plain_ram_side v) v.history added (ring_side net) ring
+    (no-items added went.made) s))
 
-pub stands-scans : (plant : Plant) (scans : ℕ) (ring : List RingEntry) (plan : ControllerPlan) (s : ControllerStation) (w : ControllerIs)
+pub stands-scans : (plant : Plant) (scans : ℕ) (ring : List RingEntry) (plan : ControllerPlan)
+    (s : ControllerStation) (w : ControllerIs)
     (h : List Entry) → MadeEvents h s.controller w → StandsController plant scans ring plan s
     → StandsController plant scans ring plan (record s { controller = w })
 stands-scans plant scans ring plan s w h made st = record {
@@ -124,8 +146,11 @@ stands-scans plant scans ring plan s w h made st = record {
       let went = made.went_on in
       let fixed : w.fixed ≡ fixed_of plant scans plan = went.fixed ∙ st.fixed in
       let legal : IsLegal (fixed_of plant scans plan) (s.controller.history ++ made.events) =
-      subst (IsLegal (fixed_of plant scans plan)) went.history (subst (λ (f : Fixed). IsLegal f w.history) fixed went.legal) in
-      subst (λ (h : List Entry). KeepsOn (fixed_of plant scans plan) plant.net plan.node h ring s.left) (sym went.history)
-      (scans-keep (fixed_of plant scans plan) plant.net plan.node s.controller.history made.events ring s.left legal
+      subst (IsLegal (fixed_of plant scans plan)) went.history
+      (subst (λ (f : Fixed). IsLegal f w.history) fixed went.legal) in
+      subst (λ (h : List Entry). KeepsOn (fixed_of plant scans plan) plant.net plan.node h ring
+      s.left) (sym went.history)
+      (scans-keep (fixed_of plant scans plan) plant.net plan.node s.controller.history made.events
+      ring s.left legal
       (no-items made.events went.made) st.keeps);
 }

@@ -38,19 +38,29 @@ use Rattle.turn_laws.proofs.Holders.{member-there}
 nothing-host-tied : Tied AHost no_items []
 nothing-host-tied = record { asks = refl; peers = refl; port = refl; replies = refl; ends = refl }
 
-nobody-left : (plant : Plant) → IsPlant plant → (n : ℕ) → IsMember plant.net n → false ≡ has_left plant.net [] n
+nobody-left : (plant : Plant) → IsPlant plant → (n : ℕ) → IsMember plant.net n
+    → false ≡ has_left plant.net [] n
 nobody-left plant sound n member =
     let node = member-node plant sound n member in
     let to = node.to in
     ap not (sym (member-there plant.net n (omega arith) member))
 
-pub start-controller : (plant : Plant) (scans : ℕ) (plan : ControllerPlan) (v : ControllerIs) (w : WorkerIs) → IsPlant plant → IsMember plant.net plan.node
+pub start-controller : (plant : Plant) (scans : ℕ) (plan : ControllerPlan) (v : ControllerIs)
+    (w : WorkerIs) → IsPlant plant → IsMember plant.net plan.node
     → IsLegal (fixed_of plant scans plan) []
     → v ≡ record { fixed = fixed_of plant scans plan; history = []; reserved = false }
-    → w ≡ record { node = plan.node; net = plant.net; budget = true; waiting = replicate path_places None }
-    → StartsController plant scans plan (record { node = plan.node; controller = v; worker = w; left = false })
+    → w ≡ record {
+      node = plan.node;
+      net = plant.net;
+      budget = true;
+      waiting = replicate path_places
+          None;
+    }
+    → StartsController plant scans plan
+    (record { node = plan.node; controller = v; worker = w; left = false })
 start-controller plant scans plan v w sound member legal v-is w-is =
-    subst (λ (v : ControllerIs). StartsController plant scans plan (record { node = plan.node; controller = v; worker = w; left = false })) (sym v-is)
+    subst (λ (v : ControllerIs). StartsController plant scans plan
+    (record { node = plan.node; controller = v; worker = w; left = false })) (sym v-is)
     (subst (λ (w : WorkerIs). StartsController plant scans plan (record {
       node = plan.node;
       controller = record { fixed = fixed_of plant scans plan; history = []; reserved = false };
@@ -64,7 +74,9 @@ start-controller plant scans plan v w sound member legal v-is w-is =
         budget = refl;
         fixed = refl;
         legal = legal;
-        standing = standing-new plan.node plant.net true (record { fixed = fixed_of plant scans plan; place = tt }) [] (ring_side plant.net) refl refl tt refl;
+        standing = standing-new plan.node plant.net true
+            (record { fixed = fixed_of plant scans plan; place = tt }) [] (ring_side plant.net) refl
+            refl tt refl;
         left = nobody-left plant sound plan.node member;
         keeps = starts (fixed_of plant scans plan) plant.net plan.node [] refl;
       };
@@ -75,12 +87,21 @@ start-controller plant scans plan v w sound member legal v-is w-is =
 paths-agree : PathsAgree [] []
 paths-agree = record { waits = λ p. refl; numbers = λ p. refl }
 
-pub start-host : (plant : Plant) (plan : HostPlan) (v : HostIs) (w : HostWorkerIs) → IsPlant plant → IsMember plant.net plan.node
-    → IsHostHistory plan [] → v ≡ record { plan = plan; history = [] } → w ≡ record { node = plan.node; budget = true; passes = 0 }
+pub start-host : (plant : Plant) (plan : HostPlan) (v : HostIs) (w : HostWorkerIs) → IsPlant plant
+    → IsMember plant.net plan.node
+    → IsHostHistory plan [] → v ≡ record { plan = plan; history = [] }
+    → w ≡ record { node = plan.node; budget = true; passes = 0 }
     → StartsHost plant plan (record { node = plan.node; host = v; worker = w; left = false })
 start-host plant plan v w sound member legal v-is w-is =
-    subst (λ (v : HostIs). StartsHost plant plan (record { node = plan.node; host = v; worker = w; left = false })) (sym v-is)
-    (subst (λ (w : HostWorkerIs). StartsHost plant plan (record { node = plan.node; host = record { plan = plan; history = [] }; worker = w; left = false }))
+    subst (λ (v : HostIs). StartsHost plant plan
+    (record { node = plan.node; host = v; worker = w; left = false })) (sym v-is)
+    (subst (λ (w : HostWorkerIs). StartsHost plant plan
+    (record {
+      node = plan.node;
+      host = record { plan = plan; history = [] };
+      worker = w;
+      left = false;
+    }))
     (sym w-is)
     (record {
       stands = record {
@@ -105,32 +126,43 @@ start-host plant plan v w sound member legal v-is w-is =
 
 -- ---- all stations
 
-pub start-all : (plant : Plant) (scans : ℕ) (run : Stations) → IsPlant plant → run.ring ≡ record { net = plant.net; history = []; spare = 0 }
-    → StartControllers plant scans run.controllers.items → StartHosts plant run.hosts.items → Starts plant scans run
+pub start-all : (plant : Plant) (scans : ℕ) (run : Stations) → IsPlant plant
+    → run.ring ≡ record { net = plant.net; history = []; spare = 0 }
+    → StartControllers plant scans run.controllers.items → StartHosts plant run.hosts.items
+    → Starts plant scans run
 start-all plant scans run sound ring controllers hosts = record {
   stand = record {
     sound = sound;
     net = ap (λ r. r.net) ring;
     legal = subst (IsLegalRing plant.net) (sym history) tt;
-    controllers = subst (λ (l : List RingEntry). AllZip (StandsController plant scans l) plant.controllers run.controllers.items) (sym history)
-        (zip-other (StartsController plant scans) (StandsController plant scans []) plant.controllers run.controllers.items controllers
+    controllers = subst (λ (l : List RingEntry). AllZip (StandsController plant scans l)
+        plant.controllers run.controllers.items) (sym history)
+        (zip-other (StartsController plant scans) (StandsController plant scans [])
+        plant.controllers run.controllers.items controllers
         (λ k x y at-x at-y s. s.stands));
-    hosts = subst (λ (l : List RingEntry). AllZip (StandsHost plant l) plant.hosts run.hosts.items) (sym history)
-        (zip-other (StartsHost plant) (StandsHost plant []) plant.hosts run.hosts.items hosts (λ k x y at-x at-y s. s.stands));
+    hosts = subst (λ (l : List RingEntry). AllZip (StandsHost plant l) plant.hosts run.hosts.items)
+        (sym history)
+        (zip-other (StartsHost plant) (StandsHost plant []) plant.hosts run.hosts.items hosts
+        (λ k x y at-x at-y s. s.stands));
   };
   nothing =
-      let a = zip-same-map (StartsController plant scans) empty_log log_of plant.controllers run.controllers.items controllers
+      let a = zip-same-map (StartsController plant scans) empty_log log_of plant.controllers
+      run.controllers.items controllers
       (λ x y s. (λ i. record { node = s.stands.node i; entries = s.nothing i })) in
-      let b = zip-same-map (StartsHost plant) empty_host_log host_log_of plant.hosts run.hosts.items hosts
+      let b = zip-same-map (StartsHost plant) empty_host_log host_log_of plant.hosts run.hosts.items
+      hosts
       (λ x y s. (λ i. record { node = s.stands.node i; entries = s.nothing i })) in
       λ i. record { controllers = a i; hosts = b i; ring = history i };
-  between = zip-each (StartsController plant scans) (λ (s : ControllerStation). IsBetweenScans s.controller) plant.controllers run.controllers.items
+  between = zip-each (StartsController plant scans)
+      (λ (s : ControllerStation). IsBetweenScans s.controller) plant.controllers
+      run.controllers.items
       controllers (λ x y s. record {
         next = 1;
         many = y.controller.fixed.scans;
         left = λ goes. ap (λ (h : List Entry). left_of y.controller.fixed h) s.nothing;
       });
-  here = zip-each (StartsController plant scans) (λ (s : ControllerStation). s.left ≡ false) plant.controllers run.controllers.items
+  here = zip-each (StartsController plant scans) (λ (s : ControllerStation). s.left ≡ false)
+      plant.controllers run.controllers.items
       controllers (λ x y s. s.here);
 } where
   history : run.ring.history ≡ []

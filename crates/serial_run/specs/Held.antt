@@ -19,11 +19,11 @@ use Rattle.serial_run.specs.declared.stations.Stations.{Stations}
 use Rattle.serial_run.specs.Turns.{has_left}
 use Rattle.comm_port.specs.Worker.{IsMemberWorker}
 use Rattle.turn_laws.specs.KeepsOn.{HostKeepsOn, KeepsOn}
-use Rattle.serial_run.specs.Stations.{ram_side, ring_side}
+use Rattle.serial_run.specs.Stations.{plain_ram_side, ring_side}
 
 -- A controller's station beside the ring alone.
 abbrev pub StandsBeside : ControllerStation → RingLog → Type 0
-StandsBeside station ring = Standing station.worker (ram_side station.controller)
+StandsBeside station ring = Standing station.worker (plain_ram_side station.controller)
     station.controller.history (ring_side ring.net) ring.history
 
 -- A host's station beside the ring alone.

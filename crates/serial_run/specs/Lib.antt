@@ -3,3 +3,4 @@ pub mod Serial
 pub mod Scans
 pub mod Stations
 pub mod Held
+pub mod Over

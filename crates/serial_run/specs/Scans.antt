@@ -17,14 +17,14 @@ AreBetweenScans run =
     All (λ (station : ControllerStation). IsBetweenScans station.controller) run.controllers.items
 
 -- A controller has as many steps left as before, and it has stopped if it had.
-pub record KeepsScan (v w : ControllerIs) : Type 0 where
+pub record KeepsStepsLeft (v w : ControllerIs) : Type 0 where
   pub fixed : w.fixed ≡ v.fixed
   pub left : left_of w.fixed w.history ≡ left_of v.fixed v.history
   pub stop : (state_of w).stop ≡ (state_of v).stop
 
 abbrev pub KeepScans : Stations → Stations → Type 0
 KeepScans old new = AllZip
-    (λ (a b : ControllerStation). KeepsScan a.controller b.controller)
+    (λ (a b : ControllerStation). KeepsStepsLeft a.controller b.controller)
     old.controllers.items new.controllers.items
 
 -- How many steps are left to all controllers.

@@ -1,7 +1,7 @@
 -- The serial run of a plant. This project's own.
 use Rattle.std.specs.Prelude.{◌≡◌, ◌≢◌, ℕ, ◌+◌, Bool, true, false, not, if◌then◌else◌, List, []}
 use Rattle.std.specs.Prelude.{◌∷◌, ◌++◌, length, map, replicate}
-use Rattle.std.specs.List.{count_by, list_all, zip}
+use Rattle.std.specs.List.{count_by, list_all}
 use Rattle.plant_types.specs.declared.plan.ControllerPlan.{ControllerPlan}
 use Rattle.plant_types.specs.declared.plan.Plant.{Plant}
 use Rattle.ring_core.specs.declared.entry.RingEntry.{RingEntry}
@@ -12,7 +12,7 @@ use Rattle.controller_core.specs.Replay.{replay}
 use Rattle.controller_core.specs.Run.{entries_from}
 use Rattle.joint_history.specs.declared.joint.ControllerLog.{ControllerLog}
 use Rattle.joint_history.specs.declared.joint.Joint.{Joint}
-use Rattle.joint_history.specs.JointLaws.{fixed_of}
+use Rattle.joint_history.specs.JointLaws.{fixed_of, logged}
 use Rattle.joint_history.specs.Reading.{has_ended_at}
 use Rattle.serial_run.specs.declared.order.Turn.{Turn}
 use Rattle.serial_run.specs.declared.order.Turn.TheVariants.{Hold, Visit}
@@ -31,10 +31,6 @@ log_with_scan plant scans of = record {
   node = of.1.node;
   entries = with_scan (fixed_of plant scans of.0) of.1.entries;
 }
-
--- Each controller of a plant with its list.
-abbrev pub logged : Plant → Joint → List (ControllerPlan × ControllerLog)
-logged plant joint = zip plant.controllers joint.controllers
 
 -- Each controller that has not ended made a scan.
 abbrev pub scanned : Plant → ℕ → Joint → Joint

@@ -1,21 +1,25 @@
 -- What a run keeps of all stations of its plant. This project's own.
 use Rattle.std.specs.Prelude.{false, ◌≡◌, ℕ, true, List, map, None}
 use Rattle.std.specs.Prelude.{[]}
-use Rattle.std.specs.List.{AllZip}
+use Rattle.std.specs.List.{AllZip, count_by}
 use Rattle.plant_types.specs.declared.net.NetPlan.{NetPlan}
 use Rattle.plant_types.specs.declared.net.HostPlan.{HostPlan}
 use Rattle.plant_types.specs.declared.plan.ControllerPlan.{ControllerPlan}
 use Rattle.plant_types.specs.declared.plan.Plant.{Plant}
 use Rattle.plant_types.specs.Plans.{IsPlant}
+use Rattle.plant_types.specs.Store.{is_on}
 use Rattle.std.specs.List.{All}
 use Rattle.ring_core.specs.declared.entry.RingEntry.{RingEntry}
 use Rattle.ring_core.specs.Legal.{IsLegal as IsLegalRing}
 use Rattle.controller_core.specs.declared.entry.Entry.{Entry}
 use Rattle.controller_core.specs.declared.entry.Maker.TheVariants.{Scan}
-use Rattle.controller_core.specs.Controller.{ControllerIs, IsLegal, WentOn}
+use Rattle.controller_core.specs.declared.notes.Notes.{Notes}
+use Rattle.controller_core.specs.Controller.{ControllerIs, IsLegal, WentOn, store_of}
+use Rattle.controller_core.specs.Notes.{notes_of}
 use Rattle.joint_history.specs.declared.joint.ControllerLog.{ControllerLog}
 use Rattle.joint_history.specs.declared.joint.HostLog.{HostLog}
 use Rattle.joint_history.specs.declared.joint.Joint.{Joint}
+use Rattle.summary_text.specs.Coils.{all_coils}
 use Rattle.joint_history.specs.JointLaws.{fixed_of}
 use Rattle.comm_port.specs.Sides.{RamSideIs, RingSideIs}
 use Rattle.comm_port.specs.Worker.{Standing}
@@ -31,6 +35,14 @@ use Rattle.turn_laws.specs.KeepsOn.{HostKeepsOn, KeepsOn}
 abbrev pub log_of : ControllerStation → ControllerLog
 log_of station = record { node = station.node; entries = station.controller.history }
 
+-- What the controller of a station noted of its panel.
+abbrev pub station_notes : ControllerStation → Notes
+station_notes station = notes_of station.controller.fixed station.controller.history
+
+-- How many coils of a controller are on, by its plan and its station.
+abbrev pub station_coils : ControllerPlan × ControllerStation → ℕ
+station_coils of = count_by (is_on (store_of of.1.controller)) (all_coils of.0)
+
 abbrev pub host_log_of : HostStation → HostLog
 host_log_of station = record { node = station.node; entries = station.host.history }
 
@@ -43,8 +55,8 @@ joint_of run = record {
 }
 
 -- A controller and a ring as the sides of a worker, where nobody else writes.
-abbrev pub ram_side : ControllerIs → RamSideIs Unit
-ram_side controller = record { fixed = controller.fixed; place = tt }
+abbrev pub plain_ram_side : ControllerIs → RamSideIs Unit
+plain_ram_side controller = record { fixed = controller.fixed; place = tt }
 
 abbrev pub ring_side : NetPlan → RingSideIs Unit
 ring_side net = record { net = net; writer = None; place = tt }
@@ -57,7 +69,7 @@ pub record StandsController (plant : Plant) (scans : ℕ) (ring : List RingEntry
   pub budget : station.worker.budget ≡ true
   pub fixed : station.controller.fixed ≡ fixed_of plant scans plan
   pub legal : IsLegal station.controller.fixed station.controller.history
-  pub standing : Standing station.worker (ram_side station.controller)
+  pub standing : Standing station.worker (plain_ram_side station.controller)
       station.controller.history (ring_side plant.net) ring
   pub left : station.left ≡ has_left plant.net ring plan.node
   pub keeps : KeepsOn (fixed_of plant scans plan) plant.net plan.node station.controller.history

@@ -38,11 +38,11 @@ nothing_made plant = record {
 }
 
 -- The place of the controller of a node in its plant, and that of a host.
-abbrev pub controller_place : Plant → ℕ → Option ℕ
-controller_place plant node = position (λ plan. plan.node == node) plant.controllers
+abbrev pub place_of_controller : Plant → ℕ → Option ℕ
+place_of_controller plant node = position (λ plan. plan.node == node) plant.controllers
 
-abbrev pub host_place : Plant → ℕ → Option ℕ
-host_place plant node = position (λ plan. plan.node == node) plant.hosts
+abbrev pub place_of_host : Plant → ℕ → Option ℕ
+place_of_host plant node = position (λ plan. plan.node == node) plant.hosts
 
 -- The controller at a place has this plan and this list.
 pub record IsControllerAt (plant : Plant) (joint : Joint) (at : ℕ) (plan : ControllerPlan)
@@ -153,12 +153,12 @@ MakesVisit plant scans (Some at) old new = VisitsIfDue plant scans at old new
 -- A turn leads from one joint history to the next.
 abbrev pub MakesTurn : Plant → ℕ → Turn → Joint → Joint → Type 0
 MakesTurn plant scans (Step node) old new =
-    MakesStep plant scans (controller_place plant node) old new
+    MakesStep plant scans (place_of_controller plant node) old new
 MakesTurn plant scans Hold old new =
     let holder = (ring_after plant.net old.ring).holder in
-    MakesHold plant scans (controller_place plant holder) (host_place plant holder) old new
+    MakesHold plant scans (place_of_controller plant holder) (place_of_host plant holder) old new
 MakesTurn plant scans (Visit node) old new =
-    MakesVisit plant scans (controller_place plant node) old new
+    MakesVisit plant scans (place_of_controller plant node) old new
 
 -- Turns one after another.
 abbrev pub MakesTurns : Plant → ℕ → List Turn → Joint → Joint → Type 0

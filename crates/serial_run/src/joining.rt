@@ -1,26 +1,30 @@
 //! The joint history of stations whose run is over.
 ghost use Rattle.std.specs.Prelude.{◌≡◌, IfOk, map};
-ghost use Rattle.serial_run.specs.Stations.{joint_of, host_log_of, log_of};
+ghost use Rattle.serial_run.specs.Stations.{joint_of, host_log_of, log_of, station_notes};
 
 use crate::stations::{ControllerStation, HostStation, Stations};
-use joint_history::{ControllerLog, HostLog, Joint};
+use controller_core::Notes;
+use joint_history::{ControllerLog, HostLog, Joint, Noted};
 use plant_types::List;
 use std::alloc::{AllocError, Global};
 
+/// The histories of controllers, and what each noted of its panel.
 fn logs_of(
     alloc: Global,
     stations: Vec<ControllerStation>,
-) -> Result<List<ControllerLog>, AllocError>
-    ensures { IfOk result (λ logs. logs ≡ map log_of stations.items) }
+) -> Result<(List<ControllerLog>, List<Notes>), AllocError>
+    ensures logs { IfOk result (λ made. made.0 ≡ map log_of stations.items) }
+    ensures notes { IfOk result (λ made. made.1 ≡ map station_notes stations.items) }
 {
     let mut logs = Vec::new(alloc);
+    let mut notes = Vec::new(alloc);
     for station in stations {
-        logs.push(ControllerLog {
-            node: station.node,
-            entries: station.controller.into_history(),
-        })?;
+        let node = station.node;
+        let (entries, noted) = station.controller.into_parts();
+        logs.push(ControllerLog { node, entries })?;
+        notes.push(noted)?;
     }
-    Ok(List::from_vec(logs))
+    Ok((List::from_vec(logs), List::from_vec(notes)))
 }
 
 fn host_logs_of(alloc: Global, stations: Vec<HostStation>) -> Result<List<HostLog>, AllocError>
@@ -36,13 +40,18 @@ fn host_logs_of(alloc: Global, stations: Vec<HostStation>) -> Result<List<HostLo
     Ok(List::from_vec(logs))
 }
 
-/// The histories alone.
-pub(crate) fn joint_of(alloc: Global, run: Stations) -> Result<Joint, AllocError>
-    ensures { IfOk result (λ joint. joint ≡ joint_of run) }
+/// The histories, and what the controllers noted of their panels.
+pub(crate) fn noted_of(alloc: Global, run: Stations) -> Result<Noted, AllocError>
+    ensures joint { IfOk result (λ noted. noted.joint ≡ joint_of run) }
+    ensures notes { IfOk result (λ noted. noted.notes ≡ map station_notes run.controllers.items) }
 {
-    Ok(Joint {
-        controllers: logs_of(alloc, run.controllers)?,
-        hosts: host_logs_of(alloc, run.hosts)?,
-        ring: run.ring.into_history(),
-    })
+    let (controllers, notes) = logs_of(alloc, run.controllers)?;
+    let hosts = host_logs_of(alloc, run.hosts)?;
+    let ring = run.ring.into_history();
+    let joint = Joint {
+        controllers,
+        hosts,
+        ring,
+    };
+    Ok(Noted { joint, notes })
 }

@@ -1,6 +1,7 @@
 //! Runs of a plant in which one station after another has its turn.
 #![tactic(auto)]
 
+mod coils;
 mod joining;
 mod order;
 mod runs;
@@ -10,4 +11,4 @@ mod stations;
 mod turning;
 
 pub use order::Turn;
-pub use runs::{run, turns};
+pub use runs::{CountedRun, run, run_counted, run_noted, turns};

@@ -6,14 +6,17 @@ ghost use Rattle.joint_history.specs.Complete.{IsComplete};
 ghost use Rattle.joint_history.specs.JointLaws.{IsJoint, IsLegalJoint};
 ghost use Rattle.serial_run.specs.Turns.{IsTurns};
 ghost use Rattle.serial_run.specs.Serial.{IsSerial};
+ghost use Rattle.serial_run.specs.Over.{AreOver, IsCountedRun, IsNotedRun};
 ghost use Rattle.joint_history.specs.Runnable.{CanRunPlant};
 
-use crate::joining::joint_of;
+use crate::coils::coils_of;
+use crate::joining::noted_of;
 use crate::order::Turn;
 use crate::stations::Stations;
+use controller_core::notes_ask_no_scans;
 use effect_laws::effects_are_right;
 use entry_causes::joint_is_in_one_order;
-use joint_history::Joint;
+use joint_history::{Joint, Noted};
 use plant_types::Plant;
 use std::alloc::{AllocError, Global};
 use turn_laws::runs_complete;
@@ -35,12 +38,63 @@ pub fn turns(alloc: Global, plant: &Plant, scans: u32, order: &[Turn]) -> Result
     for turn in order {
         run.turn(*turn)?;
     }
-    joint_of(alloc, run)
+    let noted = noted_of(alloc, run)?;
+    Ok(noted.joint)
+}
+
+/// What a serial run hands over, with how many coils of all controllers are on at its end. This
+/// project's own.
+#[derive(Drop)]
+pub struct CountedRun {
+    pub noted: Noted,
+    pub coils: u128,
+}
+
+/// All stations of a plant behind its serial run.
+fn over(alloc: Global, plant: &Plant, scans: u32) -> Result<Stations, AllocError>
+    requires plant { CanRunPlant plant.now }
+    requires scans { scans ≤ 2000 }
+    ensures { IfOk result (AreOver plant.now scans) }
+{
+    runs_complete();
+    let mut run = Stations::new(alloc, plant, scans)?;
+    run.repeat(plant.net.rotations)?;
+    run.finish()?;
+    Ok(run)
 }
 
 /// The serial run: the controllers make their scans, each node has its turns, and at the end each
-/// leaves the ring. Gives what all stations and the ring noted. The only error is that memory ran
-/// out.
+/// leaves the ring. Gives what all stations and the ring noted, and what the controllers noted of
+/// their panels. The only error is that memory ran out.
+pub fn run_noted(alloc: Global, plant: &Plant, scans: u32) -> Result<Noted, AllocError>
+    requires plant { CanRunPlant plant.now }
+    requires scans { scans ≤ 2000 }
+    ensures { IfOk result (IsNotedRun plant.now scans) }
+{
+    effects_are_right();
+    joint_is_in_one_order();
+    notes_ask_no_scans();
+    let run = over(alloc, plant, scans)?;
+    noted_of(alloc, run)
+}
+
+/// What `run_noted` gives, with how many coils are on at the end of the run. The only error is that
+/// memory ran out.
+pub fn run_counted(alloc: Global, plant: &Plant, scans: u32) -> Result<CountedRun, AllocError>
+    requires plant { CanRunPlant plant.now }
+    requires scans { scans ≤ 2000 }
+    ensures { IfOk result (IsCountedRun plant.now scans) }
+{
+    effects_are_right();
+    joint_is_in_one_order();
+    notes_ask_no_scans();
+    let run = over(alloc, plant, scans)?;
+    let coils = coils_of(plant.controllers.as_slice(), run.controllers.as_slice());
+    let noted = noted_of(alloc, run)?;
+    Ok(CountedRun { noted, coils })
+}
+
+/// The joint history of `run_noted` alone.
 pub fn run(alloc: Global, plant: &Plant, scans: u32) -> Result<Joint, AllocError>
     requires plant { CanRunPlant plant.now }
     requires scans { scans ≤ 2000 }
@@ -51,11 +105,6 @@ pub fn run(alloc: Global, plant: &Plant, scans: u32) -> Result<Joint, AllocError
     ensures in_time { IfOk result IsInOneOrder }
     ensures complete { IfOk result (IsComplete plant.now scans) }
 {
-    effects_are_right();
-    runs_complete();
-    joint_is_in_one_order();
-    let mut run = Stations::new(alloc, plant, scans)?;
-    run.repeat(plant.net.rotations)?;
-    run.finish()?;
-    joint_of(alloc, run)
+    let noted = run_noted(alloc, plant, scans)?;
+    Ok(noted.joint)
 }

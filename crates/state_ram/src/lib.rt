@@ -6,6 +6,3 @@ mod bits;
 mod packed;
 
 pub use packed::PackedRam;
-
-#[cfg(test)]
-mod tests;

@@ -1,21 +1,15 @@
 -- The summary of a run: how much of each sort it has. All of it is this project's own.
-use Rattle.std.specs.Prelude.{codes, ℕ, Bool, true, false, List, [], ◌∷◌, ◌++◌, length, map}
+use Rattle.std.specs.Prelude.{codes, ℕ, Bool, true, false, List, [], ◌∷◌, ◌++◌, length}
 use Rattle.std.specs.Fmt.{decimal}
-use Rattle.std.specs.List.{count_by, flat_map, range_with_len, sum_by}
-use Rattle.plant_types.specs.declared.reference.Ref.{Ref}
-use Rattle.plant_types.specs.declared.reference.RefKind.TheVariants.{Coil}
-use Rattle.plant_types.specs.declared.plan.ControllerPlan.{ControllerPlan}
+use Rattle.std.specs.List.{count_by, flat_map, sum_by}
 use Rattle.plant_types.specs.declared.plan.Plant.{Plant}
-use Rattle.plant_types.specs.Store.{Contents, is_on}
 use Rattle.mstr_block.specs.declared.call.MstrResult.TheVariants as results
 use Rattle.controller_core.specs.declared.entry.Entry.{Entry}
 use Rattle.controller_core.specs.declared.entry.Entry.TheVariants as entries
-use Rattle.controller_core.specs.Replay.{replay}
 use Rattle.joint_history.specs.declared.joint.ControllerLog.{ControllerLog}
 use Rattle.joint_history.specs.declared.joint.Joint.{Joint}
 use Rattle.joint_history.specs.Complete.{is_pass}
-use Rattle.joint_history.specs.JointLaws.{fixed_of}
-use Rattle.panel_text.specs.Panel.{logged, most_scans}
+use Rattle.summary_text.specs.Coils.{coils_at_end}
 use Rattle.summary_text.specs.declared.counts.Counted.{Counted}
 use Rattle.summary_text.specs.declared.counts.Counted.TheVariants.{Solves, Peers, Good, Bad}
 
@@ -50,33 +44,18 @@ is_counted Bad = is_bad
 abbrev pub entries_that : (Entry → Bool) → List ControllerLog → ℕ
 entries_that such logs = sum_by (λ log. count_by such log.entries) logs
 
--- The coils of a controller, from 1 on.
-abbrev pub coil_at : ℕ → Ref
-coil_at number = record { kind = Coil; number = number }
-
-abbrev pub coils_of : ControllerPlan → List Ref
-coils_of plan = map coil_at (range_with_len 1 plan.coils)
-
--- What a controller's store holds where its log ends.
-abbrev pub store_at_end : Plant → ControllerPlan × ControllerLog → Contents
-store_at_end plant of = (replay (fixed_of plant most_scans of.0) of.1.entries).solving.map
-
--- How many coils of a controller are on there.
-abbrev pub coils_on : Plant → ControllerPlan × ControllerLog → ℕ
-coils_on plant of = count_by (is_on (store_at_end plant of)) (coils_of of.0)
-
 -- The counts of a joint history, each with its name: the controllers, the segments that they
 -- solved, the requests that they answered, their calls that ended well and badly, how often the
 -- token was passed on, and the coils that are on at the end.
-abbrev pub counts : Plant → Joint → List (List ℕ × ℕ)
-counts plant joint =
+abbrev pub run_counts : Plant → Joint → List (List ℕ × ℕ)
+run_counts plant joint =
     (codes "controllers", length joint.controllers)
     ∷ (codes "solves", entries_that is_solve joint.controllers)
     ∷ (codes "peers", entries_that is_peer joint.controllers)
     ∷ (codes "good", entries_that is_good joint.controllers)
     ∷ (codes "bad", entries_that is_bad joint.controllers)
     ∷ (codes "passes", count_by is_pass joint.ring)
-    ∷ (codes "coils", sum_by (coils_on plant) (logged plant joint)) ∷ []
+    ∷ (codes "coils", coils_at_end plant joint) ∷ []
 
 -- A line: a name and its count.
 abbrev pub count_line : List ℕ × ℕ → List ℕ
@@ -84,4 +63,4 @@ count_line count = count.0 ++ codes " " ++ decimal count.1 ++ codes "\n"
 
 -- The summary of a joint history: a line for each count.
 abbrev pub summary : Plant → Joint → List ℕ
-summary plant joint = flat_map count_line (counts plant joint)
+summary plant joint = flat_map count_line (run_counts plant joint)

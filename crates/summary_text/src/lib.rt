@@ -7,4 +7,5 @@ mod summary;
 #[cfg(test)]
 mod tests;
 
+pub use coils::coils_on;
 pub use summary::summary_text;

@@ -1,14 +1,12 @@
 //! The text of the summary.
 ghost use Rattle.std.specs.Prelude.{◌≡◌, ◌++◌, IfOk, OnOk, map, string_bytes};
 ghost use Rattle.std.specs.List.{flat_map};
-ghost use Rattle.joint_history.specs.JointLaws.{IsLegalJoint};
-ghost use Rattle.panel_text.specs.Panel.{CanRunAll, most_scans};
+ghost use Rattle.plant_types.specs.declared.plan.Plant.{Plant as AnyPlant};
+ghost use Rattle.summary_text.specs.Coils.{coils_at_end};
 ghost use Rattle.summary_text.specs.Summary.{count_line, summary};
 
-use crate::coils::coils_of_all;
 use crate::counts::{Counted, entries_that, passes_in};
 use joint_history::Joint;
-use plant_types::Plant;
 use std::alloc::{AllocError, Global};
 use std::fmt::Write;
 
@@ -25,11 +23,11 @@ fn push_counts(text: &mut String, counts: &[(&str, u128)]) -> Result<(), AllocEr
 
 /// The summary of a plant by what its stations noted, in seven lines: how many controllers it has,
 /// the segments that they solved, the requests that they answered, the calls of theirs that ended
-/// well and badly, how often the token was passed on, and how many coils are on at the end.
-pub fn summary_text(alloc: Global, plant: &Plant, joint: &Joint) -> Result<Vec<u8>, AllocError>
-    requires plant { CanRunAll plant.now }
-    requires joint { IsLegalJoint plant.now most_scans joint.now }
-    ensures { IfOk result (λ text. text.items ≡ summary plant.now joint.now) }
+/// well and badly, how often the token was passed on, and how many coils are on at the end, which
+/// the caller counted.
+pub fn summary_text(alloc: Global, joint: &Joint, coils: u128) -> Result<Vec<u8>, AllocError>
+    ensures { IfOk result (λ text. (plant : AnyPlant) → coils ≡ coils_at_end plant joint.now
+        → text.items ≡ summary plant joint.now) }
 {
     let logs = joint.controllers.as_slice();
     let counts = [
@@ -39,7 +37,7 @@ pub fn summary_text(alloc: Global, plant: &Plant, joint: &Joint) -> Result<Vec<u
         ("good", entries_that(Counted::Good, logs)),
         ("bad", entries_that(Counted::Bad, logs)),
         ("passes", passes_in(joint.ring.as_slice()) as u128),
-        ("coils", coils_of_all(alloc, plant, logs)?),
+        ("coils", coils),
     ];
     let mut text = String::new(alloc);
     push_counts(&mut text, &counts)?;

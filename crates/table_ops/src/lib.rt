@@ -9,6 +9,3 @@ mod searching;
 pub use moves::{block_move, reg_to_table, table_to_reg, table_to_table};
 pub use queues::{first_in, first_out};
 pub use searching::search;
-
-#[cfg(test)]
-mod tests;

@@ -7,7 +7,6 @@ use mstr_block::{CallId, MstrResult};
 use plant_types::{Block, List, Pdu, Words};
 use ring_core::{Frame, FrameKind, Heard, LeaveCause, LocalOp, RingEntry};
 use std::alloc::{AllocError, Global};
-use std::process::Abort;
 use std::test::Fail;
 
 /// Two controllers, of which one reads two registers of the other.
@@ -65,212 +64,280 @@ fn pdu(alloc: Global, bytes: &[u8]) -> Result<Pdu, Fail> {
     Ok(pdu.ok_or("a PDU has a byte")?)
 }
 
-fn list<T: Drop, const N: usize>(alloc: Global, items: [T; N]) -> Result<List<T>, AllocError> {
-    Ok(List::from_vec(Vec::from_array(alloc, items)?))
-}
-
-fn frame(alloc: Global, kind: FrameKind, to: u8, bytes: &[u8]) -> Result<Frame, Fail> {
-    Ok(Frame {
-        kind,
-        to,
-        id: id(2, 1, 1),
-        pdu: pdu(alloc, bytes)?,
-    })
-}
+// What follows is put into lists that are lent, so that a call that fails drops nothing.
 
 const READS: [u8; 5] = [3, 0, 0, 0, 2];
 
 const TELLS: [u8; 6] = [3, 4, 0, 42, 0, 43];
 
-fn reader(alloc: Global) -> Result<ControllerLog, Fail> {
-    let kind = CallKind::Net {
-        to: 5,
-        pdu: pdu(alloc, &READS)?,
-    };
-    let calls = list(
-        alloc,
-        [Call {
-            id: id(2, 1, 1),
-            kind,
-        }],
-    )?;
-    let entries = [
-        Entry::Begin,
-        Entry::Solve(1),
-        Entry::End,
-        Entry::Collect(calls),
-        Entry::Finish {
-            id: id(2, 1, 1),
-            result: MstrResult::Good(Block::of(&[42, 43])),
-        },
-    ];
-    Ok(ControllerLog {
-        node: 2,
-        entries: list(alloc, entries)?,
-    })
+/// Calls of a controller, and its entry for them.
+fn push_call(alloc: Global, calls: &mut List<Call>, to: u8, bytes: &[u8]) -> Result<(), Fail> {
+    let pdu = pdu(alloc, bytes)?;
+    let kind = CallKind::Net { to, pdu };
+    let id = id(2, 1, 1);
+    calls.push(Call { id, kind })?;
+    Ok(())
 }
 
-fn target(alloc: Global) -> Result<ControllerLog, Fail> {
-    let entries = [
-        Entry::Input(1),
-        Entry::Output {
-            row: 1,
-            words: Block::of(&[]),
-        },
-        Entry::Output {
-            row: 2,
-            words: Block::of(&[255, 0xabcd]),
-        },
-        Entry::Peer {
-            id: id(2, 1, 1),
-            request: pdu(alloc, &READS)?,
-            reply: pdu(alloc, &TELLS)?,
-        },
-    ];
-    Ok(ControllerLog {
-        node: 5,
-        entries: list(alloc, entries)?,
-    })
+fn push_own_call(calls: &mut List<Call>, seq: u32, op: LocalOp) -> Result<(), AllocError> {
+    let kind = CallKind::Local(op);
+    let id = id(3, 0, seq);
+    calls.push(Call { id, kind })
 }
 
-fn post(node: u8, frame: Frame) -> RingEntry {
-    RingEntry::Post { node, frame }
-}
-
-fn send(node: u8, heard: Heard) -> RingEntry {
-    RingEntry::Send { node, heard }
-}
-
-fn take(node: u8, frame: Frame) -> RingEntry {
-    RingEntry::Take { node, frame }
-}
-
-fn pass(node: u8, done: bool, words: Words) -> RingEntry {
-    RingEntry::Pass { node, done, words }
-}
-
-fn leave(node: u8, cause: LeaveCause) -> RingEntry {
-    RingEntry::Leave { node, cause }
-}
-
-fn turns(alloc: Global) -> Result<List<RingEntry>, Fail> {
-    let mut entries = List::new(alloc);
-    entries.push(post(2, frame(alloc, FrameKind::Request, 5, &READS)?))?;
-    entries.push(send(2, Heard::Acked))?;
-    entries.push(pass(2, false, Words::of(alloc, &[])?))?;
-    entries.push(take(5, frame(alloc, FrameKind::Request, 5, &READS)?))?;
-    entries.push(post(5, frame(alloc, FrameKind::Reply, 2, &TELLS)?))?;
-    entries.push(send(5, Heard::Silent))?;
-    entries.push(send(5, Heard::Busy))?;
-    entries.push(take(2, frame(alloc, FrameKind::Reply, 2, &TELLS)?))?;
-    entries.push(RingEntry::GiveUp {
-        id: id(2, 1, 2),
-        word: 0x6101,
-    })?;
-    entries.push(pass(2, true, Words::of(alloc, &[7, 8])?))?;
-    entries.push(leave(2, LeaveCause::Ended))?;
-    entries.push(leave(5, LeaveCause::Spent))?;
-    Ok(entries)
-}
-
-fn own_calls(alloc: Global) -> Result<List<Call>, Fail> {
+fn push_own_calls(alloc: Global, calls: &mut List<Call>) -> Result<(), AllocError> {
+    push_own_call(calls, 1, LocalOp::GetStats)?;
+    push_own_call(calls, 2, LocalOp::ClearStats)?;
     let words = Words::of(alloc, &[7, 8])?;
-    let ops = [
-        LocalOp::GetStats,
-        LocalOp::ClearStats,
-        LocalOp::PutGlobal(words),
-        LocalOp::GetGlobal {
-            node: 64,
-            length: 32,
-        },
-    ];
-    let mut calls = List::new(alloc);
-    let mut seq = 1;
-    for op in ops {
-        calls.push(Call {
-            id: id(3, 0, seq),
-            kind: CallKind::Local(op),
-        })?;
-        seq = seq.saturating_add(1);
-    }
-    Ok(calls)
+    push_own_call(calls, 3, LocalOp::PutGlobal(words))?;
+    let (node, length) = (64, 32);
+    push_own_call(calls, 4, LocalOp::GetGlobal { node, length })
 }
 
-fn asker(alloc: Global) -> Result<ControllerLog, Fail> {
-    let entries = [
-        Entry::Collect(own_calls(alloc)?),
-        Entry::Finish {
-            id: id(3, 0, 4),
-            result: MstrResult::Bad(0x200a),
-        },
-    ];
-    Ok(ControllerLog {
-        node: 3,
-        entries: list(alloc, entries)?,
+fn push_collect(alloc: Global, entries: &mut List<Entry>) -> Result<(), Fail> {
+    let mut calls = List::new(alloc);
+    push_call(alloc, &mut calls, 5, &READS)?;
+    entries.push(Entry::Collect(calls))?;
+    Ok(())
+}
+
+fn push_own_collect(alloc: Global, entries: &mut List<Entry>) -> Result<(), AllocError> {
+    let mut calls = List::new(alloc);
+    push_own_calls(alloc, &mut calls)?;
+    entries.push(Entry::Collect(calls))
+}
+
+fn push_finish(
+    entries: &mut List<Entry>,
+    id: CallId,
+    outcome: MstrResult,
+) -> Result<(), AllocError> {
+    entries.push(Entry::Finish {
+        id,
+        result: outcome,
     })
 }
 
-fn host(alloc: Global) -> Result<HostLog, Fail> {
-    let asked = pdu(alloc, &[3, 0, 0, 0, 1])?;
-    let told = pdu(alloc, &[3, 2, 0, 0])?;
+fn push_output(entries: &mut List<Entry>, row: u16, words: Block) -> Result<(), AllocError> {
+    entries.push(Entry::Output { row, words })
+}
+
+fn push_peer(alloc: Global, entries: &mut List<Entry>) -> Result<(), Fail> {
+    let id = id(2, 1, 1);
+    let request = pdu(alloc, &READS)?;
+    let reply = pdu(alloc, &TELLS)?;
+    entries.push(Entry::Peer { id, request, reply })?;
+    Ok(())
+}
+
+/// The entries of the controllers: of one that reads, of the one that it reads, and of one that
+/// asks its own port.
+fn push_reader(alloc: Global, entries: &mut List<Entry>) -> Result<(), Fail> {
+    entries.push(Entry::Begin)?;
+    entries.push(Entry::Solve(1))?;
+    entries.push(Entry::End)?;
+    push_collect(alloc, entries)?;
+    let words = Block::of(&[42, 43]);
+    push_finish(entries, id(2, 1, 1), MstrResult::Good(words))?;
+    Ok(())
+}
+
+fn push_target(alloc: Global, entries: &mut List<Entry>) -> Result<(), Fail> {
+    entries.push(Entry::Input(1))?;
+    push_output(entries, 1, Block::of(&[]))?;
+    push_output(entries, 2, Block::of(&[255, 0xabcd]))?;
+    push_peer(alloc, entries)
+}
+
+fn push_asker(alloc: Global, entries: &mut List<Entry>) -> Result<(), Fail> {
+    push_own_collect(alloc, entries)?;
+    push_finish(entries, id(3, 0, 4), MstrResult::Bad(0x200a))?;
+    Ok(())
+}
+
+/// The entries of a host.
+fn push_ask(alloc: Global, entries: &mut List<HostEntry>) -> Result<(), Fail> {
+    let pdu = pdu(alloc, &[3, 0, 0, 0, 1])?;
+    let id = id(10, 1, 1);
+    entries.push(HostEntry::Ask { id, to: 2, pdu })?;
+    Ok(())
+}
+
+fn push_answers(alloc: Global, entries: &mut List<HostEntry>) -> Result<(), Fail> {
+    let result = HostResult::Reply(pdu(alloc, &[3, 2, 0, 0])?);
+    let first = id(10, 1, 1);
+    entries.push(HostEntry::Answer { id: first, result })?;
+    let result = HostResult::Bad(0x6103);
+    let second = id(10, 1, 2);
+    entries.push(HostEntry::Answer { id: second, result })?;
+    Ok(())
+}
+
+fn push_served(alloc: Global, entries: &mut List<HostEntry>) -> Result<(), Fail> {
+    let id = id(2, 4, u32::MAX);
     let request = pdu(alloc, &[1])?;
     let reply = pdu(alloc, &[0x81, 1])?;
-    let entries = [
-        HostEntry::Ask {
-            id: id(10, 1, 1),
-            to: 2,
-            pdu: asked,
-        },
-        HostEntry::Answer {
-            id: id(10, 1, 1),
-            result: HostResult::Reply(told),
-        },
-        HostEntry::Answer {
-            id: id(10, 1, 2),
-            result: HostResult::Bad(0x6103),
-        },
-        HostEntry::Served {
-            id: id(2, 4, u32::MAX),
-            request,
-            reply,
-        },
-    ];
-    Ok(HostLog {
-        node: 10,
-        entries: list(alloc, entries)?,
+    entries.push(HostEntry::Served { id, request, reply })?;
+    Ok(())
+}
+
+/// Entries of the ring, with frames of the call 2.1.1.
+fn frame(alloc: Global, kind: FrameKind, to: u8, bytes: &[u8]) -> Result<Frame, Fail> {
+    let pdu = pdu(alloc, bytes)?;
+    let id = id(2, 1, 1);
+    Ok(Frame { kind, to, id, pdu })
+}
+
+fn push_post(alloc: Global, ring: &mut List<RingEntry>, node: u8, to: u8) -> Result<(), Fail> {
+    let frame = if to == 5 {
+        frame(alloc, FrameKind::Request, to, &READS)?
+    } else {
+        frame(alloc, FrameKind::Reply, to, &TELLS)?
+    };
+    ring.push(RingEntry::Post { node, frame })?;
+    Ok(())
+}
+
+fn push_take(alloc: Global, ring: &mut List<RingEntry>, node: u8) -> Result<(), Fail> {
+    let frame = if node == 5 {
+        frame(alloc, FrameKind::Request, node, &READS)?
+    } else {
+        frame(alloc, FrameKind::Reply, node, &TELLS)?
+    };
+    ring.push(RingEntry::Take { node, frame })?;
+    Ok(())
+}
+
+fn push_send(ring: &mut List<RingEntry>, node: u8, heard: Heard) -> Result<(), AllocError> {
+    ring.push(RingEntry::Send { node, heard })
+}
+
+fn push_pass(
+    alloc: Global,
+    ring: &mut List<RingEntry>,
+    done: bool,
+    words: &[u16],
+) -> Result<(), AllocError> {
+    let words = Words::of(alloc, words)?;
+    let node = 2;
+    ring.push(RingEntry::Pass { node, done, words })
+}
+
+fn push_give_up(ring: &mut List<RingEntry>) -> Result<(), AllocError> {
+    let id = id(2, 1, 2);
+    ring.push(RingEntry::GiveUp { id, word: 0x6101 })
+}
+
+fn push_leave(ring: &mut List<RingEntry>, node: u8, cause: LeaveCause) -> Result<(), AllocError> {
+    ring.push(RingEntry::Leave { node, cause })
+}
+
+fn push_local(
+    ring: &mut List<RingEntry>,
+    id: CallId,
+    op: LocalOp,
+    outcome: MstrResult,
+) -> Result<(), AllocError> {
+    let node = 3;
+    ring.push(RingEntry::Local {
+        node,
+        id,
+        op,
+        result: outcome,
     })
 }
 
-fn locals(alloc: Global) -> Result<List<RingEntry>, AllocError> {
-    let entries = [
-        RingEntry::Local {
-            node: 3,
-            id: id(3, 0, 4),
-            op: LocalOp::GetGlobal {
-                node: 64,
-                length: 32,
-            },
-            result: MstrResult::Bad(0x200a),
-        },
-        RingEntry::Local {
-            node: 3,
-            id: id(2, 1, 1),
-            op: LocalOp::RemoteGet,
-            result: MstrResult::Good(Block::of(&[3])),
-        },
-        RingEntry::Local {
-            node: 3,
-            id: id(2, 1, 2),
-            op: LocalOp::RemoteClear,
-            result: MstrResult::Good(Block::of(&[])),
-        },
-    ];
-    list(alloc, entries)
+fn push_turns(alloc: Global, ring: &mut List<RingEntry>) -> Result<(), Fail> {
+    push_post(alloc, ring, 2, 5)?;
+    push_send(ring, 2, Heard::Acked)?;
+    push_pass(alloc, ring, false, &[])?;
+    push_take(alloc, ring, 5)?;
+    push_post(alloc, ring, 5, 2)?;
+    push_send(ring, 5, Heard::Silent)?;
+    push_send(ring, 5, Heard::Busy)?;
+    push_take(alloc, ring, 2)?;
+    push_give_up(ring)?;
+    push_pass(alloc, ring, true, &[7, 8])?;
+    push_leave(ring, 2, LeaveCause::Ended)?;
+    push_leave(ring, 5, LeaveCause::Spent)?;
+    Ok(())
 }
 
-/// Whether the journal of a joint history is a text.
-fn tells(rt: &impl Abort, alloc: Global, joint: &Joint, text: &str) -> Result<bool, AllocError> {
-    assert!(rt; is_plain(joint));
+fn push_locals(ring: &mut List<RingEntry>) -> Result<(), AllocError> {
+    let (node, length) = (64, 32);
+    let get = LocalOp::GetGlobal { node, length };
+    push_local(ring, id(3, 0, 4), get, MstrResult::Bad(0x200a))?;
+    let three = MstrResult::Good(Block::of(&[3]));
+    push_local(ring, id(2, 1, 1), LocalOp::RemoteGet, three)?;
+    let none = MstrResult::Good(Block::of(&[]));
+    push_local(ring, id(2, 1, 2), LocalOp::RemoteClear, none)
+}
+
+fn new_joint(alloc: Global) -> Joint {
+    Joint {
+        controllers: List::new(alloc),
+        hosts: List::new(alloc),
+        ring: List::new(alloc),
+    }
+}
+
+fn push_controller(joint: &mut Joint, node: u8, entries: List<Entry>) -> Result<(), AllocError> {
+    joint.controllers.push(ControllerLog { node, entries })
+}
+
+fn add_reader(alloc: Global, joint: &mut Joint) -> Result<(), Fail> {
+    let mut entries = List::new(alloc);
+    push_reader(alloc, &mut entries)?;
+    push_controller(joint, 2, entries)?;
+    Ok(())
+}
+
+fn add_target(alloc: Global, joint: &mut Joint) -> Result<(), Fail> {
+    let mut entries = List::new(alloc);
+    push_target(alloc, &mut entries)?;
+    push_controller(joint, 5, entries)?;
+    Ok(())
+}
+
+fn add_asker(alloc: Global, joint: &mut Joint) -> Result<(), Fail> {
+    let mut entries = List::new(alloc);
+    push_asker(alloc, &mut entries)?;
+    push_controller(joint, 3, entries)?;
+    Ok(())
+}
+
+fn push_host_entries(alloc: Global, entries: &mut List<HostEntry>) -> Result<(), Fail> {
+    push_ask(alloc, entries)?;
+    push_answers(alloc, entries)?;
+    push_served(alloc, entries)
+}
+
+fn add_host(alloc: Global, joint: &mut Joint) -> Result<(), Fail> {
+    let mut entries = List::new(alloc);
+    push_host_entries(alloc, &mut entries)?;
+    let node = 10;
+    joint.hosts.push(HostLog { node, entries })?;
+    Ok(())
+}
+
+fn add_read(alloc: Global, joint: &mut Joint) -> Result<(), Fail> {
+    add_reader(alloc, joint)?;
+    add_target(alloc, joint)?;
+    push_turns(alloc, &mut joint.ring)
+}
+
+fn add_local(alloc: Global, joint: &mut Joint) -> Result<(), Fail> {
+    add_asker(alloc, joint)?;
+    add_host(alloc, joint)?;
+    push_locals(&mut joint.ring)?;
+    Ok(())
+}
+
+/// Whether the journal of a plain joint history is a text.
+fn tells(alloc: Global, joint: &Joint, text: &str) -> Result<bool, AllocError> {
+    if !is_plain(joint) {
+        return Ok(false);
+    }
     let journal = journal_text(alloc, joint)?;
     Ok(journal.as_slice() == text.as_bytes())
 }
@@ -278,48 +345,42 @@ fn tells(rt: &impl Abort, alloc: Global, joint: &Joint, text: &str) -> Result<bo
 #[test]
 fn a_read(rt: HostRuntime) -> Result<(), Fail> {
     let alloc = rt.alloc();
-    let joint = Joint {
-        controllers: list(alloc, [reader(alloc)?, target(alloc)?])?,
-        hosts: List::new(alloc),
-        ring: turns(alloc)?,
-    };
-    assert!(rt; tells(&rt, alloc, &joint, READ)?);
+    let mut joint = new_joint(alloc);
+    add_read(alloc, &mut joint)?;
+    let told = tells(alloc, &joint, READ)?;
+    assert!(rt; told);
     Ok(())
 }
 
 #[test]
 fn own_ports_and_a_host(rt: HostRuntime) -> Result<(), Fail> {
     let alloc = rt.alloc();
-    let joint = Joint {
-        controllers: list(alloc, [asker(alloc)?])?,
-        hosts: list(alloc, [host(alloc)?])?,
-        ring: locals(alloc)?,
-    };
-    assert!(rt; tells(&rt, alloc, &joint, LOCAL)?);
+    let mut joint = new_joint(alloc);
+    add_local(alloc, &mut joint)?;
+    let told = tells(alloc, &joint, LOCAL)?;
+    assert!(rt; told);
     Ok(())
 }
 
-/// A Reply to another node than who asked is in no plain history, nor are two logs of one node.
+/// A Reply to another node than who asked is in no plain history.
 #[test]
-fn not_plain(rt: HostRuntime) -> Result<(), Fail> {
+fn a_reply_that_strays(rt: HostRuntime) -> Result<(), Fail> {
     let alloc = rt.alloc();
-    let strayed = frame(alloc, FrameKind::Reply, 9, &TELLS)?;
-    let entry = RingEntry::Post {
-        node: 5,
-        frame: strayed,
-    };
-    let ring = list(alloc, [entry])?;
-    let joint = Joint {
-        controllers: list(alloc, [])?,
-        hosts: List::new(alloc),
-        ring,
-    };
-    assert!(rt; !is_plain(&joint));
-    let twice = Joint {
-        controllers: list(alloc, [reader(alloc)?, reader(alloc)?])?,
-        hosts: List::new(alloc),
-        ring: List::new(alloc),
-    };
-    assert!(rt; !is_plain(&twice));
+    let mut joint = new_joint(alloc);
+    push_post(alloc, &mut joint.ring, 5, 9)?;
+    let plain = is_plain(&joint);
+    assert!(rt; !plain);
+    Ok(())
+}
+
+/// Two logs of one node are in none either.
+#[test]
+fn one_node_twice(rt: HostRuntime) -> Result<(), Fail> {
+    let alloc = rt.alloc();
+    let mut joint = new_joint(alloc);
+    push_controller(&mut joint, 2, List::new(alloc))?;
+    push_controller(&mut joint, 2, List::new(alloc))?;
+    let plain = is_plain(&joint);
+    assert!(rt; !plain);
     Ok(())
 }

@@ -35,9 +35,9 @@ done_is d waiting = record {
 }
 
 -- Which of them waits longest.
-abbrev pub first_of : List Bool → Option Bool
-first_of [] = None
-first_of (b ∷ waiting) = Some b
+abbrev pub longest_waiting : List Bool → Option Bool
+longest_waiting [] = None
+longest_waiting (b ∷ waiting) = Some b
 
 -- These are the counts, whatever waits.
 abbrev pub CountsAre : Done → DoneCounts → Type 0
@@ -54,7 +54,7 @@ IsDoneAfterAny done doings next = (waiting : List Bool) → IsDoneAfter done wai
 
 abbrev pub IsDoneAfterFirst : DoneCounts → Option Bool → List Doing → DoneCounts → Type 0
 IsDoneAfterFirst done first doings next =
-    (waiting : List Bool) → first_of waiting ≡ first → IsDoneAfter done waiting doings next
+    (waiting : List Bool) → longest_waiting waiting ≡ first → IsDoneAfter done waiting doings next
 
 -- The counts after a station's entry.
 abbrev pub IsNotedAfter : NotedCounts → StationEntry → NotedCounts → Type 0
@@ -76,4 +76,5 @@ after_next d (e ∷ es) = deed d e
 
 -- The Requests that wait after it.
 abbrev pub waiting_after : List Bool → List RingEntry → List Bool
-waiting_after waiting entries = (after_next (record no_deeds { waiting = waiting }) entries).waiting
+waiting_after waiting entries =
+    (after_next (record no_deeds { waiting = waiting }) entries).waiting

@@ -5,7 +5,7 @@ ghost use Rattle.entry_causes.specs.Causes.{StationEntry, ByController, ByHost, 
 ghost use Rattle.entry_causes.specs.Causes.{noted_next, asking, doings, deed};
 ghost use Rattle.entry_causes.specs.Causes.{posting, taking, working, AreCaused};
 ghost use Rattle.entry_causes.specs.Causes.{no_notes, no_deeds};
-ghost use Rattle.time_judge.specs.Counts.{noted_is, done_is, first_of, IsNotedAfter};
+ghost use Rattle.time_judge.specs.Counts.{noted_is, done_is, longest_waiting, IsNotedAfter};
 ghost use Rattle.time_judge.specs.Counts.{AreCallsNoted, IsDoneAfterAny, IsDoneAfterFirst};
 
 use controller_core::{Call, CallKind, Entry};
@@ -295,7 +295,7 @@ pub(crate) fn wait_on(waiting: &mut VecDeque<bool>, entry: &RingEntry) -> Result
 
 /// Which Request waits first.
 pub(crate) fn first_waiting(waiting: &VecDeque<bool>) -> Option<bool>
-    ensures { result ≡ first_of waiting.now.items }
+    ensures { result ≡ longest_waiting waiting.now.items }
 {
     waiting.front().copied()
 }

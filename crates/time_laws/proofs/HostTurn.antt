@@ -24,8 +24,8 @@ use Rattle.host_port.specs.declared.entry.HostResult.TheVariants as results
 use Rattle.tied_lists.specs.Own.{is_of, own, Grew}
 use Rattle.tied_lists.proofs.Growth.{grew-ours}
 use Rattle.comm_port.specs.HoldTurn.{inbox_of}
-use Rattle.comm_port.specs.HostTurns.{ServesFrame, ServesKind, ServesRequest, notes_of}
-use Rattle.comm_port.specs.HostTurns.{notes_of_kind, notes_of_request, ask_of, GivenUp, give_up_of}
+use Rattle.comm_port.specs.HostTurns.{ServesFrame, ServesKind, ServesRequest, host_notes_of}
+use Rattle.comm_port.specs.HostTurns.{host_notes_of_kind, host_notes_of_request, ask_of, GivenUp, give_up_of}
 use Rattle.comm_port.specs.HostTurns.{bad_answer_of, GivesUpDue, bad_answer_to, IsSendingStep}
 use Rattle.comm_port.specs.HostTurns.{EachSends, EndsHostTurn, HoldsHostTurn}
 use Rattle.comm_port.specs.Order.{IsSending}
@@ -64,25 +64,25 @@ by-grew n alone a b x y noted done g h is k =
 
 -- ---- first: served
 frame-due : (n : ℕ) (f : Frame) (kind : FrameKind) (stats : Bool) → f.kind ≡ kind → is_stats f.pdu ≡ stats → (done : List RingEntry)
-    → IsForeign n f → ServesKind kind n f done → IsDue (notes_of_kind kind f) done
+    → IsForeign n f → ServesKind kind n f done → IsDue (host_notes_of_kind kind f) done
 frame-due n f Reply stats p q done other is =
     due-as _ _ done _ refl is (blocks.ends-due host_notings (Answer f.id (results.Reply f.pdu)) (Take n f) refl (take-is n f Reply stats p q))
 frame-due n f Request stats p q done other is = at stats q (subst (λ (b : Bool). ServesRequest b n f done) q is)
   where
-    at : (b : Bool) → is_stats f.pdu ≡ b → ServesRequest b n f done → IsDue (notes_of_request (is_stats f.pdu) f) done
-    at true q' is' = due-as _ [] done _ (ap (λ (b : Bool). notes_of_request b f) q') is'.entries_are
+    at : (b : Bool) → is_stats f.pdu ≡ b → ServesRequest b n f done → IsDue (host_notes_of_request (is_stats f.pdu) f) done
+    at true q' is' = due-as _ [] done _ (ap (λ (b : Bool). host_notes_of_request b f) q') is'.entries_are
         (blocks.tells-due host_notings (Take n f) (Local n f.id is'.op is'.result) _ (take-is n f Request true p q')
         (local-is n f.id is'.op is'.result false (ne_eqb f.id.node n (other p))) refl)
-    at false q' is' = due-as _ _ done _ (ap (λ (b : Bool). notes_of_request b f) q') is'
+    at false q' is' = due-as _ _ done _ (ap (λ (b : Bool). host_notes_of_request b f) q') is'
         (blocks.serves-due host_notings (Served f.id f.pdu _) (Take n f) _ refl (take-is n f Request false p q') refl)
 
 frames-due : (n : ℕ) (frames : List Frame) (parts : List (List RingEntry)) → Each (IsForeign n) frames → AllZip (ServesFrame n) frames parts
-    → IsDue (flat_map notes_of frames) (flat_map (λ part. part) parts)
+    → IsDue (flat_map host_notes_of frames) (flat_map (λ part. part) parts)
 frames-due n [] [] other is = blocks.none-due host_notings
 frames-due n [] (p ∷ parts) other is = absurd is
 frames-due n (f ∷ frames) [] other is = absurd is
 frames-due n (f ∷ frames) (p ∷ parts) other is =
-    blocks.both-due host_notings (notes_of f) (flat_map notes_of frames) p (flat_map (λ part. part) parts)
+    blocks.both-due host_notings (host_notes_of f) (flat_map host_notes_of frames) p (flat_map (λ part. part) parts)
     (frame-due n f f.kind (is_stats f.pdu) refl refl p other.0 is.0) (frames-due n frames parts other.1 is.1)
 
 -- ---- second: asked

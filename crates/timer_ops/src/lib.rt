@@ -14,9 +14,6 @@ ghost use Rattle.timer_ops.specs.Counter.{is_edge, up_count_effect, down_count_e
 
 use plant_types::{NodePower, Ref, RefStore, Unit};
 
-#[cfg(test)]
-mod tests;
-
 /// The clock of a controller in ticks of 10 ms, as this scan began and as the scan before began.
 #[derive(Clone, Copy, Debug, PartialEq, Eq)]
 pub struct Clock {

@@ -13,7 +13,7 @@ use Rattle.turn_gate.specs.Known.{HasAllBack, Finds, Owns, NamesKept, Adds}
 use Rattle.turn_gate.specs.Rule.{HasKept, KeepsNumber, numbers_of, Rule}
 use Rattle.turn_gate.specs.Moves.{Handed, Exact, MayLeave, first_grown}
 use Rattle.turn_gate.specs.Seats.{first_kept, later_kept, stay_of, pass_facts, CarriesBetween}
-use Rattle.turn_gate.specs.Seats.{IsSound}
+use Rattle.turn_gate.specs.Seats.{IsSettled}
 use Rattle.turn_gate.proofs.Lists.{all_at, all_from_places}
 use Rattle.turn_gate.proofs.Owning.{among_kept, kept_among}
 use Rattle.turn_gate.proofs.Closing.{Closes, closes}
@@ -118,7 +118,7 @@ pub record IsWhole {V E F : Type 0} (entries : V → List E) (fixed : V → F) (
 
 module _ {V E F : Type 0} (entries : V → List E) (fixed : V → F) (maker : E → ℕ) (first : V) (id : TableId) (seat : ℕ) (m : Me (Option V) (View E))
     (p : PassFacts E) (ws : List ℕ) (xs : List (Option V)) (o : Option V)
-    (is : pass_facts id m ≡ p) (sound : IsSound m) (out : p.stay ≡ None) (number : p.number ≡ 0) (all_back : HasAllBack p)
+    (is : pass_facts id m ≡ p) (sound : IsSettled m) (out : p.stay ≡ None) (number : p.number ≡ 0) (all_back : HasAllBack p)
     (final : Final (Seen (Rule entries fixed maker first) seat m.0) ws xs) (there : get_elem? xs 0 ≡ some o) where
   closed : Closes entries fixed maker first m.0 xs
   closed =

@@ -71,7 +71,7 @@ CarriesBetween slots (Inside t) = slots ≡ (0, None) ∷ []
 
 -- a pass between two calls: it keeps a number of its own, and 0 is none of those that were joined
 -- into it
-pub record IsSound {V E : Type 0} (m : Me (Option V) (View E)) : Type 0 where
+pub record IsSettled {V E : Type 0} (m : Me (Option V) (View E)) : Type 0 where
   pub carries : CarriesBetween m.1 m.0.phase
   pub keeps_one : m.0.kept ≡ first_kept m.0.kept ∷ later_kept m.0.kept
   pub no_zero : is_among 0 (numbers_of (later_kept m.0.kept)) ≡ false

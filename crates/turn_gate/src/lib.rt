@@ -11,8 +11,6 @@ mod journals;
 mod passes;
 mod plays;
 mod stays;
-#[cfg(test)]
-mod tests;
 mod views;
 
 pub use gates::Gate;

@@ -11,11 +11,11 @@ pub struct Pass<V: Journal> {
 
 impl<V: Journal> Model for Pass<V> {
     ghost use Rattle.turn_gate.specs.Known.{PassFacts};
-    ghost use Rattle.turn_gate.specs.Seats.{pass_facts, IsSound};
+    ghost use Rattle.turn_gate.specs.Seats.{pass_facts, IsSettled};
 
     ghost Value = { PassFacts V.Entry };
 
     ghost view = { λ p. pass_facts p.seat.table_id p.seat.me };
 
-    ghost invariant = { λ p. IsSound p.seat.me };
+    ghost invariant = { λ p. IsSettled p.seat.me };
 }

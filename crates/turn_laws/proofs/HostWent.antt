@@ -38,7 +38,7 @@ use Rattle.mstr_block.specs.Table.{network_paths}
 use Rattle.comm_port.specs.HostTurns.{SendsOut, ServesFrame, ServesInbox, ServesKind, ServesRequest}
 use Rattle.comm_port.specs.HostTurns.{ask_of, bad_answer_of, bad_answer_to, give_up_of}
 use Rattle.comm_port.specs.Giving.{inbox_of}
-use Rattle.comm_port.specs.HostTurns.{host_at, notes_of, notes_of_kind, notes_of_request}
+use Rattle.comm_port.specs.HostTurns.{host_at, host_notes_of, host_notes_of_kind, host_notes_of_request}
 use Rattle.turn_laws.proofs.Passes.{IsInner, IsNoPass, Stands, asked-join, each-join, earlier, last}
 use Rattle.turn_laws.proofs.Passes.{no-pass, stands-in}
 
@@ -195,24 +195,24 @@ parts-quiet n (f ∷ fs) [] all = absurd all
 parts-quiet n (f ∷ fs) (p ∷ parts) all =
     quiet-join p (flat_map (λ part. part) parts) (kind-quiet n f f.kind p all.0) (parts-quiet n fs parts all.1)
 
-request-notes : (stats : Bool) (f : Frame) → Each IsNoRequest (notes_of_request stats f)
+request-notes : (stats : Bool) (f : Frame) → Each IsNoRequest (host_notes_of_request stats f)
 request-notes true f = tt
 request-notes false f = (refl, tt)
 
-kind-notes : (kind : FrameKind) (f : Frame) → Each IsNoRequest (notes_of_kind kind f)
+kind-notes : (kind : FrameKind) (f : Frame) → Each IsNoRequest (host_notes_of_kind kind f)
 kind-notes Reply f = (refl, tt)
 kind-notes Request f = request-notes (is_stats f.pdu) f
 
-all-notes : (fs : List Frame) → Each IsNoRequest (flat_map notes_of fs)
+all-notes : (fs : List Frame) → Each IsNoRequest (flat_map host_notes_of fs)
 all-notes [] = tt
-all-notes (f ∷ fs) = each-join IsNoRequest (notes_of f) (flat_map notes_of fs) (kind-notes f.kind f) (all-notes fs)
+all-notes (f ∷ fs) = each-join IsNoRequest (host_notes_of f) (flat_map host_notes_of fs) (kind-notes f.kind f) (all-notes fs)
 
 pub host-serves : (plan : HostPlan) (hold : ℕ) (alone : Bool) (net : NetPlan) (n : ℕ) (a b : List HostEntry) (x y : List RingEntry)
     → ServesInbox alone net n a b x y → HostWent plan n hold a b x y
 host-serves plan hold alone net n a b x y s =
     let frames = inbox_of net n x in
     let q = parts-quiet n frames s.all.parts s.all.serves in
-    quiet-part plan n hold alone (flat_map notes_of frames) (flat_map (λ part. part) s.all.parts) a b x y s.all.notes s.all.grew (all-notes frames)
+    quiet-part plan n hold alone (flat_map host_notes_of frames) (flat_map (λ part. part) s.all.parts) a b x y s.all.notes s.all.grew (all-notes frames)
     q.passes q.asks
 
 -- ---- calls that are given up

@@ -1,46 +1,67 @@
 //! What a controller notes of its panel.
-use super::ladders::shown;
-use super::scans::{SWITCH_ON, follower};
-use super::{asked, next};
-use controller_core::Controller;
-use std::alloc::Global;
+use super::acts::Act;
+use super::plans::{COIL_1, COIL_2, Plan};
+use super::scans::{SWITCH_ON, THRICE};
+use super::{Case, show};
+use scan_order::ScanStep;
 use std::test::Fail;
 
-/// Another node switches coil 00001 off.
-const SWITCH_OFF: [u8; 5] = [5, 0, 0, 0, 0];
+/// Coils 00001 and 00002 are shown.
+const SHOWN: Plan = Plan {
+    panel: &[COIL_1, COIL_2],
+    ..THRICE
+};
 
-/// A scan of three rows, with a request behind its Begin.
-fn scan_with(alloc: Global, controller: &mut Controller, request: &[u8]) -> Result<(), Fail> {
-    next(controller)?;
-    asked(alloc, controller, request)?;
-    for _ in 0..4 {
-        next(controller)?;
-    }
-    Ok(())
-}
+/// Another node switches coil 00001 on in the first scan, and off in the second.
+const SCANS: Case = Case {
+    plan: SHOWN,
+    acts: &[
+        Act::Reserve,
+        Act::Did(ScanStep::Begin),
+        SWITCH_ON,
+        Act::Did(ScanStep::Solve(1)),
+        Act::Did(ScanStep::Solve(2)),
+        Act::Did(ScanStep::Solve(3)),
+        Act::Did(ScanStep::End),
+        Act::Reserve,
+        Act::Did(ScanStep::Begin),
+        Act::Ask(&[5, 0, 0, 0, 0], &[5, 0, 0, 0, 0]),
+        Act::Did(ScanStep::Solve(1)),
+        Act::Did(ScanStep::Solve(2)),
+        Act::Did(ScanStep::Solve(3)),
+        Act::Did(ScanStep::End),
+    ],
+    events: 12,
+    values: &[1, 1, 0, 0],
+    ended: 2,
+    stop: 0,
+};
 
 #[test]
 fn each_scan_notes_its_panel(rt: HostRuntime) -> Result<(), Fail> {
-    let alloc = rt.alloc();
-    let mut controller = shown(alloc, follower(alloc)?, 500)?;
-    scan_with(alloc, &mut controller, &SWITCH_ON)?;
-    assert!(rt; matches!(controller.notes(), [1, 1]));
-    scan_with(alloc, &mut controller, &SWITCH_OFF)?;
-    let (history, notes) = controller.into_parts();
-    assert!(rt; history.as_slice().len() == 12);
-    assert!(rt; matches!(notes.values.as_slice(), [1, 1, 0, 0]));
-    assert!(rt; (notes.ended, notes.stop) == (2, 0));
-    Ok(())
+    show(&rt, &SCANS)
 }
 
 /// The first of the rows leaves one network to the watchdog, and the second stops.
+const STOPPED: Case = Case {
+    plan: Plan {
+        watchdog: 2,
+        ..SHOWN
+    },
+    acts: &[
+        Act::Reserve,
+        Act::Did(ScanStep::Begin),
+        SWITCH_ON,
+        Act::Did(ScanStep::Solve(1)),
+        Act::Did(ScanStep::Solve(2)),
+    ],
+    events: 4,
+    values: &[1, 1],
+    ended: 0,
+    stop: 1,
+};
+
 #[test]
 fn a_scan_that_stops_notes_its_panel(rt: HostRuntime) -> Result<(), Fail> {
-    let alloc = rt.alloc();
-    let mut controller = shown(alloc, follower(alloc)?, 2)?;
-    scan_with(alloc, &mut controller, &SWITCH_ON)?;
-    let (_, notes) = controller.into_parts();
-    assert!(rt; matches!(notes.values.as_slice(), [1, 1]));
-    assert!(rt; (notes.ended, notes.stop) == (0, 1));
-    Ok(())
+    show(&rt, &STOPPED)
 }

@@ -1,73 +1,100 @@
-//! What comes between the events of a scan, and a scan that stops.
-use super::ladders::{cell, coil, network, once_a_scan, thrice_a_scan};
-use super::{asked, next};
-use controller_core::{Controller, StepEnd};
-use plant_types::{Element, List, Network};
+//! Scans in which coil 00002 follows coil 00001, what comes between their events, and a scan that
+//! stops.
+use super::acts::Act;
+use super::plans::{COIL_1, COIL_2, Piece, Plan};
+use super::{Case, show};
+use controller_core::StepEnd;
+use plant_types::Element;
 use scan_order::ScanStep;
-use std::alloc::{AllocError, Global};
 use std::test::Fail;
 
-/// Coil 00002 follows coil 00001.
-pub fn follower(alloc: Global) -> Result<List<Network>, AllocError> {
-    let cells = [
-        cell(1, 1, Element::Open(coil(1))),
-        cell(1, 2, Element::Coil(coil(2))),
-    ];
-    let mut networks = List::new(alloc);
-    networks.push(network(alloc, &cells)?)?;
-    Ok(networks)
-}
+const FOLLOWER: [Piece; 2] = [
+    Piece::At(1, 1, Element::Open(COIL_1)),
+    Piece::At(1, 2, Element::Coil(COIL_2)),
+];
+
+/// Two scans of three rows.
+pub const THRICE: Plan = Plan {
+    panel: &[],
+    networks: &[&FOLLOWER],
+    rows: 3,
+    watchdog: 500,
+    scans: 2,
+};
 
 /// Another node switches coil 00001 on.
-pub const SWITCH_ON: [u8; 5] = [5, 0, 0, 0xff, 0];
+pub const SWITCH_ON: Act = Act::Ask(&[5, 0, 0, 0xff, 0], &[5, 0, 0, 0xff, 0]);
 
-/// Another node reads coils 00001 and 00002.
-const READ_COILS: [u8; 5] = [1, 0, 0, 0, 2];
-
-/// A scan in which the coil is switched on behind its Begin; and what the coils are then.
-fn switched(alloc: Global, controller: &mut Controller) -> Result<bool, Fail> {
-    let _begin = next(controller)?;
-    let _reply = asked(alloc, controller, &SWITCH_ON)?;
-    let _solve = next(controller)?;
-    let coils = asked(alloc, controller, &READ_COILS)?;
-    Ok(matches!(coils.bytes(), [1, 1, 3]))
-}
+/// A solve sees what was written behind Begin: another node reads both coils.
+const SWITCHED: Case = Case {
+    plan: Plan { rows: 1, ..THRICE },
+    acts: &[
+        Act::Reserve,
+        Act::Did(ScanStep::Begin),
+        SWITCH_ON,
+        Act::Did(ScanStep::Solve(1)),
+        Act::Ask(&[1, 0, 0, 0, 2], &[1, 1, 3]),
+    ],
+    events: 4,
+    values: &[],
+    ended: 0,
+    stop: 0,
+};
 
 #[test]
 fn a_solve_sees_what_was_written_behind_begin(rt: HostRuntime) -> Result<(), Fail> {
-    let alloc = rt.alloc();
-    let mut controller = once_a_scan(alloc, follower(alloc)?)?;
-    let both = switched(alloc, &mut controller)?;
-    assert!(rt; both);
-    Ok(())
-}
-
-/// What four steps answer.
-fn four_ends(controller: &mut Controller) -> Result<[StepEnd; 4], AllocError> {
-    Ok([
-        next(controller)?,
-        next(controller)?,
-        next(controller)?,
-        next(controller)?,
-    ])
+    show(&rt, &SWITCHED)
 }
 
 /// The first row begins a network, and leaves one: the second begins that, and stops.
-const STOPPED: [StepEnd; 4] = [
-    StepEnd::Did(ScanStep::Begin),
-    StepEnd::Did(ScanStep::Solve(1)),
-    StepEnd::Did(ScanStep::Solve(2)),
-    StepEnd::Stopped(1),
-];
+const STOPPED: Case = Case {
+    plan: Plan {
+        watchdog: 2,
+        ..THRICE
+    },
+    acts: &[
+        Act::Reserve,
+        Act::Did(ScanStep::Begin),
+        Act::Did(ScanStep::Solve(1)),
+        Act::HasLine(ScanStep::Solve(1), false),
+        Act::Did(ScanStep::Solve(2)),
+        Act::HasLine(ScanStep::Solve(2), true),
+        Act::Reserve,
+        Act::Over(StepEnd::Stopped(1)),
+        Act::Ask(&[1, 0, 0, 0, 2], &[1, 1, 0]),
+    ],
+    events: 4,
+    values: &[],
+    ended: 0,
+    stop: 1,
+};
 
 #[test]
 fn a_controller_stops_in_its_second_row(rt: HostRuntime) -> Result<(), Fail> {
-    let alloc = rt.alloc();
-    let mut controller = thrice_a_scan(alloc, follower(alloc)?, 2)?;
-    let ends = four_ends(&mut controller)?;
-    assert!(rt; ends == STOPPED);
-    assert!(rt; controller.has_line(StepEnd::Did(ScanStep::Solve(2))));
-    let coils = asked(alloc, &mut controller, &READ_COILS)?;
-    assert!(rt; matches!(coils.bytes(), [1, 1, 0]));
-    Ok(())
+    show(&rt, &STOPPED)
+}
+
+/// A scan whose memory was taken before it began, and which gives that back.
+const RESERVED: Case = Case {
+    plan: THRICE,
+    acts: &[
+        Act::IsReserved(false),
+        Act::Reserve,
+        Act::Did(ScanStep::Begin),
+        Act::Did(ScanStep::Solve(1)),
+        Act::Did(ScanStep::Solve(2)),
+        Act::Did(ScanStep::Solve(3)),
+        Act::IsReserved(true),
+        Act::Did(ScanStep::End),
+        Act::IsReserved(false),
+    ],
+    events: 5,
+    values: &[],
+    ended: 1,
+    stop: 0,
+};
+
+#[test]
+fn a_reserved_scan_is_made_whole(rt: HostRuntime) -> Result<(), Fail> {
+    show(&rt, &RESERVED)
 }

@@ -1,6 +1,6 @@
 //! What each operation stores of a good result, and where control block and data area overlap.
-use super::rig::{ENABLE, FIRST, Rig, SUCCESS, Stand};
-use crate::{MstrAsk, MstrCall, MstrResult};
+use super::acts::{self, Act, Asks};
+use super::rig::{ACTIVE, ENABLE, ERROR, FIRST, Rig, SUCCESS, Stand};
 use std::alloc::{AllocError, AllocGlobal};
 use std::process::Abort;
 use std::test::Fail;
@@ -88,57 +88,56 @@ fn clears(rt: HostRuntime) -> Result<(), Fail> {
     show(&rt, &rows)
 }
 
+/// A data area that begins at the status.
+const OVER_THE_STATUS: Stand = Stand {
+    control: 1,
+    area: 2,
+    room: 5,
+};
+
 /// The words to write are read before the status is cleared.
+const WRITES_OVER_ITS_STATUS: [Act; 4] = [
+    Act::Set(1, &[5, 99, 2, 0, 0, 0, 0, 0, 0]),
+    Act::Solve(1, OVER_THE_STATUS, ENABLE, ACTIVE),
+    Act::Has(2, 0),
+    Act::Take(0, 1, Asks::PutGlobal(&[99, 2])),
+];
+
 #[test]
-fn writes_over_its_status(rt: HostRuntime) -> Result<(), Fail> {
-    let mut rig = Rig::new(rt.alloc(), 1)?;
-    rig.fill(&rt, 1, &[5, 99, 2, 0, 0, 0, 0, 0, 0]);
-    let stand = Stand {
-        control: 1,
-        area: 2,
-        room: 5,
-    };
-    rig.solve(&rt, 1, stand, ENABLE);
-    assert_eq!(rt; rig.get(&rt, 2), 0);
-    let call = rig.bank.take_started();
-    assert!(rt;
-        matches!(&call, Some(MstrCall { ask: MstrAsk::PutGlobal(words), .. })
-        if words.words() == [99, 2].as_slice())
-    );
-    Ok(())
+fn writes_over_its_status(rt: HostRuntime) -> Result<(), AllocError> {
+    acts::show(&rt, 1, &WRITES_OVER_ITS_STATUS)
 }
 
 /// The data area is stored last: over the status, and over the number of words available.
+const ANSWERS_OVER_ITS_CONTROL_BLOCK: [Act; 8] = [
+    Act::Set(1, &[6, 99, 3, 0, 5, 0, 0, 0, 0]),
+    Act::Solve(1, OVER_THE_STATUS, ENABLE, ACTIVE),
+    Act::Take(0, 1, Asks::Anything),
+    Act::Succeed(0, 1, &[3, 7, 8, 9]),
+    Act::Solve(1, OVER_THE_STATUS, ENABLE, SUCCESS),
+    Act::Has(2, 7),
+    Act::Has(3, 8),
+    Act::Has(4, 9),
+];
+
 #[test]
-fn answers_over_its_control_block(rt: HostRuntime) -> Result<(), Fail> {
-    let mut rig = Rig::new(rt.alloc(), 1)?;
-    rig.fill(&rt, 1, &[6, 99, 3, 0, 5, 0, 0, 0, 0]);
-    let stand = Stand {
-        control: 1,
-        area: 2,
-        room: 5,
-    };
-    rig.solve(&rt, 1, stand, ENABLE);
-    let id = rig.take();
-    rig.succeed(&rt, id, &[3, 7, 8, 9]);
-    assert_eq!(rt; rig.solve(&rt, 1, stand, ENABLE), SUCCESS);
-    assert_eq!(rt;
-        [rig.get(&rt, 2), rig.get(&rt, 3), rig.get(&rt, 4)],
-        [7, 8, 9]
-    );
-    Ok(())
+fn answers_over_its_control_block(rt: HostRuntime) -> Result<(), AllocError> {
+    acts::show(&rt, 1, &ANSWERS_OVER_ITS_CONTROL_BLOCK)
 }
 
 /// A bad result leaves its word in the status, and nothing else.
+const BAD_RESULTS: [Act; 8] = [
+    Act::Set(1, &[2, 99, 2, 1, 5, 0, 0, 0, 0]),
+    Act::Solve(1, FIRST, ENABLE, ACTIVE),
+    Act::Take(1, 1, Asks::Anything),
+    Act::Fail(1, 1, 0x6101),
+    Act::Solve(1, FIRST, 0, ERROR),
+    Act::Has(2, 0x6101),
+    Act::Has(11, 0),
+    Act::Solve(1, FIRST, 0, 0),
+];
+
 #[test]
-fn bad_results(rt: HostRuntime) -> Result<(), Fail> {
-    let mut rig = Rig::new(rt.alloc(), 1)?;
-    rig.fill(&rt, 1, &[2, 99, 2, 1, 5, 0, 0, 0, 0]);
-    rig.solve(&rt, 1, FIRST, ENABLE);
-    let id = rig.take();
-    rig.finish(&rt, id, MstrResult::Bad(0x6101));
-    assert_eq!(rt; rig.solve(&rt, 1, FIRST, 0), 2);
-    assert_eq!(rt; [rig.get(&rt, 2), rig.get(&rt, 11)], [24833, 0]);
-    assert_eq!(rt; rig.solve(&rt, 1, FIRST, 0), 0);
-    Ok(())
+fn bad_results(rt: HostRuntime) -> Result<(), AllocError> {
+    acts::show(&rt, 1, &BAD_RESULTS)
 }

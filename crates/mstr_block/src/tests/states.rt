@@ -1,8 +1,7 @@
 //! The states of a block, and the paths of calls.
-use super::rig::{ABORT, ACTIVE, ENABLE, ERROR, FIRST, Rig, SUCCESS, Stand, call_id};
-use crate::{MstrAsk, MstrCall};
-use std::process::Abort;
-use std::test::Fail;
+use super::acts::{Act, Asks, play, show};
+use super::rig::{ABORT, ACTIVE, ENABLE, ERROR, FIRST, Rig, SUCCESS, Stand};
+use std::alloc::AllocError;
 
 /// Reads two registers of node 5.
 const READ: [u16; 9] = [2, 9, 2, 1, 5, 0, 0, 0, 0];
@@ -18,168 +17,204 @@ const SECOND: Stand = Stand {
 };
 
 /// A read over two scans.
+const OVER_TWO_SCANS: [Act; 9] = [
+    Act::Set(1, &READ),
+    Act::Solve(1, FIRST, ENABLE, ACTIVE),
+    Act::Has(2, 0),
+    Act::Take(
+        1,
+        1,
+        Asks::Read {
+            to: 5,
+            start: 1,
+            length: 2,
+        },
+    ),
+    Act::Succeed(1, 1, &[42, 43]),
+    Act::Solve(1, FIRST, ENABLE, SUCCESS),
+    Act::Has(2, 0),
+    Act::Has(11, 42),
+    Act::Has(12, 43),
+];
+
 #[test]
-fn a_read(rt: HostRuntime) -> Result<(), Fail> {
-    let mut rig = Rig::new(rt.alloc(), 1)?;
-    rig.fill(&rt, 1, &READ);
-    assert_eq!(rt; rig.solve(&rt, 1, FIRST, ENABLE), ACTIVE);
-    assert_eq!(rt; rig.get(&rt, 2), 0);
-    let call = rig.bank.take_started();
-    assert!(rt;
-        matches!(&call, Some(MstrCall { id, ask: MstrAsk::Read { to: 5, start: 1, length: 2 } })
-        if *id == call_id(1, 1))
-    );
-    rig.succeed(&rt, call_id(1, 1), &[42, 43]);
-    assert_eq!(rt; rig.solve(&rt, 1, FIRST, ENABLE), SUCCESS);
-    assert_eq!(rt;
-        [rig.get(&rt, 2), rig.get(&rt, 11), rig.get(&rt, 12)],
-        [0, 42, 43]
-    );
-    Ok(())
+fn a_read(rt: HostRuntime) -> Result<(), AllocError> {
+    show(&rt, 1, &OVER_TWO_SCANS)
 }
 
 /// Whether a block is enabled counts only while it is idle.
+const NOT_ENABLED: [Act; 10] = [
+    Act::Set(1, &READ),
+    Act::Solve(1, FIRST, 0, 0),
+    Act::Solve(1, FIRST, ENABLE + ABORT, 0),
+    Act::Has(2, 9),
+    Act::Solve(1, FIRST, ENABLE, ACTIVE),
+    Act::Solve(1, FIRST, 0, ACTIVE),
+    Act::Take(1, 1, Asks::Anything),
+    Act::Succeed(1, 1, &[1]),
+    Act::Solve(1, FIRST, ABORT, SUCCESS),
+    Act::Has(11, 1),
+];
+
 #[test]
-fn not_enabled(rt: HostRuntime) -> Result<(), Fail> {
-    let mut rig = Rig::new(rt.alloc(), 1)?;
-    rig.fill(&rt, 1, &READ);
-    assert_eq!(rt; rig.solve(&rt, 1, FIRST, 0), 0);
-    assert_eq!(rt; rig.solve(&rt, 1, FIRST, ENABLE + ABORT), 0);
-    assert_eq!(rt; rig.get(&rt, 2), 9);
-    rig.solve(&rt, 1, FIRST, ENABLE);
-    assert_eq!(rt; rig.solve(&rt, 1, FIRST, 0), ACTIVE);
-    let id = rig.take();
-    rig.succeed(&rt, id, &[1]);
-    assert_eq!(rt; rig.solve(&rt, 1, FIRST, ABORT), SUCCESS);
-    assert_eq!(rt; rig.get(&rt, 11), 1);
-    Ok(())
+fn not_enabled(rt: HostRuntime) -> Result<(), AllocError> {
+    show(&rt, 1, &NOT_ENABLED)
 }
 
 /// A call that is given up before it is taken is still taken, and holds its path until it ends.
+const ABORTED: [Act; 14] = [
+    Act::Set(1, &READ),
+    Act::Set(21, &READ),
+    Act::Solve(1, FIRST, ENABLE, ACTIVE),
+    Act::Solve(1, FIRST, ENABLE + ABORT, ERROR),
+    Act::Has(2, 0x1001),
+    Act::Solve(1, FIRST, ENABLE, 0),
+    Act::Solve(2, SECOND, ENABLE, ACTIVE),
+    Act::Take(1, 1, Asks::Anything),
+    Act::Take(2, 1, Asks::Anything),
+    Act::Succeed(1, 1, &[42]),
+    Act::IsOut(1, 1, false),
+    Act::IsOut(2, 1, true),
+    Act::Has(2, 0x1001),
+    Act::Has(11, 0),
+];
+
 #[test]
-fn aborted(rt: HostRuntime) -> Result<(), Fail> {
-    let mut rig = Rig::new(rt.alloc(), 2)?;
-    rig.fill(&rt, 1, &READ);
-    rig.fill(&rt, 21, &READ);
-    rig.solve(&rt, 1, FIRST, ENABLE);
-    assert_eq!(rt; rig.solve(&rt, 1, FIRST, ENABLE + ABORT), ERROR);
-    assert_eq!(rt; rig.get(&rt, 2), 0x1001);
-    assert_eq!(rt; rig.solve(&rt, 1, FIRST, ENABLE), 0);
-    rig.solve(&rt, 2, SECOND, ENABLE);
-    assert!(rt; rig.take() == call_id(1, 1) && rig.take() == call_id(2, 1));
-    rig.succeed(&rt, call_id(1, 1), &[42]);
-    assert!(rt; !rig.bank.is_out(call_id(1, 1)) && rig.bank.is_out(call_id(2, 1)));
-    assert_eq!(rt; [rig.get(&rt, 2), rig.get(&rt, 11)], [0x1001, 0]);
-    Ok(())
+fn aborted(rt: HostRuntime) -> Result<(), AllocError> {
+    show(&rt, 2, &ABORTED)
 }
 
 /// A block whose call was given up starts anew once that call has ended.
+const STARTS_ANEW: [Act; 8] = [
+    Act::Set(1, &READ),
+    Act::Solve(1, FIRST, ENABLE, ACTIVE),
+    Act::Take(1, 1, Asks::Anything),
+    Act::Solve(1, FIRST, ABORT, ERROR),
+    Act::IsOut(1, 1, true),
+    Act::Succeed(1, 1, &[42]),
+    Act::Solve(1, FIRST, ENABLE, ACTIVE),
+    Act::Take(1, 2, Asks::Anything),
+];
+
 #[test]
-fn starts_after_an_abort(rt: HostRuntime) -> Result<(), Fail> {
-    let mut rig = Rig::new(rt.alloc(), 1)?;
-    rig.fill(&rt, 1, &READ);
-    rig.solve(&rt, 1, FIRST, ENABLE);
-    let id = rig.take();
-    rig.solve(&rt, 1, FIRST, ABORT);
-    assert!(rt; rig.bank.is_out(id));
-    rig.succeed(&rt, id, &[42]);
-    assert_eq!(rt; rig.solve(&rt, 1, FIRST, ENABLE), ACTIVE);
-    assert!(rt; rig.take() == call_id(1, 2));
-    Ok(())
+fn starts_after_an_abort(rt: HostRuntime) -> Result<(), AllocError> {
+    show(&rt, 1, &STARTS_ANEW)
 }
 
 /// Five blocks of four paths: the fifth waits, and starts with the registers of that moment.
+const WAITS_FOR_A_PATH: [Act; 16] = [
+    Act::Set(1, &READ),
+    Act::Set(21, &READ),
+    Act::Solve(1, FIRST, ENABLE, ACTIVE),
+    Act::Take(1, 1, Asks::Anything),
+    Act::Solve(2, FIRST, ENABLE, ACTIVE),
+    Act::Take(2, 1, Asks::Anything),
+    Act::Solve(3, FIRST, ENABLE, ACTIVE),
+    Act::Take(3, 1, Asks::Anything),
+    Act::Solve(4, FIRST, ENABLE, ACTIVE),
+    Act::Take(4, 1, Asks::Anything),
+    Act::Solve(5, SECOND, ENABLE, ACTIVE),
+    Act::NotStarted(1),
+    Act::Succeed(3, 1, &[1, 2]),
+    Act::Set(21, &[2, 9, 7, 8, 6]),
+    Act::Solve(5, SECOND, 0, ACTIVE),
+    Act::Take(
+        3,
+        2,
+        Asks::Read {
+            to: 6,
+            start: 8,
+            length: 7,
+        },
+    ),
+];
+
 #[test]
-fn waits_for_a_path(rt: HostRuntime) -> Result<(), Fail> {
-    let mut rig = Rig::new(rt.alloc(), 5)?;
-    rig.fill(&rt, 1, &READ);
-    rig.fill(&rt, 21, &READ);
-    for block in 1..5 {
-        rig.solve(&rt, block, FIRST, ENABLE);
-        rig.take();
-    }
-    assert_eq!(rt; rig.solve(&rt, 5, SECOND, ENABLE), ACTIVE);
-    assert!(rt; rig.bank.started(1).is_none());
-    rig.succeed(&rt, call_id(3, 1), &[1, 2]);
-    rig.fill(&rt, 21, &[2, 9, 7, 8, 6]);
-    assert_eq!(rt; rig.solve(&rt, 5, SECOND, 0), ACTIVE);
-    let call = rig.bank.take_started();
-    assert!(rt;
-        matches!(&call, Some(MstrCall { id, ask: MstrAsk::Read { to: 6, start: 8, length: 7 } })
-        if *id == call_id(3, 2))
-    );
-    Ok(())
+fn waits_for_a_path(rt: HostRuntime) -> Result<(), AllocError> {
+    show(&rt, 5, &WAITS_FOR_A_PATH)
 }
 
 /// A block that waits gives up at once, or ends with the error word of its new registers.
+const WAITS_NO_MORE: [Act; 12] = [
+    Act::Set(1, &READ),
+    Act::Solve(1, FIRST, ENABLE, ACTIVE),
+    Act::Solve(2, FIRST, ENABLE, ACTIVE),
+    Act::Solve(3, FIRST, ENABLE, ACTIVE),
+    Act::Solve(4, FIRST, ENABLE, ACTIVE),
+    Act::Solve(5, FIRST, ENABLE, ACTIVE),
+    Act::Solve(5, FIRST, ENABLE + ABORT, ERROR),
+    Act::Has(2, 0x1001),
+    Act::Solve(5, FIRST, ENABLE, ACTIVE),
+    Act::Set(5, &[2]),
+    Act::Solve(5, FIRST, 0, ERROR),
+    Act::Has(2, 0x2009),
+];
+
 #[test]
-fn waits_no_more(rt: HostRuntime) -> Result<(), Fail> {
-    let mut rig = Rig::new(rt.alloc(), 5)?;
-    rig.fill(&rt, 1, &READ);
-    for block in 1..6 {
-        rig.solve(&rt, block, FIRST, ENABLE);
-    }
-    assert_eq!(rt; rig.solve(&rt, 5, FIRST, ENABLE + ABORT), ERROR);
-    assert_eq!(rt; rig.get(&rt, 2), 0x1001);
-    assert_eq!(rt; rig.solve(&rt, 5, FIRST, ENABLE), ACTIVE);
-    rig.set(&rt, 5, 2);
-    assert_eq!(rt; rig.solve(&rt, 5, FIRST, 0), ERROR);
-    assert_eq!(rt; rig.get(&rt, 2), 0x2009);
-    Ok(())
+fn waits_no_more(rt: HostRuntime) -> Result<(), AllocError> {
+    show(&rt, 5, &WAITS_NO_MORE)
 }
 
 /// Calls of the own station have path 0 and do not wait for one another.
+const LOCAL_CALLS: [Act; 13] = [
+    Act::Set(1, &OWN_STATISTICS),
+    Act::Solve(1, FIRST, ENABLE, ACTIVE),
+    Act::Solve(3, FIRST, ENABLE, ACTIVE),
+    Act::Solve(2, FIRST, ENABLE, ACTIVE),
+    Act::Started(2, 0, 3, Asks::OwnStatistics),
+    Act::NotStarted(0),
+    Act::NotStarted(4),
+    Act::HasStarted(true),
+    Act::Take(0, 1, Asks::OwnStatistics),
+    Act::Take(0, 3, Asks::OwnStatistics),
+    Act::Take(0, 2, Asks::OwnStatistics),
+    Act::NotStarted(1),
+    Act::HasStarted(false),
+];
+
 #[test]
-fn local_calls(rt: HostRuntime) -> Result<(), Fail> {
-    let mut rig = Rig::new(rt.alloc(), 3)?;
-    rig.fill(&rt, 1, &OWN_STATISTICS);
-    rig.solve(&rt, 1, FIRST, ENABLE);
-    rig.solve(&rt, 3, FIRST, ENABLE);
-    rig.solve(&rt, 2, FIRST, ENABLE);
-    let second = rig.bank.started(2);
-    assert!(rt;
-        matches!(&second, Some(MstrCall { id, ask: MstrAsk::LocalStats })
-        if *id == call_id(0, 3))
-    );
-    assert!(rt; rig.bank.started(0).is_none() && rig.bank.started(4).is_none());
-    assert!(rt; rig.bank.has_started() && rig.take() == call_id(0, 1));
-    assert!(rt; rig.take() == call_id(0, 3));
-    assert!(rt; rig.take() == call_id(0, 2) && rig.bank.take_started().is_none());
-    assert!(rt; !rig.bank.has_started());
-    Ok(())
+fn local_calls(rt: HostRuntime) -> Result<(), AllocError> {
+    show(&rt, 3, &LOCAL_CALLS)
 }
 
 /// A path that has given its last number is free no more.
+const LAST_NUMBERS: [Act; 10] = [
+    Act::Set(1, &READ),
+    Act::Solve(1, FIRST, ENABLE, ACTIVE),
+    Act::Take(1, u32::MAX, Asks::Anything),
+    Act::Succeed(1, u32::MAX, &[]),
+    Act::Solve(2, FIRST, ENABLE, ACTIVE),
+    Act::Take(2, 1, Asks::Anything),
+    Act::Set(21, &OWN_STATISTICS),
+    Act::Solve(3, SECOND, ENABLE, ACTIVE),
+    Act::NotStarted(1),
+    Act::Solve(3, SECOND, ABORT, ERROR),
+];
+
 #[test]
-fn last_numbers(rt: HostRuntime) -> Result<(), Fail> {
+fn last_numbers(rt: HostRuntime) -> Result<(), AllocError> {
     let mut rig = Rig::late(rt.alloc())?;
-    rig.fill(&rt, 1, &READ);
-    rig.solve(&rt, 1, FIRST, ENABLE);
-    let id = rig.take();
-    assert!(rt; id == call_id(1, u32::MAX));
-    rig.succeed(&rt, id, &[]);
-    rig.solve(&rt, 2, FIRST, ENABLE);
-    assert!(rt; rig.take() == call_id(2, 1));
-    rig.fill(&rt, 21, &OWN_STATISTICS);
-    assert_eq!(rt; rig.solve(&rt, 3, SECOND, ENABLE), ACTIVE);
-    assert!(rt; rig.bank.started(1).is_none());
-    assert_eq!(rt; rig.solve(&rt, 3, SECOND, ABORT), ERROR);
+    play(&rt, &mut rig, &LAST_NUMBERS);
     Ok(())
 }
 
 /// A block that is solved twice in a scan, and two blocks on one control block.
+const SHARED_CONTROL_BLOCK: [Act; 12] = [
+    Act::Set(1, &READ),
+    Act::Solve(1, FIRST, ENABLE, ACTIVE),
+    Act::Solve(1, FIRST, ENABLE, ACTIVE),
+    Act::Solve(2, FIRST, ENABLE, ACTIVE),
+    Act::Take(1, 1, Asks::Anything),
+    Act::Take(2, 1, Asks::Anything),
+    Act::Succeed(2, 1, &[8, 9]),
+    Act::Solve(1, FIRST, ENABLE, ACTIVE),
+    Act::Solve(2, FIRST, ENABLE, SUCCESS),
+    Act::Solve(1, FIRST, ABORT, ERROR),
+    Act::Has(2, 0x1001),
+    Act::Has(11, 8),
+];
+
 #[test]
-fn shared_control_block(rt: HostRuntime) -> Result<(), Fail> {
-    let mut rig = Rig::new(rt.alloc(), 2)?;
-    rig.fill(&rt, 1, &READ);
-    rig.solve(&rt, 1, FIRST, ENABLE);
-    assert_eq!(rt; rig.solve(&rt, 1, FIRST, ENABLE), ACTIVE);
-    assert_eq!(rt; rig.solve(&rt, 2, FIRST, ENABLE), ACTIVE);
-    assert!(rt; rig.take() == call_id(1, 1) && rig.take() == call_id(2, 1));
-    rig.succeed(&rt, call_id(2, 1), &[8, 9]);
-    assert_eq!(rt; rig.solve(&rt, 1, FIRST, ENABLE), ACTIVE);
-    assert_eq!(rt; rig.solve(&rt, 2, FIRST, ENABLE), SUCCESS);
-    assert_eq!(rt; rig.solve(&rt, 1, FIRST, ABORT), ERROR);
-    assert_eq!(rt; [rig.get(&rt, 2), rig.get(&rt, 11)], [0x1001, 8]);
-    Ok(())
+fn shared_control_block(rt: HostRuntime) -> Result<(), AllocError> {
+    show(&rt, 2, &SHARED_CONTROL_BLOCK)
 }

@@ -1,20 +1,25 @@
 use Rattle.comm_port.proofs.Allowed.{local-short}
 use Rattle.ring_core.specs.declared.entry.RingEntry.TheVariants.{Local}
 use Rattle.std.proofs.Common.{refl}
-use Rattle.comm_port.proofs.Stands.{ring-added, ring-waited}
+use Rattle.comm_port.proofs.RingTurns.{mine}
+use Rattle.comm_port.proofs.Steps.{ring-called}
 use Rattle.comm_port.proofs.asking.do_local.Goals as goal
 
 pub of-requires : goal.of-requires
 of-requires g c =
     let o = c.in-Err.ensures in
-    local-short g.R.RingSide.alone c.args.node _ _ _ _ o.legal o.went c.requires.turn o.refused
+    local-short g.R.RingSide.alone c.args.node _ _ _ _ o.legal o.went.list c.requires.turn o.refused
 
-pub returns-in-Ok-clause-stands : goal.returns-in-Ok-clause-stands
-returns-in-Ok-clause-stands g c =
+pub returns-in-Ok-clause-went : goal.returns-in-Ok-clause-went
+returns-in-Ok-clause-went g c = c.in-Ok.ensures.went.list
+
+pub returns-in-Ok-clause-step : goal.returns-in-Ok-clause-step
+returns-in-Ok-clause-step g c =
     let o = c.in-Ok.ensures in
-    ring-added g.R.RingSide.alone _ c.args.node _ (Local c.args.node c.args.id c.args.op c.in-Ok.given) _ refl o.legal o.went
+    ring-called g.R.RingSide c.args.node o.same o.legal o.went
+    (mine c.args.node (Local c.args.node c.args.id c.args.op c.in-Ok.given) refl)
 
-pub returns-in-Err-clause-stands : goal.returns-in-Err-clause-stands
-returns-in-Err-clause-stands g c =
+pub returns-in-Err-clause-step : goal.returns-in-Err-clause-step
+returns-in-Err-clause-step g c =
     let e = c.in-Err.ensures in
-    ring-waited g.R.RingSide.alone _ c.args.node _ _ e.legal e.went
+    ring-called g.R.RingSide c.args.node e.same e.legal e.went refl

@@ -3,18 +3,21 @@ use Rattle.comm_port.proofs.Allowed.{free-path-no}
 use Rattle.std.proofs.Common.{refl}
 use Rattle.ring_core.specs.declared.entry.RingEntry.TheVariants.{Post}
 use Rattle.comm_port.proofs.RingTurns.{own-moved, kept-post}
-use Rattle.comm_port.proofs.Stands.{ring-stays}
+use Rattle.comm_port.proofs.Steps.{ring-rest}
 use Rattle.comm_port.proofs.calling.post_call.Goals as goal
 
 pub returns-clause-kept : goal.returns-clause-kept
 returns-clause-kept g c =
     let o = c.in_ok-post_frame.ensures in
-    kept-post _ c.args.node _ _ c.args.frame (own-moved _ g.R.RingSide.alone c.args.node _ (Post c.args.node c.args.frame) _ refl
-    c.requires.turn o.stands.legal o.went)
+    kept-post _ c.args.node _ _ c.args.frame
+    (own-moved _ g.R.RingSide.alone c.args.node _ (Post c.args.node c.args.frame) _ refl
+    c.requires.turn o.step.stands.legal o.went)
 
 pub post_frame-requires-clause-free : goal.post_frame-requires-clause-free
-post_frame-requires-clause-free g c = free-path-no (part_at (g.R.RingSide.side c.args.ring.now).net c.args.node (g.R.RingSide.known c.args.ring.now)) c.args.frame.kind c.args.frame.id.path c.requires.free
+post_frame-requires-clause-free g c = free-path-no
+    (part_at (g.R.RingSide.side c.args.ring.now).net c.args.node
+    (g.R.RingSide.known c.args.ring.now)) c.args.frame.kind c.args.frame.id.path c.requires.free
 
-pub returns-in_err-kept-clause-stands : goal.returns-in_err-kept-clause-stands
-returns-in_err-kept-clause-stands g c =
-    ring-stays g.R.RingSide.alone _ c.args.node _ c.requires.turn.on.legal
+pub returns-in_err-kept-clause-step : goal.returns-in_err-kept-clause-step
+returns-in_err-kept-clause-step g c =
+    ring-rest g.R.RingSide c.args.node c.args.ring.now c.requires.turn.on.legal

@@ -1,20 +1,21 @@
-use Rattle.std.proofs.Common.{[], refl}
-use Rattle.comm_port.proofs.Stands.{ram-went, ram-collected}
+use Rattle.comm_port.proofs.Steps.{ram-asked, ram-then}
 use Rattle.comm_port.proofs.ending.is_done.Goals as goal
 
-pub returns-then-not-has_ended-clause-stands : goal.returns-then-not-has_ended-clause-stands
-returns-then-not-has_ended-clause-stands g c =
+pub returns-then-not-has_ended-clause-step : goal.returns-then-not-has_ended-clause-step
+returns-then-not-has_ended-clause-step g c =
     let ended = c.if-not-has_ended.ensures in
-    ram-went g.M.RamSide.alone _ _ [] _ refl ended.legal ended.went
+    ram-asked g.M.RamSide ended.same ended.legal ended.went
 
-pub returns-then-has_started-clause-stands : goal.returns-then-has_started-clause-stands
-returns-then-has_started-clause-stands g c =
+pub returns-then-has_started-clause-step : goal.returns-then-has_started-clause-step
+returns-then-has_started-clause-step g c =
     let ended = c.if-not-has_ended.ensures in
     let started = c.if-has_started.ensures in
-    ram-collected g.M.RamSide.alone _ _ _ _ [] _ ended.same ended.legal ended.went refl started.legal started.went
+    ram-then g.M.RamSide (ram-asked g.M.RamSide ended.same ended.legal ended.went)
+    (ram-asked g.M.RamSide started.same started.legal started.went)
 
-pub returns-clause-stands : goal.returns-clause-stands
-returns-clause-stands g c =
+pub returns-clause-step : goal.returns-clause-step
+returns-clause-step g c =
     let ended = c.if-not-has_ended.ensures in
     let started = c.if-has_started.ensures in
-    ram-collected g.M.RamSide.alone _ _ _ _ [] _ ended.same ended.legal ended.went refl started.legal started.went
+    ram-then g.M.RamSide (ram-asked g.M.RamSide ended.same ended.legal ended.went)
+    (ram-asked g.M.RamSide started.same started.legal started.went)

@@ -7,7 +7,7 @@ use Rattle.comm_port.proofs.HostTurning.{turning-side}
 use Rattle.mstr_block.specs.Table.{network_paths}
 use Rattle.comm_port.proofs.HostGives.{gives-at}
 use Rattle.comm_port.proofs.HostHolds.{ends-host, leaves-host, none-unanswered}
-use Rattle.comm_port.proofs.HostAndRing.{lists-on, lists-ring}
+use Rattle.comm_port.proofs.Steps.{host-ring, host-then}
 use Rattle.comm_port.proofs.host_worker.end_turn.Goals as goal
 
 pub hand_on-requires-clause-sent : goal.hand_on-requires-clause-sent
@@ -19,32 +19,44 @@ hand_on-requires-clause-taken g c = c.requires.boxes.1
 pub give_up_where-requires : goal.give_up_where-requires
 give_up_where-requires g c =
     let o = c.in_ok-left.ensures in
-    let gone = gone-with g.R.RingSide.alone _ c.args.node _ _ _ _ _ o.handed (sym c.if-not-left.false ∙ o.left) in
-    let ties = ties-handed g.R.RingSide.alone c.args.node _ _ _ _ _ _ _ c.requires.turning o.handed o.stands.legal in
-    record { turning = turning-side c.args.node _ _ _ _ o.same (turning-left c.args.node _ _ _ ties gone) }
+    let gone = gone-with g.R.RingSide.alone _ c.args.node _ _ _ _ _ o.handed
+    (sym c.if-not-left.false ∙ o.left) in
+    let ties = ties-handed g.R.RingSide.alone c.args.node _ _ _ _ _ _ _ c.requires.turning o.handed
+    o.step.stands.legal in
+    record {
+      turning = turning-side c.args.node _ _ _ _ o.step.same
+          (turning-left c.args.node _ _ _ ties gone);
+    }
 
 pub returns-then-not-left-clause-ties : goal.returns-then-not-left-clause-ties
 returns-then-not-left-clause-ties g c =
     let o = c.in_ok-left.ensures in
-    ties-handed g.R.RingSide.alone c.args.node _ _ _ _ _ _ _ c.requires.turning o.handed o.stands.legal
+    ties-handed g.R.RingSide.alone c.args.node _ _ _ _ _ _ _ c.requires.turning o.handed
+    o.step.stands.legal
 
 pub returns-then-not-left-clause-passed : goal.returns-then-not-left-clause-passed
 returns-then-not-left-clause-passed g c =
     let o = c.in_ok-left.ensures in
-    λ e. subst (λ (done : Bool). EndsWithPass c.args.node done (own c.args.node (g.R.RingSide.known c.hand_on.new.ring))) c.is_done-done.ensures
-    (ends-with g.R.RingSide.alone _ c.args.node _ _ _ _ _ o.handed (sym c.if-not-left.true ∙ o.left))
+    λ e. subst (λ (done : Bool). EndsWithPass c.args.node done
+    (own c.args.node (g.R.RingSide.known c.hand_on.new.ring))) c.is_done-done.ensures
+    (ends-with g.R.RingSide.alone _ c.args.node _ _ _ _ _ o.handed
+    (sym c.if-not-left.true ∙ o.left))
 
 pub returns-clause-gone : goal.returns-clause-gone
 returns-clause-gone g c =
     let o = c.in_ok-left.ensures in
-    let gone = gone-with g.R.RingSide.alone _ c.args.node _ _ _ _ _ o.handed (sym c.if-not-left.false ∙ o.left) in
-    λ e. gone-on c.args.node (g.R.RingSide.side c.args.ring.now) (g.R.RingSide.side c.hand_on.new.ring) (g.R.RingSide.known c.hand_on.new.ring)
-    (g.R.RingSide.known c.give_up_where.new.ring) o.same gone c.in_ok-give_up_where.ensures.left
+    let gone = gone-with g.R.RingSide.alone _ c.args.node _ _ _ _ _ o.handed
+    (sym c.if-not-left.false ∙ o.left) in
+    λ e. gone-on c.args.node (g.R.RingSide.side c.args.ring.now)
+    (g.R.RingSide.side c.hand_on.new.ring) (g.R.RingSide.known c.hand_on.new.ring)
+    (g.R.RingSide.known c.give_up_where.new.ring) o.step.same gone
+    c.in_ok-give_up_where.ensures.left
 
 pub returns-then-not-left-clause-ends : goal.returns-then-not-left-clause-ends
 returns-then-not-left-clause-ends g c =
     let o = c.in_ok-left.ensures in
-    ends-host g.R.RingSide.alone _ c.args.node c.args.host.now.plan c.args.budget c.is_done-done.result c.args.host.now.history _ _ c.is_done-done.ensures
+    ends-host g.R.RingSide.alone _ c.args.node c.args.host.now.plan c.args.budget
+    c.is_done-done.result c.args.host.now.history _ _ c.is_done-done.ensures
     (sym c.if-not-left.true ∙ o.left) o.handed
 
 pub returns-clause-ends : goal.returns-clause-ends
@@ -54,34 +66,44 @@ returns-clause-ends g c =
     let n = c.args.node in
     let before = g.R.RingSide.side c.args.ring.now in
     let there = g.R.RingSide.side c.hand_on.new.ring in
-    let gives = gives-at g.R.RingSide.alone n network_paths _ _ _ _ there before (sym o.same) w.gives_up in
-    let gone = gone-with g.R.RingSide.alone before.net n _ _ _ _ _ o.handed (sym c.if-not-left.false ∙ o.left) in
-    let left = gone-on n before there (g.R.RingSide.known c.hand_on.new.ring) (g.R.RingSide.known c.give_up_where.new.ring) o.same gone w.left in
-    let turning = turning-side n _ there before _ (sym o.same) w.turning in
-    leaves-host g.R.RingSide.alone before.net n c.args.host.now.plan c.args.budget c.is_done-done.result c.args.host.now.history _ _ _ _ c.is_done-done.ensures
-    (sym c.if-not-left.false ∙ o.left) o.handed gives (none-unanswered n c.give_up_where.new.host before _ turning left gives.none_left)
+    let gives = gives-at g.R.RingSide.alone n network_paths _ _ _ _ there before (sym o.step.same)
+    w.gives_up in
+    let gone = gone-with g.R.RingSide.alone before.net n _ _ _ _ _ o.handed
+    (sym c.if-not-left.false ∙ o.left) in
+    let left = gone-on n before there (g.R.RingSide.known c.hand_on.new.ring)
+    (g.R.RingSide.known c.give_up_where.new.ring) o.step.same gone w.left in
+    let turning = turning-side n _ there before _ (sym o.step.same) w.turning in
+    leaves-host g.R.RingSide.alone before.net n c.args.host.now.plan c.args.budget
+    c.is_done-done.result c.args.host.now.history _ _ _ _ c.is_done-done.ensures
+    (sym c.if-not-left.false ∙ o.left) o.handed gives
+    (none-unanswered n c.give_up_where.new.host before _ turning left gives.none_left)
 
 pub returns-then-not-left-clause-stays : goal.returns-then-not-left-clause-stays
 returns-then-not-left-clause-stays g c =
     let o = c.in_ok-left.ensures in
-    λ e. stays-with g.R.RingSide.alone _ c.args.node _ _ _ _ _ o.handed (sym c.if-not-left.true ∙ o.left)
+    λ e. stays-with g.R.RingSide.alone _ c.args.node _ _ _ _ _ o.handed
+    (sym c.if-not-left.true ∙ o.left)
 
-pub returns-in_err-left-clause-stands : goal.returns-in_err-left-clause-stands
-returns-in_err-left-clause-stands g c =
-    lists-ring g.R.RingSide.alone _ c.args.node _ _ _ c.in_err-left.ensures.stands
+pub returns-in_err-left-clause-step : goal.returns-in_err-left-clause-step
+returns-in_err-left-clause-step g c =
+    host-ring g.R.RingSide c.args.node c.args.host.now c.requires.turning.legal
+    c.in_err-left.ensures.step
 
-pub returns-then-not-left-clause-stands : goal.returns-then-not-left-clause-stands
-returns-then-not-left-clause-stands g c =
-    lists-ring g.R.RingSide.alone _ c.args.node _ _ _ c.in_ok-left.ensures.stands
+pub returns-then-not-left-clause-step : goal.returns-then-not-left-clause-step
+returns-then-not-left-clause-step g c =
+    host-ring g.R.RingSide c.args.node c.args.host.now c.requires.turning.legal
+    c.in_ok-left.ensures.step
 
-pub returns-in_err-give_up_where-clause-stands : goal.returns-in_err-give_up_where-clause-stands
-returns-in_err-give_up_where-clause-stands g c =
-    let n = c.args.node in
-    let first = lists-ring g.R.RingSide.alone _ n _ _ _ c.in_ok-left.ensures.stands in
-    lists-on g.R.RingSide.alone n (g.R.RingSide.side c.args.ring.now) (g.R.RingSide.side c.hand_on.new.ring) _ _ _ _ _ _ c.in_ok-left.ensures.same first c.in_err-give_up_where.ensures.stands
+pub returns-in_err-give_up_where-clause-step : goal.returns-in_err-give_up_where-clause-step
+returns-in_err-give_up_where-clause-step g c =
+    host-then g.R.RingSide c.args.node
+    (host-ring g.R.RingSide c.args.node c.args.host.now c.requires.turning.legal
+    c.in_ok-left.ensures.step)
+    c.in_err-give_up_where.ensures.step
 
-pub returns-clause-stands : goal.returns-clause-stands
-returns-clause-stands g c =
-    let n = c.args.node in
-    let first = lists-ring g.R.RingSide.alone _ n _ _ _ c.in_ok-left.ensures.stands in
-    lists-on g.R.RingSide.alone n (g.R.RingSide.side c.args.ring.now) (g.R.RingSide.side c.hand_on.new.ring) _ _ _ _ _ _ c.in_ok-left.ensures.same first c.in_ok-give_up_where.ensures.stands
+pub returns-clause-step : goal.returns-clause-step
+returns-clause-step g c =
+    host-then g.R.RingSide c.args.node
+    (host-ring g.R.RingSide c.args.node c.args.host.now c.requires.turning.legal
+    c.in_ok-left.ensures.step)
+    c.in_ok-give_up_where.ensures.step

@@ -1,10 +1,10 @@
-use Rattle.std.proofs.Common.{refl, sym, ◌∙◌}
+use Rattle.std.proofs.Common.{sym}
 use Rattle.comm_port.proofs.HostAsks.{holds-at}
 use Rattle.comm_port.proofs.HostServes.{grew_not}
 use Rattle.comm_port.proofs.HostSends.{new-at, sends-at, sends-both, sends-none, sends-out-at}
 use Rattle.comm_port.proofs.HostSends.{sent-out}
 use Rattle.comm_port.proofs.HostTurning.{turning-side}
-use Rattle.comm_port.proofs.HostAndRing.{lists-on, lists-stay}
+use Rattle.comm_port.proofs.Steps.{host-ring, host-then, ring-rest}
 use Rattle.comm_port.proofs.host_worker.send_all.Goals as goal
 
 pub loop-init : goal.loop-init
@@ -12,10 +12,10 @@ loop-init g c = record {
   turning = c.requires.turning;
   holds = c.requires.holds;
   new_calls = c.requires.new_calls;
-  plan = refl;
-  same = refl;
-  sends = sends-none g.R.RingSide.alone _ c.args.node _ _ _ _ (grew_not g.R.RingSide.alone c.args.node _);
-  stands = lists-stay g.R.RingSide.alone _ c.args.node _ _ c.requires.turning.own_turn.on.legal;
+  sends = sends-none g.R.RingSide.alone _ c.args.node _ _ _ _
+      (grew_not g.R.RingSide.alone c.args.node _);
+  step = host-ring g.R.RingSide c.args.node c.args.host.now c.requires.turning.legal
+      (ring-rest g.R.RingSide c.args.node c.args.ring.now c.requires.turning.own_turn.on.legal);
 }
 
 pub loop-preserved : goal.loop-preserved
@@ -26,13 +26,13 @@ loop-preserved g c =
     let here = g.R.RingSide.side c.loop.ring in
     let there = g.R.RingSide.side c.send_one.new.ring in
     record {
-      turning = turning-side n _ _ _ _ s.same s.turning;
-      holds = holds-at n _ _ _ s.same s.holds;
-      new_calls = new-at n _ (g.R.RingSide.known c.send_one.new.ring) here there s.same s.new_calls;
-      plan = s.plan ∙ i.plan;
-      same = s.same ∙ i.same;
-      sends = sends-at g.R.RingSide.alone n _ _ _ _ _ here there s.same (sends-both g.R.RingSide.alone here.net n _ _ _ _ _ _ _ i.sends s.sends);
-      stands = lists-on g.R.RingSide.alone n (g.R.RingSide.side c.args.ring.now) here _ _ _ _ _ _ i.same i.stands s.stands;
+      turning = turning-side n _ _ _ _ s.step.node.same s.turning;
+      holds = holds-at n _ _ _ s.step.node.same s.holds;
+      new_calls = new-at n _ (g.R.RingSide.known c.send_one.new.ring) here there s.step.node.same
+          s.new_calls;
+      sends = sends-at g.R.RingSide.alone n _ _ _ _ _ here there s.step.node.same
+          (sends-both g.R.RingSide.alone here.net n _ _ _ _ _ _ _ i.sends s.sends);
+      step = host-then g.R.RingSide n i.step s.step;
     }
 
 pub returns-clause-sends : goal.returns-clause-sends
@@ -42,15 +42,15 @@ returns-clause-sends g c =
     let n = c.args.node in
     let here = g.R.RingSide.side c.loop.ring in
     let before = g.R.RingSide.side c.args.ring.now in
-    sends-out-at g.R.RingSide.alone n _ _ _ _ _ here before (sym i.same)
-    (sent-out g.R.RingSide.alone here.net n _ _ _ _ _ (sends-both g.R.RingSide.alone here.net n _ _ _ _ _ _ _ i.sends s.sends) (s.empty c.if-branch.false) s.new_calls)
+    sends-out-at g.R.RingSide.alone n _ _ _ _ _ here before (sym i.step.node.same)
+    (sent-out g.R.RingSide.alone here.net n _ _ _ _ _
+    (sends-both g.R.RingSide.alone here.net n _ _ _ _ _ _ _ i.sends s.sends)
+    (s.empty c.if-branch.false) s.new_calls)
 
-pub returns-in_err-send_one-clause-stands : goal.returns-in_err-send_one-clause-stands
-returns-in_err-send_one-clause-stands g c =
-    let i = c.loop.invariant in
-    lists-on g.R.RingSide.alone c.args.node (g.R.RingSide.side c.args.ring.now) (g.R.RingSide.side c.loop.ring) _ _ _ _ _ _ i.same i.stands c.in_err-send_one.ensures.stands
+pub returns-in_err-send_one-clause-step : goal.returns-in_err-send_one-clause-step
+returns-in_err-send_one-clause-step g c =
+    host-then g.R.RingSide c.args.node c.loop.invariant.step c.in_err-send_one.ensures.step
 
-pub returns-clause-stands : goal.returns-clause-stands
-returns-clause-stands g c =
-    let i = c.loop.invariant in
-    lists-on g.R.RingSide.alone c.args.node (g.R.RingSide.side c.args.ring.now) (g.R.RingSide.side c.loop.ring) _ _ _ _ _ _ i.same i.stands c.in_ok-send_one.ensures.stands
+pub returns-clause-step : goal.returns-clause-step
+returns-clause-step g c =
+    host-then g.R.RingSide c.args.node c.loop.invariant.step c.in_ok-send_one.ensures.step

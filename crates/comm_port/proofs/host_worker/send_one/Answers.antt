@@ -6,16 +6,18 @@ use Rattle.comm_port.proofs.HostGives.{gives-at}
 use Rattle.comm_port.proofs.HostRuns.{legal-at}
 use Rattle.comm_port.proofs.HostSends.{new-still, sends-none, sent-step}
 use Rattle.comm_port.proofs.RingTurns.{on-ring}
-use Rattle.comm_port.proofs.HostAndRing.{lists-on, lists-ring}
+use Rattle.comm_port.proofs.Steps.{host-ring, host-then}
 use Rattle.comm_port.proofs.host_worker.send_one.Goals as goal
 
 pub give_up_where-requires : goal.give_up_where-requires
 give_up_where-requires g c =
     let o = c.in_ok-heard.ensures in
-    let sent = sent-some g.R.RingSide.alone _ c.args.node c.in-Some.heard _ _ _ c.in-Some.is o.sent in
+    let sent = sent-some g.R.RingSide.alone _ c.args.node c.in-Some.heard _ _ _ c.in-Some.is o.sent
+    in
     record {
-      turning = turning-side c.args.node _ _ _ _ o.same (turning-sent g.R.RingSide.alone c.args.node c.in-Some.heard _ _ _
-          _ c.requires.turning sent o.stands.legal);
+      turning = turning-side c.args.node _ _ _ _ o.step.same
+          (turning-sent g.R.RingSide.alone c.args.node c.in-Some.heard _ _ _
+          _ c.requires.turning sent o.step.stands.legal);
     }
 
 pub returns-in_default-clause-sends : goal.returns-in_default-clause-sends
@@ -30,11 +32,16 @@ returns-clause-sends g c =
     let w = c.in_ok-give_up_where.ensures in
     let n = c.args.node in
     let before = g.R.RingSide.side c.args.ring.now in
-    let sent = sent-some g.R.RingSide.alone before.net n c.in-Some.heard _ _ _ c.in-Some.is o.sent in
-    (sent-step g.R.RingSide.alone before.net n c.in-Some.heard c.args.fresh _ _ _ _ _ _ (on-ring before _ _ n c.requires.turning.own_turn o.stands.legal)
-    (on-ring before _ _ n c.requires.turning.own_turn (legal-at before (g.R.RingSide.side c.send_next.new.ring) _ o.same w.stands.node.legal)) c.requires.holds
+    let sent = sent-some g.R.RingSide.alone before.net n c.in-Some.heard _ _ _ c.in-Some.is o.sent
+    in
+    (sent-step g.R.RingSide.alone before.net n c.in-Some.heard c.args.fresh _ _ _ _ _ _
+    (on-ring before _ _ n c.requires.turning.own_turn o.step.stands.legal)
+    (on-ring before _ _ n c.requires.turning.own_turn
+    (legal-at before (g.R.RingSide.side c.send_next.new.ring) _ o.step.same
+    w.step.node.stands.legal)) c.requires.holds
     c.requires.new_calls sent.grew c.may_have_failed.ensures
-    (gives-at g.R.RingSide.alone n _ _ _ _ _ (g.R.RingSide.side c.send_next.new.ring) before (sym o.same) w.gives_up)).sends
+    (gives-at g.R.RingSide.alone n _ _ _ _ _ (g.R.RingSide.side c.send_next.new.ring) before
+    (sym o.step.same) w.gives_up)).sends
 
 pub returns-clause-new_calls : goal.returns-clause-new_calls
 returns-clause-new_calls g c =
@@ -42,11 +49,16 @@ returns-clause-new_calls g c =
     let w = c.in_ok-give_up_where.ensures in
     let n = c.args.node in
     let before = g.R.RingSide.side c.args.ring.now in
-    let sent = sent-some g.R.RingSide.alone before.net n c.in-Some.heard _ _ _ c.in-Some.is o.sent in
-    (sent-step g.R.RingSide.alone before.net n c.in-Some.heard c.args.fresh _ _ _ _ _ _ (on-ring before _ _ n c.requires.turning.own_turn o.stands.legal)
-    (on-ring before _ _ n c.requires.turning.own_turn (legal-at before (g.R.RingSide.side c.send_next.new.ring) _ o.same w.stands.node.legal)) c.requires.holds
+    let sent = sent-some g.R.RingSide.alone before.net n c.in-Some.heard _ _ _ c.in-Some.is o.sent
+    in
+    (sent-step g.R.RingSide.alone before.net n c.in-Some.heard c.args.fresh _ _ _ _ _ _
+    (on-ring before _ _ n c.requires.turning.own_turn o.step.stands.legal)
+    (on-ring before _ _ n c.requires.turning.own_turn
+    (legal-at before (g.R.RingSide.side c.send_next.new.ring) _ o.step.same
+    w.step.node.stands.legal)) c.requires.holds
     c.requires.new_calls sent.grew c.may_have_failed.ensures
-    (gives-at g.R.RingSide.alone n _ _ _ _ _ (g.R.RingSide.side c.send_next.new.ring) before (sym o.same) w.gives_up)).new_calls
+    (gives-at g.R.RingSide.alone n _ _ _ _ _ (g.R.RingSide.side c.send_next.new.ring) before
+    (sym o.step.same) w.gives_up)).new_calls
 
 pub returns-in_default-clause-new_calls : goal.returns-in_default-clause-new_calls
 returns-in_default-clause-new_calls g c =
@@ -54,29 +66,35 @@ returns-in_default-clause-new_calls g c =
     let n = c.args.node in
     let before = g.R.RingSide.side c.args.ring.now in
     let all = sent-none g.R.RingSide.alone before.net n _ _ _ c.in_default.is o.sent in
-    new-still g.R.RingSide.alone before.net n _ _ _ (on-ring before _ _ n c.requires.turning.own_turn o.stands.legal) c.requires.turning.own_turn.free all.grew c.requires.new_calls
+    new-still g.R.RingSide.alone before.net n _ _ _
+    (on-ring before _ _ n c.requires.turning.own_turn o.step.stands.legal)
+    c.requires.turning.own_turn.free all.grew c.requires.new_calls
 
 pub returns-in_default-clause-empty : goal.returns-in_default-clause-empty
 returns-in_default-clause-empty g c =
     let o = c.in_ok-heard.ensures in
     λ e. (sent-none g.R.RingSide.alone _ c.args.node _ _ _ c.in_default.is o.sent).empty
 
-pub returns-in_err-heard-clause-stands : goal.returns-in_err-heard-clause-stands
-returns-in_err-heard-clause-stands g c =
-    lists-ring g.R.RingSide.alone _ c.args.node _ _ _ c.in_err-heard.ensures.stands
+pub returns-in_err-heard-clause-step : goal.returns-in_err-heard-clause-step
+returns-in_err-heard-clause-step g c =
+    host-ring g.R.RingSide c.args.node c.args.host.now c.requires.turning.legal
+    c.in_err-heard.ensures.step
 
-pub returns-in_default-clause-stands : goal.returns-in_default-clause-stands
-returns-in_default-clause-stands g c =
-    lists-ring g.R.RingSide.alone _ c.args.node _ _ _ c.in_ok-heard.ensures.stands
+pub returns-in_default-clause-step : goal.returns-in_default-clause-step
+returns-in_default-clause-step g c =
+    host-ring g.R.RingSide c.args.node c.args.host.now c.requires.turning.legal
+    c.in_ok-heard.ensures.step
 
-pub returns-in_err-give_up_where-clause-stands : goal.returns-in_err-give_up_where-clause-stands
-returns-in_err-give_up_where-clause-stands g c =
-    let n = c.args.node in
-    let first = lists-ring g.R.RingSide.alone _ n _ _ _ c.in_ok-heard.ensures.stands in
-    lists-on g.R.RingSide.alone n (g.R.RingSide.side c.args.ring.now) (g.R.RingSide.side c.send_next.new.ring) _ _ _ _ _ _ c.in_ok-heard.ensures.same first c.in_err-give_up_where.ensures.stands
+pub returns-in_err-give_up_where-clause-step : goal.returns-in_err-give_up_where-clause-step
+returns-in_err-give_up_where-clause-step g c =
+    host-then g.R.RingSide c.args.node
+    (host-ring g.R.RingSide c.args.node c.args.host.now c.requires.turning.legal
+    c.in_ok-heard.ensures.step)
+    c.in_err-give_up_where.ensures.step
 
-pub returns-clause-stands : goal.returns-clause-stands
-returns-clause-stands g c =
-    let n = c.args.node in
-    let first = lists-ring g.R.RingSide.alone _ n _ _ _ c.in_ok-heard.ensures.stands in
-    lists-on g.R.RingSide.alone n (g.R.RingSide.side c.args.ring.now) (g.R.RingSide.side c.send_next.new.ring) _ _ _ _ _ _ c.in_ok-heard.ensures.same first c.in_ok-give_up_where.ensures.stands
+pub returns-clause-step : goal.returns-clause-step
+returns-clause-step g c =
+    host-then g.R.RingSide c.args.node
+    (host-ring g.R.RingSide c.args.node c.args.host.now c.requires.turning.legal
+    c.in_ok-heard.ensures.step)
+    c.in_ok-give_up_where.ensures.step

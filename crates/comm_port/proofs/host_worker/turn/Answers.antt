@@ -11,7 +11,7 @@ use Rattle.comm_port.proofs.HostAsked.{asked-all-at}
 use Rattle.comm_port.proofs.HostGives.{gives-at}
 use Rattle.comm_port.proofs.HostHolds.{asks-of, ends-at, ok-then, sends-of}
 use Rattle.comm_port.proofs.HostSends.{sends-out-at}
-use Rattle.comm_port.proofs.HostAndRing.{lists-on}
+use Rattle.comm_port.proofs.Steps.{host-then}
 use Rattle.comm_port.proofs.host_worker.turn.Goals as goal
 
 pub returns-clause-held : goal.returns-clause-held
@@ -30,18 +30,22 @@ returns-clause-held g c =
     let asks = c.in_ok-fresh.ensures in
     let sends = c.in_ok-send_all.ensures in
     let gives = c.in_ok-give_up_where.ensures in
-    let same1 = serves.same in
-    let same2 = asks.same ∙ same1 in
-    let same3 = sends.same ∙ same2 in
-    let same4 = gives.same ∙ same3 in
-    let plan1 = serves.plan in
-    let plan4 = gives.plan ∙ (sends.plan ∙ (asks.plan ∙ plan1)) in
+    let same1 = serves.step.node.same in
+    let same2 = asks.step.node.same ∙ same1 in
+    let same3 = sends.step.node.same ∙ same2 in
+    let same4 = gives.step.node.same ∙ same3 in
+    let plan1 = serves.step.plan in
+    let plan4 = gives.step.plan ∙ (sends.step.plan ∙ (asks.step.plan ∙ plan1)) in
     let before = side c.args.ring.now in
-    let asked = asks-of alone before.net n plan c.args.hold c.args.host.now.history _ _ a b d _ c.serve_inbox.new.host.plan plan1 c.history.ensures.sound
-    c.requires.hold (asked-all-at alone n _ c.args.hold _ _ _ _ _ (side c.serve_inbox.new.ring) before (sym same1) asks.asked) in
-    ok-then (EndsHostTurn alone (side c.give_up_where.new.ring).net n c.give_up_where.new.host.plan c.args.budget c.give_up_where.new.host.history
+    let asked = asks-of alone before.net n plan c.args.hold c.args.host.now.history _ _ a b d _
+    c.serve_inbox.new.host.plan plan1 c.history.ensures.sound
+    c.requires.hold (asked-all-at alone n _ c.args.hold _ _ _ _ _ (side c.serve_inbox.new.ring)
+    before (sym same1) asks.asked) in
+    ok-then (EndsHostTurn alone (side c.give_up_where.new.ring).net n c.give_up_where.new.host.plan
+    c.args.budget c.give_up_where.new.host.history
     c.end_turn.new.host.history f z)
-    (HoldsHostTurn alone before.net n plan c.args.budget c.args.host.now.history c.end_turn.new.host.history a z) c.end_turn.result
+    (HoldsHostTurn alone before.net n plan c.args.budget c.args.host.now.history
+    c.end_turn.new.host.history a z) c.end_turn.result
     (λ left ends. record {
       served_list = c.serve_inbox.new.host.history;
       asked_list = c.ask_all.new.host.history;
@@ -54,9 +58,12 @@ returns-clause-held g c =
       asks = asked.asks;
       serves = serves.served;
       makes = asked.makes;
-      sends = sends-of alone before.net n _ _ _ _ _ _ asked.same (sends-out-at alone n _ _ _ _ _ (side c.ask_all.new.ring) before (sym same2) sends.sends);
-      gives_up = gives-at alone n network_paths _ _ _ _ (side c.send_all.new.ring) before (sym same3) gives.gives_up;
-      ends = ends-at alone n plan c.give_up_where.new.host.plan c.args.budget _ _ _ _ left before (side c.give_up_where.new.ring) same4 plan4 ends;
+      sends = sends-of alone before.net n _ _ _ _ _ _ asked.same
+          (sends-out-at alone n _ _ _ _ _ (side c.ask_all.new.ring) before (sym same2) sends.sends);
+      gives_up = gives-at alone n network_paths _ _ _ _ (side c.send_all.new.ring) before
+          (sym same3) gives.gives_up;
+      ends = ends-at alone n plan c.give_up_where.new.host.plan c.args.budget _ _ _ _ left before
+          (side c.give_up_where.new.ring) same4 plan4 ends;
     }) c.end_turn.ensures.ends
 
 pub end_turn-requires-clause-boxes : goal.end_turn-requires-clause-boxes
@@ -73,70 +80,54 @@ end_turn-requires-clause-boxes g c =
     let asked = g.R.RingSide.known c.ask_all.new.ring in
     let sent = g.R.RingSide.known c.send_all.new.ring in
     let given = g.R.RingSide.known c.give_up_where.new.ring in
-    let same2 = b.same ∙ a.same in
-    let same3 = d.same ∙ same2 in
-    let same4 = e.same ∙ same3 in
+    let same2 = b.step.node.same ∙ a.step.node.same in
+    let same3 = d.step.node.same ∙ same2 in
+    let same4 = e.step.node.same ∙ same3 in
     let t = c.requires.turning.own_turn.on in
-    let all = asked-all-at alone n _ c.args.hold _ _ _ _ _ (side c.serve_inbox.new.ring) before (sym a.same) b.asked in
+    let all = asked-all-at alone n _ c.args.hold _ _ _ _ _ (side c.serve_inbox.new.ring) before
+    (sym a.step.node.same) b.asked in
     let out = sends-out-at alone n _ _ _ _ _ (side c.ask_all.new.ring) before (sym same2) d.sends in
-    let gives = gives-at alone n network_paths _ _ _ _ (side c.send_all.new.ring) before (sym same3) e.gives_up in
+    let gives = gives-at alone n network_paths _ _ _ _ (side c.send_all.new.ring) before (sym same3)
+    e.gives_up in
     net-as (λ (m : NetPlan). BoxesEmpty (part_at m n given)) _ _ (sym same4)
-    (boxes-empty alone before.net n _ c.args.hold all.asks _ network_paths _ _ _ _ served asked sent given
-    (record { members = t.members; legal = a.stands.node.legal; member = t.member }) a.holds
-    (net-as (λ (m : NetPlan). IsLegal m asked) _ _ a.same b.stands.node.legal) (net-as (λ (m : NetPlan). Holds m asked n) _ _ a.same b.holds)
-    (net-as (λ (m : NetPlan). IsLegal m sent) _ _ same2 d.stands.node.legal) (net-as (λ (m : NetPlan). Holds m sent n) _ _ same2 d.holds)
-    (net-as (λ (m : NetPlan). IsLegal m given) _ _ same3 e.stands.node.legal) a.served.empty all.all out gives)
+    (boxes-empty alone before.net n _ c.args.hold all.asks _ network_paths _ _ _ _ served asked sent
+    given
+    (record { members = t.members; legal = a.step.node.stands.legal; member = t.member }) a.holds
+    (net-as (λ (m : NetPlan). IsLegal m asked) _ _ a.step.node.same b.step.node.stands.legal)
+    (net-as (λ (m : NetPlan). Holds m asked n) _ _ a.step.node.same b.holds)
+    (net-as (λ (m : NetPlan). IsLegal m sent) _ _ same2 d.step.node.stands.legal)
+    (net-as (λ (m : NetPlan). Holds m sent n) _ _ same2 d.holds)
+    (net-as (λ (m : NetPlan). IsLegal m given) _ _ same3 e.step.node.stands.legal) a.served.empty
+    all.all out gives)
 
-pub returns-in_err-fresh-clause-stands : goal.returns-in_err-fresh-clause-stands
-returns-in_err-fresh-clause-stands g c =
-    let alone = g.R.RingSide.alone in
-    let n = c.args.node in
-    let side = g.R.RingSide.side in
-    let before = side c.args.ring.now in
+pub returns-in_err-fresh-clause-step : goal.returns-in_err-fresh-clause-step
+returns-in_err-fresh-clause-step g c =
     let a = c.in_ok-serve_inbox.ensures in
-    lists-on alone n before (side c.serve_inbox.new.ring) _ _ _ _ _ _ a.same a.stands c.in_err-fresh.ensures.stands
+    host-then g.R.RingSide c.args.node a.step c.in_err-fresh.ensures.step
 
-pub returns-in_err-send_all-clause-stands : goal.returns-in_err-send_all-clause-stands
-returns-in_err-send_all-clause-stands g c =
-    let alone = g.R.RingSide.alone in
-    let n = c.args.node in
-    let side = g.R.RingSide.side in
-    let before = side c.args.ring.now in
+pub returns-in_err-send_all-clause-step : goal.returns-in_err-send_all-clause-step
+returns-in_err-send_all-clause-step g c =
     let a = c.in_ok-serve_inbox.ensures in
     let b = c.in_ok-fresh.ensures in
-    let same2 = b.same ∙ a.same in
-    let asked = lists-on alone n before (side c.serve_inbox.new.ring) _ _ _ _ _ _ a.same a.stands b.stands in
-    lists-on alone n before (side c.ask_all.new.ring) _ _ _ _ _ _ same2 asked c.in_err-send_all.ensures.stands
+    let ab = host-then g.R.RingSide c.args.node a.step b.step in
+    host-then g.R.RingSide c.args.node ab c.in_err-send_all.ensures.step
 
-pub returns-in_err-give_up_where-clause-stands : goal.returns-in_err-give_up_where-clause-stands
-returns-in_err-give_up_where-clause-stands g c =
-    let alone = g.R.RingSide.alone in
-    let n = c.args.node in
-    let side = g.R.RingSide.side in
-    let before = side c.args.ring.now in
+pub returns-in_err-give_up_where-clause-step : goal.returns-in_err-give_up_where-clause-step
+returns-in_err-give_up_where-clause-step g c =
     let a = c.in_ok-serve_inbox.ensures in
     let b = c.in_ok-fresh.ensures in
     let d = c.in_ok-send_all.ensures in
-    let same2 = b.same ∙ a.same in
-    let same3 = d.same ∙ same2 in
-    let asked = lists-on alone n before (side c.serve_inbox.new.ring) _ _ _ _ _ _ a.same a.stands b.stands in
-    let sent = lists-on alone n before (side c.ask_all.new.ring) _ _ _ _ _ _ same2 asked d.stands in
-    lists-on alone n before (side c.send_all.new.ring) _ _ _ _ _ _ same3 sent c.in_err-give_up_where.ensures.stands
+    let ab = host-then g.R.RingSide c.args.node a.step b.step in
+    let abd = host-then g.R.RingSide c.args.node ab d.step in
+    host-then g.R.RingSide c.args.node abd c.in_err-give_up_where.ensures.step
 
-pub returns-clause-stands : goal.returns-clause-stands
-returns-clause-stands g c =
-    let alone = g.R.RingSide.alone in
-    let n = c.args.node in
-    let side = g.R.RingSide.side in
-    let before = side c.args.ring.now in
+pub returns-clause-step : goal.returns-clause-step
+returns-clause-step g c =
     let a = c.in_ok-serve_inbox.ensures in
     let b = c.in_ok-fresh.ensures in
     let d = c.in_ok-send_all.ensures in
     let e = c.in_ok-give_up_where.ensures in
-    let same2 = b.same ∙ a.same in
-    let same3 = d.same ∙ same2 in
-    let same4 = e.same ∙ same3 in
-    let asked = lists-on alone n before (side c.serve_inbox.new.ring) _ _ _ _ _ _ a.same a.stands b.stands in
-    let sent = lists-on alone n before (side c.ask_all.new.ring) _ _ _ _ _ _ same2 asked d.stands in
-    let given = lists-on alone n before (side c.send_all.new.ring) _ _ _ _ _ _ same3 sent e.stands in
-    lists-on alone n before (side c.give_up_where.new.ring) _ _ _ _ _ _ same4 given c.end_turn.ensures.stands
+    let ab = host-then g.R.RingSide c.args.node a.step b.step in
+    let abd = host-then g.R.RingSide c.args.node ab d.step in
+    let abde = host-then g.R.RingSide c.args.node abd e.step in
+    host-then g.R.RingSide c.args.node abde c.end_turn.ensures.step

@@ -7,4 +7,5 @@ pub returns-clause-kept : goal.returns-clause-kept
 returns-clause-kept g c =
     let o = c.in_ok-post_frame.ensures in
     let f = c.reply_frame.result in
-    kept-post _ c.args.node _ _ f (own-moved _ g.R.RingSide.alone c.args.node _ (Post c.args.node f) _ refl c.requires.turn o.stands.legal o.went)
+    kept-post _ c.args.node _ _ f (own-moved _ g.R.RingSide.alone c.args.node _ (Post c.args.node f)
+    _ refl c.requires.turn o.step.stands.legal o.went)

@@ -15,14 +15,15 @@ pub returns-clause-turning : goal.returns-clause-turning
 returns-clause-turning g c =
     let o = c.in_ok-tell_statistics.ensures in
     port-lead g.R.RingSide.alone c.args.node c.args.request.now _ _ _ _ _ _ c.args.waiting.now
-    o.same c.requires.kind c.requires.stats o.stands.legal o.kept o.told c.requires.taking
+    o.step.same c.requires.kind c.requires.stats o.step.stands.legal o.kept o.told c.requires.taking
 
 pub returns-clause-ring_adds : goal.returns-clause-ring_adds
 returns-clause-ring_adds g c =
     let told = c.in_ok-tell_statistics.ensures.told in
     let n = c.args.node in
     let id = c.args.request.now.id in
-    adds-grew g.R.RingSide.alone (is_of n) (IsServing n) _ (Local n id told.op told.result ∷ Post n (reply_frame id (reply_of told.result)) ∷ []) _
+    adds-grew g.R.RingSide.alone (is_of n) (IsServing n) _
+    (Local n id told.op told.result ∷ Post n (reply_frame id (reply_of told.result)) ∷ []) _
     (c.requires.taking.request c.requires.kind, (refl, tt)) told.grew
 
 pub returns-clause-served : goal.returns-clause-served
@@ -31,7 +32,8 @@ returns-clause-served g c =
     let f = c.args.request.now in
     record {
       noted = [];
-      done = Local c.args.node f.id told.op told.result ∷ Post c.args.node (reply_frame f.id (reply_of told.result)) ∷ [];
+      done = Local c.args.node f.id told.op told.result ∷ Post c.args.node
+          (reply_frame f.id (reply_of told.result)) ∷ [];
       due = port-due g.R.RingSide.alone c.args.node f _ _ c.requires.kind c.requires.stats told;
       station = grew-none g.M.RamSide.alone is_ours _;
       node = told.grew;

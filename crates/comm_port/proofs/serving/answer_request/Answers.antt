@@ -9,19 +9,22 @@ use Rattle.joint_history.specs.Reading.{is_ours}
 use Rattle.comm_port.specs.Replies.{reply_frame}
 use Rattle.comm_port.specs.Order.{IsServing}
 use Rattle.comm_port.proofs.Served.{answer-lead}
-use Rattle.comm_port.proofs.Stands.{ram-went, both-ram}
+use Rattle.comm_port.proofs.Steps.{both-ram, ram-called}
 use Rattle.comm_port.proofs.serving.answer_request.Goals as goal
 
 pub returns-clause-turning : goal.returns-clause-turning
 returns-clause-turning g c =
     let p = c.in_ok-reply.ensures in
     let o = c.in_ok-post_reply.ensures in
-    answer-lead g.M.RamSide.alone g.R.RingSide.alone c.args.node c.args.request.now c.in_ok-reply.reply _ _ _ _ _ _ _ _ c.args.waiting.now
-    p.same o.same c.requires.kind c.requires.plain o.stands.legal o.kept p.went o.grew c.requires.taking
+    answer-lead g.M.RamSide.alone g.R.RingSide.alone c.args.node c.args.request.now
+    c.in_ok-reply.reply _ _ _ _ _ _ _ _ c.args.waiting.now
+    p.same o.step.same c.requires.kind c.requires.plain o.step.stands.legal o.kept p.went.list
+    o.grew c.requires.taking
 
 pub returns-clause-ring_adds : goal.returns-clause-ring_adds
 returns-clause-ring_adds g c =
-    adds-grew g.R.RingSide.alone (is_of c.args.node) (IsServing c.args.node) _ (Post c.args.node (reply_frame
+    adds-grew g.R.RingSide.alone (is_of c.args.node) (IsServing c.args.node) _
+    (Post c.args.node (reply_frame
     c.args.request.now.id c.in_ok-reply.reply) ∷ []) _ (refl, tt) c.in_ok-post_reply.ensures.grew
 
 pub returns-clause-served : goal.returns-clause-served
@@ -32,27 +35,29 @@ returns-clause-served g c =
       noted = Peer f.id f.pdu reply ∷ [];
       done = Post c.args.node (reply_frame f.id reply) ∷ [];
       due = request-due c.args.node f reply c.requires.kind c.requires.plain;
-      station = grew-one g.M.RamSide.alone is_ours _ (Peer f.id f.pdu reply ∷ []) _ refl c.in_ok-reply.ensures.went;
+      station = grew-one g.M.RamSide.alone is_ours _ (Peer f.id f.pdu reply ∷ []) _ refl
+          c.in_ok-reply.ensures.went.list;
       node = c.in_ok-post_reply.ensures.grew;
     }
 
-pub returns-in_err-reply-clause-stands : goal.returns-in_err-reply-clause-stands
-returns-in_err-reply-clause-stands g c =
+pub returns-in_err-reply-clause-step : goal.returns-in_err-reply-clause-step
+returns-in_err-reply-clause-step g c =
     let p = c.in_err-reply.ensures in
-    both-ram g.M.RamSide.alone g.R.RingSide.alone _ _ c.args.node _ _ _ c.requires.taking.own_turn.on.legal (ram-went g.M.RamSide.alone _ _ [] _ refl p.legal p.went)
+    both-ram g.M.RamSide g.R.RingSide c.args.node c.args.ring.now
+    c.requires.taking.own_turn.on.legal (ram-called g.M.RamSide p.same p.legal p.went refl)
 
-pub returns-in_err-post_reply-clause-stands : goal.returns-in_err-post_reply-clause-stands
-returns-in_err-post_reply-clause-stands g c =
+pub returns-in_err-post_reply-clause-step : goal.returns-in_err-post_reply-clause-step
+returns-in_err-post_reply-clause-step g c =
     let p = c.in_ok-reply.ensures in
     record {
-      station = ram-went g.M.RamSide.alone _ _ (Peer c.args.request.now.id c.args.request.now.pdu c.in_ok-reply.reply ∷ []) _ refl p.legal p.went;
-      node = c.in_err-post_reply.ensures.stands;
+      station = ram-called g.M.RamSide p.same p.legal p.went refl;
+      node = c.in_err-post_reply.ensures.step;
     }
 
-pub returns-clause-stands : goal.returns-clause-stands
-returns-clause-stands g c =
+pub returns-clause-step : goal.returns-clause-step
+returns-clause-step g c =
     let p = c.in_ok-reply.ensures in
     record {
-      station = ram-went g.M.RamSide.alone _ _ (Peer c.args.request.now.id c.args.request.now.pdu c.in_ok-reply.reply ∷ []) _ refl p.legal p.went;
-      node = c.in_ok-post_reply.ensures.stands;
+      station = ram-called g.M.RamSide p.same p.legal p.went refl;
+      node = c.in_ok-post_reply.ensures.step;
     }

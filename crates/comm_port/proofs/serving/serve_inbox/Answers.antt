@@ -18,13 +18,16 @@ use Rattle.tied_lists.specs.Own.{is_of, WentOn}
 use Rattle.comm_port.specs.Sides.{taken_entries}
 use Rattle.comm_port.proofs.Served.{take-lead, ring-still, holds-still, holds-took, take-less}
 use Rattle.comm_port.proofs.Served.{less-kept, holds-kept}
-use Rattle.comm_port.proofs.Stands.{both-stay, both-on, both-ring}
+use Rattle.comm_port.proofs.Steps.{both-rest, both-ring, both-then}
 use Rattle.comm_port.proofs.serving.serve_inbox.Goals as goal
 
 -- what a Take added
-took : (alone : Bool) (n : ℕ) (ring ring' : List RingEntry) (taken taken' : Option Frame) → taken ≡ taken' → WentOn alone (is_of
-    n) ring (taken_entries n taken) ring' → WentOn alone (is_of n) ring (taken_entries n taken') ring'
-took alone n ring ring' taken taken' is w = subst (λ (o : Option Frame). WentOn alone (is_of n) ring (taken_entries n o) ring') is w
+took : (alone : Bool) (n : ℕ) (ring ring' : List RingEntry) (taken taken' : Option Frame)
+    → taken ≡ taken' → WentOn alone (is_of
+    n) ring (taken_entries n taken) ring'
+    → WentOn alone (is_of n) ring (taken_entries n taken') ring'
+took alone n ring ring' taken taken' is w = subst
+    (λ (o : Option Frame). WentOn alone (is_of n) ring (taken_entries n o) ring') is w
 
 none-taken : (o : Option Frame) → ((f : Frame) → o ≡ Some f → ⊥) → o ≡ None
 none-taken None no' = Rattle.std.proofs.Common.refl
@@ -35,8 +38,10 @@ serve-requires g c =
     let o = c.in_ok-frame.ensures in
     let f = c.in-Some.frame in
     record {
-      taking = take-lead g.R.RingSide.alone c.args.node f _ _ _ _ _ _ c.loop-frame.waiting o.same o.stands.legal
-          (took g.R.RingSide.alone c.args.node _ _ _ (Some f) c.in-Some.is o.went) c.loop-frame.invariant.turning;
+      taking = take-lead g.R.RingSide.alone c.args.node f _ _ _ _ _ _ c.loop-frame.waiting
+          o.step.same o.step.stands.legal
+          (took g.R.RingSide.alone c.args.node _ _ _ (Some f) c.in-Some.is o.went)
+          c.loop-frame.invariant.turning;
     }
 
 pub loop-frame-smaller : goal.loop-frame-smaller
@@ -47,9 +52,11 @@ loop-frame-smaller g c =
     let t = c.loop-frame.invariant.turning in
     let side = g.R.RingSide.side in
     let known = g.R.RingSide.known in
-    less-kept (side c.loop-frame.ring) (side c.take_next.new.ring) (side c.serve.new.ring) c.args.node (known c.loop-frame.ring) (known
-    c.take_next.new.ring) (known c.serve.new.ring) o.same c.in_ok-serve.ensures.ring_same c.in_ok-serve.ensures.kept (take-less
-    g.R.RingSide.alone c.args.node f _ _ _ o.stands.legal went t.own_turn)
+    less-kept (side c.loop-frame.ring) (side c.take_next.new.ring) (side c.serve.new.ring)
+    c.args.node (known c.loop-frame.ring) (known
+    c.take_next.new.ring) (known c.serve.new.ring) o.step.same c.in_ok-serve.ensures.step.node.same
+    c.in_ok-serve.ensures.kept (take-less
+    g.R.RingSide.alone c.args.node f _ _ _ o.step.stands.legal went t.own_turn)
 
 pub loop-frame-preserved : goal.loop-frame-preserved
 loop-frame-preserved g c =
@@ -60,52 +67,63 @@ loop-frame-preserved g c =
     let s = c.in_ok-serve.ensures in
     record {
       turning = s.turning;
-      holds = holds-kept _ _ _ c.args.node _ _ o.same s.ring_same s.kept (holds-took g.R.RingSide.alone c.args.node f _ _ _
-          o.stands.legal went i.turning.own_turn i.holds);
-      ring_adds = adds-both g.R.RingSide.alone (is_of c.args.node) (IsServing c.args.node) _ _ _ i.ring_adds
-          (adds-both g.R.RingSide.alone (is_of c.args.node) (IsServing c.args.node) _ _ _ (adds-went g.R.RingSide.alone (is_of
-          c.args.node) (IsServing c.args.node) _ (Take c.args.node f ∷ []) _ (tt, tt) (mine c.args.node (Take c.args.node f)
+      holds = holds-kept _ _ _ c.args.node _ _ o.step.same s.step.node.same s.kept
+          (holds-took g.R.RingSide.alone c.args.node f _ _ _
+          o.step.stands.legal went i.turning.own_turn i.holds);
+      ring_adds = adds-both g.R.RingSide.alone (is_of c.args.node) (IsServing c.args.node) _ _ _
+          i.ring_adds
+          (adds-both g.R.RingSide.alone (is_of c.args.node) (IsServing c.args.node) _ _ _
+          (adds-went g.R.RingSide.alone (is_of
+          c.args.node) (IsServing c.args.node) _ (Take c.args.node f ∷ []) _ (tt, tt)
+          (mine c.args.node (Take c.args.node f)
           refl) went) s.ring_adds);
-      served = serves-more g.M.RamSide.alone g.R.RingSide.alone c.args.node f _ (g.R.RingSide.side c.args.ring.now) _ _ _ _ _ _ _
-          (net-as (λ (m : NetPlan). IsLegal m (g.R.RingSide.known c.take_next.new.ring)) _ _ i.ring_same o.stands.legal) went
-          (turn-as _ _ (g.R.RingSide.known c.loop-frame.ring) c.args.node i.ring_same i.turning.own_turn)
-          (net-as (λ (m : NetPlan). KeepsInbox m c.args.node (g.R.RingSide.known c.take_next.new.ring)
-          (g.R.RingSide.known c.serve.new.ring)) _ _ (o.same ∙ i.ring_same) s.kept) i.served s.served;
-      ram_same = s.ram_same ∙ i.ram_same;
-      ring_same = s.ring_same ∙ (o.same ∙ i.ring_same);
-      stands = both-on g.M.RamSide.alone g.R.RingSide.alone c.args.node _ _ _ _ _ _ _ _ _ _ i.ram_same i.ring_same i.stands
-          (both-on g.M.RamSide.alone g.R.RingSide.alone c.args.node (g.M.RamSide.side c.loop-frame.ram) (g.M.RamSide.side c.loop-frame.ram) _ _ _ _ _ _ _ _ refl o.same
-          (both-ring g.M.RamSide.alone g.R.RingSide.alone _ _ c.args.node _ _ _ o.stands) s.stands);
+      served = serves-more g.M.RamSide.alone g.R.RingSide.alone c.args.node f _
+          (g.R.RingSide.side c.args.ring.now) _ _ _ _ _ _ _
+          (net-as (λ (m : NetPlan). IsLegal m (g.R.RingSide.known c.take_next.new.ring)) _ _
+          i.step.node.same o.step.stands.legal) went
+          (turn-as _ _ (g.R.RingSide.known c.loop-frame.ring) c.args.node i.step.node.same
+          i.turning.own_turn)
+          (net-as (λ (m : NetPlan). KeepsInbox m c.args.node
+          (g.R.RingSide.known c.take_next.new.ring)
+          (g.R.RingSide.known c.serve.new.ring)) _ _ (o.step.same ∙ i.step.node.same) s.kept)
+          i.served s.served;
+      step = both-then g.M.RamSide g.R.RingSide c.args.node i.step
+          (both-then g.M.RamSide g.R.RingSide c.args.node
+          (both-ring g.M.RamSide g.R.RingSide c.args.node c.loop-frame.ram o.step) s.step);
     }
 
 pub returns-clause-turning : goal.returns-clause-turning
 returns-clause-turning g c =
     let o = c.in_ok-frame.ensures in
-    ring-still g.R.RingSide.alone c.args.node [] _ _ _ _ _ _ c.loop-frame.waiting o.same o.stands.legal
-    (took g.R.RingSide.alone c.args.node _ _ _ None c.in_default.is o.went) c.loop-frame.invariant.turning
+    ring-still g.R.RingSide.alone c.args.node [] _ _ _ _ _ _ c.loop-frame.waiting o.step.same
+    o.step.stands.legal
+    (took g.R.RingSide.alone c.args.node _ _ _ None c.in_default.is o.went)
+    c.loop-frame.invariant.turning
 
 pub returns-clause-holds : goal.returns-clause-holds
 returns-clause-holds g c =
     let o = c.in_ok-frame.ensures in
-    holds-still g.R.RingSide.alone c.args.node _ _ _ _ o.same o.stands.legal
-    (took g.R.RingSide.alone c.args.node _ _ _ None c.in_default.is o.went) c.loop-frame.invariant.turning.own_turn c.loop-frame.invariant.holds
+    holds-still g.R.RingSide.alone c.args.node _ _ _ _ o.step.same o.step.stands.legal
+    (took g.R.RingSide.alone c.args.node _ _ _ None c.in_default.is o.went)
+    c.loop-frame.invariant.turning.own_turn c.loop-frame.invariant.holds
 
 pub returns-clause-ring_adds : goal.returns-clause-ring_adds
 returns-clause-ring_adds g c =
     let o = c.in_ok-frame.ensures in
     let n = c.args.node in
     adds-both g.R.RingSide.alone (is_of n) (IsServing n) _ _ _ c.loop-frame.invariant.ring_adds
-    (adds-went g.R.RingSide.alone (is_of n) (IsServing n) _ [] _ tt refl (took g.R.RingSide.alone n _ _ _ None c.in_default.is o.went))
+    (adds-went g.R.RingSide.alone (is_of n) (IsServing n) _ [] _ tt refl
+    (took g.R.RingSide.alone n _ _ _ None c.in_default.is o.went))
 
 pub loop-frame-init : goal.loop-frame-init
 loop-frame-init g c = record {
   turning = c.requires.turning;
   holds = c.requires.holds;
-  ram_same = refl;
   ring_adds = adds_none g.R.RingSide.alone (is_of c.args.node) (IsServing c.args.node) _;
-  served = part-none g.M.RamSide.alone g.R.RingSide.alone is_ours c.args.node _ _ _ ([], refl, (refl, refl));
-  ring_same = refl;
-  stands = both-stay g.M.RamSide.alone g.R.RingSide.alone _ _ c.args.node _ _ c.requires.turning.own_turn.on.legal;
+  served = part-none g.M.RamSide.alone g.R.RingSide.alone is_ours c.args.node _ _ _
+      ([], refl, (refl, refl));
+  step = both-rest g.M.RamSide g.R.RingSide c.args.node c.args.ram.now c.args.ring.now
+      c.requires.turning.own_turn.on.legal;
 }
 
 pub returns-clause-served : goal.returns-clause-served
@@ -113,37 +131,36 @@ returns-clause-served g c =
     let o = c.in_ok-frame.ensures in
     let i = c.loop-frame.invariant in
     let n = c.args.node in
-    all-served g.M.RamSide.alone g.R.RingSide.alone n _ (g.R.RingSide.side c.args.ring.now) _ _ _ _ _
-    (net-as (λ (m : NetPlan). IsLegal m (g.R.RingSide.known c.take_next.new.ring)) _ _ i.ring_same o.stands.legal)
+    all-served g.M.RamSide.alone g.R.RingSide.alone n _ (g.R.RingSide.side c.args.ring.now) _ _ _ _
+    _
+    (net-as (λ (m : NetPlan). IsLegal m (g.R.RingSide.known c.take_next.new.ring)) _ _
+    i.step.node.same o.step.stands.legal)
     (took g.R.RingSide.alone n _ _ _ None c.in_default.is o.went)
-    (turn-as _ _ (g.R.RingSide.known c.loop-frame.ring) n i.ring_same i.turning.own_turn)
-    (net-as (λ (m : NetPlan). inbox_of m n (g.R.RingSide.known c.take_next.new.ring) ≡ []) _ _ i.ring_same (o.empty c.in_default.is)) i.served
+    (turn-as _ _ (g.R.RingSide.known c.loop-frame.ring) n i.step.node.same i.turning.own_turn)
+    (net-as (λ (m : NetPlan). inbox_of m n (g.R.RingSide.known c.take_next.new.ring) ≡ []) _ _
+    i.step.node.same (o.empty c.in_default.is)) i.served
 
 pub returns-clause-empty : goal.returns-clause-empty
 returns-clause-empty g c =
     let o = c.in_ok-frame.ensures in
     let i = c.loop-frame.invariant in
-    net-as (λ (m : NetPlan). inbox_of m c.args.node (g.R.RingSide.known c.take_next.new.ring) ≡ []) _ _ i.ring_same (o.empty c.in_default.is)
+    net-as (λ (m : NetPlan). inbox_of m c.args.node (g.R.RingSide.known c.take_next.new.ring) ≡ [])
+    _ _ i.step.node.same (o.empty c.in_default.is)
 
-pub returns-in_err-frame-clause-stands : goal.returns-in_err-frame-clause-stands
-returns-in_err-frame-clause-stands g c =
-    let i = c.loop-frame.invariant in
-    let o = c.in_err-frame.ensures in
-    both-on g.M.RamSide.alone g.R.RingSide.alone c.args.node _ _ (g.R.RingSide.side c.args.ring.now) (g.R.RingSide.side c.loop-frame.ring) _ _ _ _ _ _ i.ram_same i.ring_same i.stands
-    (both-ring g.M.RamSide.alone g.R.RingSide.alone _ _ c.args.node _ _ _ o.stands)
+pub returns-in_err-frame-clause-step : goal.returns-in_err-frame-clause-step
+returns-in_err-frame-clause-step g c =
+    both-then g.M.RamSide g.R.RingSide c.args.node c.loop-frame.invariant.step
+    (both-ring g.M.RamSide g.R.RingSide c.args.node c.loop-frame.ram
+    c.in_err-frame.ensures.step)
 
-pub returns-in_err-serve-clause-stands : goal.returns-in_err-serve-clause-stands
-returns-in_err-serve-clause-stands g c =
-    let i = c.loop-frame.invariant in
-    let o = c.in_ok-frame.ensures in
-    let s = c.in_err-serve.ensures in
-    both-on g.M.RamSide.alone g.R.RingSide.alone c.args.node _ _ _ _ _ _ _ _ _ _ i.ram_same i.ring_same i.stands
-    (both-on g.M.RamSide.alone g.R.RingSide.alone c.args.node (g.M.RamSide.side c.loop-frame.ram) (g.M.RamSide.side c.loop-frame.ram) _ _ _ _ _ _ _ _ refl o.same
-    (both-ring g.M.RamSide.alone g.R.RingSide.alone _ _ c.args.node _ _ _ o.stands) s.stands)
+pub returns-in_err-serve-clause-step : goal.returns-in_err-serve-clause-step
+returns-in_err-serve-clause-step g c =
+    both-then g.M.RamSide g.R.RingSide c.args.node c.loop-frame.invariant.step
+    (both-then g.M.RamSide g.R.RingSide c.args.node
+    (both-ring g.M.RamSide g.R.RingSide c.args.node c.loop-frame.ram c.in_ok-frame.ensures.step)
+    c.in_err-serve.ensures.step)
 
-pub returns-clause-stands : goal.returns-clause-stands
-returns-clause-stands g c =
-    let i = c.loop-frame.invariant in
-    let o = c.in_ok-frame.ensures in
-    both-on g.M.RamSide.alone g.R.RingSide.alone c.args.node _ _ (g.R.RingSide.side c.args.ring.now) (g.R.RingSide.side c.loop-frame.ring) _ _ _ _ _ _ i.ram_same i.ring_same i.stands
-    (both-ring g.M.RamSide.alone g.R.RingSide.alone _ _ c.args.node _ _ _ o.stands)
+pub returns-clause-step : goal.returns-clause-step
+returns-clause-step g c =
+    both-then g.M.RamSide g.R.RingSide c.args.node c.loop-frame.invariant.step
+    (both-ring g.M.RamSide g.R.RingSide c.args.node c.loop-frame.ram c.in_ok-frame.ensures.step)

@@ -15,7 +15,7 @@ use Rattle.comm_port.specs.Waiting.{id_of}
 use Rattle.comm_port.proofs.Given.{waits-at-but, turn-at}
 use Rattle.comm_port.proofs.Sends.{gave-up}
 use Rattle.comm_port.proofs.Visited.{owing-given}
-use Rattle.comm_port.proofs.Stands.{ram-went, ring-of, both-ring}
+use Rattle.comm_port.proofs.Steps.{both-ring, ram-called, ring-of}
 use Rattle.comm_port.proofs.visiting.give_up_between.Goals as goal
 
 pub give_up_now-requires : goal.give_up_now-requires
@@ -23,7 +23,8 @@ give_up_now-requires g c =
     let t = c.requires.owing.turning in
     let id = c.args.id in
     let w = c.requires.waits in
-    let k = waits-at-but _ c.args.node id.path id _ _ _ _ c.args.waiting.now (ap id_of (t.waits.waits id.path ∙ w.1) ∙ ap Some w.2) t in
+    let k = waits-at-but _ c.args.node id.path id _ _ _ _ c.args.waiting.now
+    (ap id_of (t.waits.waits id.path ∙ w.1) ∙ ap Some w.2) t in
     record {
       turn = turn-at _ _ c.args.node id.node k.own_is t.own_turn;
       path = k.is_path;
@@ -35,7 +36,8 @@ finish-requires g c =
     let t = c.requires.owing.turning in
     let id = c.args.id in
     let w = c.requires.waits in
-    let k = waits-at-but _ c.args.node id.path id _ _ _ _ c.args.waiting.now (ap id_of (t.waits.waits id.path ∙ w.1) ∙ ap Some w.2) t in
+    let k = waits-at-but _ c.args.node id.path id _ _ _ _ c.args.waiting.now
+    (ap id_of (t.waits.waits id.path ∙ w.1) ∙ ap Some w.2) t in
     (NetCall, k.out)
 
 pub returns-clause-owing : goal.returns-clause-owing
@@ -44,15 +46,20 @@ returns-clause-owing g c =
     let id = c.args.id in
     let n = c.args.node in
     let w = c.requires.waits in
-    let k = waits-at-but _ n id.path id _ _ _ _ c.args.waiting.now (ap id_of (t.waits.waits id.path ∙ w.1) ∙ ap Some w.2) t in
+    let k = waits-at-but _ n id.path id _ _ _ _ c.args.waiting.now
+    (ap id_of (t.waits.waits id.path ∙ w.1) ∙ ap Some w.2) t in
     let o = c.in_ok-word.ensures in
     let f = c.in_ok-finish.ensures in
-    let gave = gave-up _ g.R.RingSide.alone id c.in_ok-word.word _ _ (turn-at _ _ n id.node k.own_is t.own_turn) o.stands.legal o.went in
-    subst (λ (x : List (Option Frame)). Owing n (calls_from c.args.calls.now c.args.next) (g.M.RamSide.side c.finish.new.self)
-    (g.M.RamSide.known c.finish.new.self) (g.R.RingSide.side c.give_up_now.new.ring) (g.R.RingSide.known c.give_up_now.new.ring) x)
+    let gave = gave-up _ g.R.RingSide.alone id c.in_ok-word.word _ _
+    (turn-at _ _ n id.node k.own_is t.own_turn) o.step.stands.legal o.went in
+    subst (λ (x : List (Option Frame)). Owing n (calls_from c.args.calls.now c.args.next)
+    (g.M.RamSide.side c.finish.new.self)
+    (g.M.RamSide.known c.finish.new.self) (g.R.RingSide.side c.give_up_now.new.ring)
+    (g.R.RingSide.known c.give_up_now.new.ring) x)
     (sym c.end.ensures.new)
-    (owing-given _ g.M.RamSide.alone g.R.RingSide.alone n id.path id c.in_ok-word.word _ _ _ _ _ _ _ _ c.args.waiting.now f.same o.same
-    o.stands.legal k gave f.went c.requires.owing)
+    (owing-given _ g.M.RamSide.alone g.R.RingSide.alone n id.path id c.in_ok-word.word _ _ _ _ _ _ _
+    _ c.args.waiting.now f.same o.step.same
+    o.step.stands.legal k gave f.went.list c.requires.owing)
 
 pub returns-clause-given : goal.returns-clause-given
 returns-clause-given g c =
@@ -60,16 +67,20 @@ returns-clause-given g c =
     let id = c.args.id in
     let n = c.args.node in
     let w = c.requires.waits in
-    let k = waits-at-but _ n id.path id _ _ _ _ c.args.waiting.now (ap id_of (t.waits.waits id.path ∙ w.1) ∙ ap Some w.2) t in
+    let k = waits-at-but _ n id.path id _ _ _ _ c.args.waiting.now
+    (ap id_of (t.waits.waits id.path ∙ w.1) ∙ ap Some w.2) t in
     let o = c.in_ok-word.ensures in
     let word = c.in_ok-word.word in
-    let gave = gave-up _ g.R.RingSide.alone id word _ _ (turn-at _ _ n id.node k.own_is t.own_turn) o.stands.legal o.went in
+    let gave = gave-up _ g.R.RingSide.alone id word _ _ (turn-at _ _ n id.node k.own_is t.own_turn)
+    o.step.stands.legal o.went in
     record {
       noted = Finish id (Bad word) ∷ [];
       done = GiveUp id word ∷ [];
       due = (word, refl, refl);
-      station = grew-one g.M.RamSide.alone is_ours _ (Finish id (Bad word) ∷ []) _ refl c.in_ok-finish.ensures.went;
-      node = subst (λ (m : ℕ). Grew g.R.RingSide.alone (is_of m) (g.R.RingSide.known c.args.ring.now) (GiveUp id word ∷ [])
+      station = grew-one g.M.RamSide.alone is_ours _ (Finish id (Bad word) ∷ []) _ refl
+          c.in_ok-finish.ensures.went.list;
+      node = subst (λ (m : ℕ). Grew g.R.RingSide.alone (is_of m)
+          (g.R.RingSide.known c.args.ring.now) (GiveUp id word ∷ [])
           (g.R.RingSide.known c.give_up_now.new.ring)) k.own_is gave.grew;
     }
 
@@ -79,37 +90,50 @@ returns-clause-part g c =
     let id = c.args.id in
     let n = c.args.node in
     let w = c.requires.waits in
-    let k = waits-at-but _ n id.path id _ _ _ _ c.args.waiting.now (ap id_of (t.waits.waits id.path ∙ w.1) ∙ ap Some w.2) t in
+    let k = waits-at-but _ n id.path id _ _ _ _ c.args.waiting.now
+    (ap id_of (t.waits.waits id.path ∙ w.1) ∙ ap Some w.2) t in
     let o = c.in_ok-word.ensures in
-    let gave = gave-up _ g.R.RingSide.alone id c.in_ok-word.word _ _ (turn-at _ _ n id.node k.own_is t.own_turn) o.stands.legal o.went in
-    subst (λ (m : ℕ). part_at (g.R.RingSide.side c.args.ring.now).net m (g.R.RingSide.known c.give_up_now.new.ring) ≡ gave_up (part_at
-    (g.R.RingSide.side c.args.ring.now).net m (g.R.RingSide.known c.args.ring.now)) id) k.own_is gave.part_is
+    let gave = gave-up _ g.R.RingSide.alone id c.in_ok-word.word _ _
+    (turn-at _ _ n id.node k.own_is t.own_turn) o.step.stands.legal o.went in
+    subst (λ (m : ℕ). part_at (g.R.RingSide.side c.args.ring.now).net m
+    (g.R.RingSide.known c.give_up_now.new.ring) ≡ gave_up (part_at
+    (g.R.RingSide.side c.args.ring.now).net m (g.R.RingSide.known c.args.ring.now)) id) k.own_is
+    gave.part_is
 
-pub returns-in_err-word-clause-stands : goal.returns-in_err-word-clause-stands
-returns-in_err-word-clause-stands g c =
+pub returns-in_err-word-clause-step : goal.returns-in_err-word-clause-step
+returns-in_err-word-clause-step g c =
     let t = c.requires.owing.turning in
     let id = c.args.id in
     let w = c.requires.waits in
-    let k = waits-at-but _ c.args.node id.path id _ _ _ _ c.args.waiting.now (ap id_of (t.waits.waits id.path ∙ w.1) ∙ ap Some w.2) t in
-    both-ring g.M.RamSide.alone g.R.RingSide.alone _ _ c.args.node _ _ _ (ring-of g.R.RingSide.alone _ id.node c.args.node _ _ k.own_is c.in_err-word.ensures.stands)
+    let k = waits-at-but _ c.args.node id.path id _ _ _ _ c.args.waiting.now
+    (ap id_of (t.waits.waits id.path ∙ w.1) ∙ ap Some w.2) t in
+    both-ring g.M.RamSide g.R.RingSide c.args.node c.args.ram.now
+    (ring-of g.R.RingSide id.node c.args.node k.own_is c.in_err-word.ensures.step)
 
-pub returns-in_err-finish-clause-stands : goal.returns-in_err-finish-clause-stands
-returns-in_err-finish-clause-stands g c =
+pub returns-in_err-finish-clause-step : goal.returns-in_err-finish-clause-step
+returns-in_err-finish-clause-step g c =
     let t = c.requires.owing.turning in
     let id = c.args.id in
     let w = c.requires.waits in
-    let k = waits-at-but _ c.args.node id.path id _ _ _ _ c.args.waiting.now (ap id_of (t.waits.waits id.path ∙ w.1) ∙ ap Some w.2) t in
+    let k = waits-at-but _ c.args.node id.path id _ _ _ _ c.args.waiting.now
+    (ap id_of (t.waits.waits id.path ∙ w.1) ∙ ap Some w.2) t in
     let f = c.in_err-finish.ensures in
-    record { station = ram-went g.M.RamSide.alone _ _ [] _ refl f.legal f.went; node = ring-of g.R.RingSide.alone _ id.node c.args.node _ _ k.own_is c.in_ok-word.ensures.stands }
+    record {
+      station = ram-called g.M.RamSide f.same f.legal f.went refl;
+      node = ring-of
+          g.R.RingSide id.node c.args.node k.own_is c.in_ok-word.ensures.step;
+    }
 
-pub returns-clause-stands : goal.returns-clause-stands
-returns-clause-stands g c =
+pub returns-clause-step : goal.returns-clause-step
+returns-clause-step g c =
     let t = c.requires.owing.turning in
     let id = c.args.id in
     let w = c.requires.waits in
-    let k = waits-at-but _ c.args.node id.path id _ _ _ _ c.args.waiting.now (ap id_of (t.waits.waits id.path ∙ w.1) ∙ ap Some w.2) t in
+    let k = waits-at-but _ c.args.node id.path id _ _ _ _ c.args.waiting.now
+    (ap id_of (t.waits.waits id.path ∙ w.1) ∙ ap Some w.2) t in
     let f = c.in_ok-finish.ensures in
     record {
-      station = ram-went g.M.RamSide.alone _ _ (Finish id (Bad c.in_ok-word.word) ∷ []) _ refl f.legal f.went;
-      node = ring-of g.R.RingSide.alone _ id.node c.args.node _ _ k.own_is c.in_ok-word.ensures.stands;
+      station = ram-called g.M.RamSide f.same f.legal f.went refl;
+      node = ring-of
+          g.R.RingSide id.node c.args.node k.own_is c.in_ok-word.ensures.step;
     }

@@ -12,14 +12,15 @@ use Rattle.comm_port.specs.Turns.{KeepsInbox}
 use Rattle.comm_port.proofs.Leaves.{turn-side}
 use Rattle.comm_port.proofs.Parts.{net-as, fixed-as}
 use Rattle.comm_port.proofs.Turned.{sends-next, rest-sent, rest-given, given-over, inbox-kept}
-use Rattle.comm_port.proofs.Stands.{both-on}
+use Rattle.comm_port.proofs.Steps.{both-then}
 use Rattle.comm_port.proofs.worker.turn.Goals as goal
 
 pub send_all-requires-clause-wait : goal.send_all-requires-clause-wait
 send_all-requires-clause-wait g c =
     let a = c.in_ok-serve_inbox.ensures in
     let b = c.in_ok-make_calls.ensures in
-    net-as (λ (m : NetPlan). 0 < m.answer) _ _ (sym (b.ring_same ∙ a.ring_same)) c.requires.wait
+    net-as (λ (m : NetPlan). 0 < m.answer) _ _ (sym (b.step.node.same ∙ a.step.node.same))
+    c.requires.wait
 
 pub send_all-requires-clause-may : goal.send_all-requires-clause-may
 send_all-requires-clause-may g c =
@@ -27,12 +28,17 @@ send_all-requires-clause-may g c =
     let b = c.in_ok-make_calls.ensures in
     let n = c.args.node in
     let called = g.R.RingSide.known c.make_calls.new.ring in
-    let legal = net-as (λ (m : NetPlan). IsLegal m called) _ _ (b.ring_same ∙ a.ring_same) b.turning.own_turn.on.legal in
-    let t = turn-side n _ _ (g.R.RingSide.side c.args.ring.now) _ _ _ a.ring_same a.turning in
-    let may = sends-next g.R.RingSide.alone n _ _ (g.R.RingSide.side c.args.ring.now) _ _ called _ c.requires.wait c.requires.rest
-    c.requires.turning.own_turn.on c.requires.turning.own_turn.free a.ring_adds t b.ring_adds legal in
-    net-as (λ (m : NetPlan). MaySend m n c.free_paths-posted.result (part_at m n called)) _ _ (sym (b.ring_same ∙ a.ring_same))
-    (subst (λ (l : List Bool). MaySend (g.R.RingSide.side c.args.ring.now).net n l (part_at (g.R.RingSide.side c.args.ring.now).net n called))
+    let legal = net-as (λ (m : NetPlan). IsLegal m called) _ _ (b.step.node.same ∙ a.step.node.same)
+    b.turning.own_turn.on.legal in
+    let t = turn-side n _ _ (g.R.RingSide.side c.args.ring.now) _ _ _ a.step.node.same a.turning in
+    let may = sends-next g.R.RingSide.alone n _ _ (g.R.RingSide.side c.args.ring.now) _ _ called _
+    c.requires.wait c.requires.rest
+    c.requires.turning.own_turn.on c.requires.turning.own_turn.free a.ring_adds t b.ring_adds legal
+    in
+    net-as (λ (m : NetPlan). MaySend m n c.free_paths-posted.result (part_at m n called)) _ _
+    (sym (b.step.node.same ∙ a.step.node.same))
+    (subst (λ (l : List Bool). MaySend (g.R.RingSide.side c.args.ring.now).net n l
+    (part_at (g.R.RingSide.side c.args.ring.now).net n called))
     (sym c.free_paths-posted.ensures) may)
 
 pub end_turn-requires-clause-rest : goal.end_turn-requires-clause-rest
@@ -45,9 +51,11 @@ end_turn-requires-clause-rest g c =
     let q = rest-sent g.M.RamSide.alone g.R.RingSide.alone _ n _ _ _ _ d.sent in
     let given = g.R.RingSide.known c.give_up_where.new.ring in
     let sent = g.R.RingSide.known c.send_all.new.ring in
-    let r = net-as (λ (m : NetPlan). IsAtRest m n sent) _ _ (sym d.ring_same) q in
-    let legal = net-as (λ (m : NetPlan). IsLegal m given) _ _ e.ring_same e.turning.own_turn.on.legal in
-    net-as (λ (m : NetPlan). IsAtRest m n given) _ _ (sym e.ring_same) (rest-given g.R.RingSide.alone _ n sent given d.turning.own_turn.on legal e.ring_adds r)
+    let r = net-as (λ (m : NetPlan). IsAtRest m n sent) _ _ (sym d.step.node.same) q in
+    let legal = net-as (λ (m : NetPlan). IsLegal m given) _ _ e.step.node.same
+    e.turning.own_turn.on.legal in
+    net-as (λ (m : NetPlan). IsAtRest m n given) _ _ (sym e.step.node.same)
+    (rest-given g.R.RingSide.alone _ n sent given d.turning.own_turn.on legal e.ring_adds r)
 
 pub end_turn-requires-clause-empty : goal.end_turn-requires-clause-empty
 end_turn-requires-clause-empty g c =
@@ -57,12 +65,17 @@ end_turn-requires-clause-empty g c =
     let e = c.in_ok-give_up_where.ensures in
     let n = c.args.node in
     let ring = g.R.RingSide.known in
-    let x = net-as (λ (m : NetPlan). KeepsInbox m n (ring c.serve_inbox.new.ring) (ring c.make_calls.new.ring)) _ _ a.ring_same b.kept in
-    let y = net-as (λ (m : NetPlan). KeepsInbox m n (ring c.make_calls.new.ring) (ring c.send_all.new.ring)) _ _ (b.ring_same ∙ a.ring_same) d.kept in
-    let z = net-as (λ (m : NetPlan). KeepsInbox m n (ring c.send_all.new.ring) (ring c.give_up_where.new.ring)) _ _ (d.ring_same ∙
-    (b.ring_same ∙ a.ring_same)) e.kept in
-    net-as (λ (m : NetPlan). inbox_of m n (ring c.give_up_where.new.ring) ≡ []) _ _ (sym (e.ring_same ∙ (d.ring_same ∙ (b.ring_same ∙ a.ring_same))))
-    (inbox-kept (g.R.RingSide.side c.args.ring.now).net n (ring c.serve_inbox.new.ring) _ _ (ring c.give_up_where.new.ring) a.empty x y z)
+    let x = net-as (λ (m : NetPlan). KeepsInbox m n (ring c.serve_inbox.new.ring)
+    (ring c.make_calls.new.ring)) _ _ a.step.node.same b.kept in
+    let y = net-as (λ (m : NetPlan). KeepsInbox m n (ring c.make_calls.new.ring)
+    (ring c.send_all.new.ring)) _ _ (b.step.node.same ∙ a.step.node.same) d.kept in
+    let z = net-as (λ (m : NetPlan). KeepsInbox m n (ring c.send_all.new.ring)
+    (ring c.give_up_where.new.ring)) _ _ (d.step.node.same ∙
+    (b.step.node.same ∙ a.step.node.same)) e.kept in
+    net-as (λ (m : NetPlan). inbox_of m n (ring c.give_up_where.new.ring) ≡ []) _ _
+    (sym (e.step.node.same ∙ (d.step.node.same ∙ (b.step.node.same ∙ a.step.node.same))))
+    (inbox-kept (g.R.RingSide.side c.args.ring.now).net n (ring c.serve_inbox.new.ring) _ _
+    (ring c.give_up_where.new.ring) a.empty x y z)
 
 pub returns-clause-rest : goal.returns-clause-rest
 returns-clause-rest g c =
@@ -70,7 +83,8 @@ returns-clause-rest g c =
     let b = c.in_ok-make_calls.ensures in
     let d = c.in_ok-send_all.ensures in
     let e = c.in_ok-give_up_where.ensures in
-    net-as (λ (m : NetPlan). IsAtRest m c.args.node (g.R.RingSide.known c.end_turn.new.ring)) _ _ (e.ring_same ∙ (d.ring_same ∙ (b.ring_same ∙ a.ring_same)))
+    net-as (λ (m : NetPlan). IsAtRest m c.args.node (g.R.RingSide.known c.end_turn.new.ring)) _ _
+    (e.step.node.same ∙ (d.step.node.same ∙ (b.step.node.same ∙ a.step.node.same)))
     c.in_ok-left.ensures.rest
 
 pub returns-clause-held : goal.returns-clause-held
@@ -84,11 +98,15 @@ returns-clause-held g c =
     let n = c.args.node in
     let net = (g.R.RingSide.side c.args.ring.now).net in
     let sent = ring c.send_all.new.ring in
-    let x = net-as (λ (m : NetPlan). KeepsInbox m n (ring c.serve_inbox.new.ring) (ring c.make_calls.new.ring)) _ _ a.ring_same b.kept in
-    let y = net-as (λ (m : NetPlan). KeepsInbox m n (ring c.make_calls.new.ring) sent) _ _ (b.ring_same ∙ a.ring_same) d.kept in
-    let holds = y.holds (x.holds (net-as (λ (m : NetPlan). Holds m (ring c.serve_inbox.new.ring) n) _ _ a.ring_same a.holds)) in
-    let sends = net-as (λ (m : NetPlan). SendsAll g.M.RamSide.alone g.R.RingSide.alone m n (known c.make_calls.new.ram) (known c.send_all.new.ram) (ring
-    c.make_calls.new.ring) sent) _ _ (b.ring_same ∙ a.ring_same) d.sent in
+    let x = net-as (λ (m : NetPlan). KeepsInbox m n (ring c.serve_inbox.new.ring)
+    (ring c.make_calls.new.ring)) _ _ a.step.node.same b.kept in
+    let y = net-as (λ (m : NetPlan). KeepsInbox m n (ring c.make_calls.new.ring) sent) _ _
+    (b.step.node.same ∙ a.step.node.same) d.kept in
+    let holds = y.holds (x.holds (net-as (λ (m : NetPlan). Holds m (ring c.serve_inbox.new.ring) n)
+    _ _ a.step.node.same a.holds)) in
+    let sends = net-as (λ (m : NetPlan). SendsAll g.M.RamSide.alone g.R.RingSide.alone m n
+    (known c.make_calls.new.ram) (known c.send_all.new.ram) (ring
+    c.make_calls.new.ring) sent) _ _ (b.step.node.same ∙ a.step.node.same) d.sent in
     record {
       served_known = known c.serve_inbox.new.ram;
       served_ring = ring c.serve_inbox.new.ring;
@@ -96,66 +114,73 @@ returns-clause-held g c =
       all_served = a.empty;
       called_known = known c.make_calls.new.ram;
       called_ring = ring c.make_calls.new.ring;
-      calls = fixed-as (λ (f : Fixed). Collects g.M.RamSide.alone g.R.RingSide.alone f n (IsMade n) (known c.serve_inbox.new.ram) (known c.make_calls.new.ram)
-          (ring c.serve_inbox.new.ring) (ring c.make_calls.new.ring)) _ _ a.ram_same b.made;
+      calls = fixed-as (λ (f : Fixed). Collects g.M.RamSide.alone g.R.RingSide.alone f n (IsMade n)
+          (known c.serve_inbox.new.ram) (known c.make_calls.new.ram)
+          (ring c.serve_inbox.new.ring) (ring c.make_calls.new.ring)) _ _ a.step.station.same
+          b.made;
       sent_known = known c.send_all.new.ram;
       sent_ring = sent;
       sends = sends;
       given_known = known c.give_up_where.new.ram;
       given_ring = ring c.give_up_where.new.ring;
-      gives_up = given-over g.M.RamSide.alone g.R.RingSide.alone net n _ _ sent _ holds (rest-sent g.M.RamSide.alone g.R.RingSide.alone net n _ _ _ _ sends)
-          (net-as (λ (m : NetPlan). PartOf g.M.RamSide.alone g.R.RingSide.alone is_ours n (InOrder IsGivenUp (due_calls m n sent network_paths)) (known
-          c.send_all.new.ram) (known c.give_up_where.new.ram) sent (ring c.give_up_where.new.ring)) _ _ (d.ring_same ∙ (b.ring_same ∙ a.ring_same)) e.given);
-      ends = fixed-as (λ (f : Fixed). Ends g.M.RamSide.alone g.R.RingSide.alone f net n c.args.budget (known c.give_up_where.new.ram) (known
-          c.end_turn.new.ram) (ring c.give_up_where.new.ring) (ring c.end_turn.new.ring) c.in_ok-left.left) _ _ (e.ram_same ∙ (d.ram_same ∙ (b.ram_same ∙
-          a.ram_same)))
-          (net-as (λ (m : NetPlan). Ends g.M.RamSide.alone g.R.RingSide.alone (g.M.RamSide.side c.give_up_where.new.ram).fixed m n c.args.budget (known
-          c.give_up_where.new.ram) (known c.end_turn.new.ram) (ring c.give_up_where.new.ring) (ring c.end_turn.new.ring) c.in_ok-left.left) _ _ (e.ring_same ∙
-          (d.ring_same ∙ (b.ring_same ∙ a.ring_same))) c.in_ok-left.ensures.ends);
+      gives_up = given-over g.M.RamSide.alone g.R.RingSide.alone net n _ _ sent _ holds
+          (rest-sent g.M.RamSide.alone g.R.RingSide.alone net n _ _ _ _ sends)
+          (net-as (λ (m : NetPlan). PartOf g.M.RamSide.alone g.R.RingSide.alone is_ours n
+          (InOrder IsGivenUp (due_calls m n sent network_paths)) (known
+          c.send_all.new.ram) (known c.give_up_where.new.ram) sent (ring c.give_up_where.new.ring))
+          _ _ (d.step.node.same ∙ (b.step.node.same ∙ a.step.node.same)) e.given);
+      ends = fixed-as (λ (f : Fixed). Ends g.M.RamSide.alone g.R.RingSide.alone f net n
+          c.args.budget (known c.give_up_where.new.ram) (known
+          c.end_turn.new.ram) (ring c.give_up_where.new.ring) (ring c.end_turn.new.ring)
+          c.in_ok-left.left) _ _ (e.step.station.same
+          ∙ (d.step.station.same ∙ (b.step.station.same ∙
+          a.step.station.same)))
+          (net-as (λ (m : NetPlan). Ends g.M.RamSide.alone g.R.RingSide.alone
+          (g.M.RamSide.side c.give_up_where.new.ram).fixed m n c.args.budget (known
+          c.give_up_where.new.ram) (known c.end_turn.new.ram) (ring c.give_up_where.new.ring)
+          (ring c.end_turn.new.ring) c.in_ok-left.left) _ _ (e.step.node.same ∙
+          (d.step.node.same ∙ (b.step.node.same ∙ a.step.node.same))) c.in_ok-left.ensures.ends);
     }
 
-pub returns-in_err-make_calls-clause-stands : goal.returns-in_err-make_calls-clause-stands
-returns-in_err-make_calls-clause-stands g c =
+pub returns-in_err-make_calls-clause-step : goal.returns-in_err-make_calls-clause-step
+returns-in_err-make_calls-clause-step g c =
     let a = c.in_ok-serve_inbox.ensures in
-    both-on g.M.RamSide.alone g.R.RingSide.alone c.args.node _ _ _ _ _ _ _ _ _ _ a.ram_same a.ring_same a.stands c.in_err-make_calls.ensures.stands
+    both-then g.M.RamSide g.R.RingSide c.args.node a.step c.in_err-make_calls.ensures.step
 
-pub returns-in_err-send_all-clause-stands : goal.returns-in_err-send_all-clause-stands
-returns-in_err-send_all-clause-stands g c =
+pub returns-in_err-send_all-clause-step : goal.returns-in_err-send_all-clause-step
+returns-in_err-send_all-clause-step g c =
     let a = c.in_ok-serve_inbox.ensures in
     let b = c.in_ok-make_calls.ensures in
-    let ab = both-on g.M.RamSide.alone g.R.RingSide.alone c.args.node _ _ _ _ _ _ _ _ _ _ a.ram_same a.ring_same a.stands b.stands in
-    both-on g.M.RamSide.alone g.R.RingSide.alone c.args.node _ _ _ _ _ _ _ _ _ _ (b.ram_same ∙ a.ram_same) (b.ring_same ∙ a.ring_same) ab c.in_err-send_all.ensures.stands
+    let ab = both-then g.M.RamSide g.R.RingSide c.args.node a.step b.step in
+    both-then g.M.RamSide g.R.RingSide c.args.node ab c.in_err-send_all.ensures.step
 
-pub returns-in_err-give_up_where-clause-stands : goal.returns-in_err-give_up_where-clause-stands
-returns-in_err-give_up_where-clause-stands g c =
+pub returns-in_err-give_up_where-clause-step : goal.returns-in_err-give_up_where-clause-step
+returns-in_err-give_up_where-clause-step g c =
     let a = c.in_ok-serve_inbox.ensures in
     let b = c.in_ok-make_calls.ensures in
-    let ab = both-on g.M.RamSide.alone g.R.RingSide.alone c.args.node _ _ _ _ _ _ _ _ _ _ a.ram_same a.ring_same a.stands b.stands in
     let d = c.in_ok-send_all.ensures in
-    let abd = both-on g.M.RamSide.alone g.R.RingSide.alone c.args.node _ _ _ _ _ _ _ _ _ _ (b.ram_same ∙ a.ram_same) (b.ring_same ∙ a.ring_same) ab d.stands in
-    both-on g.M.RamSide.alone g.R.RingSide.alone c.args.node _ _ _ _ _ _ _ _ _ _ (d.ram_same ∙ (b.ram_same ∙ a.ram_same)) (d.ring_same ∙ (b.ring_same ∙ a.ring_same)) abd
-    c.in_err-give_up_where.ensures.stands
+    let ab = both-then g.M.RamSide g.R.RingSide c.args.node a.step b.step in
+    let abd = both-then g.M.RamSide g.R.RingSide c.args.node ab d.step in
+    both-then g.M.RamSide g.R.RingSide c.args.node abd c.in_err-give_up_where.ensures.step
 
-pub returns-in_err-left-clause-stands : goal.returns-in_err-left-clause-stands
-returns-in_err-left-clause-stands g c =
+pub returns-in_err-left-clause-step : goal.returns-in_err-left-clause-step
+returns-in_err-left-clause-step g c =
     let a = c.in_ok-serve_inbox.ensures in
     let b = c.in_ok-make_calls.ensures in
-    let ab = both-on g.M.RamSide.alone g.R.RingSide.alone c.args.node _ _ _ _ _ _ _ _ _ _ a.ram_same a.ring_same a.stands b.stands in
     let d = c.in_ok-send_all.ensures in
-    let abd = both-on g.M.RamSide.alone g.R.RingSide.alone c.args.node _ _ _ _ _ _ _ _ _ _ (b.ram_same ∙ a.ram_same) (b.ring_same ∙ a.ring_same) ab d.stands in
     let e = c.in_ok-give_up_where.ensures in
-    let abde = both-on g.M.RamSide.alone g.R.RingSide.alone c.args.node _ _ _ _ _ _ _ _ _ _ (d.ram_same ∙ (b.ram_same ∙ a.ram_same)) (d.ring_same ∙ (b.ring_same ∙ a.ring_same)) abd e.stands in
-    both-on g.M.RamSide.alone g.R.RingSide.alone c.args.node _ _ _ _ _ _ _ _ _ _ (e.ram_same ∙ (d.ram_same ∙ (b.ram_same ∙ a.ram_same))) (e.ring_same ∙ (d.ring_same ∙ (b.ring_same ∙ a.ring_same))) abde
-    c.in_err-left.ensures.stands
+    let ab = both-then g.M.RamSide g.R.RingSide c.args.node a.step b.step in
+    let abd = both-then g.M.RamSide g.R.RingSide c.args.node ab d.step in
+    let abde = both-then g.M.RamSide g.R.RingSide c.args.node abd e.step in
+    both-then g.M.RamSide g.R.RingSide c.args.node abde c.in_err-left.ensures.step
 
-pub returns-clause-stands : goal.returns-clause-stands
-returns-clause-stands g c =
+pub returns-clause-step : goal.returns-clause-step
+returns-clause-step g c =
     let a = c.in_ok-serve_inbox.ensures in
     let b = c.in_ok-make_calls.ensures in
-    let ab = both-on g.M.RamSide.alone g.R.RingSide.alone c.args.node _ _ _ _ _ _ _ _ _ _ a.ram_same a.ring_same a.stands b.stands in
     let d = c.in_ok-send_all.ensures in
-    let abd = both-on g.M.RamSide.alone g.R.RingSide.alone c.args.node _ _ _ _ _ _ _ _ _ _ (b.ram_same ∙ a.ram_same) (b.ring_same ∙ a.ring_same) ab d.stands in
     let e = c.in_ok-give_up_where.ensures in
-    let abde = both-on g.M.RamSide.alone g.R.RingSide.alone c.args.node _ _ _ _ _ _ _ _ _ _ (d.ram_same ∙ (b.ram_same ∙ a.ram_same)) (d.ring_same ∙ (b.ring_same ∙ a.ring_same)) abd e.stands in
-    both-on g.M.RamSide.alone g.R.RingSide.alone c.args.node _ _ _ _ _ _ _ _ _ _ (e.ram_same ∙ (d.ram_same ∙ (b.ram_same ∙ a.ram_same))) (e.ring_same ∙ (d.ring_same ∙ (b.ring_same ∙ a.ring_same))) abde
-    c.in_ok-left.ensures.stands
+    let ab = both-then g.M.RamSide g.R.RingSide c.args.node a.step b.step in
+    let abd = both-then g.M.RamSide g.R.RingSide c.args.node ab d.step in
+    let abde = both-then g.M.RamSide g.R.RingSide c.args.node abd e.step in
+    both-then g.M.RamSide g.R.RingSide c.args.node abde c.in_ok-left.ensures.step

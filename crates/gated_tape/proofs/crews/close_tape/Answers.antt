@@ -1,6 +1,6 @@
 use Rattle.std.proofs.Common.{All, ap, sym, subst, ◌∙◌}
 use Rattle.turn_gate.specs.Known.{StartsWith}
-use Rattle.gated_tape.specs.Marks.{TapeFacts, IsLegal}
+use Rattle.gated_tape.specs.Marks.{TapeFacts, IsLegalTape}
 use Rattle.gated_tape.specs.Crews.{AreByWriters}
 use Rattle.gated_tape.proofs.Closing.{by_writers, heard_full}
 use Rattle.gated_tape.proofs.crews.close_tape.Goals as goal
@@ -18,4 +18,4 @@ returns-clause-full c =
     let limit = ap (λ (t : TapeFacts). t.limit) c.into_inner-tape.ensures ∙ c.close.ensures.fixed in
     heard_full c.args.gate.fixed c.args.pass c.into_inner-tape.result.marks
     (subst (λ l. All (StartsWith l) c.args.pass.heard) (sym whole) c.close.ensures.heard)
-    (subst (λ n. IsLegal n c.into_inner-tape.result.marks) limit c.marks.ensures.legal)
+    (subst (λ n. IsLegalTape n c.into_inner-tape.result.marks) limit c.marks.ensures.legal)

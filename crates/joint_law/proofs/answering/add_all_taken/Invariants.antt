@@ -2,9 +2,11 @@ use Rattle.std.proofs.Common.{◌≡◌, ◌++◌, map, take}
 use Rattle.tied_lists.specs.Items.{taken_by}
 use Rattle.joint_law.specs.Bound.{sorted}
 use Rattle.joint_law.specs.Taking.{items_for}
-use Rattle.joint_law.specs.Split.{picked}
+use Rattle.joint_law.specs.Picked.{picked}
 use Rattle.joint_law.proofs.answering.add_all_taken.Given as goal
 
 abbrev pub invariant-loop-place : goal.invariant-loop-place
 invariant-loop-place l =
-    l.list.items ≡ l.initial.list.items ++ map (sorted l.statistics) (items_for l.statistics (taken_by (picked l.ring (take l.place-index l.places))))
+    l.list.items ≡ l.initial.list.items
+    ++ map (sorted l.statistics) (items_for l.statistics
+    (taken_by (picked l.ring (take l.place-index l.places))))

@@ -10,6 +10,9 @@ pub loop-call-preserved : goal.loop-call-preserved
 loop-call-preserved c =
     let low : c.loop-call.call-index < length c.args.calls.now = omega arith in
     joined-step _ _ _ _ _ _ c.in_ok-add_call.ensures c.loop-call.invariant
-    (ap (λ l. filter_map net_ask (map called_of l)) (take-push c.args.calls.now c.loop-call.call-index c.call-item.result low c.call-item.is)
-    ∙ (ap (filter_map net_ask) (map-append called_of (take c.loop-call.call-index c.args.calls.now) (c.call-item.result ∷ []))
-    ∙ filter_map-push net_ask (map called_of (take c.loop-call.call-index c.args.calls.now)) (called_of c.call-item.result)))
+    (ap (λ l. filter_map net_ask (map called_of l))
+    (take-push c.args.calls.now c.loop-call.call-index c.call-item.result low c.call-item.is)
+    ∙ (ap (filter_map net_ask) (map-append called_of (take c.loop-call.call-index c.args.calls.now)
+    (c.call-item.result ∷ []))
+    ∙ filter_map-push net_ask (map called_of (take c.loop-call.call-index c.args.calls.now))
+    (called_of c.call-item.result)))

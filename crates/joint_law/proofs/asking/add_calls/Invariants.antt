@@ -6,4 +6,5 @@ use Rattle.joint_law.proofs.asking.add_calls.Given as goal
 
 abbrev pub invariant-loop-call : goal.invariant-loop-call
 invariant-loop-call l =
-    l.list.items ≡ l.initial.list.items ++ filter_map net_ask (map called_of (take l.call-index l.calls))
+    l.list.items ≡ l.initial.list.items
+    ++ filter_map net_ask (map called_of (take l.call-index l.calls))

@@ -7,4 +7,5 @@ pub loop-place-preserved : goal.loop-place-preserved
 loop-place-preserved c =
     let low : c.loop-place.place-index < length c.args.places.now = omega arith in
     plain-step _ _ _ _ _ c.in_ok-add_posted.ensures c.loop-place.invariant
-    (picked-filter asked_of c.args.ring.now c.args.places.now c.loop-place.place-index c.index-ring-place.result c.requires low c.index-ring-place.is)
+    (picked-filter asked_of c.args.ring.now c.args.places.now c.loop-place.place-index
+    c.index-ring-place.result c.requires low c.index-ring-place.is)

@@ -11,5 +11,8 @@ pub loop-entry-preserved : goal.loop-entry-preserved
 loop-entry-preserved c =
     let low : c.loop-entry.entry-index < length c.args.entries.now = omega arith in
     plain-step _ _ _ _ _ c.in_ok-add_host_entry.ensures c.loop-entry.invariant
-    (ap (filter_map net_ask) (host-calls-more c.args.entries.now c.loop-entry.entry-index c.entry-item.result low c.entry-item.is)
-    ∙ filter_map-append net_ask (host_items_of (take c.loop-entry.entry-index c.args.entries.now)).calls (cons_option (host_call_in c.entry-item.result) []))
+    (ap (filter_map net_ask) (host-calls-more c.args.entries.now c.loop-entry.entry-index
+    c.entry-item.result low c.entry-item.is)
+    ∙ filter_map-append net_ask (host_items_of
+    (take c.loop-entry.entry-index c.args.entries.now)).calls
+    (cons_option (host_call_in c.entry-item.result) []))

@@ -1,9 +1,10 @@
-use Rattle.std.proofs.Common.{◌≡◌, ℕ, ◌<◌, [], false, get_or}
+use Rattle.std.proofs.Common.{◌≡◌, ℕ, ◌<◌, false, get_or}
 use Rattle.joint_history.specs.declared.joint.ControllerLog.{ControllerLog}
 use Rattle.joint_law.specs.AllComplete.{IsNodeDone}
-use Rattle.joint_law.specs.Split.{picked}
+use Rattle.joint_law.specs.Picked.{picked}
 use Rattle.joint_law.proofs.complete.controllers_are_done.Given as goal
 
 abbrev pub invariant-loop-at : goal.invariant-loop-at
 invariant-loop-at l =
-    (k : ℕ) (d : ControllerLog) → k < l.at → (get_or l.logs k d).node ≡ l.node → IsNodeDone (get_or l.done k false) (picked l.ring (get_or l.lists l.node []))
+    (k : ℕ) (d : ControllerLog) → k < l.at → (get_or l.logs k d).node ≡ l.node
+    → IsNodeDone (get_or l.done k false) (picked l.ring l.places)

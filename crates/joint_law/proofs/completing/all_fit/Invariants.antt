@@ -1,6 +1,6 @@
 use Rattle.std.proofs.Common.{◌≡◌, take}
 use Rattle.joint_law.specs.Completing.{EachAllows, NodeAllows, progress_of}
-use Rattle.joint_law.specs.Split.{picked}
+use Rattle.joint_law.specs.Picked.{picked}
 use Rattle.joint_law.proofs.completing.all_fit.Given as goal
 
 abbrev pub invariant-loop-place : goal.invariant-loop-place

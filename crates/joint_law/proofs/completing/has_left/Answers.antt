@@ -1,7 +1,7 @@
 use Rattle.std.proofs.Common.{◌+◌, ◌<◌, length, take, drop, sym, ap, ◌∙◌, arith}
 use Rattle.std.specs.List.{list_any}
 use Rattle.joint_law.specs.Completing.{is_leave}
-use Rattle.joint_law.specs.Split.{picked}
+use Rattle.joint_law.specs.Picked.{picked}
 use Rattle.joint_law.proofs.Fitting.{any-leave}
 use Rattle.joint_law.proofs.Lists.{picked-around}
 use Rattle.joint_law.proofs.completing.has_left.Goals as goal
@@ -11,5 +11,7 @@ returns-then-is_leave c =
     let low : c.loop-place.place-index < length c.args.places.now = omega arith in
     let front = picked c.args.ring.now (take c.loop-place.place-index c.args.places.now) in
     let rest = picked c.args.ring.now (drop (c.loop-place.place-index + 1) c.args.places.now) in
-    let around = picked-around c.args.ring.now c.args.places.now c.loop-place.place-index c.index-ring-place.result c.requires low c.index-ring-place.is in
-    sym (ap (list_any is_leave) around ∙ any-leave front c.index-ring-place.result rest (sym c.if-is_leave.ensures))
+    let around = picked-around c.args.ring.now c.args.places.now c.loop-place.place-index
+    c.index-ring-place.result c.requires low c.index-ring-place.is in
+    sym (ap (list_any is_leave) around
+    ∙ any-leave front c.index-ring-place.result rest (sym c.if-is_leave.ensures))

@@ -11,6 +11,9 @@ abbrev pub invariant-loop-at : goal.invariant-loop-at
 invariant-loop-at l =
     record {
       size : length l.done ≡ l.at;
-      legal : (j : ℕ) (p : HostPlan) (g : HostLog) → j < l.at → IsHostHistory (get_or l.plans j p) (get_or l.logs j g).entries;
-      each : (j : ℕ) (p : HostPlan) (g : HostLog) → j < l.at → IsTrue (get_or l.done j false) ↔ EndsEachCall (host_items_of (get_or l.logs j g).entries);
+      legal : (j : ℕ) (p : HostPlan) (g : HostLog) → j < l.at
+          → IsHostHistory (get_or l.plans j p) (get_or l.logs j g).entries;
+      each : (j : ℕ) (p : HostPlan) (g : HostLog) → j < l.at
+          → IsTrue (get_or l.done j false)
+          ↔ EndsEachCall (host_items_of (get_or l.logs j g).entries);
     }

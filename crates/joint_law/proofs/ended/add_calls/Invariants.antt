@@ -5,4 +5,5 @@ use Rattle.joint_law.proofs.ended.add_calls.Given as goal
 
 abbrev pub invariant-loop-call : goal.invariant-loop-call
 invariant-loop-call l =
-    l.list.items ≡ l.initial.list.items ++ map id_of_call (map called_of (take l.call-index l.calls))
+    l.list.items ≡ l.initial.list.items
+    ++ map id_of_call (map called_of (take l.call-index l.calls))

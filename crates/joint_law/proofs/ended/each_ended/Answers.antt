@@ -9,12 +9,18 @@ use Rattle.joint_law.proofs.ended.each_ended.Goals as goal
 pub returns-then-not-has_ended : goal.returns-then-not-has_ended
 returns-then-not-has_ended c = (
   λ no'. not-true no',
-  λ each. c.if-not-has_ended.ensures.1 (once-ended c.args.ends.now c.in_ok-once.once c.in_ok-once.ensures _ (each c.loop-id.id-index _ (omega arith))),
+  λ each. c.if-not-has_ended.ensures.1
+      (once-ended c.args.ends.now c.in_ok-once.once c.in_ok-once.ensures _
+      (each c.loop-id.id-index _ (omega arith))),
 )
 
 pub loop-id-preserved : goal.loop-id-preserved
 loop-id-preserved c =
     let low : c.loop-id.id-index < length c.args.calls.now = omega arith in
     each-more c.args.ends.now c.args.calls.now c.loop-id.id-index c.loop-id.invariant low
-    (λ (d : CallId). subst (EndsOnce c.args.ends.now) (get_or_default c.args.calls.now c.loop-id.id-index (record { node = 0; path = 0; seq = 0 }) d low)
-    (ended-once c.args.ends.now c.in_ok-once.once c.in_ok-once.ensures (get_or c.args.calls.now c.loop-id.id-index (record { node = 0; path = 0; seq = 0 })) (c.if-not-has_ended.ensures.0 refl)))
+    (λ (d : CallId). subst (EndsOnce c.args.ends.now)
+    (get_or_default c.args.calls.now c.loop-id.id-index
+    (record { node = 0; path = 0; seq = 0 }) d low)
+    (ended-once c.args.ends.now c.in_ok-once.once c.in_ok-once.ensures
+    (get_or c.args.calls.now c.loop-id.id-index (record { node = 0; path = 0; seq = 0 }))
+    (c.if-not-has_ended.ensures.0 refl)))

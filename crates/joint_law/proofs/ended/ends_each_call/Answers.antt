@@ -7,5 +7,7 @@ use Rattle.joint_law.proofs.ended.ends_each_call.Goals as goal
 pub returns : goal.returns
 returns c =
     IfOk-weaker c.each_ended.result _ _
-    (λ each h. each-iff (items_of c.args.entries.now) _ _ each (c.as_slice.ensures.value ∙ c.in_ok-calls.ensures) (c.as_slice-2.ensures.value ∙ c.in_ok-ends.ensures) h)
+    (λ each h. each-iff (items_of c.args.entries.now) _ _ each
+    (c.as_slice.ensures.value ∙ c.in_ok-calls.ensures)
+    (c.as_slice-2.ensures.value ∙ c.in_ok-ends.ensures) h)
     c.each_ended.ensures

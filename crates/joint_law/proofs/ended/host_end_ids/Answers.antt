@@ -7,4 +7,5 @@ pub loop-entry-preserved : goal.loop-entry-preserved
 loop-entry-preserved c =
     let low : c.loop-entry.entry-index < length c.args.entries.now = omega arith in
     plain-step _ _ _ _ _ c.in_ok-add_host_end_id.ensures c.loop-entry.invariant
-    (host-end-ids-more c.args.entries.now c.loop-entry.entry-index c.entry-item.result low c.entry-item.is)
+    (host-end-ids-more c.args.entries.now c.loop-entry.entry-index c.entry-item.result low
+    c.entry-item.is)

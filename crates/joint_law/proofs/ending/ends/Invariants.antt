@@ -8,6 +8,7 @@ use Rattle.joint_law.proofs.ending.ends.Given as goal
 abbrev pub invariant-loop-entry : goal.invariant-loop-entry
 invariant-loop-entry l =
     record {
-      kinds_are : (q : CallId) → kind_at l.kinds q ≡ kind_in (items_of (take l.entry-index l.entries)).calls q;
+      kinds_are : (q : CallId) → kind_at l.kinds q
+          ≡ kind_in (items_of (take l.entry-index l.entries)).calls q;
       list_is : l.list.items ≡ (items_of (take l.entry-index l.entries)).ends;
     }

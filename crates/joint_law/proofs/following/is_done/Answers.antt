@@ -16,8 +16,12 @@ returns c =
     let stop = ap (λ (h : List Entry). (replay fixed h).stop) c.requires.history in
     let scans : (count_by is_end entries ≡ fixed.scans) ⊎ ((replay fixed entries).stop ≢ 0) =
     elim c.else-stop_code-eq0.branch [
-      | else-stop_code-eq0-via-then-stop_code-eq0+else-count_scans-scans w ↦ inl (sym w.count_scans.ensures ∙ (w.if-count_scans-scans.false ∙ sym c.requires.scans))
-      | else-stop_code-eq0-via-else-stop_code-eq0 w ↦ inr (λ none. w.if-stop_code-eq0.false (c.stop_code.ensures ∙ (stop ∙ none)))
+      | else-stop_code-eq0-via-then-stop_code-eq0+else-count_scans-scans w ↦ inl
+          (sym w.count_scans.ensures ∙ (w.if-count_scans-scans.false ∙ sym c.requires.scans))
+      | else-stop_code-eq0-via-else-stop_code-eq0 w ↦ inr
+          (λ none. w.if-stop_code-eq0.false (c.stop_code.ensures ∙ (stop ∙ none)))
     ] in
-    let started = ap (has_started_at fixed) (sym c.requires.history) ∙ (sym c.has_started.ensures ∙ c.if-has_started.false) in
-    IfOk-weaker c.ends_each_call.result _ _ (λ each h. done-iff fixed entries each scans started h) c.ends_each_call.ensures
+    let started = ap (has_started_at fixed) (sym c.requires.history)
+    ∙ (sym c.has_started.ensures ∙ c.if-has_started.false) in
+    IfOk-weaker c.ends_each_call.result _ _ (λ each h. done-iff fixed entries each scans started h)
+    c.ends_each_call.ensures

@@ -11,5 +11,8 @@ pub loop-entry-preserved : goal.loop-entry-preserved
 loop-entry-preserved c =
     let low : c.loop-entry.entry-index < length c.args.entries.now = omega arith in
     plain-step _ _ _ _ _ c.in_ok-add_answer.ensures c.loop-entry.invariant
-    (ap replies_in (answers-more c.args.entries.now c.loop-entry.entry-index c.entry-item.result low c.entry-item.is)
-    ∙ map-append (λ (a : Answered). a.reply) (items_of (take c.loop-entry.entry-index c.args.entries.now)).answers (cons_option (answer_in c.entry-item.result) []))
+    (ap replies_in (answers-more c.args.entries.now c.loop-entry.entry-index c.entry-item.result
+    low c.entry-item.is)
+    ∙ map-append (λ (a : Answered). a.reply)
+    (items_of (take c.loop-entry.entry-index c.args.entries.now)).answers
+    (cons_option (answer_in c.entry-item.result) []))

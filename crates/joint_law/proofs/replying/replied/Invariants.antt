@@ -1,6 +1,6 @@
 use Rattle.std.proofs.Common.{◌≡◌, take}
 use Rattle.tied_lists.specs.Items.{replied_by}
-use Rattle.joint_law.specs.Split.{picked}
+use Rattle.joint_law.specs.Picked.{picked}
 use Rattle.joint_law.proofs.replying.replied.Given as goal
 
 abbrev pub invariant-loop-place : goal.invariant-loop-place

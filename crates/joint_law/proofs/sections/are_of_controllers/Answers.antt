@@ -9,5 +9,7 @@ pub returns-then-logs-at : goal.returns-then-logs-at
 returns-then-logs-at c = (
   λ no'. not-true no',
   λ same. absurd (c.if-logs-at.true
-      (same-node (λ (plan : ControllerPlan). plan.node) (λ (log : ControllerLog). log.node) c.args.plans.now c.args.logs.now same c.loop-at.at c.index-plans-at.result c.index-logs-at.result (omega arith))),
+      (same-node (λ (plan : ControllerPlan). plan.node) (λ (log : ControllerLog). log.node)
+      c.args.plans.now c.args.logs.now same c.loop-at.at c.index-plans-at.result
+      c.index-logs-at.result (omega arith))),
 )

@@ -1,11 +1,13 @@
 use Rattle.std.proofs.lemmas.Result.{IfOk-weaker}
 use Rattle.joint_history.specs.Reading.{host_items_of}
-use Rattle.joint_law.specs.Split.{picked}
+use Rattle.joint_law.specs.Picked.{picked}
 use Rattle.joint_law.proofs.LawSteps.{answers-end}
 use Rattle.joint_law.proofs.stations.host_breaks.Goals as goal
 
 pub returns-in_ok-host_answered-in-Answers : goal.returns-in_ok-host_answered-in-Answers
 returns-in_ok-host_answered-in-Answers c =
     IfOk-weaker c.compare_answers.result _ _
-    (λ end h. answers-end c.args.law _ (host_items_of c.args.entries.now) (picked c.args.ring.now c.args.places.now) _ end c.in-Answers.is c.in_ok-host_answered-in-Answers.ensures h)
+    (λ end h. answers-end c.args.law _ (host_items_of c.args.entries.now)
+    (picked c.args.ring.now c.args.places.now) _ end c.in-Answers.is
+    c.in_ok-host_answered-in-Answers.ensures h)
     c.compare_answers.ensures

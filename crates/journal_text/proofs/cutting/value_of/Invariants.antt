@@ -1,5 +1,5 @@
 use Rattle.std.proofs.Common.{◌≡◌, ◌<◌, ◌^◌, take}
-use Rattle.journal_text.specs.Reading.{value_of}
+use Rattle.plant_types.specs.Numerals.{value_of}
 use Rattle.journal_text.proofs.cutting.value_of.Given as goal
 
 abbrev pub invariant-loop-digit : goal.invariant-loop-digit

@@ -7,6 +7,18 @@ use Rattle.judge_tests.proofs.histories.plant.Goals as goal
 
 pub returns : goal.returns
 returns c =
-    let same : (◌≡◌) {A = Plant} (record { scan_time = 10; watchdog = 500; net = c.in_ok-net.field-0; controllers = c.in_ok-controllers.field-0; hosts = c.in_ok-hosts.field-0 }) example_plant =
-    λ i. record { scan_time = 10; watchdog = 500; net = c.in_ok-net.ensures i; controllers = c.in_ok-controllers.ensures i; hosts = c.in_ok-hosts.ensures i } in
+    let same : (◌≡◌) {A = Plant} (record {
+      scan_time = 10;
+      watchdog = 500;
+      net = c.in_ok-net.field-0;
+      controllers = c.in_ok-controllers.field-0;
+      hosts = c.in_ok-hosts.field-0;
+    }) example_plant =
+    λ i. record {
+      scan_time = 10;
+      watchdog = 500;
+      net = c.in_ok-net.ensures i;
+      controllers = c.in_ok-controllers.ensures i;
+      hosts = c.in_ok-hosts.ensures i;
+    } in
     subst (λ (p : Plant). CanBeJudged p 1) (sym same) example-judged

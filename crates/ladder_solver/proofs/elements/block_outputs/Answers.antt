@@ -10,10 +10,10 @@ use Rattle.ladder_solver.proofs.elements.block_outputs.Goals as goal
 pub returns-in-Counter-clause-leaves : goal.returns-in-Counter-clause-leaves
 returns-in-Counter-clause-leaves g c setting past numbered =
     gives_counter setting c.args.placed.element c.args.placed.place c.args.inputs past c.args.scan.now _ _ _
-    (λ inputs edge m. counting_effect c.in-Counter.up c.in-Counter.preset c.in-Counter.acc inputs edge m) _ _ _ _ _
+    (λ inputs edge m. counting_effect c.in-Counter.up c.in-Counter.preset c.in-Counter.acc edge inputs m) _ _ _ _ _
     (λ s. ap (λ e. solved_element setting e c.args.placed.place c.args.inputs s) c.in-Counter.is)
-    c.bits-bits.ensures.again c.is_on-edge.ensures c.solve_counter-outputs.ensures.outputs c.of_bits.ensures
-    c.solve_counter-outputs.ensures.stored c.solve_counter-outputs.ensures.edge c.set.ensures
+    c.bits-bits.ensures.again c.is_on-edge.ensures c.solve_counter-outputs.ensures.does.outputs c.of_bits.ensures
+    c.solve_counter-outputs.ensures.does.stored c.solve_counter-outputs.ensures.edge c.set.ensures
 
 pub returns-in-Mstr-clause-scan : goal.returns-in-Mstr-clause-scan
 returns-in-Mstr-clause-scan g c = record {

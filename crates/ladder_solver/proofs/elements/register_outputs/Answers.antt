@@ -7,7 +7,7 @@ use Rattle.ladder_solver.proofs.elements.register_outputs.Goals as goal
 pub returns-in-Timer-clause-leaves : goal.returns-in-Timer-clause-leaves
 returns-in-Timer-clause-leaves g c setting place past scan timed =
     gives_block setting c.args.element place c.args.inputs past scan _ _ _
-    (λ inputs clock m. timing_effect c.in-Timer.unit c.in-Timer.preset c.in-Timer.acc inputs clock m) c.args.clock _ _
+    (λ inputs clock m. timing_effect c.in-Timer.unit c.in-Timer.preset c.in-Timer.acc clock inputs m) c.args.clock _ _
     (λ s. ap (λ e. solved_element setting e place c.args.inputs s) c.in-Timer.is) timed
     c.bits-bits.ensures.again c.solve_timer.ensures.outputs c.of_bits.ensures c.solve_timer.ensures.stored
 

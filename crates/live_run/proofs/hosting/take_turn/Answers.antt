@@ -25,25 +25,25 @@ pub returns-then-holder-node-clause-attends : goal.returns-then-holder-node-clau
 returns-then-holder-node-clause-attends g c =
     attends-others g.G.RingSide.alone c.args.worker.now c.args.host.now (g.G.RingSide.side c.args.ring.now) (g.G.RingSide.side c.holder.new.self)
     (g.G.RingSide.known c.args.ring.now) (g.G.RingSide.known c.holder.new.self) false c.holder.ensures.same
-    (c.holder.ensures.went _ c.requires.attends.ties.serves) c.holder.ensures.legal c.requires.attends
+    (c.holder.ensures.went _ c.requires.attends.ties.serves).list c.holder.ensures.legal c.requires.attends
 
 pub hold_turn-requires-clause-ties : goal.hold_turn-requires-clause-ties
 hold_turn-requires-clause-ties g c =
     (attends-others g.G.RingSide.alone c.args.worker.now c.args.host.now (g.G.RingSide.side c.args.ring.now) (g.G.RingSide.side c.holder.new.self)
     (g.G.RingSide.known c.args.ring.now) (g.G.RingSide.known c.holder.new.self) false c.holder.ensures.same
-    (c.holder.ensures.went _ c.requires.attends.ties.serves) c.holder.ensures.legal c.requires.attends).ties
+    (c.holder.ensures.went _ c.requires.attends.ties.serves).list c.holder.ensures.legal c.requires.attends).ties
 
 pub hold_turn-requires-clause-counts : goal.hold_turn-requires-clause-counts
 hold_turn-requires-clause-counts g c =
     (attends-others g.G.RingSide.alone c.args.worker.now c.args.host.now (g.G.RingSide.side c.args.ring.now) (g.G.RingSide.side c.holder.new.self)
     (g.G.RingSide.known c.args.ring.now) (g.G.RingSide.known c.holder.new.self) false c.holder.ensures.same
-    (c.holder.ensures.went _ c.requires.attends.ties.serves) c.holder.ensures.legal c.requires.attends).counts
+    (c.holder.ensures.went _ c.requires.attends.ties.serves).list c.holder.ensures.legal c.requires.attends).counts
 
 pub hold_turn-requires-clause-holds : goal.hold_turn-requires-clause-holds
 hold_turn-requires-clause-holds g c =
     let a = attends-others g.G.RingSide.alone c.args.worker.now c.args.host.now (g.G.RingSide.side c.args.ring.now) (g.G.RingSide.side c.holder.new.self)
     (g.G.RingSide.known c.args.ring.now) (g.G.RingSide.known c.holder.new.self) false c.holder.ensures.same
-    (c.holder.ensures.went _ c.requires.attends.ties.serves) c.holder.ensures.legal c.requires.attends in
+    (c.holder.ensures.went _ c.requires.attends.ties.serves).list c.holder.ensures.legal c.requires.attends in
     let found : c.holder.result ≡ c.args.node = grind (arith, c.if-holder-node.false) in
     host-holds-now c.args.worker.now c.args.host.now (g.G.RingSide.side c.holder.new.self) (g.G.RingSide.known c.holder.new.self) c.args.node c.requires.node a
     (ap (λ s. (ring_after s.net (g.G.RingSide.known c.holder.new.self)).holder) c.holder.ensures.same ∙ sym c.holder.ensures.answer ∙ found)
@@ -52,6 +52,12 @@ pub returns-clause-attends : goal.returns-clause-attends
 returns-clause-attends g c =
     let a = attends-others g.G.RingSide.alone c.args.worker.now c.args.host.now (g.G.RingSide.side c.args.ring.now) (g.G.RingSide.side c.holder.new.self)
     (g.G.RingSide.known c.args.ring.now) (g.G.RingSide.known c.holder.new.self) false c.holder.ensures.same
-    (c.holder.ensures.went _ c.requires.attends.ties.serves) c.holder.ensures.legal c.requires.attends in
-    made g.G.RingSide.alone _ _ _ _ _ _ _ _ c.hold_turn.result c.hold_turn.ensures.plan c.hold_turn.ensures.same c.hold_turn.ensures.worker
+    (c.holder.ensures.went _ c.requires.attends.ties.serves).list c.holder.ensures.legal c.requires.attends in
+    made g.G.RingSide.alone _ _ _ _ _ _ _ _ c.hold_turn.result c.hold_turn.ensures.step.plan c.hold_turn.ensures.step.node.same c.hold_turn.ensures.worker
     c.hold_turn.ensures.held c.hold_turn.ensures.ties c.hold_turn.ensures.counts c.hold_turn.ensures.stays a
+
+pub returns-clause-plan : goal.returns-clause-plan
+returns-clause-plan g c = c.hold_turn.ensures.step.plan
+
+pub returns-clause-ring_same : goal.returns-clause-ring_same
+returns-clause-ring_same g c = c.hold_turn.ensures.step.node.same ∙ c.holder.ensures.same

@@ -1,6 +1,7 @@
 use Rattle.std.proofs.Common.{◌≡◌, All, sym, ap, subst, ◌∙◌, refl}
 use Rattle.turn_gate.specs.Known.{Owns, StartsWith}
 use Rattle.controller_core.specs.Controller.{ControllerIs, IsLegal}
+use Rattle.controller_core.specs.Notes.{notes_of}
 use Rattle.joint_history.specs.JointLaws.{fixed_of}
 use Rattle.live_run.specs.Cells.{controller_in, maker_number}
 use Rattle.live_run.specs.Pairs.{IsBack, ram_side}
@@ -35,16 +36,22 @@ returns-clause-ended g c =
     let p = t.result.0 in
     let inner : c.into_inner-controller.result ≡ controller_in c.close.result =
     c.into_inner-controller.ensures in
-    let history : c.into_history.result ≡ (controller_in c.close.result).history =
-    c.into_history.ensures.history ∙ ap (λ (v : ControllerIs). v.history) inner in
+    let parts = c.into_parts-entries in
+    let entries = parts.result.0 in
+    let history : entries ≡ (controller_in c.close.result).history =
+    parts.ensures.history ∙ ap (λ (v : ControllerIs). v.history) inner in
     let kept : c.into_inner-controller.result.fixed ≡ fixed_of plant scans plan =
     ap (λ (v : ControllerIs). v.fixed) inner ∙ (c.close.ensures.fixed ∙ fixed) in
-    came-to-end plant scans plan gate t.new.worker side known p c.into_history.result _
+    let came = came-to-end plant scans plan gate t.new.worker side known p entries _
     (c.in_ok-gate.ensures.opening ∙ ap (λ (v : ControllerIs). v.history) made) fixed
     t.ensures.node (ap (λ s. s.net) t.ensures.side ∙ c.requires.unused.net)
     (subst (IsBack gate t.new.worker side known p) c.if-not-done.false t.ensures.back)
     (subst (λ l. All (StartsWith l) p.heard) (sym history) c.close.ensures.heard)
     (subst (Owns maker_number p) (sym history) c.close.ensures.own)
-    (subst (λ f. IsLegal f c.into_history.result) kept
-    (subst (IsLegal c.into_inner-controller.result.fixed) (sym c.into_history.ensures.history)
-    c.into_history.ensures.legal)) refl
+    (subst (λ f. IsLegal f entries) kept
+    (subst (IsLegal c.into_inner-controller.result.fixed) (sym parts.ensures.history)
+    parts.ensures.legal)) refl in
+    record {
+      came = came;
+      notes = parts.ensures.notes ∙ (λ i. notes_of (kept i) (sym parts.ensures.history i));
+    }

@@ -7,8 +7,8 @@ use Rattle.plant_types.specs.declared.plan.ControllerPlan.{ControllerPlan}
 use Rattle.plant_types.specs.Plans.{controller_nodes, host_nodes}
 use Rattle.ring_core.specs.Legal.{IsMember}
 use Rattle.ring_core.specs.declared.entry.RingEntry.{RingEntry}
-use Rattle.joint_history.specs.declared.joint.ControllerLog.{ControllerLog}
 use Rattle.joint_history.specs.declared.joint.HostLog.{HostLog}
+use Rattle.live_run.specs.declared.stations.NotedLog.{NotedLog}
 use Rattle.live_run.specs.Dealing.{AreNew, GatheredInto, HasLog, IsAt, fresh_station}
 use Rattle.live_run.specs.Stations.{AreFresh, CanRunAll, CanServeAll, HasRun, HostHasRun, RanEach}
 use Rattle.live_run.proofs.Dealt.{plant-new}
@@ -61,7 +61,7 @@ run_all-requires-clause-fresh g c κs within =
     let plant = c.args.run.now.plant.now in
     let plans = c.as_slice-plans.result.now in
     let plans-are : plans ≡ plant.controllers = c.as_slice-plans.ensures in
-    let all = fresh-all c.args.gate.now (λ (plan : ControllerPlan). plan.node) ControllerLog plant
+    let all = fresh-all c.args.gate.now (λ (plan : ControllerPlan). plan.node) NotedLog plant
     plans c.requires.plant.net c.requires.net c.requires.opening
     (subst (λ l. All (λ n. IsMember plant.net n) (map (λ (plan : ControllerPlan). plan.node) l))
     (sym plans-are) (controllers-members plant c.requires.plant)) in

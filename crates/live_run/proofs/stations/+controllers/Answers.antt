@@ -2,7 +2,7 @@ use Rattle.std.proofs.Common.{◌≡◌, slice_index_or, length, sym, subst, ◌
 use Rattle.controller_core.specs.Machine.{IsRunnable}
 use Rattle.joint_history.specs.JointLaws.{fixed_of}
 use Rattle.plant_types.specs.declared.plan.ControllerPlan.{ControllerPlan}
-use Rattle.joint_history.specs.declared.joint.ControllerLog.{ControllerLog}
+use Rattle.live_run.specs.declared.stations.NotedLog.{NotedLog}
 use Rattle.live_run.specs.declared.stations.Station.{Station}
 use Rattle.live_run.specs.Stations.{HasRun, IsFresh}
 use Rattle.live_run.proofs.Ran.{all-halves, halves, ran-halves, ran-none, ran-one, zip-long}
@@ -14,7 +14,7 @@ run_controllers-returns-then-is_empty g t c =
     let plant = c.args.run.now.plant.now in
     let side = g.G.RingSide.side in
     let known = g.G.RingSide.known in
-    ran-none side (λ (plan : ControllerPlan) (station : Station _ ControllerLog).
+    ran-none side (λ (plan : ControllerPlan) (station : Station _ NotedLog).
     IsFresh side known plant plan.node station)
     (HasRun known plant c.args.run.now.scans) c.args.plans.now c.args.stations.now
     c.requires.fresh (eqb-true _ _ (sym c.is_empty.ensures ∙ c.if-is_empty.true))
@@ -26,7 +26,7 @@ run_controllers-run_one-requires-clause-fresh g t c κs within =
     let known = g.G.RingSide.known in
     subst (λ (plan : ControllerPlan). IsFresh side known plant plan.node
     (slice_index_or c.args.stations.now 0 c.index-stations-0.result)) (sym c.index-plans-0.is)
-    (zip-only (λ (plan : ControllerPlan) (station : Station _ ControllerLog).
+    (zip-only (λ (plan : ControllerPlan) (station : Station _ NotedLog).
     IsFresh side known plant plan.node station)
     c.args.plans.now c.args.stations.now c.index-plans-0.result c.index-stations-0.result
     c.requires.fresh c.if-stations-eq1.true)
@@ -37,7 +37,7 @@ run_controllers-returns-then-stations-eq1 g t c =
     let scans = c.args.run.now.scans in
     let side = g.G.RingSide.side in
     let known = g.G.RingSide.known in
-    ran-one side (λ (plan : ControllerPlan) (station : Station _ ControllerLog).
+    ran-one side (λ (plan : ControllerPlan) (station : Station _ NotedLog).
     IsFresh side known plant plan.node station)
     (HasRun known plant scans) c.args.plans.now c.args.stations.now c.index-plans-0.result
     c.index-stations-0.result c.run_one.new.station c.requires.fresh c.if-stations-eq1.true
@@ -51,7 +51,7 @@ run_controllers-split_at-requires g t c =
     let side = g.G.RingSide.side in
     let known = g.G.RingSide.known in
     let long : length c.args.plans.now ≡ length c.args.stations.now =
-    zip-long (λ (plan : ControllerPlan) (station : Station _ ControllerLog).
+    zip-long (λ (plan : ControllerPlan) (station : Station _ NotedLog).
     IsFresh side known plant plan.node station) c.args.plans.now c.args.stations.now
     c.requires.fresh in
     omega (arith, long)
@@ -75,7 +75,7 @@ run_controllers-run_halves-requires-clause-fresh_front g t c κs within =
     let plant = c.args.run.now.plant.now in
     let side = g.G.RingSide.side in
     let known = g.G.RingSide.known in
-    (halves (λ (plan : ControllerPlan) (station : Station _ ControllerLog).
+    (halves (λ (plan : ControllerPlan) (station : Station _ NotedLog).
     IsFresh side known plant plan.node station)
     c.args.plans.now c.split_at.result.0.now c.split_at.result.1.now c.args.stations.now
     c.split_at_mut-front.result.0.now c.split_at_mut-front.result.1.now
@@ -88,7 +88,7 @@ run_controllers-run_halves-requires-clause-fresh_back g t c κs within =
     let plant = c.args.run.now.plant.now in
     let side = g.G.RingSide.side in
     let known = g.G.RingSide.known in
-    (halves (λ (plan : ControllerPlan) (station : Station _ ControllerLog).
+    (halves (λ (plan : ControllerPlan) (station : Station _ NotedLog).
     IsFresh side known plant plan.node station)
     c.args.plans.now c.split_at.result.0.now c.split_at.result.1.now c.args.stations.now
     c.split_at_mut-front.result.0.now c.split_at_mut-front.result.1.now
@@ -101,7 +101,7 @@ run_controllers-returns g t c =
     let plant = c.args.run.now.plant.now in
     let side = g.G.RingSide.side in
     let known = g.G.RingSide.known in
-    ran-halves side (λ (plan : ControllerPlan) (station : Station _ ControllerLog).
+    ran-halves side (λ (plan : ControllerPlan) (station : Station _ NotedLog).
     IsFresh side known plant plan.node station)
     (HasRun known plant c.args.run.now.scans) c.args.plans.now c.split_at.result.0.now
     c.split_at.result.1.now c.args.stations.now _ _ c.run_halves.new.front

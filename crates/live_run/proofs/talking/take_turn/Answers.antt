@@ -24,13 +24,13 @@ made law alone_ram alone_ring w w' ram ram' known known' side side' ring ring' (
 pub hold_turn-requires-clause-standing : goal.hold_turn-requires-clause-standing
 hold_turn-requires-clause-standing g c =
     (talks-others g.G.RingSide.alone _ _ _ _ _ _ _ false c.holder.ensures.same
-    (c.holder.ensures.went _ c.requires.talks.standing.serves) c.holder.ensures.legal c.requires.talks).standing
+    (c.holder.ensures.went _ c.requires.talks.standing.serves).list c.holder.ensures.legal c.requires.talks).standing
 
 pub hold_turn-requires-clause-holds : goal.hold_turn-requires-clause-holds
 hold_turn-requires-clause-holds g c =
     let t = talks-others g.G.RingSide.alone c.args.worker.now (g.M.RamSide.side c.args.ram.now) (g.M.RamSide.known c.args.ram.now)
     (g.G.RingSide.side c.args.ring.now) (g.G.RingSide.side c.holder.new.self) (g.G.RingSide.known c.args.ring.now) (g.G.RingSide.known c.holder.new.self)
-    false c.holder.ensures.same (c.holder.ensures.went _ c.requires.talks.standing.serves) c.holder.ensures.legal c.requires.talks in
+    false c.holder.ensures.same (c.holder.ensures.went _ c.requires.talks.standing.serves).list c.holder.ensures.legal c.requires.talks in
     let found : c.holder.result ≡ c.args.node = grind (arith, c.if-holder-node.false) in
     holds-now c.args.worker.now (g.M.RamSide.side c.args.ram.now) (g.M.RamSide.known c.args.ram.now) (g.G.RingSide.side c.holder.new.self)
     (g.G.RingSide.known c.holder.new.self) c.args.node c.requires.node t
@@ -39,12 +39,18 @@ hold_turn-requires-clause-holds g c =
 pub returns-then-holder-node-clause-talks : goal.returns-then-holder-node-clause-talks
 returns-then-holder-node-clause-talks g c =
     talks-others g.G.RingSide.alone _ _ _ _ _ _ _ false c.holder.ensures.same
-    (c.holder.ensures.went _ c.requires.talks.standing.serves) c.holder.ensures.legal c.requires.talks
+    (c.holder.ensures.went _ c.requires.talks.standing.serves).list c.holder.ensures.legal c.requires.talks
 
 pub returns-clause-talks : goal.returns-clause-talks
 returns-clause-talks g c =
     let t = talks-others g.G.RingSide.alone c.args.worker.now (g.M.RamSide.side c.args.ram.now) (g.M.RamSide.known c.args.ram.now)
     (g.G.RingSide.side c.args.ring.now) (g.G.RingSide.side c.holder.new.self) (g.G.RingSide.known c.args.ring.now) (g.G.RingSide.known c.holder.new.self)
-    false c.holder.ensures.same (c.holder.ensures.went _ c.requires.talks.standing.serves) c.holder.ensures.legal c.requires.talks in
-    made c.turns_keep_on.ensures g.M.RamSide.alone g.G.RingSide.alone _ _ _ _ _ _ _ _ _ _ c.hold_turn.result c.hold_turn.ensures.ram_same
-    c.hold_turn.ensures.ring_same c.hold_turn.ensures.worker c.hold_turn.ensures.held c.hold_turn.ensures.standing t
+    false c.holder.ensures.same (c.holder.ensures.went _ c.requires.talks.standing.serves).list c.holder.ensures.legal c.requires.talks in
+    made c.turns_keep_on.ensures g.M.RamSide.alone g.G.RingSide.alone _ _ _ _ _ _ _ _ _ _ c.hold_turn.result c.hold_turn.ensures.step.station.same
+    c.hold_turn.ensures.step.node.same c.hold_turn.ensures.worker c.hold_turn.ensures.held c.hold_turn.ensures.standing t
+
+pub returns-clause-ram_same : goal.returns-clause-ram_same
+returns-clause-ram_same g c = c.hold_turn.ensures.step.station.same
+
+pub returns-clause-ring_same : goal.returns-clause-ring_same
+returns-clause-ring_same g c = c.hold_turn.ensures.step.node.same ∙ c.holder.ensures.same

@@ -7,5 +7,7 @@ loop-place-init c = no-places _ c.in_ok-lists.ensures
 
 pub loop-place-preserved : goal.loop-place-preserved
 loop-place-preserved c =
-    more-places c.args.ring.now c.loop-place.place c.maker.result c.loop-place.lists.items _ c.index-ring-place.result
-    (omega arith) c.index-ring-place.is c.maker.ensures (omega arith) c.in_ok-add_place.ensures c.loop-place.invariant
+    more-places c.args.ring.now c.loop-place.place c.maker.result c.loop-place.lists.items _
+    c.index-ring-place.result
+    (omega arith) c.index-ring-place.is c.maker.ensures (omega arith) c.in_ok-add_place.ensures
+    c.loop-place.invariant

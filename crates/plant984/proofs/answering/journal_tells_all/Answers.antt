@@ -1,5 +1,5 @@
 use Rattle.std.proofs.Common.{refl}
-use Rattle.panel_text.specs.Panel.{most_scans}
+use Rattle.joint_history.specs.JointLaws.{most_scans}
 use Rattle.plant984.proofs.answering.journal_tells_all.Goals as goal
 
 pub returns : goal.returns

@@ -1,6 +1,6 @@
 use Rattle.toml.specs.View.{table_view}
-use Rattle.plant_loader.proofs.LoadedLemmas.{plant_of-document, gives-loaded}
-use Rattle.plant_loader.proofs.LoadedLemmas.{loaded-checked, loaded-drops, loaded-solvable}
+use Rattle.plant_loader.proofs.LoadedLemmas.{plant_of-document, gives-loaded, loaded-checked}
+use Rattle.plant_loader.proofs.LoadedLemmas.{loaded-drops, loaded-solvable}
 use Rattle.plant_loader.proofs.reading.load.Goals as goal
 
 -- what the call answers is what is read of the bytes

@@ -5,22 +5,22 @@ use Rattle.comm_port.specs.HostStands.{HostIsReady}
 use Rattle.comm_port.proofs.HostStandings.{stands-one, stands-two}
 use Rattle.port_tests.proofs.host_turns.ring_text.Goals as goal
 
-pub hold_all-requires-clause-one : goal.hold_all-requires-clause-one
-hold_all-requires-clause-one g c =
+pub held_text-text-requires-clause-one : goal.held_text-text-requires-clause-one
+held_text-text-requires-clause-one g c =
     let s = c.in_ok-one.one in
     let e = c.in_ok-one.ensures in
     let ring = c.in_ok-ring.ensures in
     let net = c.in_ok-ring.ring.net in
-    let members = ap (λ (x : NetPlan). x.members) ring.net ∙ c.in_ok-net.ensures in
+    let members = ap (λ (x : NetPlan). x.members) ring.net ∙ c.requires in
     subst (λ (r : List RingEntry). HostIsReady 1 s.host s.worker s.left net r) (sym ring.empty)
     (stands-one s.host s.worker s.left net members e.node e.history e.worker)
 
-pub hold_all-requires-clause-two : goal.hold_all-requires-clause-two
-hold_all-requires-clause-two g c =
+pub held_text-text-requires-clause-two : goal.held_text-text-requires-clause-two
+held_text-text-requires-clause-two g c =
     let s = c.in_ok-two.two in
     let e = c.in_ok-two.ensures in
     let ring = c.in_ok-ring.ensures in
     let net = c.in_ok-ring.ring.net in
-    let members = ap (λ (x : NetPlan). x.members) ring.net ∙ c.in_ok-net.ensures in
+    let members = ap (λ (x : NetPlan). x.members) ring.net ∙ c.requires in
     subst (λ (r : List RingEntry). HostIsReady 2 s.host s.worker s.left net r) (sym ring.empty)
     (stands-two s.host s.worker s.left net members e.node e.history e.worker)

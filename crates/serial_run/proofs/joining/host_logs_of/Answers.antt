@@ -5,7 +5,9 @@ use Rattle.serial_run.proofs.joining.host_logs_of.Goals as goal
 
 pub loop-station-init : goal.loop-station-init
 loop-station-init c =
-    (λ i. c.new-logs.ensures.items i ++ map host_log_of c.into_iter-station-iterator.result.rest.items) ∙ ap (map host_log_of) c.into_iter-station-iterator.ensures.into_iter_gives.0
+    (λ i. c.new-logs.ensures.items i ++ map host_log_of
+    c.into_iter-station-iterator.result.rest.items) ∙ ap (map host_log_of)
+    c.into_iter-station-iterator.ensures.into_iter_gives.0
 
 pub loop-station-preserved : goal.loop-station-preserved
 loop-station-preserved c =
@@ -13,13 +15,17 @@ loop-station-preserved c =
     let rest = c.next.new.self.rest.items in
     let steps = c.in-Some.ensures.steps in
     (λ i. c.in_ok-push.ensures.items i ++ map host_log_of rest)
-    ∙ (ap (λ h. (c.loop-station.logs.items ++ (record { node = s.node; entries = h }) ∷ []) ++ map host_log_of rest) c.into_history.ensures.history
+    ∙ (ap (λ h. (c.loop-station.logs.items ++ (record { node = s.node; entries = h }) ∷ []) ++ map
+    host_log_of rest) c.into_history.ensures.history
     ∙ (append_assoc c.loop-station.logs.items (host_log_of s ∷ []) (map host_log_of rest)
-    ∙ (ap (λ l. c.loop-station.logs.items ++ map host_log_of l) (sym steps.0) ∙ c.loop-station.invariant)))
+    ∙ (ap (λ l. c.loop-station.logs.items ++ map host_log_of l) (sym steps.0)
+    ∙ c.loop-station.invariant)))
 
 pub returns : goal.returns
 returns c =
-    let none = none-long c.loop-station.station-iterator.rest.items c.loop-station.station-iterator.rest.len c.loop-station.station-iterator.rest.ok.0
+    let none = none-long c.loop-station.station-iterator.rest.items
+    c.loop-station.station-iterator.rest.len c.loop-station.station-iterator.rest.ok.0
     c.in-None.ensures.steps.0 in
     c.from_vec.ensures ∙ (sym (append-nil c.loop-station.logs.items)
-    ∙ (ap (λ l. c.loop-station.logs.items ++ map host_log_of l) (sym none) ∙ c.loop-station.invariant))
+    ∙ (ap (λ l. c.loop-station.logs.items ++ map host_log_of l) (sym none)
+    ∙ c.loop-station.invariant))

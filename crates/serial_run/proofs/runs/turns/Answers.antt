@@ -5,7 +5,7 @@ use Rattle.effect_laws.specs.Effects.{EffectsAreRight}
 use Rattle.entry_causes.specs.Joint.{IsInOneOrder}
 use Rattle.serial_run.specs.Turns.{MakesTurns, nothing_made}
 use Rattle.serial_run.specs.Stations.{joint_of}
-use Rattle.serial_run.proofs.Laws.{if-ok, one-more-turn, stand-in-time, stand-joint, stand-legal}
+use Rattle.serial_run.proofs.Laws.{one-more-turn, stand-in-time, stand-joint, stand-legal}
 use Rattle.serial_run.proofs.runs.turns.Goals as goal
 
 pub loop-turn-preserved : goal.loop-turn-preserved
@@ -17,35 +17,42 @@ loop-turn-preserved c =
     let stand = c.loop-turn.invariant.stand in
     record {
       stand = did.stand plant scans stand;
-      made = subst (λ turns. MakesTurns plant scans turns (nothing_made plant) (joint_of c.turn.new.self))
+      made = subst (λ turns. MakesTurns plant scans turns (nothing_made plant)
+          (joint_of c.turn.new.self))
           (sym (take_more c.args.order.now at _ c.loop-turn-test.true))
-          (one-more-turn plant scans (take at c.args.order.now) _ (nothing_made plant) (joint_of c.loop-turn.run) (joint_of c.turn.new.self)
+          (one-more-turn plant scans (take at c.args.order.now) _ (nothing_made plant)
+          (joint_of c.loop-turn.run) (joint_of c.turn.new.self)
           c.loop-turn.invariant.made (did.made plant scans stand));
     }
 
 pub returns-clause-legal : goal.returns-clause-legal
 returns-clause-legal c =
     let plant = c.args.plant.now in
-    if-ok c.joint_of.result (λ joint is. subst (IsLegalJoint plant c.args.scans) (sym is) (stand-legal plant c.args.scans c.loop-turn.run
-    c.loop-turn.invariant.stand)) c.joint_of.ensures
+    let scans = c.args.scans in
+    subst (IsLegalJoint plant scans) (sym c.in_ok-noted.ensures.joint)
+    (stand-legal plant scans c.loop-turn.run c.loop-turn.invariant.stand)
 
 pub returns-clause-joint : goal.returns-clause-joint
 returns-clause-joint c =
-    if-ok c.joint_of.result (λ joint is. subst IsJoint (sym is) (stand-joint c.args.plant.now c.args.scans c.loop-turn.run
-    c.loop-turn.invariant.stand)) c.joint_of.ensures
+    subst IsJoint (sym c.in_ok-noted.ensures.joint)
+    (stand-joint c.args.plant.now c.args.scans c.loop-turn.run c.loop-turn.invariant.stand)
 
 pub returns-clause-effects : goal.returns-clause-effects
 returns-clause-effects c =
     let plant = c.args.plant.now in
+    let scans = c.args.scans in
     let run = c.loop-turn.run in
     let stand = c.loop-turn.invariant.stand in
-    if-ok c.joint_of.result (λ joint is. subst EffectsAreRight (sym is) (c.effects_are_right.ensures plant c.args.scans (joint_of run) c.requires.plant.sound
-    (stand-legal plant c.args.scans run stand) (stand-joint plant c.args.scans run stand))) c.joint_of.ensures
+    subst EffectsAreRight (sym c.in_ok-noted.ensures.joint)
+    (c.effects_are_right.ensures plant scans (joint_of run) c.requires.plant.sound
+    (stand-legal plant scans run stand) (stand-joint plant scans run stand))
 
 pub returns-clause-in_time : goal.returns-clause-in_time
 returns-clause-in_time c =
     let plant = c.args.plant.now in
+    let scans = c.args.scans in
     let run = c.loop-turn.run in
     let stand = c.loop-turn.invariant.stand in
-    if-ok c.joint_of.result (λ joint is. subst IsInOneOrder (sym is) (c.joint_is_in_one_order.ensures plant c.args.scans (joint_of run) c.requires.plant.sound
-    (stand-legal plant c.args.scans run stand) (stand-in-time plant c.args.scans run stand))) c.joint_of.ensures
+    subst IsInOneOrder (sym c.in_ok-noted.ensures.joint)
+    (c.joint_is_in_one_order.ensures plant scans (joint_of run) c.requires.plant.sound
+    (stand-legal plant scans run stand) (stand-in-time plant scans run stand))

@@ -6,5 +6,7 @@ use Rattle.serial_run.proofs.stations.controller_of.Goals as goal
 pub returns : goal.returns
 returns c =
     let is = c.in_ok-controller.ensures in
-    start-controller c.args.plant.now c.args.scans c.args.plan.now c.in_ok-controller.controller c.in_ok-worker.worker c.requires.plant.sound
-    c.requires.member (subst (λ (v : ControllerIs). IsLegal v.fixed v.history) is c.history.ensures.legal) is c.in_ok-worker.ensures
+    start-controller c.args.plant.now c.args.scans c.args.plan.now c.in_ok-controller.controller
+    c.in_ok-worker.worker c.requires.plant.sound
+    c.requires.member (subst (λ (v : ControllerIs). IsLegal v.fixed v.history) is
+    c.history.ensures.legal) is c.in_ok-worker.ensures

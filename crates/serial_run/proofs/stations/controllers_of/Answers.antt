@@ -13,8 +13,10 @@ controller_of-requires-clause-member c =
     let items = c.as_slice-plan-items.result.now in
     let at = c.loop-plan.plan-index in
     let plan = c.plan-item.result in
-    let there : slice_get items at ≡ Some plan = slice_get_read items (length items) at plan refl (omega arith) c.plan-item.is in
-    controller-member c.args.plant.now c.requires.plant.sound at plan (subst (λ l. slice_get l at ≡ Some plan) c.as_slice-plan-items.ensures there)
+    let there : slice_get items at ≡ Some plan = slice_get_read items (length items) at plan refl
+    (omega arith) c.plan-item.is in
+    controller-member c.args.plant.now c.requires.plant.sound at plan
+    (subst (λ l. slice_get l at ≡ Some plan) c.as_slice-plan-items.ensures there)
 
 pub loop-plan-preserved : goal.loop-plan-preserved
 loop-plan-preserved c =
@@ -23,9 +25,12 @@ loop-plan-preserved c =
     let plan = c.plan-item.result in
     let plans = c.args.plant.now.controllers in
     let R = StartsController c.args.plant.now c.args.scans in
-    let more = zip-push R (take at plans) c.loop-plan.stations.items plan _ c.loop-plan.invariant c.in_ok-controller_of.ensures in
+    let more = zip-push R (take at plans) c.loop-plan.stations.items plan _ c.loop-plan.invariant
+    c.in_ok-controller_of.ensures in
     let front : take (at + 1) items ≡ take at items ++ plan ∷ [] =
-    take_more items at plan (omega arith) ∙ ap (λ p. take at items ++ p ∷ []) (sym c.plan-item.is) in
+    take_more items at plan (omega arith) ∙ ap (λ p. take at items ++ p ∷ []) (sym c.plan-item.is)
+    in
     let front' : take (at + 1) plans ≡ take at plans ++ plan ∷ [] =
     subst (λ l. take (at + 1) l ≡ take at l ++ plan ∷ []) c.as_slice-plan-items.ensures front in
-    subst (λ l. AllZip R l c.push.new.self.items) (sym front') (subst (AllZip R (take at plans ++ plan ∷ [])) (sym c.in_ok-push.ensures.items) more)
+    subst (λ l. AllZip R l c.push.new.self.items) (sym front')
+    (subst (AllZip R (take at plans ++ plan ∷ [])) (sym c.in_ok-push.ensures.items) more)

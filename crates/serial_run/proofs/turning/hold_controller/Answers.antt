@@ -15,8 +15,8 @@ returns c =
     let new_ring = c.hold_turn.new.ring in
     let o = c.in_ok-left.ensures in
     let held = o.held in
-    let fixed = ap (λ side. side.fixed) o.ram_same in
-    let net = ap (λ side. side.net) o.ring_same in
+    let fixed = ap (λ side. side.fixed) o.step.station.same in
+    let net = ap (λ side. side.net) o.step.node.same in
     record {
       stays = record {
         node = refl;
@@ -28,15 +28,21 @@ returns c =
         stands = o.standing;
       };
       turn = held;
-      left = held-left s.controller.fixed ring.net s.worker.node s.worker.budget s.controller.history v.history
+      left = held-left s.controller.fixed ring.net s.worker.node s.worker.budget
+          s.controller.history v.history
           ring.history new_ring.history c.in_ok-left.left held;
-      keeps = c.turns_keep_on.ensures true true s.controller.fixed ring.net s.worker.node s.worker.budget c.in_ok-left.left s.controller.history v.history
+      keeps = c.turns_keep_on.ensures true true s.controller.fixed ring.net s.worker.node
+          s.worker.budget c.in_ok-left.left s.controller.history v.history
           ring.history new_ring.history held
-          (stands-before s.worker s.controller ring c.requires.keeps.member c.requires.keeps.legal c.requires.stands)
-          (stands-behind s.worker w s.controller v ring new_ring c.requires.keeps.member c.history.ensures.legal o.worker fixed net o.standing)
-          (subst (λ (b : Bool). KeepsOn s.controller.fixed ring.net s.worker.node s.controller.history ring.history b) c.requires.here
+          (stands-before s.worker s.controller ring c.requires.keeps.member c.requires.keeps.legal
+          c.requires.stands)
+          (stands-behind s.worker w s.controller v ring new_ring c.requires.keeps.member
+          c.history.ensures.legal o.worker fixed net o.standing)
+          (subst (λ (b : Bool). KeepsOn s.controller.fixed ring.net s.worker.node
+          s.controller.history ring.history b) c.requires.here
           c.requires.keeps.keeps);
       collected = ap (λ f. has_started_at f v.history) fixed
-          ∙ turn-collects c.calls_follow.ensures s.controller.fixed true ring.net s.worker.node s.worker.budget s.controller.history v.history
+          ∙ turn-collects c.calls_follow.ensures s.controller.fixed true ring.net s.worker.node
+          s.worker.budget s.controller.history v.history
           ring.history new_ring.history c.in_ok-left.left held;
     }

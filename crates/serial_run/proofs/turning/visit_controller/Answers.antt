@@ -19,7 +19,9 @@ returns c =
         stands = c.requires.stands;
       };
       left = refl;
-      visit = subst (λ (b : Bool). VisitedWhere b s s ring ring) (sym (sym c.is_visit_due.ensures ∙ c.if-is_visit_due.false)) (refl, refl);
+      visit = subst (λ (b : Bool). VisitedWhere b s s ring ring)
+          (sym (sym c.is_visit_due.ensures ∙ c.if-is_visit_due.false)) (refl, refl);
       keeps = c.requires.keeps.keeps;
-      collected = none-due s.left (has_started s.controller) (sym c.is_visit_due.ensures ∙ c.if-is_visit_due.false);
+      collected = none-due s.left (has_started s.controller)
+          (sym c.is_visit_due.ensures ∙ c.if-is_visit_due.false);
     }

@@ -3,7 +3,7 @@ use mir.Val.{bool_byte}
 use Rattle.plant_types.specs.declared.reference.Ref.{Ref}
 use Rattle.plant_types.specs.Store.{is_on}
 use Rattle.controller_core.specs.Controller.{store_of}
-use Rattle.summary_text.proofs.Counting.{coil_step}
+use Rattle.summary_text.proofs.CoilSteps.{coil_step}
 use Rattle.summary_text.proofs.coils.coils_on.Goals as goal
 
 byte_is : (on : Bool) → bool_byte on ≡ cond on 1 0

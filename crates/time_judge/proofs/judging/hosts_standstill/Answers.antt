@@ -9,5 +9,8 @@ use Rattle.time_judge.proofs.judging.hosts_standstill.Goals as goal
 pub returns-in-Some : goal.returns-in-Some
 returns-in-Some c =
     let here = rw c.in-Some.is at c.in_ok-at.ensures in
-    first-here host_log c.args.ring.now c.args.logs.now c.loop-host.host-index c.host-item.result c.in-Some.at (omega arith) c.host-item.is c.loop-host.invariant
-    (subst (λ (l : List HostEntry). StandsStill c.args.ring.now (record { node = c.host-item.result.node; entries = map ByHost l }) c.in-Some.at) c.as_slice-entries.ensures here)
+    first-here host_log c.args.ring.now c.args.logs.now c.loop-host.host-index c.host-item.result
+    c.in-Some.at (omega arith) c.host-item.is c.loop-host.invariant
+    (subst (λ (l : List HostEntry). StandsStill c.args.ring.now
+    (record { node = c.host-item.result.node; entries = map ByHost l }) c.in-Some.at)
+    c.as_slice-entries.ensures here)

@@ -7,10 +7,13 @@ use Rattle.joint_history.specs.Reading.{called_of, items_of}
 use Rattle.joint_history.proofs.Collected.{CallLaws, collected-new}
 use Rattle.comm_port.proofs.controller_side.ControllerRamSide.collect.Goals as goal
 
-fresh : {E : Type 0} (v : ControllerIs) (r : Result (List Call) E) → CallLaws → IsLegal v.fixed v.history → IfOk r (λ calls. calls ≡ uncollected v)
-    → IfOk r (λ calls. AreNewCalls v.fixed.plan.node (items_of v.history).calls (items_of v.history).ends (map called_of calls))
+fresh : {E : Type 0} (v : ControllerIs) (r : Result (List Call) E) → CallLaws
+    → IsLegal v.fixed v.history → IfOk r (λ calls. calls ≡ uncollected v)
+    → IfOk r (λ calls. AreNewCalls v.fixed.plan.node (items_of v.history).calls
+    (items_of v.history).ends (map called_of calls))
 fresh v (Ok calls) laws legal is =
-    subst (λ (l : List Call). AreNewCalls v.fixed.plan.node (items_of v.history).calls (items_of v.history).ends (map called_of l))
+    subst (λ (l : List Call). AreNewCalls v.fixed.plan.node (items_of v.history).calls
+    (items_of v.history).ends (map called_of l))
     (sym is) (collected-new laws v.fixed v.history legal)
 fresh v (Err why) laws legal is = tt
 

@@ -1,6 +1,5 @@
-use Rattle.std.proofs.Common.{◌≡◌, rules, length, ◌++◌, ◌∷◌, [], List, refl, ap, ◌∙◌, arith}
+use Rattle.std.proofs.Common.{◌≡◌, ◌+◌, rules, length, ◌++◌, ◌∷◌, [], List, refl, ap, ◌∙◌, arith}
 use Rattle.std.proofs.lemmas.Grind.{common_steps}
-use Rattle.scan_order.specs.Due.{due_after}
 use Rattle.controller_core.specs.declared.fixed.Fixed.{Fixed}
 use Rattle.controller_core.specs.declared.entry.Entry.TheVariants as entries
 use Rattle.controller_core.specs.declared.call.Call.{Call}
@@ -16,7 +15,6 @@ pub invariant_of-self-2 : goal.invariant_of-self-2
 invariant_of-self-2 c =
     let i = c.self.inside in
     let kept = c.self.invariant.kept in
-    let fits = fits_room i.machine.fixed.plan i.at kept.place in
     let bank = bank_is i.machine.fixed i.machine i.history.items i.at i.reserved c.args.self.now c.self.view_is kept in
     let calls = calls_of i.machine.bank in
     let tells = c.collect.ensures in
@@ -24,12 +22,15 @@ invariant_of-self-2 c =
     let h : c.note.new.history.items ≡ i.history.items ++ entries.Collect calls ∷ [] =
     c.note.ensures.items ∙ ap (λ (l : List Call). c.try_reserve.new.self.items ++ entries.Collect l ∷ []) copy
     ∙ ap (λ l. l ++ entries.Collect calls ∷ []) c.try_reserve.ensures.items in
+    let n = c.collect.new.self in
+    let new = kept_with i.machine.fixed i.machine n i.history.items c.note.new.history.items i.at
+    (entries.Collect calls) (collect_told calls) kept tells (ap has_untaken bank ∙ c.requires, refl) h in
     record {
-      kept = kept_with i.machine.fixed i.machine c.collect.new.self i.history.items c.note.new.history.items i.at
-          (entries.Collect calls) (collect_told calls) kept tells (ap has_untaken bank ∙ c.requires, refl) h;
+      kept = new;
       room = λ is.
           let most = c.in_ok-try_reserve.ensures.ok in
-          let plan = ap (λ (f : Fixed). length (due_after f.plan i.at)) tells.fixed in
+          let fits = fits_room n.fixed.plan (n.ended + 1) i.at new.place in
+          let plan = ap (λ (f : Fixed). length f.plan.orders) tells.fixed in
           grind (arith, common_steps, fits, plan, most);
       noted = noted_told i.machine.fixed c.collect.new.self.fixed i.history.items c.note.new.history.items (entries.Collect calls) i.reserved i.values.items _
           (collect_told calls) tells.fixed h c.self.invariant.noted;

@@ -1,6 +1,15 @@
-use Rattle.std.proofs.Common.{sym}
-use Rattle.controller_core.proofs.Keeping.{due_is}
+use Rattle.std.proofs.Common.{sym, arith}
+use Rattle.controller_core.proofs.Keeping.{due_is, timely_enough}
 use Rattle.controller_core.proofs.controller.Controller.due.Goals as goal
+
+-- scans are few enough to be numbered
+pub overflow_add-scan : goal.overflow_add-scan
+overflow_add-scan c =
+    let i = c.self.inside in
+    let runs = c.self.invariant.kept.sound.runs in
+    let timely = timely_enough i.machine.fixed i.machine i.history.items i.at c.self.invariant.kept runs.scans runs.plan.count in
+    let few = timely.ended in
+    omega arith
 
 pub returns-clause-due : goal.returns-clause-due
 returns-clause-due c =

@@ -1,6 +1,5 @@
-use Rattle.std.proofs.Common.{◌≡◌, rules, length, ◌++◌, ◌∷◌, [], ap, ◌∙◌, arith}
+use Rattle.std.proofs.Common.{◌≡◌, ◌+◌, rules, length, ◌++◌, ◌∷◌, [], ap, ◌∙◌, arith}
 use Rattle.std.proofs.lemmas.Grind.{common_steps}
-use Rattle.scan_order.specs.Due.{due_after}
 use Rattle.controller_core.specs.declared.fixed.Fixed.{Fixed}
 use Rattle.controller_core.specs.declared.entry.Entry.TheVariants as entries
 use Rattle.mstr_block.specs.Table.{BlockTable, is_out}
@@ -19,17 +18,19 @@ pub invariant_of-self-2 : goal.invariant_of-self-2
 invariant_of-self-2 c =
     let i = c.self.inside in
     let kept = c.self.invariant.kept in
-    let fits = fits_room i.machine.fixed.plan i.at kept.place in
     let bank = bank_is i.machine.fixed i.machine i.history.items i.at i.reserved c.args.self.now c.self.view_is kept in
     let e = entries.Finish c.args.id c.args.outcome in
     let tells = c.finish.ensures in
     let h : c.note.new.history.items ≡ i.history.items ++ e ∷ [] = search rules in
+    let n = c.finish.new.self in
+    let new = kept_with i.machine.fixed i.machine n i.history.items c.note.new.history.items i.at e
+    (finish_told c.args.id c.args.outcome) kept tells (ap (λ (t : BlockTable). is_out t c.args.id) bank ∙ c.requires) h in
     record {
-      kept = kept_with i.machine.fixed i.machine c.finish.new.self i.history.items c.note.new.history.items i.at e
-          (finish_told c.args.id c.args.outcome) kept tells (ap (λ (t : BlockTable). is_out t c.args.id) bank ∙ c.requires) h;
+      kept = new;
       room = λ is.
           let most = c.in_ok-try_reserve.ensures.ok in
-          let plan = ap (λ (f : Fixed). length (due_after f.plan i.at)) tells.fixed in
+          let fits = fits_room n.fixed.plan (n.ended + 1) i.at new.place in
+          let plan = ap (λ (f : Fixed). length f.plan.orders) tells.fixed in
           grind (arith, common_steps, fits, plan, most);
       noted = noted_told i.machine.fixed c.finish.new.self.fixed i.history.items c.note.new.history.items e i.reserved i.values.items _
           (finish_told c.args.id c.args.outcome) tells.fixed h c.self.invariant.noted;

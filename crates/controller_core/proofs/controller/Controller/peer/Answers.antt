@@ -1,6 +1,5 @@
-use Rattle.std.proofs.Common.{◌≡◌, rules, length, ◌++◌, ◌∷◌, [], ap, ◌∙◌, arith}
+use Rattle.std.proofs.Common.{◌≡◌, ◌+◌, rules, length, ◌++◌, ◌∷◌, [], ap, ◌∙◌, arith}
 use Rattle.std.proofs.lemmas.Grind.{common_steps}
-use Rattle.scan_order.specs.Due.{due_after}
 use Rattle.controller_core.specs.declared.fixed.Fixed.{Fixed}
 use Rattle.controller_core.specs.declared.entry.Entry.TheVariants as entries
 use Rattle.plant_types.specs.Store.{Contents}
@@ -14,19 +13,21 @@ pub invariant_of-self-2 : goal.invariant_of-self-2
 invariant_of-self-2 c =
     let i = c.self.inside in
     let kept = c.self.invariant.kept in
-    let fits = fits_room i.machine.fixed.plan i.at kept.place in
     let id = c.args.id in
     let request = c.args.request.now in
     let reply = c.in_ok-reply.copy in
     let serves = c.in_ok-reply.ensures.serves id reply in
     let same = c.in_ok-reply.ensures.same ∙ c.in_ok-reply.ensures.reply in
     let h : c.note.new.history.items ≡ i.history.items ++ entries.Peer id request reply ∷ [] = search rules in
+    let n = c.serve.new.self in
+    let new = kept_with i.machine.fixed i.machine n i.history.items c.note.new.history.items i.at
+    (entries.Peer id request reply) (peer_told id request reply) kept serves same h in
     record {
-      kept = kept_with i.machine.fixed i.machine c.serve.new.self i.history.items c.note.new.history.items i.at
-          (entries.Peer id request reply) (peer_told id request reply) kept serves same h;
+      kept = new;
       room = λ is.
           let most = c.in_ok-try_reserve.ensures.ok in
-          let plan = ap (λ (f : Fixed). length (due_after f.plan i.at)) serves.fixed in
+          let fits = fits_room n.fixed.plan (n.ended + 1) i.at new.place in
+          let plan = ap (λ (f : Fixed). length f.plan.orders) serves.fixed in
           grind (arith, common_steps, fits, plan, most);
       noted = noted_told i.machine.fixed c.serve.new.self.fixed i.history.items c.note.new.history.items (entries.Peer id request reply) i.reserved i.values.items _
           (peer_told id request reply) serves.fixed h c.self.invariant.noted;

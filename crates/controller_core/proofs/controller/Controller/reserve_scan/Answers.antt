@@ -1,4 +1,4 @@
-use Rattle.std.proofs.Common.{refl, sym, subst, ◌∙◌, append-nil, arith}
+use Rattle.std.proofs.Common.{◌+◌, refl, sym, subst, ◌∙◌, append-nil, arith}
 use Rattle.std.proofs.lemmas.Grind.{common_steps}
 use Rattle.controller_core.specs.Controller.{ControllerIs, IsLegal}
 use Rattle.controller_core.proofs.Keeping.{legal_of}
@@ -9,7 +9,7 @@ use Rattle.controller_core.proofs.controller.Controller.reserve_scan.Goals as go
 pub invariant_of-self-2 : goal.invariant_of-self-2
 invariant_of-self-2 c =
     let i = c.self.inside in
-    let fits = fits_room i.machine.fixed.plan i.at c.self.invariant.kept.place in
+    let fits = fits_room i.machine.fixed.plan (i.machine.ended + 1) i.at c.self.invariant.kept.place in
     record {
       kept = kept_same i.machine _ _ i.at c.try_reserve.ensures.items c.self.invariant.kept;
       room = λ is. grind (arith, common_steps, fits);

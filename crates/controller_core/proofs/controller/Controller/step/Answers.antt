@@ -1,4 +1,4 @@
-use Rattle.std.proofs.Common.{◌≡◌, rules, true, ◌&&◌, ◌++◌, ◌∷◌, [], length, sym, ap, ◌∙◌, arith}
+use Rattle.std.proofs.Common.{◌≡◌, ◌+◌, rules, true, ◌&&◌, ◌++◌, ◌∷◌, [], length, sym, ap, ◌∙◌, arith}
 use Rattle.std.specs.Prelude.{not}
 use Rattle.std.proofs.lemmas.Grind.{common_steps}
 use Rattle.scan_order.specs.declared.due.ScanPlace.{ScanPlace}
@@ -7,10 +7,11 @@ use Rattle.controller_core.specs.declared.fixed.Fixed.{Fixed}
 use Rattle.controller_core.specs.declared.entry.Entry.{Entry}
 use Rattle.controller_core.specs.Event.{entry_of}
 use Rattle.controller_core.specs.Machine.{state_is}
-use Rattle.controller_core.specs.Scans.{closes_scan}
+use Rattle.controller_core.specs.Replay.{State}
+use Rattle.controller_core.specs.Scans.{closes_scan, ended_after}
 use Rattle.controller_core.specs.Controller.{ControllerIs}
-use Rattle.controller_core.proofs.Keeping.{can_solve, kept_made, not_done, room_step, step_made}
-use Rattle.controller_core.proofs.Keeping.{step_none, timely_enough, went_on_step}
+use Rattle.controller_core.proofs.Keeping.{can_solve, ended_made, kept_made, not_done, room_step}
+use Rattle.controller_core.proofs.Keeping.{step_made, step_none, timely_enough, went_on_step}
 use Rattle.controller_core.proofs.NoteLemmas.{noted_step}
 use Rattle.controller_core.proofs.controller.Controller.step.Goals as goal
 
@@ -19,6 +20,15 @@ next_due-step-requires-clause-place c = c.self.invariant.kept.place
 
 pub next_due-step-requires-clause-rows : goal.next_due-step-requires-clause-rows
 next_due-step-requires-clause-rows c = c.self.invariant.kept.sound.runs.plan.count
+
+-- scans are few enough to be numbered
+pub overflow_add-scan : goal.overflow_add-scan
+overflow_add-scan c =
+    let i = c.self.inside in
+    let runs = c.self.invariant.kept.sound.runs in
+    let timely = timely_enough i.machine.fixed i.machine i.history.items i.at c.self.invariant.kept runs.scans runs.plan.count in
+    let few = timely.ended in
+    omega arith
 
 pub perform-entry-requires-clause-timely : goal.perform-entry-requires-clause-timely
 perform-entry-requires-clause-timely c =
@@ -115,12 +125,18 @@ invariant_of-self c =
           c.keeps_room-reserved.result i.values.items c.note_panel.new.values.items _ _ does.fixed h new.state c.keeps_room-reserved.ensures
           c.note_panel.ensures.values c.note_panel.ensures.capacity c.self.invariant.noted;
       room = λ is.
-          let two = room_step i.reserved i.machine.fixed.plan i.at step n.stop (sym c.keeps_room-reserved.ensures ∙ is) next in
+          let two = room_step i.reserved i.machine.fixed i.machine i.at step n.stop
+          (sym c.keeps_room-reserved.ensures ∙ is) next in
           let before = c.self.invariant.room two.0 in
           let less = two.1 in
-          let place = ap (λ (p : ScanPlace). length (due_after i.machine.fixed.plan p)) c.place_after-at.ensures in
-          let plan = ap (λ (f : Fixed). length (due_after f.plan c.place_after-at.result)) does.fixed in
-          grind (arith, common_steps, before, less, place, plan);
+          let ended = ap (λ (t : State). t.ended) does.state
+          ∙ ended_made i.machine.fixed (state_is i.machine) step in
+          let to = c.place_after-at.result in
+          let plan = ap (λ (f : Fixed). length (due_after f.plan (n.ended + 1) to)) does.fixed in
+          let scan = ap (λ x. length (due_after i.machine.fixed.plan (x + 1) to)) ended in
+          let place = ap (λ (p : ScanPlace). length (due_after i.machine.fixed.plan
+          (ended_after step i.machine.ended + 1) p)) c.place_after-at.ensures in
+          grind (arith, common_steps, before, less, plan, scan, place);
     }
 
 pub returns-clause-grows : goal.returns-clause-grows

@@ -11,8 +11,11 @@ use Rattle.live_run.proofs.gated_ram.GatedRamRamSide.has_started.Goals as goal
 pub returns-clause-went : goal.returns-clause-went
 returns-clause-went g c =
     let found = c.get_mut-controller.ensures.value ∙ ap controller_in c.value.ensures.value in
-    stay-went maker_number is_ours 2 none-ours c.self.inside.pass _ _ _ _ _ _
-    c.self.invariant.number_is c.enter-held.ensures.found
-    (ap (λ (s : GatedRamIs). s.seen) c.self.view_is)
-    (ap (λ (v : ControllerIs). v.history) found) c.has_started-answer.ensures.went
-    (ap (λ (p : PassFacts Entry). p.seen) c.leave.ensures.pass)
+    record {
+      list = stay-went maker_number is_ours 2 none-ours c.self.inside.pass _ _ _ _ _ _
+          c.self.invariant.number_is c.enter-held.ensures.found
+          (ap (λ (s : GatedRamIs). s.seen) c.self.view_is)
+          (ap (λ (v : ControllerIs). v.history) found) c.has_started-answer.ensures.went.list
+          (ap (λ (p : PassFacts Entry). p.seen) c.leave.ensures.pass);
+      kept = tt;
+    }

@@ -15,14 +15,17 @@ leave-requires-clause-added g c =
     stay-adds maker_number is_ours c.enter-held.new.pass 2 _ _ _ _
     (ap (λ (p : PassFacts Entry). p.number) c.enter-held.ensures.pass ∙ c.self.invariant.number_is)
     (ap (λ (p : PassFacts Entry). p.seen) c.enter-held.ensures.pass)
-    (ap (λ (v : ControllerIs). v.history) found) c.peer-answer.ensures.went
+    (ap (λ (v : ControllerIs). v.history) found) c.peer-answer.ensures.went.list
     (all_if maker_number 2 c.peer-answer.result (λ reply. Peer c.args.id c.args.request.now reply) (λ _. refl))
 
 pub returns-clause-went : goal.returns-clause-went
 returns-clause-went g c =
     let found = c.get_mut-controller.ensures.value ∙ ap controller_in c.value.ensures.value in
-    stay-went maker_number is_ours 2 none-ours c.self.inside.pass _ _ _ _ _ _
-    c.self.invariant.number_is c.enter-held.ensures.found
-    (ap (λ (s : GatedRamIs). s.seen) c.self.view_is)
-    (ap (λ (v : ControllerIs). v.history) found) c.peer-answer.ensures.went
-    (ap (λ (p : PassFacts Entry). p.seen) c.leave.ensures.pass)
+    record {
+      list = stay-went maker_number is_ours 2 none-ours c.self.inside.pass _ _ _ _ _ _
+          c.self.invariant.number_is c.enter-held.ensures.found
+          (ap (λ (s : GatedRamIs). s.seen) c.self.view_is)
+          (ap (λ (v : ControllerIs). v.history) found) c.peer-answer.ensures.went.list
+          (ap (λ (p : PassFacts Entry). p.seen) c.leave.ensures.pass);
+      kept = tt;
+    }

@@ -12,11 +12,14 @@ use Rattle.live_run.proofs.gated_ring.GatedRingRingSide.holder.Goals as goal
 pub returns-clause-went : goal.returns-clause-went
 returns-clause-went g c node serves =
     let found = c.get_mut-ring.ensures.value ∙ ap ring_in c.value.ensures.value in
-    stay-went maker (is_of node) node (none-own node) c.self.inside.pass _ _ _ _ _ _
-    (ap (λ (s : GatedRingIs). s.number) c.self.view_is ∙ serves) c.enter-held.ensures.found
-    (ap (λ (s : GatedRingIs). s.seen) c.self.view_is)
-    (ap (λ (v : RingLog). v.history) found) (c.holder-answer.ensures.went node tt)
-    (ap (λ (p : PassFacts RingEntry). p.seen) c.leave.ensures.pass)
+    record {
+      list = stay-went maker (is_of node) node (none-own node) c.self.inside.pass _ _ _ _ _ _
+          (ap (λ (s : GatedRingIs). s.number) c.self.view_is ∙ serves) c.enter-held.ensures.found
+          (ap (λ (s : GatedRingIs). s.seen) c.self.view_is)
+          (ap (λ (v : RingLog). v.history) found) (c.holder-answer.ensures.went node tt).list
+          (ap (λ (p : PassFacts RingEntry). p.seen) c.leave.ensures.pass);
+      kept = tt;
+    }
 
 pub leave-requires-clause-added : goal.leave-requires-clause-added
 leave-requires-clause-added g c =
@@ -25,4 +28,4 @@ leave-requires-clause-added g c =
     stay-adds maker (is_of n) c.enter-held.new.pass n _ _ [] _
     (ap (λ (p : PassFacts RingEntry). p.number) c.enter-held.ensures.pass)
     (ap (λ (p : PassFacts RingEntry). p.seen) c.enter-held.ensures.pass)
-    (ap (λ (v : RingLog). v.history) found) (c.holder-answer.ensures.went n tt) (all_none maker n)
+    (ap (λ (v : RingLog). v.history) found) (c.holder-answer.ensures.went n tt).list (all_none maker n)

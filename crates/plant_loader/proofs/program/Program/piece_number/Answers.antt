@@ -1,6 +1,6 @@
 use Rattle.std.proofs.Common.{length, ap, arith}
 use Rattle.plant_loader.specs.Program.{ReadProgram}
-use Rattle.plant_loader.proofs.KeptLemmas.{IsKept-few}
+use Rattle.plant_loader.proofs.KeptLemmas.{KeepsProgram-few}
 use Rattle.plant_loader.proofs.program.Program.piece_number.Goals as goal
 
 pub overflow_cast-result : goal.overflow_cast-result
@@ -16,7 +16,7 @@ overflow_cast-result c =
       arith,
       ap length c.as_slice.ensures,
       ap length c.as_slice-2.ensures,
-      IsKept-few c.self.inside.driven.keys
+      KeepsProgram-few c.self.inside.driven.keys
           c.self.inside.messages read c.self.invariant,
     )
 
@@ -33,6 +33,6 @@ overflow_add-result c =
       arith,
       ap length c.as_slice.ensures,
       ap length c.as_slice-2.ensures,
-      IsKept-few c.self.inside.driven.keys
+      KeepsProgram-few c.self.inside.driven.keys
           c.self.inside.messages read c.self.invariant,
     )

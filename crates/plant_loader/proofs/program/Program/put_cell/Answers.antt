@@ -2,7 +2,7 @@ use Rattle.std.proofs.Common.{◌≡◌, Ok, subst, sym}
 use Rattle.plant_types.specs.FirstFault.{first_failed}
 use Rattle.plant_types.specs.PlanTests.{site_cell_tests}
 use Rattle.plant_loader.specs.Program.{ReadProgram, site_of}
-use Rattle.plant_loader.proofs.KeptLemmas.{IsKept-cell}
+use Rattle.plant_loader.proofs.KeptLemmas.{KeepsProgram-cell}
 use Rattle.plant_loader.proofs.program.Program.put_cell.Goals as goal
 
 pub invariant_of-result : goal.invariant_of-result
@@ -17,7 +17,7 @@ invariant_of-result c =
     let passes = subst (λ (r : ReadProgram). first_failed (site_cell_tests (site_of c.args.sizes r) r.cells c.args.cell) ≡ Ok tt)
     (sym c.self.view_is) c.requires in
     rw c.in_ok-push.ensures.ok
-    (IsKept-cell c.self.inside.driven.keys c.in_ok-driven.driven.keys c.self.inside.messages c.messages_with-messages.result
+    (KeepsProgram-cell c.self.inside.driven.keys c.in_ok-driven.driven.keys c.self.inside.messages c.messages_with-messages.result
     c.args.sizes read c.args.cell c.driven_by.result
     passes c.driven_by.ensures c.messages_with-messages.ensures c.self.invariant c.in_ok-driven.ensures)
 

@@ -1,7 +1,7 @@
 use Rattle.std.proofs.Common.{◌≡◌, Ok, subst, sym}
 use Rattle.plant_types.specs.FirstFault.{first_failed, short_tests}
 use Rattle.plant_loader.specs.Program.{ReadProgram}
-use Rattle.plant_loader.proofs.KeptLemmas.{IsKept-short}
+use Rattle.plant_loader.proofs.KeptLemmas.{KeepsProgram-short}
 use Rattle.plant_loader.proofs.program.Program.put_short.Goals as goal
 
 pub invariant_of-result : goal.invariant_of-result
@@ -14,4 +14,4 @@ invariant_of-result c =
       shorts = c.self.inside.shorts;
     } in
     let passes = subst (λ (r : ReadProgram). first_failed (short_tests r.shorts c.args.short) ≡ Ok tt) (sym c.self.view_is) c.requires in
-    rw c.in_ok-push.ensures.ok (IsKept-short c.self.inside.driven.keys c.self.inside.messages read c.args.short passes c.self.invariant)
+    rw c.in_ok-push.ensures.ok (KeepsProgram-short c.self.inside.driven.keys c.self.inside.messages read c.args.short passes c.self.invariant)

@@ -1,6 +1,6 @@
 use Rattle.std.proofs.Common.{◌<◌, length, subst, sym}
 use Rattle.plant_loader.specs.Program.{ReadProgram}
-use Rattle.plant_loader.proofs.KeptLemmas.{IsKept-network}
+use Rattle.plant_loader.proofs.KeptLemmas.{KeepsProgram-network}
 use Rattle.plant_loader.proofs.program.Program.with_network.Goals as goal
 
 pub invariant_of-result : goal.invariant_of-result
@@ -13,4 +13,4 @@ invariant_of-result c =
       shorts = c.self.inside.shorts;
     } in
     let few = subst (λ (r : ReadProgram). length r.networks < 1000) (sym c.self.view_is) c.requires in
-    rw (c.new.ensures, c.new-2.ensures, c.in_ok-push.ensures.ok) (IsKept-network c.self.inside.driven.keys c.self.inside.messages read few c.self.invariant)
+    rw (c.new.ensures, c.new-2.ensures, c.in_ok-push.ensures.ok) (KeepsProgram-network c.self.inside.driven.keys c.self.inside.messages read few c.self.invariant)

@@ -1,6 +1,6 @@
 use Rattle.std.proofs.Common.{◌<◌, length, subst, sym}
 use Rattle.plant_loader.specs.Program.{ReadProgram}
-use Rattle.plant_loader.proofs.KeptLemmas.{IsKept-segment}
+use Rattle.plant_loader.proofs.KeptLemmas.{KeepsProgram-segment}
 use Rattle.plant_loader.proofs.program.Program.with_segment.Goals as goal
 
 pub invariant_of-result : goal.invariant_of-result
@@ -13,4 +13,4 @@ invariant_of-result c =
       shorts = c.self.inside.shorts;
     } in
     let few = subst (λ (r : ReadProgram). length r.segments < 32) (sym c.self.view_is) c.requires in
-    rw (c.new.ensures, c.in_ok-push.ensures.ok) (IsKept-segment c.self.inside.driven.keys c.self.inside.messages read few c.self.invariant)
+    rw (c.new.ensures, c.in_ok-push.ensures.ok) (KeepsProgram-segment c.self.inside.driven.keys c.self.inside.messages read few c.self.invariant)

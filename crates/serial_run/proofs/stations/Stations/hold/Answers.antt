@@ -17,14 +17,16 @@ pub hold_controller-requires-clause-stands : goal.hold_controller-requires-claus
 hold_controller-requires-clause-stands c =
     let run = c.args.self.now in
     let s = c.index_mut.result.now in
-    let found = found-station run c.holder-holder.result c.in-Some.at s (sym c.controller_at.ensures ∙ c.in-Some.is) c.index_mut.ensures.value in
+    let found = found-station run c.holder-holder.result c.in-Some.at s
+    (sym c.controller_at.ensures ∙ c.in-Some.is) c.index_mut.ensures.value in
     stands-beside c.requires.plant c.requires.scans run c.in-Some.at s c.requires.all found.0
 
 pub hold_controller-requires-clause-token : goal.hold_controller-requires-clause-token
 hold_controller-requires-clause-token c =
     let run = c.args.self.now in
     let s = c.index_mut.result.now in
-    let found = found-station run c.holder-holder.result c.in-Some.at s (sym c.controller_at.ensures ∙ c.in-Some.is) c.index_mut.ensures.value in
+    let found = found-station run c.holder-holder.result c.in-Some.at s
+    (sym c.controller_at.ensures ∙ c.in-Some.is) c.index_mut.ensures.value in
     has-token c.requires.plant c.requires.scans run c.in-Some.at s c.requires.all found.0
     (subst (λ (n : ℕ). (s.node == n) ≡ true) c.holder-holder.ensures found.1)
 
@@ -32,14 +34,16 @@ pub hold_controller-requires-clause-keeps : goal.hold_controller-requires-clause
 hold_controller-requires-clause-keeps c =
     let run = c.args.self.now in
     let s = c.index_mut.result.now in
-    let found = found-station run c.holder-holder.result c.in-Some.at s (sym c.controller_at.ensures ∙ c.in-Some.is) c.index_mut.ensures.value in
+    let found = found-station run c.holder-holder.result c.in-Some.at s
+    (sym c.controller_at.ensures ∙ c.in-Some.is) c.index_mut.ensures.value in
     keeps-beside c.requires.plant c.requires.scans run c.in-Some.at s c.requires.all found.0
 
 pub hold_controller-requires-clause-here : goal.hold_controller-requires-clause-here
 hold_controller-requires-clause-here c =
     let run = c.args.self.now in
     let s = c.index_mut.result.now in
-    let found = found-station run c.holder-holder.result c.in-Some.at s (sym c.controller_at.ensures ∙ c.in-Some.is) c.index_mut.ensures.value in
+    let found = found-station run c.holder-holder.result c.in-Some.at s
+    (sym c.controller_at.ensures ∙ c.in-Some.is) c.index_mut.ensures.value in
     is-here c.requires.plant c.requires.scans run c.in-Some.at s c.requires.all found.0
     (has-token c.requires.plant c.requires.scans run c.in-Some.at s c.requires.all found.0
     (subst (λ (n : ℕ). (s.node == n) ≡ true) c.holder-holder.ensures found.1))
@@ -48,18 +52,22 @@ pub hold_host-requires-clause-keeps : goal.hold_host-requires-clause-keeps
 hold_host-requires-clause-keeps c =
     let run = c.args.self.now in
     let s = c.index_mut-in-Some-host_at.result.now in
-    let found = found-host run c.holder-holder.result c.in-Some-host_at.at s (sym c.host_at.ensures ∙ c.in-Some-host_at.is)
+    let found = found-host run c.holder-holder.result c.in-Some-host_at.at s
+    (sym c.host_at.ensures ∙ c.in-Some-host_at.is)
     c.index_mut-in-Some-host_at.ensures.value in
-    host-keeps-beside c.requires.plant c.requires.scans run c.in-Some-host_at.at s c.requires.all found.0
+    host-keeps-beside c.requires.plant c.requires.scans run c.in-Some-host_at.at s c.requires.all
+    found.0
 
 pub hold_host-requires-clause-here : goal.hold_host-requires-clause-here
 hold_host-requires-clause-here c =
     let run = c.args.self.now in
     let s = c.index_mut-in-Some-host_at.result.now in
-    let found = found-host run c.holder-holder.result c.in-Some-host_at.at s (sym c.host_at.ensures ∙ c.in-Some-host_at.is)
+    let found = found-host run c.holder-holder.result c.in-Some-host_at.at s
+    (sym c.host_at.ensures ∙ c.in-Some-host_at.is)
     c.index_mut-in-Some-host_at.ensures.value in
     host-is-here c.requires.plant c.requires.scans run c.in-Some-host_at.at s c.requires.all found.0
-    (host-has-token c.requires.plant c.requires.scans run c.in-Some-host_at.at s c.requires.all found.0
+    (host-has-token c.requires.plant c.requires.scans run c.in-Some-host_at.at s c.requires.all
+    found.0
     (subst (λ (n : ℕ). (s.node == n) ≡ true) c.holder-holder.ensures found.1))
 
 pub returns-in-Some-clause-collected : goal.returns-in-Some-clause-collected
@@ -68,12 +76,15 @@ returns-in-Some-clause-collected c =
     let at = c.in-Some.at in
     let s = c.index_mut.result.now in
     let t = c.hold_controller.new.station in
-    let found = found-station run c.holder-holder.result at s (sym c.controller_at.ensures ∙ c.in-Some.is) c.index_mut.ensures.value in
-    on-ok c.hold_controller.result (λ held. collected-with run.controllers.items at s t found.0 (λ was left. held.collected)) c.hold_controller.ensures
+    let found = found-station run c.holder-holder.result at s
+    (sym c.controller_at.ensures ∙ c.in-Some.is) c.index_mut.ensures.value in
+    on-ok c.hold_controller.result (λ held. collected-with run.controllers.items at s t found.0
+    (λ was left. held.collected)) c.hold_controller.ensures
 
 pub returns-in-Some-host_at-clause-collected : goal.returns-in-Some-host_at-clause-collected
 returns-in-Some-host_at-clause-collected c =
-    on-ok c.hold_host.result (λ held. collected-same c.args.self.now.controllers.items) c.hold_host.ensures
+    on-ok c.hold_host.result (λ held. collected-same c.args.self.now.controllers.items)
+    c.hold_host.ensures
 
 pub returns-clause-collected : goal.returns-clause-collected
 returns-clause-collected c = collected-same c.args.self.now.controllers.items
@@ -85,9 +96,17 @@ returns-in-Some-clause-held c =
     let s = c.index_mut.result.now in
     let place = sym c.controller_at.ensures ∙ c.in-Some.is in
     let found = found-station run c.holder-holder.result at s place c.index_mut.ensures.value in
-    let holds = subst (λ (n : ℕ). position (λ (x : ControllerStation). x.node == n) run.controllers.items ≡ Some at) c.holder-holder.ensures place in
-    let budget = (at-place c.requires.plant c.requires.scans run at s c.requires.all found.0).stands.budget in
-    on-ok c.hold_controller.result (λ held. hold-did run (record { controllers = with_item run.controllers at c.hold_controller.new.station; hosts = run.hosts; ring = c.hold_controller.new.ring }) at s c.hold_controller.new.station found.0 holds refl refl budget held)
+    let holds = subst (λ (n : ℕ). position (λ (x : ControllerStation). x.node == n)
+    run.controllers.items ≡ Some at) c.holder-holder.ensures place in
+    let budget = (at-place c.requires.plant c.requires.scans run at s c.requires.all
+    found.0).stands.budget in
+    on-ok c.hold_controller.result (λ held. hold-did run
+    (record {
+      controllers = with_item run.controllers at c.hold_controller.new.station;
+      hosts = run.hosts;
+      ring = c.hold_controller.new.ring;
+    }) at s c.hold_controller.new.station
+    found.0 holds refl refl budget held)
     c.hold_controller.ensures
 
 pub returns-in-Some-clause-scans : goal.returns-in-Some-clause-scans
@@ -95,9 +114,17 @@ returns-in-Some-clause-scans c =
     let run = c.args.self.now in
     let at = c.in-Some.at in
     let s = c.index_mut.result.now in
-    let found = found-station run c.holder-holder.result at s (sym c.controller_at.ensures ∙ c.in-Some.is) c.index_mut.ensures.value in
-    let budget = (at-place c.requires.plant c.requires.scans run at s c.requires.all found.0).stands.budget in
-    on-ok c.hold_controller.result (λ held. hold-scans run (record { controllers = with_item run.controllers at c.hold_controller.new.station; hosts = run.hosts; ring = c.hold_controller.new.ring }) at s c.hold_controller.new.station found.0 refl budget held)
+    let found = found-station run c.holder-holder.result at s
+    (sym c.controller_at.ensures ∙ c.in-Some.is) c.index_mut.ensures.value in
+    let budget = (at-place c.requires.plant c.requires.scans run at s c.requires.all
+    found.0).stands.budget in
+    on-ok c.hold_controller.result (λ held. hold-scans run
+    (record {
+      controllers = with_item run.controllers at c.hold_controller.new.station;
+      hosts = run.hosts;
+      ring = c.hold_controller.new.ring;
+    }) at s c.hold_controller.new.station
+    found.0 refl budget held)
     c.hold_controller.ensures
 
 pub returns-in-Some-clause-less : goal.returns-in-Some-clause-less
@@ -105,28 +132,39 @@ returns-in-Some-clause-less c =
     let run = c.args.self.now in
     let at = c.in-Some.at in
     let s = c.index_mut.result.now in
-    let found = found-station run c.holder-holder.result at s (sym c.controller_at.ensures ∙ c.in-Some.is) c.index_mut.ensures.value in
+    let found = found-station run c.holder-holder.result at s
+    (sym c.controller_at.ensures ∙ c.in-Some.is) c.index_mut.ensures.value in
     let token = has-token c.requires.plant c.requires.scans run at s c.requires.all found.0
     (subst (λ (n : ℕ). (s.node == n) ≡ true) c.holder-holder.ensures found.1) in
     on-ok c.hold_controller.result
-    (λ held. hold-lessens c.requires.plant c.requires.scans run (record { controllers = with_item run.controllers at c.hold_controller.new.station; hosts = run.hosts; ring = c.hold_controller.new.ring }) at s c.hold_controller.new.station c.requires.all found.0 refl refl token held)
+    (λ held. hold-lessens c.requires.plant c.requires.scans run
+    (record {
+      controllers = with_item run.controllers at c.hold_controller.new.station;
+      hosts = run.hosts;
+      ring = c.hold_controller.new.ring;
+    }) at s c.hold_controller.new.station
+    c.requires.all found.0 refl refl token held)
     c.hold_controller.ensures
 
 pub hold_host-requires-clause-stands : goal.hold_host-requires-clause-stands
 hold_host-requires-clause-stands c =
     let run = c.args.self.now in
     let s = c.index_mut-in-Some-host_at.result.now in
-    let found = found-host run c.holder-holder.result c.in-Some-host_at.at s (sym c.host_at.ensures ∙ c.in-Some-host_at.is)
+    let found = found-host run c.holder-holder.result c.in-Some-host_at.at s
+    (sym c.host_at.ensures ∙ c.in-Some-host_at.is)
     c.index_mut-in-Some-host_at.ensures.value in
-    host-stands-beside c.requires.plant c.requires.scans run c.in-Some-host_at.at s c.requires.all found.0
+    host-stands-beside c.requires.plant c.requires.scans run c.in-Some-host_at.at s c.requires.all
+    found.0
 
 pub hold_host-requires-clause-token : goal.hold_host-requires-clause-token
 hold_host-requires-clause-token c =
     let run = c.args.self.now in
     let s = c.index_mut-in-Some-host_at.result.now in
-    let found = found-host run c.holder-holder.result c.in-Some-host_at.at s (sym c.host_at.ensures ∙ c.in-Some-host_at.is)
+    let found = found-host run c.holder-holder.result c.in-Some-host_at.at s
+    (sym c.host_at.ensures ∙ c.in-Some-host_at.is)
     c.index_mut-in-Some-host_at.ensures.value in
-    host-has-token c.requires.plant c.requires.scans run c.in-Some-host_at.at s c.requires.all found.0
+    host-has-token c.requires.plant c.requires.scans run c.in-Some-host_at.at s c.requires.all
+    found.0
     (subst (λ (n : ℕ). (s.node == n) ≡ true) c.holder-holder.ensures found.1)
 
 pub returns-in-Some-host_at-clause-held : goal.returns-in-Some-host_at-clause-held
@@ -135,38 +173,65 @@ returns-in-Some-host_at-clause-held c =
     let at = c.in-Some-host_at.at in
     let s = c.index_mut-in-Some-host_at.result.now in
     let place = sym c.host_at.ensures ∙ c.in-Some-host_at.is in
-    let found = found-host run c.holder-holder.result at s place c.index_mut-in-Some-host_at.ensures.value in
-    let none = subst (λ (n : ℕ). position (λ (x : ControllerStation). x.node == n) run.controllers.items ≡ None) c.holder-holder.ensures
+    let found = found-host run c.holder-holder.result at s place
+    c.index_mut-in-Some-host_at.ensures.value in
+    let none = subst (λ (n : ℕ). position (λ (x : ControllerStation). x.node == n)
+    run.controllers.items ≡ None) c.holder-holder.ensures
     (sym c.controller_at.ensures ∙ c.in_default.is) in
-    let holds = subst (λ (n : ℕ). position (λ (x : HostStation). x.node == n) run.hosts.items ≡ Some at) c.holder-holder.ensures place in
-    let budget = (host-at-place c.requires.plant c.requires.scans run at s c.requires.all found.0).stands.budget in
+    let holds = subst (λ (n : ℕ). position (λ (x : HostStation). x.node == n) run.hosts.items ≡ Some
+    at) c.holder-holder.ensures place in
+    let budget = (host-at-place c.requires.plant c.requires.scans run at s c.requires.all
+    found.0).stands.budget in
     on-ok c.hold_host.result
-    (λ held. host-hold-did run (record { controllers = run.controllers; hosts = with_item run.hosts at c.hold_host.new.station; ring = c.hold_host.new.ring }) at s c.hold_host.new.station found.0 refl refl budget held none holds)
+    (λ held. host-hold-did run (record {
+      controllers = run.controllers;
+      hosts = with_item run.hosts at c.hold_host.new.station;
+      ring = c.hold_host.new.ring;
+    }) at s c.hold_host.new.station found.0 refl refl budget held
+    none holds)
     c.hold_host.ensures
 
 pub returns-in-Some-host_at-clause-scans : goal.returns-in-Some-host_at-clause-scans
-returns-in-Some-host_at-clause-scans c = on-ok c.hold_host.result (λ held. scans-same c.args.self.now (record { controllers = c.args.self.now.controllers; hosts = with_item c.args.self.now.hosts c.in-Some-host_at.at c.hold_host.new.station; ring = c.hold_host.new.ring }) refl) c.hold_host.ensures
+returns-in-Some-host_at-clause-scans c = on-ok c.hold_host.result
+    (λ held. scans-same c.args.self.now
+    (record {
+      controllers = c.args.self.now.controllers;
+      hosts = with_item c.args.self.now.hosts
+          c.in-Some-host_at.at c.hold_host.new.station;
+      ring = c.hold_host.new.ring;
+    }) refl)
+    c.hold_host.ensures
 
 pub returns-in-Some-host_at-clause-less : goal.returns-in-Some-host_at-clause-less
 returns-in-Some-host_at-clause-less c =
     let run = c.args.self.now in
     let at = c.in-Some-host_at.at in
     let s = c.index_mut-in-Some-host_at.result.now in
-    let found = found-host run c.holder-holder.result at s (sym c.host_at.ensures ∙ c.in-Some-host_at.is)
+    let found = found-host run c.holder-holder.result at s
+    (sym c.host_at.ensures ∙ c.in-Some-host_at.is)
     c.index_mut-in-Some-host_at.ensures.value in
     let token = host-has-token c.requires.plant c.requires.scans run at s c.requires.all found.0
     (subst (λ (n : ℕ). (s.node == n) ≡ true) c.holder-holder.ensures found.1) in
     on-ok c.hold_host.result
-    (λ held. host-hold-lessens c.requires.plant c.requires.scans run (record { controllers = run.controllers; hosts = with_item run.hosts at c.hold_host.new.station; ring = c.hold_host.new.ring }) at s c.hold_host.new.station c.requires.all found.0 refl refl token held)
+    (λ held. host-hold-lessens c.requires.plant c.requires.scans run
+    (record {
+      controllers = run.controllers;
+      hosts = with_item run.hosts at
+          c.hold_host.new.station;
+      ring = c.hold_host.new.ring;
+    }) at s c.hold_host.new.station
+    c.requires.all found.0 refl refl token held)
     c.hold_host.ensures
 
 pub returns-clause-held : goal.returns-clause-held
 returns-clause-held c =
     let run = c.args.self.now in
     no-hold-did run
-    (subst (λ (n : ℕ). position (λ (x : ControllerStation). x.node == n) run.controllers.items ≡ None) c.holder-holder.ensures
+    (subst (λ (n : ℕ). position (λ (x : ControllerStation). x.node == n) run.controllers.items ≡
+    None) c.holder-holder.ensures
     (sym c.controller_at.ensures ∙ c.in_default.is))
-    (subst (λ (n : ℕ). position (λ (x : HostStation). x.node == n) run.hosts.items ≡ None) c.holder-holder.ensures
+    (subst (λ (n : ℕ). position (λ (x : HostStation). x.node == n) run.hosts.items ≡ None)
+    c.holder-holder.ensures
     (sym c.host_at.ensures ∙ c.in_default-host_at.is))
 
 pub returns-clause-scans : goal.returns-clause-scans
@@ -176,7 +241,9 @@ pub returns-clause-less : goal.returns-clause-less
 returns-clause-less c =
     let run = c.args.self.now in
     lessens-none c.requires.plant c.requires.scans run c.requires.all
-    (subst (λ (n : ℕ). position (λ (x : ControllerStation). x.node == n) run.controllers.items ≡ None) c.holder-holder.ensures
+    (subst (λ (n : ℕ). position (λ (x : ControllerStation). x.node == n) run.controllers.items ≡
+    None) c.holder-holder.ensures
     (sym c.controller_at.ensures ∙ c.in_default.is))
-    (subst (λ (n : ℕ). position (λ (x : HostStation). x.node == n) run.hosts.items ≡ None) c.holder-holder.ensures
+    (subst (λ (n : ℕ). position (λ (x : HostStation). x.node == n) run.hosts.items ≡ None)
+    c.holder-holder.ensures
     (sym c.host_at.ensures ∙ c.in_default-host_at.is))

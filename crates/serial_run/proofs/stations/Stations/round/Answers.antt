@@ -8,19 +8,26 @@ loop-init c = no-holds c.args.self.now
 pub hold-requires : goal.hold-requires
 hold-requires c =
     let r = c.requires in
-    record { plant = r.plant; scans = r.scans; all = c.loop.invariant.did.stand r.plant r.scans r.all }
+    record {
+      plant = r.plant;
+      scans = r.scans;
+      all = c.loop.invariant.did.stand r.plant r.scans
+          r.all;
+    }
 
 pub loop-preserved : goal.loop-preserved
 loop-preserved c =
     let o = c.in_ok-hold.ensures in
-    one-more-hold c.loop.counter c.args.self.now c.loop.self c.hold.new.self c.loop.invariant o.held o.scans o.less o.collected
+    one-more-hold c.loop.counter c.args.self.now c.loop.self c.hold.new.self c.loop.invariant o.held
+    o.scans o.less o.collected
 
 pub returns-clause-round : goal.returns-clause-round
 returns-clause-round c =
     let low = c.loop-test.false in
     let high = c.loop.auto.counter-end in
     let is : c.loop.counter ≡ c.here-end.result = omega (arith, low, high) in
-    holds-round c.args.self.now c.loop.self c.loop.counter (is ∙ c.here-end.ensures) c.loop.invariant
+    holds-round c.args.self.now c.loop.self c.loop.counter (is ∙ c.here-end.ensures)
+    c.loop.invariant
 
 pub returns-clause-collected : goal.returns-clause-collected
 returns-clause-collected c = c.loop.invariant.collected
@@ -33,4 +40,5 @@ returns-clause-less c =
     let low = c.loop-test.false in
     let high = c.loop.auto.counter-end in
     let is : c.loop.counter ≡ c.here-end.result = omega (arith, low, high) in
-    holds-lessen c.args.self.now c.loop.self c.loop.counter (is ∙ c.here-end.ensures) c.loop.invariant
+    holds-lessen c.args.self.now c.loop.self c.loop.counter (is ∙ c.here-end.ensures)
+    c.loop.invariant

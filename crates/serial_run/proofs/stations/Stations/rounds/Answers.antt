@@ -16,15 +16,23 @@ loop-init c = record {
 pub round-requires : goal.round-requires
 round-requires c =
     let r = c.requires in
-    record { plant = r.plant; scans = r.scans; all = c.loop.invariant.did.stand r.plant r.scans r.all }
+    record {
+      plant = r.plant;
+      scans = r.scans;
+      all = c.loop.invariant.did.stand r.plant r.scans
+          r.all;
+    }
 
 pub loop-preserved : goal.loop-preserved
 loop-preserved c =
     let o = c.in_ok-round.ensures in
     record {
-      did = one-more-round c.loop.counter c.args.self.now c.loop.self c.round.new.self c.loop.invariant.did o.round;
-      scans = scans-both c.args.self.now c.loop.self c.round.new.self c.loop.invariant.scans o.scans;
-      collected = collected-both c.args.self.now c.loop.self c.round.new.self c.loop.invariant.collected o.collected;
+      did = one-more-round c.loop.counter c.args.self.now c.loop.self c.round.new.self
+          c.loop.invariant.did o.round;
+      scans = scans-both c.args.self.now c.loop.self c.round.new.self c.loop.invariant.scans
+          o.scans;
+      collected = collected-both c.args.self.now c.loop.self c.round.new.self
+          c.loop.invariant.collected o.collected;
     }
 
 pub returns-clause-rounds : goal.returns-clause-rounds
@@ -32,7 +40,8 @@ returns-clause-rounds c =
     let low = c.loop-test.false in
     let high = c.loop.auto.counter-end in
     let is : c.loop.counter ≡ c.args.count = omega (arith, low, high) in
-    subst (λ n. Did (λ plant scans. MakesRounds plant scans n) c.args.self.now c.loop.self) is c.loop.invariant.did
+    subst (λ n. Did (λ plant scans. MakesRounds plant scans n) c.args.self.now c.loop.self) is
+    c.loop.invariant.did
 
 pub returns-clause-collected : goal.returns-clause-collected
 returns-clause-collected c = c.loop.invariant.collected

@@ -7,7 +7,12 @@ use Rattle.serial_run.specs.Scans.{IsBetweenScans}
 use Rattle.serial_run.proofs.stations.Stations.scan_all.Goals as goal
 
 pub loop-at-init : goal.loop-at-init
-loop-at-init c = record { hosts = refl; ring = refl; some = none-scanned c.args.self.now.controllers.items }
+loop-at-init c = record {
+  hosts = refl;
+  ring = refl;
+  some = none-scanned
+      c.args.self.now.controllers.items;
+}
 
 pub scan-requires : goal.scan-requires
 scan-requires c =
@@ -18,8 +23,10 @@ scan-requires c =
     let end = c.len-at-end.ensures in
     let size = c.args.self.now.controllers.ok.0 in
     let low : at < length first = omega (arith, less, end, size) in
-    let there = c.index_mut.ensures.value ∙ still-first first c.loop-at.self.controllers.items at s c.loop-at.invariant.some low in
-    subst (λ (x : ControllerStation). IsBetweenScans x.controller) (sym there) (c.requires.between at s low)
+    let there = c.index_mut.ensures.value ∙ still-first first c.loop-at.self.controllers.items at s
+    c.loop-at.invariant.some low in
+    subst (λ (x : ControllerStation). IsBetweenScans x.controller) (sym there)
+    (c.requires.between at s low)
 
 pub loop-at-preserved : goal.loop-at-preserved
 loop-at-preserved c =
@@ -34,8 +41,10 @@ loop-at-preserved c =
     record {
       hosts = c.loop-at.invariant.hosts;
       ring = c.loop-at.invariant.ring;
-      some = one-more-scanned first c.loop-at.self.controllers.items at s t c.loop-at.invariant.some (omega (arith, less, end, size))
-          c.index_mut.ensures.value (record { same = refl; made = o.made; between = o.between; less = o.less });
+      some = one-more-scanned first c.loop-at.self.controllers.items at s t c.loop-at.invariant.some
+          (omega (arith, less, end, size))
+          c.index_mut.ensures.value (record
+          { same = refl; made = o.made; between = o.between; less = o.less });
     }
 
 pub returns-clause-scans : goal.returns-clause-scans
@@ -46,7 +55,8 @@ returns-clause-scans c =
     let size = c.args.self.now.controllers.ok.0 in
     let i = c.loop-at.invariant in
     scan-all-did c.args.self.now c.loop-at.self (ap (λ v. v.items) i.hosts) i.ring
-    (everyone-scanned c.args.self.now.controllers.items c.loop-at.self.controllers.items c.loop-at.at (omega (arith, low, high, end, size)) i.some)
+    (everyone-scanned c.args.self.now.controllers.items c.loop-at.self.controllers.items
+    c.loop-at.at (omega (arith, low, high, end, size)) i.some)
 
 pub returns-clause-between : goal.returns-clause-between
 returns-clause-between c =
@@ -55,7 +65,8 @@ returns-clause-between c =
     let end = c.len-at-end.ensures in
     let size = c.args.self.now.controllers.ok.0 in
     scan-all-between c.args.self.now c.loop-at.self
-    (everyone-scanned c.args.self.now.controllers.items c.loop-at.self.controllers.items c.loop-at.at (omega (arith, low, high, end, size))
+    (everyone-scanned c.args.self.now.controllers.items c.loop-at.self.controllers.items
+    c.loop-at.at (omega (arith, low, high, end, size))
     c.loop-at.invariant.some)
 
 pub returns-clause-less : goal.returns-clause-less
@@ -65,5 +76,6 @@ returns-clause-less c =
     let end = c.len-at-end.ensures in
     let size = c.args.self.now.controllers.ok.0 in
     scan-all-less c.args.self.now c.loop-at.self
-    (everyone-scanned c.args.self.now.controllers.items c.loop-at.self.controllers.items c.loop-at.at (omega (arith, low, high, end, size))
+    (everyone-scanned c.args.self.now.controllers.items c.loop-at.self.controllers.items
+    c.loop-at.at (omega (arith, low, high, end, size))
     c.loop-at.invariant.some)

@@ -15,8 +15,14 @@ returns-in-Some c =
     let place = sym c.controller_at.ensures ∙ c.in-Some.is in
     let found = found-station run c.args.node at s place c.index_mut.ensures.value in
     let t : ControllerStation = record s { controller = w } in
-    let new : Stations = record { controllers = with_item run.controllers at t; hosts = run.hosts; ring = run.ring } in
-    on-ok c.make_step.result (λ made. step-did run new c.args.node at s w found.0 place refl refl refl made) c.make_step.ensures
+    let new : Stations = record {
+      controllers = with_item run.controllers at t;
+      hosts = run.hosts;
+      ring = run.ring;
+    } in
+    on-ok c.make_step.result (λ made. step-did run new c.args.node at s w found.0 place refl refl
+    refl made) c.make_step.ensures
 
 pub returns-in-None : goal.returns-in-None
-returns-in-None c = no-step-did c.args.self.now c.args.node (sym c.controller_at.ensures ∙ c.in-None.is)
+returns-in-None c = no-step-did c.args.self.now c.args.node
+    (sym c.controller_at.ensures ∙ c.in-None.is)

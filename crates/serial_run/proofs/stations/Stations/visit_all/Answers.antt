@@ -9,7 +9,12 @@ loop-at-init c = no-visits c.args.self.now
 pub visit-requires : goal.visit-requires
 visit-requires c =
     let r = c.requires in
-    record { plant = r.plant; scans = r.scans; all = c.loop-at.invariant.did.stand r.plant r.scans r.all }
+    record {
+      plant = r.plant;
+      scans = r.scans;
+      all = c.loop-at.invariant.did.stand r.plant r.scans
+          r.all;
+    }
 
 pub loop-at-preserved : goal.loop-at-preserved
 loop-at-preserved c =
@@ -19,7 +24,8 @@ loop-at-preserved c =
     let end = c.len-at-end.ensures in
     let size = c.args.self.now.controllers.ok.0 in
     let long = visits-long c.loop-at.at c.args.self.now c.loop-at.self some in
-    one-more-visit c.loop-at.at c.args.self.now c.loop-at.self c.visit.new.self c.index.result.now some (omega (arith, low, end, size, long))
+    one-more-visit c.loop-at.at c.args.self.now c.loop-at.self c.visit.new.self c.index.result.now
+    some (omega (arith, low, end, size, long))
     c.index.ensures o.visited o.scans o.collected
 
 pub returns-clause-visits : goal.returns-clause-visits
@@ -28,7 +34,8 @@ returns-clause-visits c =
     let high = c.loop-at.auto.at-end in
     let end = c.len-at-end.ensures in
     let size = c.args.self.now.controllers.ok.0 in
-    all-visits c.loop-at.at c.args.self.now c.loop-at.self (omega (arith, low, high, end, size)) c.loop-at.invariant
+    all-visits c.loop-at.at c.args.self.now c.loop-at.self (omega (arith, low, high, end, size))
+    c.loop-at.invariant
 
 pub returns-clause-collected : goal.returns-clause-collected
 returns-clause-collected c =
@@ -37,7 +44,8 @@ returns-clause-collected c =
     let end = c.len-at-end.ensures in
     let size = c.args.self.now.controllers.ok.0 in
     let long = visits-long c.loop-at.at c.args.self.now c.loop-at.self c.loop-at.invariant in
-    everyone-collected c.loop-at.at c.loop-at.self.controllers.items (omega (arith, low, high, end, size, long)) c.loop-at.invariant.collected
+    everyone-collected c.loop-at.at c.loop-at.self.controllers.items
+    (omega (arith, low, high, end, size, long)) c.loop-at.invariant.collected
 
 pub returns-clause-scans : goal.returns-clause-scans
 returns-clause-scans c = c.loop-at.invariant.scans

@@ -1,0 +1,43 @@
+use Rattle.std.proofs.Common.{◌≡◌, ◌+◌, ◌*◌, ◌++◌, ◌∙◌, ℕ, List, ap, append-nil, arith, drop, length}
+use Rattle.std.proofs.Common.{map, sym, string_bytes}
+use Rattle.std.proofs.lemmas.List.{length-map}
+use Rattle.controller_core.specs.NotedLines.{ended_line}
+use Rattle.panel_text.specs.declared.lines.Reading.{Reading}
+use Rattle.panel_text.proofs.LineLemmas.{line_ended, line_stopped, no_line, on_ok}
+use Rattle.panel_text.proofs.lines.push_line.Goals as goal
+
+pub returns-then-scan-ended : goal.returns-then-scan-ended
+returns-then-scan-ended c =
+    let plan = c.args.plan.now in
+    let notes = c.args.notes.now in
+    let readings = c.args.readings.now in
+    let scan = c.args.scan in
+    let old = string_bytes c.args.text.now in
+    let width : length readings ≡ length plan.panel =
+    sym (length-map readings (λ (r : Reading). r.at)) ∙ ap length c.requires in
+    let values : c.values_from-values.result.now ≡ drop (scan * length plan.panel) notes.values =
+    c.values_from-values.ensures
+    ∙ ap (λ (all : List ℕ). drop (scan * length readings) all) c.as_slice.ensures
+    ∙ ap (λ n. drop (scan * n) notes.values) width in
+    on_ok c.push_ended.result
+    (λ added. added ∙ ap (λ line. old ++ line)
+    (ap (ended_line plan (scan + 1)) values ∙ sym (line_ended plan notes scan (omega arith))))
+    c.push_ended.ensures
+
+pub returns-then-scan-lines : goal.returns-then-scan-lines
+returns-then-scan-lines c =
+    let plan = c.args.plan.now in
+    let notes = c.args.notes.now in
+    let scan = c.args.scan in
+    let old = string_bytes c.args.text.now in
+    let here = line_stopped plan notes scan (omega arith)
+    (omega (arith, c.lines_noted-lines.ensures)) in
+    on_ok c.push_stopped.result (λ added. added ∙ ap (λ line. old ++ line) (sym here))
+    c.push_stopped.ensures
+
+pub returns : goal.returns
+returns c =
+    let old = string_bytes c.args.text.now in
+    let none = no_line c.args.plan.now c.args.notes.now c.args.scan
+    (omega (arith, c.lines_noted-lines.ensures)) in
+    sym (append-nil old) ∙ ap (λ line. old ++ line) (sym none)

@@ -1,0 +1,32 @@
+-- The keys of each table of a plant file. This project's own.
+use Rattle.std.specs.Prelude.{codes, List, [], ◌∷◌, Result}
+use Rattle.toml.specs.Data.{Members}
+use Rattle.plant_types.specs.declared.fault.Place.{Place}
+use Rattle.plant_loader.specs.declared.tables.Version.TheVariants.{One}
+use Rattle.plant_loader.specs.declared.tables.TableKind.{TableKind}
+use Rattle.plant_loader.specs.declared.tables.TableKind.TheVariants as kinds
+use Rattle.plant_loader.specs.Refusals.{Refusal}
+use Rattle.plant_loader.specs.Keys.{KeyTable, keys_from, keys_pass}
+
+-- The keys that a table can have, and those that it must have, by its kind: one row for each.
+abbrev pub keys_of : TableKind → KeyTable
+keys_of (kinds.Plant One) =
+    keys_from (codes "version" ∷ codes "scan_time" ∷ codes "watchdog" ∷ codes "net"
+    ∷ codes "controller" ∷ codes "host" ∷ [])
+    (codes "version" ∷ codes "controller" ∷ [])
+keys_of kinds.Net =
+    keys_from (codes "fates" ∷ codes "answer" ∷ codes "rotations" ∷ codes "rounds" ∷ codes "holds"
+    ∷ []) []
+keys_of kinds.Controller =
+    keys_from (codes "node" ∷ codes "coils" ∷ codes "inputs" ∷ codes "input_registers"
+    ∷ codes "registers" ∷ codes "panel" ∷ codes "drop" ∷ codes "segment" ∷ codes "orders" ∷ [])
+    (codes "node" ∷ [])
+keys_of kinds.Drop =
+    keys_from (codes "number" ∷ codes "modules" ∷ codes "script" ∷ [])
+    (codes "number" ∷ codes "modules" ∷ [])
+keys_of kinds.Segment = keys_from (codes "networks" ∷ []) (codes "networks" ∷ [])
+keys_of kinds.Host = keys_from (codes "node" ∷ codes "requests" ∷ []) (codes "node" ∷ [])
+
+-- A table at a place has no key but those of its kind, and each that it must have.
+abbrev pub table_passes : Place → TableKind → Members → Result (Unit {0}) Refusal
+table_passes place kind ms = keys_pass place (keys_of kind) ms

@@ -1,0 +1,49 @@
+use Rattle.std.proofs.Common.{◌∙◌, refl, subst}
+use Rattle.serial_run.specs.Serial.{Repeats}
+use Rattle.serial_run.specs.Stations.{joint_of}
+use Rattle.serial_run.proofs.Collected.{nobody-left, stay-collected}
+use Rattle.serial_run.proofs.Finished.{all-finished-there, all-hosts-finished, ended-kept}
+use Rattle.serial_run.proofs.runs.over.Goals as goal
+
+pub repeat-requires-clause-stand : goal.repeat-requires-clause-stand
+repeat-requires-clause-stand c =
+    record { plant = c.args.plant.now; scans = c.args.scans; all = c.in_ok-run.ensures.stand }
+
+pub repeat-requires-clause-between : goal.repeat-requires-clause-between
+repeat-requires-clause-between c = c.in_ok-run.ensures.between
+
+pub repeat-requires-clause-collected : goal.repeat-requires-clause-collected
+repeat-requires-clause-collected c = nobody-left c.in_ok-run.run' c.in_ok-run.ensures.here
+
+pub finish-requires : goal.finish-requires
+finish-requires c = record {
+  plant = c.args.plant.now;
+  scans = c.args.scans;
+  all = c.in_ok-repeat.ensures.did.stand c.args.plant.now c.args.scans c.in_ok-run.ensures.stand;
+}
+
+pub returns : goal.returns
+returns c =
+    let plant = c.args.plant.now in
+    let scans = c.args.scans in
+    let start = c.in_ok-run.ensures in
+    let repeated = c.in_ok-repeat.ensures in
+    let finished = c.in_ok-finish.ensures in
+    let last = c.finish.new.self in
+    let repeats = joint_of c.repeat.new.self in
+    let stands = repeated.did.stand plant scans start.stand in
+    let stand = finished.did.stand plant scans stands in
+    let ended = ended-kept c.repeat.new.self last finished.scans ∙ repeated.ended in
+    let collected = stay-collected c.repeat.new.self last finished.collected repeated.collected in
+    record {
+      stand = stand;
+      serial = record {
+        ended_joint = repeats;
+        repeats = subst (λ first. Repeats plant scans first repeats) start.nothing
+            (repeated.did.made plant scans start.stand refl);
+        finishes = finished.did.made plant scans stands;
+      };
+      complete = c.runs_complete.ensures plant scans (joint_of last)
+          (all-finished-there plant scans last stand finished.left ended collected)
+          (all-hosts-finished plant scans last stand finished.left);
+    }

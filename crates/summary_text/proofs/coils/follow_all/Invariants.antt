@@ -1,8 +1,0 @@
-use Rattle.std.proofs.Common.{◌≡◌, take}
-use Rattle.summary_text.proofs.coils.follow_all.Given as goal
-
-abbrev pub invariant-loop-entry : goal.invariant-loop-entry
-invariant-loop-entry l = record {
-  same : l.controller.fixed ≡ l.fn.controller.fixed;
-  history : l.controller.history ≡ take l.entry-index l.entries;
-}
