@@ -1,4 +1,5 @@
-"""Calls the launcher beside this folder. PLANT984_PROGRAM names another program in its place, as tests do."""
+"""Calls the launcher beside this folder, which sets PLANT984_UNPROVED where the program is to be one without proof.
+PLANT984_PROGRAM names another program in its place, as tests do."""
 import os
 import signal
 import subprocess
@@ -10,6 +11,9 @@ import journal as journals
 TOP = os.path.dirname(os.path.dirname(os.path.abspath(__file__)))
 LAUNCHER = os.path.join(TOP, "plant984")
 PANEL = 64
+UNPROVED = "PLANT984_UNPROVED" in os.environ
+# A run without proof builds the program, so such runs come one after another.
+AT_ONCE = 1 if UNPROVED else os.cpu_count()
 
 
 # A reader that has gone, or control-C, ends a script without a word, as it ends other programs.
@@ -17,6 +21,27 @@ signal.signal(signal.SIGPIPE, signal.SIG_DFL)
 signal.signal(signal.SIGINT, signal.SIG_DFL)
 sys.stdout.reconfigure(encoding="utf-8", errors="replace")
 WRITE_FAULT = 4
+# The runs that were begun and have not ended.
+running = set()
+
+
+def end(number, _):
+    """Ends as a signal ends a script, behind what it began."""
+    for child in list(running):
+        child.send_signal(number)
+    for child in list(running):
+        try:
+            os.waitid(os.P_PID, child.pid, os.WEXITED | os.WNOWAIT)
+        except ChildProcessError:
+            pass
+    signal.signal(number, signal.SIG_DFL)
+    os.kill(os.getpid(), number)
+
+
+for ending in (signal.SIGTERM, signal.SIGHUP):
+    # One that is ignored, as behind nohup, stays so.
+    if signal.getsignal(ending) is not signal.SIG_IGN:
+        signal.signal(ending, end)
 
 
 class ProgramEnd(Exception):
@@ -33,17 +58,28 @@ def say(text):
 
 def call(words, data=b"", file=None):
     """What the program writes for these words and this input, which is that of a file where it comes from one."""
-    command = [os.environ.get("PLANT984_PROGRAM", LAUNCHER), *words]
+    command = [os.environ.get("PLANT984_PROGRAM", LAUNCHER), *(["--unproved"] if UNPROVED else []), *words]
     if file is not None and os.path.isfile(file):
         # So the launcher can show the lines of a refused plant.
         with open(file, "rb") as source:
-            done = subprocess.run(command, stdin=source, stdout=subprocess.PIPE, check=False)
+            status, out = ended(command, source)
     else:
-        done = subprocess.run(command, input=data, stdout=subprocess.PIPE, check=False)
-    text = done.stdout.decode(errors="replace")
-    if done.returncode != 0:
-        raise ProgramEnd(done.returncode, text)
+        status, out = ended(command, subprocess.PIPE, data)
+    text = out.decode(errors="replace")
+    if status != 0:
+        raise ProgramEnd(status, text)
     return text
+
+
+def ended(command, source, data=None):
+    """The status of a run and what it wrote."""
+    with subprocess.Popen(command, stdin=source, stdout=subprocess.PIPE) as child:
+        running.add(child)
+        try:
+            out, _ = child.communicate(data)
+        finally:
+            running.discard(child)
+    return child.returncode, out
 
 
 def merge(panel, other):
@@ -66,7 +102,7 @@ def add_values(plant, scans, panel, others, journal_text=None):
     def run(copy):
         return journals.read_panel(call(words, (copy + (journal_text or "")).encode()))
 
-    with ThreadPoolExecutor(os.cpu_count()) as pool:
+    with ThreadPoolExecutor(AT_ONCE) as pool:
         for other in pool.map(run, copies):
             merge(panel, other)
 

@@ -152,7 +152,7 @@ fn solve_bit(
     }
 }
 
-fn solve_matrix(
+fn solve_logic(
     rt: &impl Abort,
     row: &Row<'_>,
     mid: Ref,
@@ -168,12 +168,30 @@ fn solve_matrix(
         "AND" => and(top, mid, length, inputs, ram),
         "OR" => or(top, mid, length, inputs, ram),
         "XOR" => xor(top, mid, length, inputs, ram),
-        "COMP" => comp(top, mid, length, inputs, ram),
+        _ => comp(top, mid, length, inputs, ram),
+    }
+}
+
+fn solve_matrix(
+    rt: &impl Abort,
+    row: &Row<'_>,
+    mid: Ref,
+    length: u16,
+    inputs: u8,
+    ram: &mut MapRam,
+) -> u8 {
+    let top = reference(row.numbers[0]);
+    assert!(rt; length >= 1 && length <= 100);
+    assert!(rt; has_run(ram, top, length));
+    match row.block {
         "CMPR" => {
             assert!(rt; has_run(ram, mid, length + 1));
             cmpr(top, mid, length, inputs, ram)
         }
-        _ => brot(top, mid, length, inputs, ram),
+        _ => {
+            assert!(rt; has_run(ram, mid, length));
+            brot(top, mid, length, inputs, ram)
+        }
     }
 }
 
@@ -183,7 +201,8 @@ fn solve(rt: &impl Abort, row: &Row<'_>, ram: &mut MapRam) -> u8 {
     let inputs = bits(row.numbers[3]);
     match row.block {
         "MBIT" | "SENS" => solve_bit(rt, row, mid, length, inputs, ram),
-        _ => solve_matrix(rt, row, mid, length, inputs, ram),
+        "CMPR" | "BROT" => solve_matrix(rt, row, mid, length, inputs, ram),
+        _ => solve_logic(rt, row, mid, length, inputs, ram),
     }
 }
 

@@ -1,6 +1,6 @@
 //! Blocks that move the numbers of registers and search them: the operands, the length, the inputs.
 use crate::rows::{Row, bits, has_run, reference, row_of, small, store, tells};
-use plant_types::MapRam;
+use plant_types::{MapRam, Ref};
 use std::alloc::Global;
 use std::process::Abort;
 use std::test::Fail;
@@ -99,14 +99,34 @@ FOUT 40001 40300 255 1 : @1 255 @256 9 => 1 : @1 254 @300 9
 SRCH 40001 40300 255 1 : @255 9 @301 9 => 3 : @300 255 @301 9
 ";
 
-fn solve(rt: &impl Abort, row: &Row<'_>, ram: &mut MapRam) -> u8 {
+/// What stands in the nodes of a block, and the power of its inputs.
+#[derive(Clone, Copy)]
+struct Nodes {
+    top: Ref,
+    mid: Ref,
+    length: u16,
+    inputs: u8,
+}
+
+fn nodes_of(row: &Row<'_>) -> Nodes {
     let [top, mid, length, inputs, _] = row.numbers;
-    let top = reference(top);
-    let mid = reference(mid);
-    let length = small(length);
-    let inputs = bits(inputs);
+    Nodes {
+        top: reference(top),
+        mid: reference(mid),
+        length: small(length),
+        inputs: bits(inputs),
+    }
+}
+
+fn solve_move(rt: &impl Abort, block: &str, nodes: Nodes, ram: &mut MapRam) -> u8 {
+    let Nodes {
+        top,
+        mid,
+        length,
+        inputs,
+    } = nodes;
     assert!(rt; length >= 1 && length <= 255);
-    match row.block {
+    match block {
         "R>T" => {
             assert!(rt; has_run(ram, top, 1) && has_run(ram, mid, length + 1));
             reg_to_table(top, mid, length, inputs, ram)
@@ -119,10 +139,22 @@ fn solve(rt: &impl Abort, row: &Row<'_>, ram: &mut MapRam) -> u8 {
             assert!(rt; has_run(ram, top, length) && has_run(ram, mid, length + 1));
             table_to_table(top, mid, length, inputs, ram)
         }
-        "BLKM" => {
+        _ => {
             assert!(rt; has_run(ram, top, length) && has_run(ram, mid, length));
             block_move(top, mid, length, inputs, ram)
         }
+    }
+}
+
+fn solve_queue(rt: &impl Abort, block: &str, nodes: Nodes, ram: &mut MapRam) -> u8 {
+    let Nodes {
+        top,
+        mid,
+        length,
+        inputs,
+    } = nodes;
+    assert!(rt; length >= 1 && length <= 255);
+    match block {
         "FIN" => {
             assert!(rt; has_run(ram, top, 1) && has_run(ram, mid, length + 1));
             first_in(top, mid, length, inputs, ram)
@@ -135,6 +167,13 @@ fn solve(rt: &impl Abort, row: &Row<'_>, ram: &mut MapRam) -> u8 {
             assert!(rt; has_run(ram, top, length) && has_run(ram, mid, 2));
             search(top, mid, length, inputs, ram)
         }
+    }
+}
+
+fn solve(rt: &impl Abort, row: &Row<'_>, ram: &mut MapRam) -> u8 {
+    match row.block {
+        "FIN" | "FOUT" | "SRCH" => solve_queue(rt, row.block, nodes_of(row), ram),
+        _ => solve_move(rt, row.block, nodes_of(row), ram),
     }
 }
 

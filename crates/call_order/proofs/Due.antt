@@ -3,7 +3,7 @@ use Rattle.std.proofs.Common.{◌≡◌, ℕ, ◌+◌, List, [], ◌∷◌, ◌+
 use Rattle.std.proofs.Common.{◌∙◌, arith}
 use Rattle.mstr_block.specs.declared.call.CallId.{CallId}
 use Rattle.tied_lists.specs.Items.{Answered, Item, Taken, Plain, ForStats, item_of, plain_items}
-use Rattle.tied_lists.specs.Items.{stats_items, due_replies, replies_in, first_of, rest_of}
+use Rattle.tied_lists.specs.Items.{stats_items, due_replies, replies_in, first_reply, rest_of}
 use Rattle.effect_laws.proofs.Sources.{name_of}
 
 -- the answer at a place is to this call, with these bytes
@@ -137,16 +137,16 @@ pub due-name : (first : List Taken) (t : Taken) (later : List Taken) (peers loca
 due-name [] t later peers locals (x ∷ before) after id pdu q n = absurd (omega (arith, n))
 due-name (u ∷ first) t later peers locals [] after id pdu q n = absurd (omega (arith, n))
 due-name [] (Plain i request) later peers locals [] after id pdu q n =
-    ap (λ (x : Item). x.0) (sym (head-of {X = Item} (id, Some pdu) (i, first_of peers) after _
+    ap (λ (x : Item). x.0) (sym (head-of {X = Item} (id, Some pdu) (i, first_reply peers) after _
     q).0)
 due-name [] (ForStats i request) later peers locals [] after id pdu q n =
-    ap (λ (x : Item). x.0) (sym (head-of {X = Item} (id, Some pdu) (i, first_of locals) after _
+    ap (λ (x : Item). x.0) (sym (head-of {X = Item} (id, Some pdu) (i, first_reply locals) after _
     q).0)
 due-name (Plain i request ∷ first) t later peers locals (x ∷ before) after id pdu q n =
     due-name first t later (rest_of peers) locals before after id pdu
-    (head-of {X = Item} x (i, first_of peers) (before ++ (id, Some pdu) ∷ after) _ q).1
+    (head-of {X = Item} x (i, first_reply peers) (before ++ (id, Some pdu) ∷ after) _ q).1
     (omega (arith, n))
 due-name (ForStats i request ∷ first) t later peers locals (x ∷ before) after id pdu q n =
     due-name first t later peers (rest_of locals) before after id pdu
-    (head-of {X = Item} x (i, first_of locals) (before ++ (id, Some pdu) ∷ after) _ q).1
+    (head-of {X = Item} x (i, first_reply locals) (before ++ (id, Some pdu) ∷ after) _ q).1
     (omega (arith, n))

@@ -9,7 +9,7 @@ use Rattle.std.proofs.lemmas.List.Elements.{filter_map-append, Contains-push, Co
 use Rattle.std.proofs.lemmas.List.Elements.{Contains-append_right}
 use Rattle.plant_types.specs.declared.net.NetPlan.{NetPlan}
 use Rattle.ring_core.specs.Words.{maker}
-use Rattle.ring_core.specs.Legal.{IsRun, IsLegal}
+use Rattle.ring_core.specs.Legal.{IsRun, IsLegalRing}
 use Rattle.ring_core.specs.declared.frame.Frame.{Frame}
 use Rattle.ring_core.specs.declared.frame.FrameKind.{FrameKind}
 use Rattle.ring_core.specs.declared.frame.FrameKind.TheVariants.{Request, Reply}
@@ -486,7 +486,7 @@ front-history net ring order before after r h p is =
     record {
       members = h.members;
       legal = run-front net [] (on_ring before ++ r ∷ []) (on_ring after)
-          (subst (λ (l : List RingEntry). IsLegal net l) e h.legal);
+          (subst (λ (l : List RingEntry). IsLegalRing net l) e h.legal);
     }
 
 pub not-itself : (before : List RingEntry) (n m : ℕ) (f g : Frame)

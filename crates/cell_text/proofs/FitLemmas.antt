@@ -23,7 +23,8 @@ fits_reference slot (At at) = takes_kind slot at.kind && has_number at
 
 -- an operand is such as a slot takes
 abbrev pub fits : Slot → Operand → Bool
-fits slot operand = (fits_form slot operand && fits_value slot operand) && fits_reference slot operand
+fits slot operand = (fits_form slot operand && fits_value slot operand)
+    && fits_reference slot operand
 
 -- four tests in two orders
 and_shuffle : (a b c d : Bool) → (a && b) && (c && d) ≡ (a && c) && (b && d)
@@ -46,8 +47,10 @@ abbrev is_named : Named → Bool
 is_named named = accepts named.kind named.at.kind && has_number named.at
 
 -- an operand of the form of its slot fits by its reference exactly where what it names is such
-reference_is_named : (length : ℕ) (slot : Slot) (operand : Operand) (others : List Named) → fits_form slot operand ≡ true
-    → fits_reference slot operand && list_all is_named others ≡ list_all is_named (named_at length slot operand ++ others)
+reference_is_named : (length : ℕ) (slot : Slot) (operand : Operand) (others : List Named)
+    → fits_form slot operand ≡ true
+    → fits_reference slot operand && list_all is_named others
+    ≡ list_all is_named (named_at length slot operand ++ others)
 reference_is_named length Discrete (Const n) others h = refl
 reference_is_named length Discrete (At at) others h = refl
 reference_is_named length Driven (Const n) others h = refl
@@ -62,7 +65,8 @@ reference_is_named length (Constant most) (Const n) others h = refl
 reference_is_named length (Constant most) (At at) others h = cc
 
 -- so do operands of the forms of their slots
-references_are_named : (length : ℕ) (slots : List Slot) (operands : List Operand) → pointwise fits_form slots operands ≡ true
+references_are_named : (length : ℕ) (slots : List Slot) (operands : List Operand)
+    → pointwise fits_form slots operands ≡ true
     → pointwise fits_reference slots operands ≡ list_all is_named (named_by length slots operands)
 references_are_named length [] [] h = refl
 references_are_named length [] (operand ∷ operands) h = cc
@@ -73,9 +77,11 @@ references_are_named length (slot ∷ slots) (operand ∷ operands) h =
     ∙ reference_is_named length slot operand (named_by length slots operands) parts.0
 
 -- two tests of each item are one test, and another
-list_all-and : {A : Type 0} (p q : A → Bool) (xs : List A) → list_all (λ x. p x && q x) xs ≡ list_all p xs && list_all q xs
+list_all-and : {A : Type 0} (p q : A → Bool) (xs : List A)
+    → list_all (λ x. p x && q x) xs ≡ list_all p xs && list_all q xs
 list_all-and p q [] = refl
-list_all-and p q (x ∷ xs) = ap (λ b. (p x && q x) && b) (list_all-and p q xs) ∙ and_shuffle (p x) (q x) (list_all p xs) (list_all q xs)
+list_all-and p q (x ∷ xs) = ap (λ b. (p x && q x) && b) (list_all-and p q xs)
+    ∙ and_shuffle (p x) (q x) (list_all p xs) (list_all q xs)
 
 -- three tests are grouped to the left
 and_assoc : (a b c : Bool) → a && (b && c) ≡ (a && b) && c
@@ -87,15 +93,22 @@ under_first : (a b c d : Bool) → (a ≡ true → c ≡ d) → (a && b) && c �
 under_first false b c d h = refl
 under_first true b c d h = ap (λ x. b && x) (h refl)
 
--- the operands of an element fit the slots of its name exactly where the element has them such as it takes
-pub pointwise-fits : (element : Element) → pointwise fits (slots_of (name_of element)) (operands_of element) ≡ has_form element
+-- the operands of an element fit the slots of its name exactly where the element has them such as
+-- it takes
+pub pointwise-fits : (element : Element)
+    → pointwise fits (slots_of (name_of element)) (operands_of element) ≡ has_form element
     && has_values element && has_kinds element && has_numbers element
 pointwise-fits element =
     let slots = slots_of (name_of element) in
     let operands = operands_of element in
-    let references : list_all is_named (names_of element) ≡ has_kinds element && has_numbers element =
-    list_all-and (λ (named : Named). accepts named.kind named.at.kind) (λ (named : Named). has_number named.at) (names_of element) in
-    pointwise-and (λ slot operand. fits_form slot operand && fits_value slot operand) fits_reference slots operands
-    ∙ ap (λ b. b && pointwise fits_reference slots operands) (pointwise-and fits_form fits_value slots operands)
-    ∙ under_first (has_form element) (has_values element) _ _ (λ h. references_are_named (length_of element) slots operands h ∙ references)
+    let references : list_all is_named (names_of element)
+    ≡ has_kinds element && has_numbers element =
+    list_all-and (λ (named : Named). accepts named.kind named.at.kind)
+    (λ (named : Named). has_number named.at) (names_of element) in
+    pointwise-and (λ slot operand. fits_form slot operand && fits_value slot operand) fits_reference
+    slots operands
+    ∙ ap (λ b. b && pointwise fits_reference slots operands)
+    (pointwise-and fits_form fits_value slots operands)
+    ∙ under_first (has_form element) (has_values element) _ _
+    (λ h. references_are_named (length_of element) slots operands h ∙ references)
     ∙ and_assoc (has_form element && has_values element) (has_kinds element) (has_numbers element)

@@ -21,7 +21,8 @@ abbrev pub is_word : List ℕ → Bool
 is_word word = nat_lt 0 (length word) && is_solid word
 
 -- a text is cut behind a word before a blank
-split-solid : (word rest : List ℕ) → is_solid word ≡ true → slice_split is_blank (word ++ 32 ∷ rest) ≡ word ∷ slice_split is_blank rest
+split-solid : (word rest : List ℕ) → is_solid word ≡ true
+    → slice_split is_blank (word ++ 32 ∷ rest) ≡ word ∷ slice_split is_blank rest
 split-solid [] rest h = refl
 split-solid (b ∷ bs) rest h =
     let (here, more) = and_parts (not (is_blank b)) (is_solid bs) h in
@@ -39,7 +40,8 @@ some_length : (n : ℕ) → nat_lt 0 n ≡ true → not (n == 0) ≡ true
 some_length n h = grind (arith, nat_tests)
 
 -- a word before a blank, and a last word
-text_words-word : (word rest : List ℕ) → is_word word ≡ true → text_words (word ++ 32 ∷ rest) ≡ word ∷ text_words rest
+text_words-word : (word rest : List ℕ) → is_word word ≡ true
+    → text_words (word ++ 32 ∷ rest) ≡ word ∷ text_words rest
 unfolding text_words
 text_words-word word rest h =
     let (some, solid) = and_parts (nat_lt 0 (length word)) (is_solid word) h in
@@ -53,21 +55,26 @@ text_words-last word h =
     rw (split-last word solid, some_length (length word) some) refl
 
 -- the words of a text that joins words by single blanks are those words
-pub text_words-join : (words : List (List ℕ)) → list_all is_word words ≡ true → text_words (join_with_byte 32 words) ≡ words
+pub text_words-join : (words : List (List ℕ)) → list_all is_word words ≡ true
+    → text_words (join_with_byte 32 words) ≡ words
 text_words-join [] h = words_of_nil
 text_words-join (word ∷ []) h = text_words-last word (and_parts (is_word word) true h).0
 text_words-join (word ∷ next ∷ words) h =
     let (here, more) = and_parts (is_word word) (list_all is_word (next ∷ words)) h in
-    text_words-word word (join_with_byte 32 (next ∷ words)) here ∙ ap (λ ws. word ∷ ws) (text_words-join (next ∷ words) more)
+    text_words-word word (join_with_byte 32 (next ∷ words)) here
+    ∙ ap (λ ws. word ∷ ws) (text_words-join (next ∷ words) more)
 
 -- a word, and the operands behind it, each behind a blank
-join-operands : (word : List ℕ) (operands : List Operand) → join_with_byte 32 (word ∷ map operand_text operands) ≡ word
+join-operands : (word : List ℕ) (operands : List Operand)
+    → join_with_byte 32 (word ∷ map operand_text operands) ≡ word
     ++ flat_map (λ operand. 32 ∷ operand_text operand) operands
 join-operands word [] = sym (append-nil word)
-join-operands word (operand ∷ operands) = ap (λ rest. word ++ 32 ∷ rest) (join-operands (operand_text operand) operands)
+join-operands word (operand ∷ operands) =
+    ap (λ rest. word ++ 32 ∷ rest) (join-operands (operand_text operand) operands)
 
 -- a position and a name that are written first, and then the operands
 pub written-parts : (place : ℕ × ℕ) (name : List ℕ) (operands : List Operand)
-    → (decimal place.0 ++ (44 ∷ (decimal place.1 ++ (32 ∷ name)))) ++ flat_map (λ operand. 32 ∷ operand_text operand) operands
+    → (decimal place.0 ++ (44 ∷ (decimal place.1 ++ (32 ∷ name))))
+    ++ flat_map (λ operand. 32 ∷ operand_text operand) operands
     ≡ join_with_byte 32 (position_text place ∷ name ∷ map operand_text operands)
 written-parts place name operands = simp (join-operands, append_assoc)

@@ -17,7 +17,7 @@ use Rattle.plant_types.specs.declared.element.Operand.TheVariants.{Const, At}
 use Rattle.plant_types.specs.declared.element.Element.{Element}
 use Rattle.plant_types.specs.Network.{is_row, is_column}
 use Rattle.plant_types.specs.Operands.{fits_form, fits_value, has_form, has_values, has_kinds}
-use Rattle.plant_types.specs.Operands.{is_length}
+use Rattle.plant_types.specs.Limits.{is_up_to}
 use Rattle.plant_types.specs.declared.name.ElementName.{ElementName}
 use Rattle.plant_types.specs.declared.slot.Slot.{Slot}
 use Rattle.plant_types.specs.declared.slot.Slot.TheVariants.{Discrete, Driven, Number, Source}
@@ -54,29 +54,36 @@ some_value : {A : Type 0} (x y : A) → Some x ≡ Some y → x ≡ y
 some_value x y h = cc
 
 -- a reference that was numbered has its number
-reference_numbered-has : (kind : RefKind) (number : ℕ) (at : Ref) → reference_numbered kind number ≡ Some at → has_number at ≡ true
+reference_numbered-has : (kind : RefKind) (number : ℕ) (at : Ref)
+    → reference_numbered kind number ≡ Some at → has_number at ≡ true
 reference_numbered-has kind number at h =
-    let found = some-guard (nat_le 1 number && nat_le number 9984) (Some (record { kind = kind; number = number })) at h in
+    let found = some-guard (nat_le 1 number && nat_le number 9984)
+    (Some (record { kind = kind; number = number })) at h in
     let same : record { kind = kind; number = number } ≡ at = some_value _ _ found.1 in
     rw (← same) found.0
 
 -- so has one that was read
 reference_of-has : (word : List ℕ) (at : Ref) → reference_of word ≡ Some at → has_number at ≡ true
 reference_of-has word at h =
-    let five = some-guard (is_reference_word word) (option_and_then (λ kind. reference_numbered kind (value_of (drop 1 word)))
+    let five = some-guard (is_reference_word word)
+    (option_and_then (λ kind. reference_numbered kind (value_of (drop 1 word)))
     (kind_by_digit (slice_index word 0))) at h in
-    let kind = some-step (λ kind. reference_numbered kind (value_of (drop 1 word))) (kind_by_digit (slice_index word 0)) at five.1 in
+    let kind = some-step (λ kind. reference_numbered kind (value_of (drop 1 word)))
+    (kind_by_digit (slice_index word 0)) at five.1 in
     reference_numbered-has kind.0 (value_of (drop 1 word)) at kind.1.1
 
 -- a position that was read is in the grid
-position_of-has : (word : List ℕ) (place : ℕ × ℕ) → position_of word ≡ Some place → (is_row place.0 ≡ true) × (is_column place.1 ≡ true)
+position_of-has : (word : List ℕ) (place : ℕ × ℕ) → position_of word ≡ Some place
+    → (is_row place.0 ≡ true) × (is_column place.1 ≡ true)
 position_of-has word place h =
     let before = spelled_number (before_first (λ byte. byte == 44) word) in
     let behind = spelled_number (after_first (λ byte. byte == 44) word) in
     let row = some-step (λ (row : ℕ). option_and_then (λ (column : ℕ). if is_row row
     && is_column column then Some (row, column) else None) behind) before place h in
-    let column = some-step (λ (column : ℕ). if is_row row.0 && is_column column then Some (row.0, column) else None) behind place row.1.1 in
-    let within = some-guard (is_row row.0 && is_column column.0) (Some (row.0, column.0)) place column.1.1 in
+    let column = some-step (λ (column : ℕ). if is_row row.0 && is_column column
+    then Some (row.0, column) else None) behind place row.1.1 in
+    let within = some-guard (is_row row.0 && is_column column.0)
+    (Some (row.0, column.0)) place column.1.1 in
     let same : (row.0, column.0) ≡ place = some_value (row.0, column.0) place within.1 in
     rw (← same) (and_parts (is_row row.0) (is_column column.0) within.0)
 
@@ -85,7 +92,8 @@ digit_le : (b : ℕ) → is_digit b ≡ true → b - 48 ≤ 9
 digit_le b h = grind (arith, nat_tests)
 
 -- at most four digits stand for a number below 10,000
-value_of-le : (word : List ℕ) → list_all is_digit word ≡ true → length word ≤ 4 → value_of word ≤ 9999
+value_of-le : (word : List ℕ) → list_all is_digit word ≡ true → length word ≤ 4
+    → value_of word ≤ 9999
 value_of-le [] h few = omega arith
 value_of-le (a ∷ []) h few = let first = digit_le a (and_parts (is_digit a) true h).0 in omega arith
 value_of-le (a ∷ b ∷ []) h few =
@@ -98,7 +106,8 @@ value_of-le (a ∷ b ∷ c ∷ []) h few =
     let (third, h3) = and_parts (is_digit c) true h2 in
     omega (arith, digit_le a first, digit_le b second, digit_le c third)
 value_of-le (a ∷ b ∷ c ∷ d ∷ []) h few =
-    let (first, h1) = and_parts (is_digit a) (is_digit b && (is_digit c && (is_digit d && true))) h in
+    let (first, h1) = and_parts (is_digit a)
+    (is_digit b && (is_digit c && (is_digit d && true))) h in
     let (second, h2) = and_parts (is_digit b) (is_digit c && (is_digit d && true)) h1 in
     let (third, h3) = and_parts (is_digit c) (is_digit d && true) h2 in
     let (fourth, h4) = and_parts (is_digit d) true h3 in
@@ -117,15 +126,19 @@ test_from_le m n h = grind (arith, nat_tests)
 spelled_number-le : (word : List ℕ) (n : ℕ) → spelled_number word ≡ Some n → nat_le n 9999 ≡ true
 spelled_number-le word n h =
     let (number, some) = some-guard (is_spelled_number word) (Some (value_of word)) n h in
-    let (digits, lengths) = and_parts (list_all is_digit word) ((nat_le 1 (length word) && nat_le (length word) 4)
+    let (digits, lengths) = and_parts (list_all is_digit word)
+    ((nat_le 1 (length word) && nat_le (length word) 4)
     && ((length word == 1) || not (slice_index word 0 == 48))) number in
-    let (few, front) = and_parts (nat_le 1 (length word) && nat_le (length word) 4) ((length word == 1) || not (slice_index word 0 == 48)) lengths in
+    let (few, front) = and_parts (nat_le 1 (length word) && nat_le (length word) 4)
+    ((length word == 1) || not (slice_index word 0 == 48)) lengths in
     let (one, four) = and_parts (nat_le 1 (length word)) (nat_le (length word) 4) few in
     let same : value_of word ≡ n = some_value (value_of word) n some in
-    rw (← same) (test_from_le (value_of word) 9999 (value_of-le word digits (le_from_test (length word) 4 four)))
+    rw (← same) (test_from_le (value_of word) 9999
+    (value_of-le word digits (le_from_test (length word) 4 four)))
 
 -- a slot that takes a kind of reference takes the form of one
-form_of_kind : (slot : Slot) (at : Ref) → takes_kind slot at.kind ≡ true → fits_form slot (At at) && fits_value slot (At at) ≡ true
+form_of_kind : (slot : Slot) (at : Ref) → takes_kind slot at.kind ≡ true
+    → fits_form slot (At at) && fits_value slot (At at) ≡ true
 form_of_kind Discrete at h = refl
 form_of_kind Driven at h = refl
 form_of_kind (Number run) at h = refl
@@ -134,7 +147,8 @@ form_of_kind (Target run) at h = refl
 form_of_kind (Constant most) at h = cc
 
 -- a reference that is taken fits
-reference-fits : (slot : Slot) (found : Option Ref) (operand : Operand) → ((at : Ref) → found ≡ Some at → has_number at ≡ true)
+reference-fits : (slot : Slot) (found : Option Ref) (operand : Operand)
+    → ((at : Ref) → found ≡ Some at → has_number at ≡ true)
     → option_and_then (taken_reference slot) found ≡ Some operand → fits slot operand ≡ true
 reference-fits slot None operand has h = cc
 reference-fits slot (Some at) operand has h =
@@ -143,7 +157,8 @@ reference-fits slot (Some at) operand has h =
     rw (← same) (and_both _ _ (form_of_kind slot at kind) (and_both _ _ kind (has at refl)))
 
 -- a word that is no reference has the form of a slot that takes a constant
-constant_form : (slot : Slot) (word : List ℕ) (n : ℕ) → is_reference_word word ≡ false → takes_form slot word ≡ true → fits_form slot (Const n) ≡ true
+constant_form : (slot : Slot) (word : List ℕ) (n : ℕ) → is_reference_word word ≡ false
+    → takes_form slot word ≡ true → fits_form slot (Const n) ≡ true
 constant_form Discrete word n five form = cc
 constant_form Driven word n five form = cc
 constant_form (Number run) word n five form = refl
@@ -152,100 +167,138 @@ constant_form (Target run) word n five form = cc
 constant_form (Constant most) word n five form = refl
 
 -- a constant that passes the tests of a slot is in its range
-constant_value : (slot : Slot) (word : List ℕ) (n : ℕ) → spelled_number word ≡ Some n → takes_value slot word ≡ true → fits_value slot (Const n) ≡ true
+constant_value : (slot : Slot) (word : List ℕ) (n : ℕ) → spelled_number word ≡ Some n
+    → takes_value slot word ≡ true → fits_value slot (Const n) ≡ true
 constant_value Discrete word n h value = spelled_number-le word n h
 constant_value Driven word n h value = spelled_number-le word n h
 constant_value (Number run) word n h value = spelled_number-le word n h
 constant_value (Source run) word n h value = spelled_number-le word n h
 constant_value (Target run) word n h value = spelled_number-le word n h
-constant_value (Constant most) word n h value = sym (ap (λ (o : Option ℕ). option_map_or (is_length most) o false) h) ∙ value
+constant_value (Constant most) word n h value =
+    sym (ap (λ (o : Option ℕ). option_map_or (is_up_to most) o false) h) ∙ value
 
 -- a constant that passes the tests of a slot fits it
-constant-fits : (slot : Slot) (word : List ℕ) (operand : Operand) → is_reference_word word ≡ false → takes_form slot word ≡ true
-    → takes_value slot word ≡ true → option_map Const (spelled_number word) ≡ Some operand → fits slot operand ≡ true
+constant-fits : (slot : Slot) (word : List ℕ) (operand : Operand) → is_reference_word word ≡ false
+    → takes_form slot word ≡ true
+    → takes_value slot word ≡ true → option_map Const (spelled_number word) ≡ Some operand
+    → fits slot operand ≡ true
 constant-fits slot word operand five form value h =
     let (n, (number, same)) = some-map Const (spelled_number word) operand h in
-    rw (← same) (and_both _ _ (and_both _ _ (constant_form slot word n five form) (constant_value slot word n number value)) refl)
+    rw (← same) (and_both _ _ (and_both _ _ (constant_form slot word n five form)
+    (constant_value slot word n number value)) refl)
 
 -- an operand fits, whether it is a reference or a constant
-fits-by : (slot : Slot) (word : List ℕ) (operand : Operand) (five : Bool) → is_reference_word word ≡ five → takes_form slot word ≡ true
+fits-by : (slot : Slot) (word : List ℕ) (operand : Operand) (five : Bool)
+    → is_reference_word word ≡ five → takes_form slot word ≡ true
     → takes_value slot word ≡ true
-    → (if five then option_and_then (taken_reference slot) (reference_of word) else option_map Const (spelled_number word)) ≡ Some
+    → (if five then option_and_then (taken_reference slot) (reference_of word)
+    else option_map Const (spelled_number word)) ≡ Some
     operand → fits slot operand ≡ true
-fits-by slot word operand true five form value h = reference-fits slot (reference_of word) operand (reference_of-has word) h
-fits-by slot word operand false five form value h = constant-fits slot word operand five form value h
+fits-by slot word operand true five form value h =
+    reference-fits slot (reference_of word) operand (reference_of-has word) h
+fits-by slot word operand false five form value h =
+    constant-fits slot word operand five form value h
 
 -- a word that passes the tests of a slot stands for an operand that fits it
-word-fits : (slot : Slot) (word : List ℕ) (operand : Operand) → takes_form slot word ≡ true → takes_value slot word ≡ true
+word-fits : (slot : Slot) (word : List ℕ) (operand : Operand) → takes_form slot word ≡ true
+    → takes_value slot word ≡ true
     → operand_in slot word ≡ Some operand → fits slot operand ≡ true
-word-fits slot word operand form value h = fits-by slot word operand (is_reference_word word) refl form value h
+word-fits slot word operand form value h =
+    fits-by slot word operand (is_reference_word word) refl form value h
 
 -- so do the words of all slots
-words-fit : (slots : List Slot) (words : List (List ℕ)) (operands : List Operand) → pointwise takes_form slots words ≡ true
-    → pointwise takes_value slots words ≡ true → operands_in slots words ≡ Some operands → pointwise fits slots operands ≡ true
+words-fit : (slots : List Slot) (words : List (List ℕ)) (operands : List Operand)
+    → pointwise takes_form slots words ≡ true
+    → pointwise takes_value slots words ≡ true → operands_in slots words ≡ Some operands
+    → pointwise fits slots operands ≡ true
 unfolding operands_in
-words-fit [] [] operands form value h = let same : [] ≡ operands = some_value [] operands h in rw (← same) refl
+words-fit [] [] operands form value h =
+    let same : [] ≡ operands = some_value [] operands h in rw (← same) refl
 words-fit [] (word ∷ words) operands form value h = cc
 words-fit (slot ∷ slots) [] operands form value h = cc
 words-fit (slot ∷ slots) (word ∷ words) operands form value h =
     let (form1, forms) = and_parts (takes_form slot word) (pointwise takes_form slots words) form in
-    let (value1, values) = and_parts (takes_value slot word) (pointwise takes_value slots words) value in
-    let first = some-step (λ operand. option_map (λ rest. operand ∷ rest) (operands_in slots words)) (operand_in slot word) operands h in
+    let (value1, values) = and_parts (takes_value slot word)
+    (pointwise takes_value slots words) value in
+    let first = some-step (λ operand. option_map (λ rest. operand ∷ rest) (operands_in slots words))
+    (operand_in slot word) operands h in
     let rest = some-map (λ rest. first.0 ∷ rest) (operands_in slots words) operands first.1.1 in
     let same : first.0 ∷ rest.0 ≡ operands = rest.1.1 in
-    rw (← same) (and_both _ _ (word-fits slot word first.0 form1 value1 first.1.0) (words-fit slots words rest.0 forms values rest.1.0))
+    rw (← same) (and_both _ _ (word-fits slot word first.0 form1 value1 first.1.0)
+    (words-fit slots words rest.0 forms values rest.1.0))
 
 -- operands that were read fit the slots
-read_operands-fit : (slots : List Slot) (words : List (List ℕ)) (operands : List Operand) → read_operands slots words ≡ Ok operands
+read_operands-fit : (slots : List Slot) (words : List (List ℕ)) (operands : List Operand)
+    → read_operands slots words ≡ Ok operands
     → pointwise fits slots operands ≡ true
 unfolding read_operands
 read_operands-fit slots words operands h =
     let form = unless-ok (pointwise takes_form slots words) BadCell
-    (λ forms. unless (pointwise takes_value slots words) BadValue >>= λ values. or_fault BadRef (operands_in slots words)) operands h in
-    let value = unless-ok (pointwise takes_value slots words) BadValue (λ values. or_fault BadRef (operands_in slots words)) operands form.1 in
-    words-fit slots words operands form.0 value.0 (or_fault-some BadRef (operands_in slots words) operands value.1)
+    (λ forms. unless (pointwise takes_value slots words) BadValue
+    >>= λ values. or_fault BadRef (operands_in slots words)) operands h in
+    let value = unless-ok (pointwise takes_value slots words) BadValue
+    (λ values. or_fault BadRef (operands_in slots words)) operands form.1 in
+    words-fit slots words operands form.0 value.0
+    (or_fault-some BadRef (operands_in slots words) operands value.1)
 
 -- an element of operands that fit is one that has a text
-element-has : (name : ElementName) (operands : List Operand) (element : Element) → pointwise fits (slots_of name) operands ≡ true
-    → element_of name operands ≡ Some element → has_form element && has_values element && has_kinds element && has_numbers element ≡ true
+element-has : (name : ElementName) (operands : List Operand) (element : Element)
+    → pointwise fits (slots_of name) operands ≡ true
+    → element_of name operands ≡ Some element
+    → has_form element && has_values element && has_kinds element && has_numbers element ≡ true
 element-has name operands element h e =
     let made = element_of-made name operands element e in
-    sym (pointwise-fits element) ∙ ap (λ n. pointwise fits (slots_of n) (operands_of element)) made.names
+    sym (pointwise-fits element)
+    ∙ ap (λ n. pointwise fits (slots_of n) (operands_of element)) made.names
     ∙ ap (λ o. pointwise fits (slots_of name) o) made.takes ∙ h
 
 -- a cell of operands that fit has a text
-cell-has : (row column : ℕ) (name : ElementName) (operands : List Operand) (piece : Piece) → is_row row ≡ true → is_column column ≡ true
+cell-has : (row column : ℕ) (name : ElementName) (operands : List Operand) (piece : Piece)
+    → is_row row ≡ true → is_column column ≡ true
     → pointwise fits (slots_of name) operands ≡ true
-    → option_map (λ element. pieces.Cell (record { row = row; column = column; element = element })) (element_of name operands) ≡ Some piece
+    → option_map (λ element. pieces.Cell (record { row = row; column = column; element = element }))
+    (element_of name operands) ≡ Some piece
     → has_text piece ≡ true
 cell-has row column name operands piece r k fit h =
-    let found = some-map (λ element. pieces.Cell (record { row = row; column = column; element = element })) (element_of name operands) piece h in
-    let same : pieces.Cell (record { row = row; column = column; element = found.0 }) ≡ piece = found.1.1 in
+    let found = some-map
+    (λ element. pieces.Cell (record { row = row; column = column; element = element }))
+    (element_of name operands) piece h in
+    let same : pieces.Cell (record { row = row; column = column; element = found.0 }) ≡ piece =
+    found.1.1 in
     rw (← same) (and_both _ _ (and_both _ _ r k) (element-has name operands found.0 fit found.1.0))
 
 -- a short that reads has a text
-short-has : (row column : ℕ) (piece : Piece) → is_row row ≡ true → is_column column ≡ true → short_at row column ≡ Some piece → has_text piece ≡ true
+short-has : (row column : ℕ) (piece : Piece) → is_row row ≡ true → is_column column ≡ true
+    → short_at row column ≡ Some piece → has_text piece ≡ true
 short-has row column piece r k h =
-    let (low, some) = some-guard (nat_le row 6) (Some (pieces.Short (record { row = row; column = column }))) piece h in
+    let (low, some) = some-guard (nat_le row 6)
+    (Some (pieces.Short (record { row = row; column = column }))) piece h in
     let same : pieces.Short (record { row = row; column = column }) ≡ piece = some_value _ _ some in
     let above = and_parts (nat_le 1 row) (nat_le row 7) r in
     rw (← same) (and_both _ _ (and_both _ _ above.0 low) k)
 
 -- a piece of operands that fit has a text
-piece_at-has : (row column : ℕ) (name : PieceName) (operands : List Operand) (piece : Piece) → is_row row ≡ true → is_column column ≡ true
-    → pointwise fits (slots_of_piece name) operands ≡ true → piece_at row column name operands ≡ Some piece → has_text piece ≡ true
+piece_at-has : (row column : ℕ) (name : PieceName) (operands : List Operand) (piece : Piece)
+    → is_row row ≡ true → is_column column ≡ true
+    → pointwise fits (slots_of_piece name) operands ≡ true
+    → piece_at row column name operands ≡ Some piece → has_text piece ≡ true
 piece_at-has row column names.Short operands piece r k fit h = short-has row column piece r k h
-piece_at-has row column (names.Element name) operands piece r k fit h = cell-has row column name operands piece r k fit h
+piece_at-has row column (names.Element name) operands piece r k fit h =
+    cell-has row column name operands piece r k fit h
 
 -- a piece that reads has a text
-pub piece_of-has : (words : List (List ℕ)) (piece : Piece) → piece_of words ≡ Ok piece → has_text piece ≡ true
+pub piece_of-has : (words : List (List ℕ)) (piece : Piece) → piece_of words ≡ Ok piece
+    → has_text piece ≡ true
 unfolding piece_of
 piece_of-has [] piece h = cc
 piece_of-has (position ∷ []) piece h = cc
 piece_of-has (position ∷ word ∷ words) piece h =
-    let place = or_fault-ok BadCell (position_of position) (λ place. or_fault BadCell (spelled_name word) >>= λ name. read_operands
-    (slots_of_piece name) words >>= λ operands. or_fault BadCell (piece_at place.0 place.1 name operands)) piece h in
-    let name = or_fault-ok BadCell (spelled_name word) (λ name. read_operands (slots_of_piece name) words >>= λ operands. or_fault BadCell
+    let place = or_fault-ok BadCell (position_of position)
+    (λ place. or_fault BadCell (spelled_name word) >>= λ name. read_operands
+    (slots_of_piece name) words
+    >>= λ operands. or_fault BadCell (piece_at place.0 place.1 name operands)) piece h in
+    let name = or_fault-ok BadCell (spelled_name word)
+    (λ name. read_operands (slots_of_piece name) words >>= λ operands. or_fault BadCell
     (piece_at place.0.0 place.0.1 name operands)) piece place.1.1 in
     let operands = step-ok (read_operands (slots_of_piece name.0) words)
     (λ operands. or_fault BadCell (piece_at place.0.0 place.0.1 name.0 operands)) piece name.1.1 in
@@ -255,7 +308,8 @@ piece_of-has (position ∷ word ∷ words) piece h =
     (or_fault-some BadCell (piece_at place.0.0 place.0.1 name.0 operands.0) piece operands.1.1)
 
 -- so it is with what reading answered
-pub gives-has_text : (words : List (List ℕ)) (r : Result Piece CellFault) → r ≡ piece_of words → IfOk r (λ piece. has_text piece ≡ true)
+pub gives-has_text : (words : List (List ℕ)) (r : Result Piece CellFault) → r ≡ piece_of words
+    → IfOk r (λ piece. has_text piece ≡ true)
 gives-has_text words (Ok piece) e = piece_of-has words piece (sym e)
 gives-has_text words (Err fault) e = tt
 
@@ -263,24 +317,32 @@ gives-has_text words (Err fault) e = tt
 piece_at-named : (row column : ℕ) (name : PieceName) (operands : List Operand) (piece : Piece)
     → piece_at row column name operands ≡ Some piece → name ≡ piece_name piece
 piece_at-named row column names.Short operands piece h =
-    let (low, some) = some-guard (nat_le row 6) (Some (pieces.Short (record { row = row; column = column }))) piece h in
+    let (low, some) = some-guard (nat_le row 6)
+    (Some (pieces.Short (record { row = row; column = column }))) piece h in
     let same : pieces.Short (record { row = row; column = column }) ≡ piece = some_value _ _ some in
     rw (← same) refl
 piece_at-named row column (names.Element name) operands piece h =
-    let found = some-map (λ element. pieces.Cell (record { row = row; column = column; element = element })) (element_of name operands) piece h in
-    let same : pieces.Cell (record { row = row; column = column; element = found.0 }) ≡ piece = found.1.1 in
+    let found = some-map
+    (λ element. pieces.Cell (record { row = row; column = column; element = element }))
+    (element_of name operands) piece h in
+    let same : pieces.Cell (record { row = row; column = column; element = found.0 }) ≡ piece =
+    found.1.1 in
     let made = element_of-made name operands found.0 found.1.0 in
     rw (← same) (ap names.Element (sym made.names))
 
 -- the second word of a piece that reads names it
-pub piece_of-named : (words : List (List ℕ)) (piece : Piece) → piece_of words ≡ Ok piece → name_in_piece words ≡ Some (piece_name piece)
+pub piece_of-named : (words : List (List ℕ)) (piece : Piece) → piece_of words ≡ Ok piece
+    → name_in_piece words ≡ Some (piece_name piece)
 unfolding piece_of
 piece_of-named [] piece h = cc
 piece_of-named (position ∷ []) piece h = cc
 piece_of-named (position ∷ word ∷ words) piece h =
-    let place = or_fault-ok BadCell (position_of position) (λ place. or_fault BadCell (spelled_name word) >>= λ name. read_operands
-    (slots_of_piece name) words >>= λ operands. or_fault BadCell (piece_at place.0 place.1 name operands)) piece h in
-    let name = or_fault-ok BadCell (spelled_name word) (λ name. read_operands (slots_of_piece name) words >>= λ operands. or_fault BadCell
+    let place = or_fault-ok BadCell (position_of position)
+    (λ place. or_fault BadCell (spelled_name word) >>= λ name. read_operands
+    (slots_of_piece name) words
+    >>= λ operands. or_fault BadCell (piece_at place.0 place.1 name operands)) piece h in
+    let name = or_fault-ok BadCell (spelled_name word)
+    (λ name. read_operands (slots_of_piece name) words >>= λ operands. or_fault BadCell
     (piece_at place.0.0 place.0.1 name operands)) piece place.1.1 in
     let operands = step-ok (read_operands (slots_of_piece name.0) words)
     (λ operands. or_fault BadCell (piece_at place.0.0 place.0.1 name.0 operands)) piece name.1.1 in

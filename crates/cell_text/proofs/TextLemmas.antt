@@ -25,7 +25,7 @@ use Rattle.plant_types.specs.declared.element.Element.{Element}
 use Rattle.plant_types.specs.declared.element.Element.TheVariants as elements
 use Rattle.plant_types.specs.Network.{is_row, is_column, has_cell_place}
 use Rattle.plant_types.specs.Operands.{fits_form, fits_value, has_form, has_values, has_kinds}
-use Rattle.plant_types.specs.Operands.{is_length}
+use Rattle.plant_types.specs.Limits.{is_up_to}
 use Rattle.plant_types.specs.Reference.{reference_text}
 use Rattle.plant_types.specs.declared.name.ElementName.{ElementName}
 use Rattle.plant_types.specs.declared.name.ElementName.TheVariants as names
@@ -121,11 +121,16 @@ or_true true = refl
 or_true false = refl
 
 -- the text of a reference passes the tests of a slot that takes it
-reference_form : (slot : Slot) (at : Ref) → fits_form slot (At at) ≡ true → is_reference_word (reference_text at) ≡ true
+reference_form : (slot : Slot) (at : Ref) → fits_form slot (At at) ≡ true
+    → is_reference_word (reference_text at) ≡ true
     → (takes_form slot (reference_text at) ≡ true) × (takes_value slot (reference_text at) ≡ true)
 reference_form Discrete at fit five = (five, refl)
 reference_form Driven at fit five = (five, refl)
-reference_form (Number run) at fit five = (ap (λ b. is_spelled_number (reference_text at) || b) five ∙ or_true (is_spelled_number (reference_text at)), refl)
+reference_form (Number run) at fit five = (
+  ap (λ b. is_spelled_number (reference_text at) || b) five
+      ∙ or_true (is_spelled_number (reference_text at)),
+  refl,
+)
 reference_form (Source run) at fit five = (five, refl)
 reference_form (Target run) at fit five = (five, refl)
 reference_form (Constant most) at fit five = cc
@@ -133,7 +138,8 @@ reference_form (Constant most) at fit five = cc
 -- the text of a reference that fits reads as the reference
 reference_reads : (slot : Slot) (at : Ref) → fits slot (At at) ≡ true → Reads slot (At at)
 reference_reads slot at h =
-    let (forms, references) = and_parts (fits_form slot (At at) && fits_value slot (At at)) (takes_kind slot at.kind && has_number at) h in
+    let (forms, references) = and_parts (fits_form slot (At at) && fits_value slot (At at))
+    (takes_kind slot at.kind && has_number at) h in
     let (form, value) = and_parts (fits_form slot (At at)) (fits_value slot (At at)) forms in
     let (kind, number) = and_parts (takes_kind slot at.kind) (has_number at) references in
     let five = reference_word at number in
@@ -141,8 +147,10 @@ reference_reads slot at h =
     record {
       form = tests.0;
       value = tests.1;
-      back = ap (λ (b : Bool). if b then option_and_then (taken_reference slot) (reference_of (reference_text at)) else option_map Const
-          (spelled_number (reference_text at))) five ∙ ap (option_and_then (taken_reference slot)) (reference_of-text at number)
+      back = ap (λ (b : Bool). if b then option_and_then (taken_reference slot)
+          (reference_of (reference_text at)) else option_map Const
+          (spelled_number (reference_text at))) five
+          ∙ ap (option_and_then (taken_reference slot)) (reference_of-text at number)
           ∙ ap (λ (b : Bool). if b then Some (At at) else None) kind;
       word = reference_text_word at number;
     }
@@ -158,7 +166,8 @@ constant_le n h = grind (arith, nat_tests)
 
 -- a length up to a largest constant is one
 length_le : (most n : ℕ) → nat_le most 9999 ≡ true → nat_le 1 n && nat_le n most ≡ true → n ≤ 9999
-length_le most n small h = let (low, high) = and_parts (nat_le 1 n) (nat_le n most) h in grind (arith, nat_tests)
+length_le most n small h =
+    let (low, high) = and_parts (nat_le 1 n) (nat_le n most) h in grind (arith, nat_tests)
 
 -- a constant that fits is below 10,000
 fits-le : (slot : Slot) (n : ℕ) → is_small slot ≡ true → fits_value slot (Const n) ≡ true → n ≤ 9999
@@ -170,22 +179,27 @@ fits-le (Target run) n small h = constant_le n h
 fits-le (Constant most) n small h = length_le most n small h
 
 -- the text of a constant passes the tests of a slot that takes it
-constant_form : (slot : Slot) (n : ℕ) → fits_form slot (Const n) ≡ true → fits_value slot (Const n) ≡ true → n ≤ 9999
+constant_form : (slot : Slot) (n : ℕ) → fits_form slot (Const n) ≡ true
+    → fits_value slot (Const n) ≡ true → n ≤ 9999
     → (takes_form slot (decimal n) ≡ true) × (takes_value slot (decimal n) ≡ true)
 constant_form Discrete n form value few = cc
 constant_form Driven n form value few = cc
-constant_form (Number run) n form value few = (ap (λ b. b || is_reference_word (decimal n)) (is_spelled_number-decimal n few), refl)
+constant_form (Number run) n form value few =
+    (ap (λ b. b || is_reference_word (decimal n)) (is_spelled_number-decimal n few), refl)
 constant_form (Source run) n form value few = cc
 constant_form (Target run) n form value few = cc
 constant_form (Constant most) n form value few = (
   is_spelled_number-decimal n few,
-  ap (λ (o : Option ℕ). option_map_or (is_length most) o false) (spelled_number-decimal n few) ∙ value,
+  ap (λ (o : Option ℕ). option_map_or (is_up_to most) o false) (spelled_number-decimal n few)
+      ∙ value,
 )
 
 -- the text of a constant that fits reads as the constant
-constant_reads : (slot : Slot) (n : ℕ) → is_small slot ≡ true → fits slot (Const n) ≡ true → Reads slot (Const n)
+constant_reads : (slot : Slot) (n : ℕ) → is_small slot ≡ true → fits slot (Const n) ≡ true
+    → Reads slot (Const n)
 constant_reads slot n small h =
-    let (forms, references) = and_parts (fits_form slot (Const n) && fits_value slot (Const n)) true h in
+    let (forms, references) = and_parts
+    (fits_form slot (Const n) && fits_value slot (Const n)) true h in
     let (form, value) = and_parts (fits_form slot (Const n)) (fits_value slot (Const n)) forms in
     let few = fits-le slot n small value in
     let tests = constant_form slot n form value few in
@@ -197,7 +211,8 @@ constant_reads slot n small h =
     }
 
 -- the text of an operand that fits reads as the operand
-operand_reads : (slot : Slot) (operand : Operand) → is_small slot ≡ true → fits slot operand ≡ true → Reads slot operand
+operand_reads : (slot : Slot) (operand : Operand) → is_small slot ≡ true → fits slot operand ≡ true
+    → Reads slot operand
 operand_reads slot (Const n) small h = constant_reads slot n small h
 operand_reads slot (At at) small h = reference_reads slot at h
 
@@ -209,7 +224,8 @@ record AllRead (slots : List Slot) (operands : List Operand) : Type 0 where
   words : list_all is_word (map operand_text operands) ≡ true
 
 -- so do the texts of all operands that fit
-all_read : (slots : List Slot) (operands : List Operand) → list_all is_small slots ≡ true → pointwise fits slots operands ≡ true → AllRead slots operands
+all_read : (slots : List Slot) (operands : List Operand) → list_all is_small slots ≡ true
+    → pointwise fits slots operands ≡ true → AllRead slots operands
 unfolding operands_in
 all_read [] [] small h = record { forms = refl; values = refl; back = refl; words = refl }
 all_read [] (operand ∷ operands) small h = cc
@@ -255,12 +271,14 @@ small_piece (piece_names.Element name) = small_slots name
 small_piece piece_names.Short = refl
 
 -- operands whose texts read are read back
-read_operands-back : (slots : List Slot) (operands : List Operand) → AllRead slots operands → read_operands slots (map operand_text operands) ≡ Ok operands
+read_operands-back : (slots : List Slot) (operands : List Operand) → AllRead slots operands
+    → read_operands slots (map operand_text operands) ≡ Ok operands
 unfolding read_operands
 read_operands-back slots operands all = rw (all.forms, all.values, all.back) refl
 
 -- the name and the operands of an element make the element
-cell_back : (row column : ℕ) (element : Element) → piece_at row column (piece_names.Element (element_name element)) (operands_of element)
+cell_back : (row column : ℕ) (element : Element)
+    → piece_at row column (piece_names.Element (element_name element)) (operands_of element)
     ≡ Some (pieces.Cell (record { row = row; column = column; element = element }))
 cell_back row column (elements.Open at) = refl
 cell_back row column (elements.Closed at) = refl
@@ -281,11 +299,13 @@ cell_back row column elements.Return = refl
 cell_back row column (elements.Mstr control area length) = refl
 
 -- the place, the name and the operands of a piece make the piece
-piece_at-back : (piece : Piece) → has_text piece ≡ true → piece_at (piece_position piece).0 (piece_position piece).1 (piece_name piece)
+piece_at-back : (piece : Piece) → has_text piece ≡ true
+    → piece_at (piece_position piece).0 (piece_position piece).1 (piece_name piece)
     (piece_operands piece) ≡ Some piece
 piece_at-back (pieces.Cell cell) h = cell_back cell.row cell.column cell.element
 piece_at-back (pieces.Short short) h =
-    let (rows, column) = and_parts (nat_le 1 short.row && nat_le short.row 6) (is_column short.column) h in
+    let (rows, column) = and_parts (nat_le 1 short.row && nat_le short.row 6)
+    (is_column short.column) h in
     let (low, high) = and_parts (nat_le 1 short.row) (nat_le short.row 6) rows in
     ap (λ (b : Bool). if b then Some (pieces.Short short) else None) high
 
@@ -305,23 +325,32 @@ six_rows row h =
 -- so it is with each piece that has a text
 fitting : (piece : Piece) → has_text piece ≡ true → Fitting piece
 fitting (pieces.Cell cell) h =
-    let (place, operands) = and_parts (has_cell_place cell) (has_form cell.element && has_values cell.element && has_kinds cell.element
+    let (place, operands) = and_parts (has_cell_place cell)
+    (has_form cell.element && has_values cell.element && has_kinds cell.element
     && has_numbers cell.element) h in
     let (row, column) = and_parts (is_row cell.row) (is_column cell.column) place in
     record { row = row; column = column; operands = pointwise-fits cell.element ∙ operands }
 fitting (pieces.Short short) h =
-    let (rows, column) = and_parts (nat_le 1 short.row && nat_le short.row 6) (is_column short.column) h in
+    let (rows, column) = and_parts (nat_le 1 short.row && nat_le short.row 6)
+    (is_column short.column) h in
     record { row = six_rows short.row rows; column = column; operands = refl }
 
 -- the texts of the operands of a piece read
-piece_all_read : (piece : Piece) → Fitting piece → AllRead (slots_of_piece (piece_name piece)) (piece_operands piece)
-piece_all_read piece f = all_read (slots_of_piece (piece_name piece)) (piece_operands piece) (small_piece (piece_name piece)) f.operands
+piece_all_read : (piece : Piece) → Fitting piece
+    → AllRead (slots_of_piece (piece_name piece)) (piece_operands piece)
+piece_all_read piece f = all_read (slots_of_piece (piece_name piece)) (piece_operands piece)
+    (small_piece (piece_name piece)) f.operands
 
 -- the words of a piece are words, and read as the piece
-piece_words-are : (piece : Piece) → has_text piece ≡ true → list_all is_word (piece_words piece) ≡ true
+piece_words-are : (piece : Piece) → has_text piece ≡ true
+    → list_all is_word (piece_words piece) ≡ true
 piece_words-are piece h =
     let f = fitting piece h in
-    rw (position_word (piece_position piece) f.row f.column, (named (piece_name piece)).word, (piece_all_read piece f).words) refl
+    rw (
+      position_word (piece_position piece) f.row f.column,
+      (named (piece_name piece)).word,
+      (piece_all_read piece f).words,
+    ) refl
 
 -- the words of a piece read as the piece
 piece_of-words : (piece : Piece) → has_text piece ≡ true → piece_of (piece_words piece) ≡ Ok piece
@@ -331,22 +360,31 @@ piece_of-words piece h =
     let words = map operand_text (piece_operands piece) in
     let place = position_of-text (piece_position piece) f.row f.column in
     let name = (named (piece_name piece)).found in
-    let operands = read_operands-back (slots_of_piece (piece_name piece)) (piece_operands piece) (piece_all_read piece f) in
+    let operands = read_operands-back (slots_of_piece (piece_name piece)) (piece_operands piece)
+    (piece_all_read piece f) in
     ap (λ (o : Option (ℕ × ℕ)). or_fault {E = CellFault} BadCell o >>= λ at. or_fault BadCell
-    (spelled_name (name_text (piece_name piece))) >>= λ name. read_operands (slots_of_piece name) words >>= λ operands. or_fault BadCell
+    (spelled_name (name_text (piece_name piece)))
+    >>= λ name. read_operands (slots_of_piece name) words >>= λ operands. or_fault BadCell
     (piece_at at.0 at.1 name operands)) place
     ∙ ap (λ (o : Option PieceName). or_fault {E = CellFault} BadCell o >>= λ name. read_operands
-    (slots_of_piece name) words >>= λ operands. or_fault BadCell (piece_at (piece_position piece).0 (piece_position piece).1 name operands)) name
+    (slots_of_piece name) words >>= λ operands. or_fault BadCell
+    (piece_at (piece_position piece).0 (piece_position piece).1 name operands)) name
     ∙ ap (λ (r : Result (List Operand) CellFault). r >>= λ operands. or_fault BadCell
-    (piece_at (piece_position piece).0 (piece_position piece).1 (piece_name piece) operands)) operands
+    (piece_at (piece_position piece).0 (piece_position piece).1
+    (piece_name piece) operands)) operands
     ∙ ap (λ (o : Option Piece). or_fault {E = CellFault} BadCell o) (piece_at-back piece h)
 
 -- the text of a piece reads as the piece
-pub piece_of-text : (piece : Piece) → has_text piece ≡ true → piece_of (text_words (piece_text piece)) ≡ Ok piece
-piece_of-text piece h = ap piece_of (text_words-join (piece_words piece) (piece_words-are piece h)) ∙ piece_of-words piece h
+pub piece_of-text : (piece : Piece) → has_text piece ≡ true
+    → piece_of (text_words (piece_text piece)) ≡ Ok piece
+piece_of-text piece h = ap piece_of (text_words-join (piece_words piece) (piece_words-are piece h))
+    ∙ piece_of-words piece h
 
 -- so it is with a text that was written
-pub gives-reads_back : (piece : Piece) (r : Result (String Global) AllocError) → has_text piece ≡ true
-    → IfOk r (λ text. string_bytes text ≡ piece_text piece) → IfOk r (λ text. piece_of (text_words (string_bytes text)) ≡ Ok piece)
-gives-reads_back piece (Ok text) h e = ap (λ bytes. piece_of (text_words bytes)) e ∙ piece_of-text piece h
+pub gives-reads_back : (piece : Piece) (r : Result (String Global) AllocError)
+    → has_text piece ≡ true
+    → IfOk r (λ text. string_bytes text ≡ piece_text piece)
+    → IfOk r (λ text. piece_of (text_words (string_bytes text)) ≡ Ok piece)
+gives-reads_back piece (Ok text) h e = ap (λ bytes. piece_of (text_words bytes)) e
+    ∙ piece_of-text piece h
 gives-reads_back piece (Err end) h e = tt

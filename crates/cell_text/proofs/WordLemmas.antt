@@ -34,9 +34,12 @@ unfolding text_words
 text_words-blank b bs h = rw h refl
 
 -- a blank in front is skipped, another byte is not
-skipped : (v : Bool) (b : ℕ) (bs : List ℕ) → is_blank b ≡ v → text_words bs ≡ text_words (drop (position_or_len is_word_byte bs) bs)
-    → text_words (b ∷ bs) ≡ text_words (drop (cond (not (not v)) (1 + position_or_len is_word_byte bs) 0) (b ∷ bs))
-skipped true b bs h ih = text_words-blank b bs h ∙ ih ∙ ap text_words (sym (drop-front (position_or_len is_word_byte bs) b bs))
+skipped : (v : Bool) (b : ℕ) (bs : List ℕ) → is_blank b ≡ v
+    → text_words bs ≡ text_words (drop (position_or_len is_word_byte bs) bs)
+    → text_words (b ∷ bs)
+    ≡ text_words (drop (cond (not (not v)) (1 + position_or_len is_word_byte bs) 0) (b ∷ bs))
+skipped true b bs h ih = text_words-blank b bs h ∙ ih
+    ∙ ap text_words (sym (drop-front (position_or_len is_word_byte bs) b bs))
 skipped false b bs h ih = refl
 
 -- the words of a text are those from its first word on
@@ -84,7 +87,8 @@ cut_more true b bs h c =
       behind = words_as_filter bs ∙ sym (text_words-blank b bs h) ∙ ap text_words same;
     }
 cut_more false b bs h c =
-    let same : drop (position_or_len is_blank bs) bs ≡ drop (position_or_len is_blank (b ∷ bs)) (b ∷ bs) = rw (h, drop-front) refl in
+    let same : drop (position_or_len is_blank bs) bs
+    ≡ drop (position_or_len is_blank (b ∷ bs)) (b ∷ bs) = rw (h, drop-front) refl in
     record {
       others = c.others;
       parts = rw (h, c.parts, take-front) refl;
@@ -101,19 +105,23 @@ some_byte : (n : ℕ) → not (suc n == 0) ≡ true
 some_byte n = grind (arith, nat_tests)
 
 -- a first part that has a byte is a word
-some_first : (word : List ℕ) (others rest : List (List ℕ)) (b : ℕ) (bs : List ℕ) → word ≡ b ∷ bs → filter is_some_byte others ≡ rest
+some_first : (word : List ℕ) (others rest : List (List ℕ)) (b : ℕ) (bs : List ℕ) → word ≡ b ∷ bs
+    → filter is_some_byte others ≡ rest
     → filter is_some_byte (word ∷ others) ≡ word ∷ rest
 some_first word others rest b bs same h = rw (same, h, some_byte (length bs)) refl
 
 -- a text that begins with a word has that word first
 text_words-first : (b : ℕ) (bs : List ℕ) → is_blank b ≡ false → text_words (b ∷ bs)
-    ≡ take (position_or_len is_blank (b ∷ bs)) (b ∷ bs) ∷ text_words (drop (position_or_len is_blank (b ∷ bs)) (b ∷ bs))
+    ≡ take (position_or_len is_blank (b ∷ bs)) (b ∷ bs)
+    ∷ text_words (drop (position_or_len is_blank (b ∷ bs)) (b ∷ bs))
 text_words-first b bs h =
     let c = cut (b ∷ bs) in
-    let word : take (position_or_len is_blank (b ∷ bs)) (b ∷ bs) ≡ b ∷ take (position_or_len is_blank bs) bs = rw (h, take-front) refl in
+    let word : take (position_or_len is_blank (b ∷ bs)) (b ∷ bs)
+    ≡ b ∷ take (position_or_len is_blank bs) bs = rw (h, take-front) refl in
     sym (words_as_filter (b ∷ bs)) ∙ ap (filter is_some_byte) c.parts
     ∙ some_first (take (position_or_len is_blank (b ∷ bs)) (b ∷ bs)) c.others
-    (text_words (drop (position_or_len is_blank (b ∷ bs)) (b ∷ bs))) b (take (position_or_len is_blank bs) bs) word c.behind
+    (text_words (drop (position_or_len is_blank (b ∷ bs)) (b ∷ bs))) b
+    (take (position_or_len is_blank bs) bs) word c.behind
 
 -- a test that does not hold
 pub not_blank : (v : Bool) → not v ≡ true → v ≡ false
@@ -121,17 +129,22 @@ not_blank true h = sym h
 not_blank false h = refl
 
 -- the parts of a text behind its first blanks
-pub text_words-split : (t rest word behind : List ℕ) (start end : ℕ) → Some start ≡ position is_word_byte t → rest ≡ drop start t
+pub text_words-split : (t rest word behind : List ℕ) (start end : ℕ)
+    → Some start ≡ position is_word_byte t → rest ≡ drop start t
     → end ≡ position_or_len is_blank rest → word ≡ take end rest → behind ≡ drop end rest
     → text_words t ≡ word ∷ text_words behind
 text_words-split t rest word behind start end found r e w b =
     let s = position-Some is_word_byte t start 0 (sym found) in
     let within : start < length t = s.0 in
-    let at : position_or_len is_word_byte t ≡ start = position_or_len_is is_word_byte t start 0 (omega arith) s.2 (λ _. s.1) in
+    let at : position_or_len is_word_byte t ≡ start = position_or_len_is is_word_byte t start 0
+    (omega arith) s.2 (λ _. s.1) in
     let front : drop start t ≡ get_or t start 0 ∷ drop (start + 1) t = drop_more t start 0 within in
-    let first = text_words-first (get_or t start 0) (drop (start + 1) t) (not_blank (is_blank (get_or t start 0)) s.1) in
-    let again : text_words rest ≡ take (position_or_len is_blank rest) rest ∷ text_words (drop (position_or_len is_blank rest) rest) = rw (r, front) first in
-    text_words-skip t ∙ ap (λ n. text_words (drop n t)) at ∙ ap text_words (sym r) ∙ again ∙ rw (w, b, e) refl
+    let first = text_words-first (get_or t start 0) (drop (start + 1) t)
+    (not_blank (is_blank (get_or t start 0)) s.1) in
+    let again : text_words rest ≡ take (position_or_len is_blank rest) rest
+    ∷ text_words (drop (position_or_len is_blank rest) rest) = rw (r, front) first in
+    text_words-skip t ∙ ap (λ n. text_words (drop n t)) at ∙ ap text_words (sym r) ∙ again
+    ∙ rw (w, b, e) refl
 
 -- a place that is not found is none
 position_none : (v : Bool) (m n : ℕ) → cond v (Some m) None ≡ None → v ≡ false
@@ -139,9 +152,11 @@ position_none true m n h = cc
 position_none false m n h = refl
 
 -- where a place is not found, it counts as the length
-pub position_or_len-none : {A : Type 0} (p : A → Bool) (xs : List A) → None ≡ position p xs → length xs ≡ position_or_len p xs
+pub position_or_len-none : {A : Type 0} (p : A → Bool) (xs : List A) → None ≡ position p xs
+    → length xs ≡ position_or_len p xs
 position_or_len-none p xs h =
-    let past = position_none (nat_lt (position_or_len p xs) (length xs)) (position_or_len p xs) 0 (sym h) in
+    let past = position_none (nat_lt (position_or_len p xs) (length xs))
+    (position_or_len p xs) 0 (sym h) in
     let low = position_or_len-le p xs in
     grind (arith, nat_tests)
 
@@ -149,4 +164,5 @@ position_or_len-none p xs h =
 pub text_words-none : (t : List ℕ) → None ≡ position is_word_byte t → text_words t ≡ []
 text_words-none t h =
     let past : length t ≡ position_or_len is_word_byte t = position_or_len-none is_word_byte t h in
-    text_words-skip t ∙ ap (λ n. text_words (drop n t)) (sym past) ∙ ap text_words (drop-length t) ∙ words_of_nil
+    text_words-skip t ∙ ap (λ n. text_words (drop n t)) (sym past) ∙ ap text_words (drop-length t)
+    ∙ words_of_nil

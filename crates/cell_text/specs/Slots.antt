@@ -12,7 +12,7 @@ use Rattle.plant_types.specs.declared.slot.Slot.TheVariants.{Discrete, Driven, N
 use Rattle.plant_types.specs.declared.slot.Slot.TheVariants.{Target, Constant}
 use Rattle.plant_types.specs.Slots.{slots_of}
 use Rattle.plant_types.specs.Reference.{is_coil, is_discrete, is_register, is_holding}
-use Rattle.plant_types.specs.Operands.{is_length}
+use Rattle.plant_types.specs.Limits.{is_up_to}
 use Rattle.cell_text.specs.declared.names.PieceName.{PieceName}
 use Rattle.cell_text.specs.declared.names.PieceName.TheVariants.{Element, Short}
 use Rattle.cell_text.specs.declared.slots.WordTest.{WordTest}
@@ -38,7 +38,7 @@ takes_form _ word = is_reference_word word
 
 -- A constant of a limited range is from 1 to the largest. This project's own.
 abbrev pub takes_value : Slot → List ℕ → Bool
-takes_value (Constant most) word = option_map_or (is_length most) (spelled_number word) false
+takes_value (Constant most) word = option_map_or (is_up_to most) (spelled_number word) false
 takes_value _ word = true
 
 -- A word passes a test of an operand. This project's own.

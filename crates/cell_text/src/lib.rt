@@ -6,8 +6,6 @@ mod numbers;
 mod piece;
 mod reading;
 mod slots;
-#[cfg(test)]
-mod tests;
 mod words;
 mod writing;
 

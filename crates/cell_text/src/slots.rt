@@ -2,7 +2,6 @@
 ghost use Rattle.std.specs.Prelude.{◌≡◌, ◌≤◌, length};
 ghost use lib.Pointwise.{pointwise};
 ghost use Rattle.cell_text.specs.Words.{text_words};
-ghost use Rattle.plant_types.specs.Operands.{is_length};
 ghost use Rattle.cell_text.specs.Slots.{slots_of_piece, takes_form, takes_value, passes_word_test};
 ghost use Rattle.cell_text.specs.Slots.{takes_kind, taken_reference, operand_in, operands_in};
 ghost use Rattle.cell_text.specs.Slots.{read_operands};
@@ -11,7 +10,7 @@ use crate::names::PieceName;
 use crate::numbers::{is_reference_word, is_spelled_number, reference_of, spelled_number};
 use crate::piece::CellFault;
 use crate::words::next_word;
-use plant_types::{OPERAND_LIMIT, Operand, Operands, Ref, RefKind, Slot, slots_of};
+use plant_types::{OPERAND_LIMIT, Operand, Operands, Ref, RefKind, Slot, is_up_to, slots_of};
 
 impl PieceName {
     /// The operands that a piece of this name takes, in their order.
@@ -33,12 +32,6 @@ pub enum WordTest {
     Value,
 }
 
-fn is_length(most: u16, length: u16) -> bool
-    ensures { result ≡ is_length most length }
-{
-    1 <= length && length <= most
-}
-
 fn takes_form(slot: Slot, word: &[u8]) -> bool
     ensures { result ≡ takes_form slot word.now }
 {
@@ -55,7 +48,7 @@ fn takes_value(slot: Slot, word: &[u8]) -> bool
     ensures { result ≡ takes_value slot word.now }
 {
     match slot {
-        Slot::Constant(most) => spelled_number(word).is_some_and(|number| is_length(most, number)),
+        Slot::Constant(most) => spelled_number(word).is_some_and(|number| is_up_to(most, number)),
         _ => true,
     }
 }

@@ -19,7 +19,7 @@ use Rattle.ring_core.specs.Machine.{NodeIs, ring_node, ring_after, path_of}
 use Rattle.ring_core.specs.Refusals.{or_no, turn_no, free_no, taken_no, path_no, post_no, empty_no}
 use Rattle.ring_core.specs.Refusals.{send_no, unsent_no, untaken_no, boxes_no, pass_no, due_no}
 use Rattle.ring_core.specs.Refusals.{leave_no, cause_held, needed_of, give_up_no}
-use Rattle.ring_core.specs.Legal.{IsLegal}
+use Rattle.ring_core.specs.Legal.{IsLegalRing}
 use Rattle.tied_lists.specs.Own.{is_of, WentOn}
 use Rattle.tied_lists.specs.Waits.{Holds}
 use Rattle.tied_lists.proofs.Turns.{Found, unmoved}
@@ -38,7 +38,8 @@ short-alone no' why none refused = ⊎_elim
 
 -- what others left, where the call added nothing
 pub found-still : {Q : Type 0} (alone : Bool) (n : ℕ) (side : RingSideIs Q)
-    (ring ring' : List RingEntry) → IsLegal side.net ring' → WentOn alone (is_of n) ring [] ring'
+    (ring ring' : List RingEntry) → IsLegalRing side.net ring'
+    → WentOn alone (is_of n) ring [] ring'
     → IsOwnTurn
     side ring n → Found side.net n ring ring'
 found-still alone n side ring ring' legal went t = unmoved side.net n alone ring ring'
@@ -55,7 +56,7 @@ turn-none net ring n h =
     (Some (NotHolder r.holder)) (eq-eqb r.holder n h.holder)
 
 pub post-short : {Q : Type 0} (alone : Bool) (n : ℕ) (f : Frame) (side : RingSideIs Q)
-    (ring ring' : List RingEntry) (why : RingNo) → IsLegal side.net ring'
+    (ring ring' : List RingEntry) (why : RingNo) → IsLegalRing side.net ring'
     → WentOn alone (is_of n) ring
     [] ring' → IsOwnTurn side ring n → path_no (part_at side.net n ring) f.kind f.id.path ≡ None
     → (post_no (ring_after side.net ring') n f ≡ Some why) ⊎
@@ -68,7 +69,7 @@ post-short alone n f side ring ring' why legal went t free refused =
     (ap (λ (c : NodeIs). path_no c f.kind f.id.path) found.part_is ∙ free)) refused
 
 pub local-short : {Q : Type 0} (alone : Bool) (n : ℕ) (side : RingSideIs Q)
-    (ring ring' : List RingEntry) (why : RingNo) → IsLegal side.net ring'
+    (ring ring' : List RingEntry) (why : RingNo) → IsLegalRing side.net ring'
     → WentOn alone (is_of n) ring [] ring' →
     IsOwnTurn side ring n → (free_no (ring_after side.net ring') n ≡ Some why) ⊎
     ((why ≡ NoMemory) × (free_no (ring_after side.net ring') n ≡ None)) → why ≡ NoMemory
@@ -89,7 +90,7 @@ pass-none net ring n h out box = or-none (turn_no (ring_after net ring) n)
     (boxes-none (part_at net n ring) out box)
 
 pub pass-short : {Q : Type 0} (alone : Bool) (n : ℕ) (side : RingSideIs Q)
-    (ring ring' : List RingEntry) (why : RingNo) → IsLegal side.net ring'
+    (ring ring' : List RingEntry) (why : RingNo) → IsLegalRing side.net ring'
     → WentOn alone (is_of n) ring [] ring' →
     IsOwnTurn side ring n → Holds side.net ring n → (part_at side.net n ring).outbox ≡ []
     → (part_at side.net n ring).inbox ≡ []
@@ -111,7 +112,7 @@ due-early held needed why is = by (nat_lt held needed) is
     by false e = absurd (let bad : None ≡ Some why = e in cc)
 
 pub leave-short : {Q : Type 0} (alone : Bool) (n : ℕ) (cause : LeaveCause) (side : RingSideIs Q)
-    (ring ring' : List RingEntry) (why : RingNo) → IsLegal side.net ring' → WentOn alone
+    (ring ring' : List RingEntry) (why : RingNo) → IsLegalRing side.net ring' → WentOn alone
     (is_of n) ring [] ring' → IsOwnTurn side ring n → Holds side.net ring n
     → (part_at side.net n ring).outbox ≡ [] → (part_at side.net n ring).inbox ≡ []
     → ((held needed : ℕ) → why ≡ NotDue held needed → ⊥)
@@ -138,7 +139,7 @@ nothing-said [] why e = cc
 nothing-said (f ∷ fs) why e = absurd (let bad : None ≡ Some why = e in cc)
 
 pub send-short : {Q : Type 0} (alone : Bool) (n : ℕ) (side : RingSideIs Q)
-    (ring ring' : List RingEntry) (why : RingNo) → IsLegal side.net ring'
+    (ring ring' : List RingEntry) (why : RingNo) → IsLegalRing side.net ring'
     → WentOn alone (is_of n) ring [] ring' →
     IsOwnTurn side ring n → Holds side.net ring n → (why ≡ NothingToSend → ⊥)
     → (send_no (ring_after side.net ring') n ≡ Some why) ⊎
@@ -161,7 +162,7 @@ free-path-no c Request p is = ap taken_no is
 free-path-no c Reply p is = refl
 
 pub give-short : {Q : Type 0} (alone : Bool) (id : CallId) (side : RingSideIs Q)
-    (ring ring' : List RingEntry) (why : RingNo) → IsLegal side.net ring'
+    (ring ring' : List RingEntry) (why : RingNo) → IsLegalRing side.net ring'
     → WentOn alone (is_of id.node) ring
     [] ring' → IsOwnTurn side ring id.node
     → part_no side.net (part_at side.net id.node ring) id ≡ None

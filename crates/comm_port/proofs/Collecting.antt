@@ -81,7 +81,8 @@ collects-all Due alone alone' fixed n calls slice at known asked known1 known' r
     started collected is all p = record {
       asked = asked;
       asks = went;
-      goes = part-both alone alone' is_ours n (λ noted done. (noted ≡ Collect calls ∷ []) × (done ≡ []))
+      goes = part-both alone alone' is_ours n
+          (λ noted done. (noted ≡ Collect calls ∷ []) × (done ≡ []))
           (InOrder Due (take at slice))
           (CollectsIf (has_started_at fixed asked) Due) asked known1 known' ring ring ring'
           (λ noted noted' done done' x y. subst
@@ -89,7 +90,8 @@ collects-all Due alone alone' fixed n calls slice at known asked known1 known' r
             calls,
             noted',
             ap (λ (l : List Entry). l ++ noted') x.0,
-            subst (λ (l : List Call). InOrder Due l noted' (done ++ done')) (take_all at slice all ∙ is)
+            subst (λ (l : List Call). InOrder Due l noted' (done ++ done'))
+                (take_all at slice all ∙ is)
                 (subst (λ (l : List RingEntry). InOrder Due (take at slice) noted' (l ++ done'))
                 (sym x.1) y),
           ))

@@ -31,7 +31,7 @@ use Rattle.ring_core.specs.Refusals.{or_no, free_no, awaited_no, other_no, answe
 use Rattle.tied_lists.specs.Waits.{AwaitsThis, IsFree, Holds, HasLeft}
 use Rattle.tied_lists.proofs.Boxes.{each-filter}
 use Rattle.comm_port.specs.Giving.{due_by, due_on, is_chosen, chosen_below, given_due, AsksAreOn}
-use Rattle.comm_port.specs.Giving.{IsSettled, IsOtherPath, GaveUpBelow, part_no}
+use Rattle.comm_port.specs.Giving.{IsPathSettled, IsOtherPath, GaveUpBelow, part_no}
 use Rattle.comm_port.specs.HoldTurn.{IsGivenUp, finish_of}
 use Rattle.comm_port.specs.Parts.{InOrder}
 use Rattle.mstr_block.specs.Table.{network_paths}
@@ -271,7 +271,7 @@ below-kept : (net : NetPlan) (n : ℕ) (chosen : List Bool) (p : ℕ) (old mid :
 below-kept net n chosen p old mid none g = record {
   here = g.here;
   settled = λ q from to is. ⊎_elim
-      (λ (e : q ≡ p). subst (IsSettled net n old mid) (sym e)
+      (λ (e : q ≡ p). subst (IsPathSettled net n old mid) (sym e)
       (inr (g.others p (inr (inl (omega arith))), none)))
       (λ (o : q ≡ p → ⊥). g.settled q from (omega (arith, to, o)) is) (cases_eq q p);
   others = λ q k. g.others q (wider chosen p q k);

@@ -12,7 +12,7 @@ use Rattle.ring_core.specs.declared.entry.Heard.{Heard}
 use Rattle.ring_core.specs.declared.entry.RingEntry.{RingEntry}
 use Rattle.ring_core.specs.declared.entry.RingEntry.TheVariants.{Send, GiveUp}
 use Rattle.ring_core.specs.Machine.{path_places}
-use Rattle.ring_core.specs.Legal.{IsLegal, IsPath}
+use Rattle.ring_core.specs.Legal.{IsLegalRing, IsPath}
 use Rattle.tied_lists.specs.Own.{is_of, own, WentOn, Grew}
 use Rattle.tied_lists.specs.Items.{AController, Items, Called, NetCall, Came, with_end}
 use Rattle.tied_lists.specs.Tied.{TiedBut}
@@ -86,7 +86,7 @@ pub given-lead-but : {P Q : Type 0} (rest : List Called) (alone alone' : Bool) (
     (id : CallId) (word : ℕ) (ram ram' : RamSideIs P) (known known' :
     List Entry) (side side' : RingSideIs Q) (ring ring' : List RingEntry) (w : List (Option Frame))
     → ram' ≡ ram → side' ≡ side →
-    IsLegal side.net ring'
+    IsLegalRing side.net ring'
     → Waits n p id ram known side ring w → GaveUp alone' side.net id ring ring' (Some word)
     → WentOn alone is_ours known (Finish
     id (Bad word) ∷ []) known' → Turning n rest ram known side ring w
@@ -126,7 +126,7 @@ pub given-lead : {P Q : Type 0} (alone alone' : Bool) (n p : ℕ) (id : CallId) 
     (ram ram' : RamSideIs P) (known known' :
     List Entry) (side side' : RingSideIs Q) (ring ring' : List RingEntry) (w : List (Option Frame))
     → ram' ≡ ram → side' ≡ side →
-    IsLegal side.net ring'
+    IsLegalRing side.net ring'
     → Waits n p id ram known side ring w → GaveUp alone' side.net id ring ring' (Some word)
     → WentOn alone is_ours known (Finish
     id (Bad word) ∷ []) known' → Turning n [] ram known side ring w
@@ -140,7 +140,7 @@ given-lead alone alone' n p id word ram ram' known known' side side' ring ring' 
 pub stays-lead : {P Q : Type 0} (alone : Bool) (n : ℕ) (rest : List Called) (ram : RamSideIs P)
     (known : List Entry) (side side' :
     RingSideIs Q) (ring ring' : List RingEntry) (w : List (Option Frame)) → side' ≡ side
-    → IsLegal side.net ring' → KeepsInbox
+    → IsLegalRing side.net ring' → KeepsInbox
     side.net n ring ring' → Grew alone (is_of n) ring [] ring'
     → Turning n rest ram known side ring w → Turning n rest ram known side' ring' w
 stays-lead {P} {Q} alone n rest ram known side side' ring ring' w same legal kept grew t =
@@ -157,7 +157,7 @@ stays-lead {P} {Q} alone n rest ram known side side' ring ring' w same legal kep
 pub not-given : {P Q : Type 0} (alone' : Bool) (n p : ℕ) (id : CallId) (ram : RamSideIs P)
     (known : List Entry) (side side' :
     RingSideIs Q) (ring ring' : List RingEntry) (w : List (Option Frame)) → side' ≡ side
-    → IsLegal side.net ring' → Waits n p id
+    → IsLegalRing side.net ring' → Waits n p id
     ram known side ring w → GaveUp alone' side.net id ring ring' None
     → Turning n [] ram known side ring w → Turning n [] ram known side' ring' w
 not-given {P} {Q} alone' n p id ram known side side' ring ring' w same legal k gave t =
@@ -169,7 +169,7 @@ not-given {P} {Q} alone' n p id ram known side side' ring ring' w same legal k g
 pub sent-lead : {P Q : Type 0} (alone : Bool) (n : ℕ) (heard : Heard) (ram : RamSideIs P)
     (known : List Entry) (side side' :
     RingSideIs Q) (ring ring' : List RingEntry) (w : List (Option Frame)) → side' ≡ side
-    → IsLegal side.net ring' → SentNext alone
+    → IsLegalRing side.net ring' → SentNext alone
     side.net n heard ring ring' → Turning n [] ram known side ring w
     → Turning n [] ram known side' ring' w
 sent-lead {P} {Q} alone n heard ram known side side' ring ring' w same legal sent t =

@@ -170,7 +170,8 @@ on-given alone net n p id word ring ring' own' path' j o is g' =
       part_is = s.0 ∙ ap (given_due (part_at net n ring)) (sym due);
       each = each-as n (λ past e. (v : ℕ) × IsThis net n (GiveUp id v) ring past e)
           (IsDueNext net n (λ q. q ≡ p) (part_at net n ring)) ring ring'
-          (λ past e it. subst (IsDueNext net n (λ q. q ≡ p) (part_at net n ring) past) (sym it.1.0) (
+          (λ past e it. subst (IsDueNext net n (λ q. q ≡ p) (part_at net n ring) past)
+          (sym it.1.0) (
             path',
             ap (λ (c : NodeIs). path_of c id.path) it.1.1,
             subst

@@ -11,7 +11,7 @@ use Rattle.std.proofs.lemmas.List.{length-set, map-append}
 use Rattle.std.proofs.lemmas.List.Folds.{list_any-append}
 use Rattle.plant_types.specs.declared.net.NetPlan.{NetPlan}
 use Rattle.plant_types.specs.declared.net.HostPlan.{HostPlan}
-use Rattle.ring_core.specs.Legal.{IsLegal, IsPath}
+use Rattle.ring_core.specs.Legal.{IsLegalRing, IsPath}
 use Rattle.ring_core.specs.Machine.{asked, NodeIs, no_path, path_of, path_places, ring_after}
 use Rattle.ring_core.specs.Machine.{ring_node}
 use Rattle.ring_core.specs.declared.frame.FrameKind.{FrameKind}
@@ -22,7 +22,7 @@ use Rattle.ring_core.specs.declared.path.Await.TheVariants.{Out}
 use Rattle.ring_core.specs.declared.entry.RingEntry.{RingEntry}
 use Rattle.ring_core.specs.declared.entry.RingEntry.TheVariants.{Post}
 use Rattle.host_port.specs.declared.entry.HostEntry.{HostEntry}
-use Rattle.host_port.specs.Calls.{goes_on}
+use Rattle.host_port.specs.Calls.{goes_on_path}
 use Rattle.host_port.specs.Host.{HostIs, due_request}
 use Rattle.host_port.proofs.Lists.{split_last}
 use Rattle.tied_lists.specs.Own.{is_of, Grew, WentOn}
@@ -32,7 +32,7 @@ use Rattle.tied_lists.proofs.Turns.{after-post, part}
 use Rattle.comm_port.specs.Sides.{RingSideIs}
 use Rattle.comm_port.specs.Turns.{IsOwnTurn}
 use Rattle.comm_port.specs.Giving.{is_chosen}
-use Rattle.comm_port.specs.HostTurns.{AreRecent, ask_of, AskedAll, AskedNext, AskedNone}
+use Rattle.comm_port.specs.HostTurns.{AreRecent, ask_entry_of, AskedAll, AskedNext, AskedNone}
 use Rattle.comm_port.specs.HostTurns.{AskedOnce, AsksInOrder, host_at, IsRecent, went_on}
 use Rattle.comm_port.proofs.HostServes.{grew_not}
 use Rattle.comm_port.proofs.RingTurns.{own-moved}
@@ -44,13 +44,14 @@ pub record PathIsOut (net : NetPlan) (n : ℕ) (f : Frame) (ring ring' : List Ri
     pub out : path_of (ring_node (ring_after net ring') n) f.id.path
         ≡ record { awaits = Out f.id.seq f.to 0; posted = f.id.seq }
     pub others : (p : ℕ) → p ≢ f.id.path
-        → path_of (ring_node (ring_after net ring') n) p ≡ path_of (ring_node (ring_after net ring) n)
+        → path_of (ring_node (ring_after net ring') n) p
+        ≡ path_of (ring_node (ring_after net ring) n)
         p
 
 pub path-out : {Q : Type 0} (alone : Bool) (n : ℕ) (f : Frame) (side : RingSideIs Q)
     (ring ring' : List RingEntry) → IsOwnTurn side
     ring n → f.kind ≡ Request → IsPath f.id.path → WentOn alone (is_of n) ring (Post n f ∷ []) ring'
-    → IsLegal side.net ring'
+    → IsLegalRing side.net ring'
     → PathIsOut side.net n f ring ring'
 path-out alone n f side ring ring' turn kind is_path went legal =
     let m = own-moved side alone n ring (Post n f) ring' refl turn legal went in
@@ -112,14 +113,15 @@ host-is v plan list p h = λ i. record { plan = p i; history = h i }
 
 each-next : (plan : HostPlan) (hold : ℕ) (asks : List Frame) (list : List HostEntry) (ask : Frame)
     → ((before after' : List Frame) (f : Frame) → asks ≡ before ++ f ∷ after'
-    → due_request (host_at plan (list ++ map ask_of before)) hold ≡ Some f)
-    → due_request (host_at plan (list ++ map ask_of asks)) hold ≡ Some ask
+    → due_request (host_at plan (list ++ map ask_entry_of before)) hold ≡ Some f)
+    → due_request (host_at plan (list ++ map ask_entry_of asks)) hold ≡ Some ask
     → (before after' : List Frame) (f : Frame)
     → asks ++ ask ∷ [] ≡ before ++ f ∷ after'
-    → due_request (host_at plan (list ++ map ask_of before)) hold ≡ Some f
+    → due_request (host_at plan (list ++ map ask_entry_of before)) hold ≡ Some f
 each-next plan hold asks list ask each due before after' f is = ⊎_elim
     (λ (l : (before ≡ asks) × (f ≡ ask)). ap
-    (λ (b : List Frame). due_request (host_at plan (list ++ map ask_of b)) hold) l.0 ∙ due ∙ ap
+    (λ (b : List Frame). due_request (host_at plan (list ++ map ask_entry_of b)) hold) l.0 ∙ due
+    ∙ ap
     Some (sym l.1))
     (λ (q : (rest : List Frame) × (asks ≡ before ++ f ∷ rest)). each before q.0 f q.1)
     (split_last asks ask before after' f is)
@@ -130,19 +132,19 @@ chosen-next : (fresh : List Bool) (asks : List Frame) (ask : Frame) (path : ℕ)
     → is_chosen (set fresh path true) p ≡ went_on (asks ++ ask ∷ []) p
 chosen-next fresh asks ask path is range paths p = ⊎_elim
     (λ (e : p ≡ path).
-    let on : goes_on p ask ≡ true = eq-eqb ask.id.path p (is ∙ sym e) in
+    let on : goes_on_path p ask ≡ true = eq-eqb ask.id.path p (is ∙ sym e) in
     let now : is_chosen (set fresh path true) p ≡ true = ap
     (λ (q : ℕ). get_or (set fresh path true) q false) e ∙ get_or-set_same fresh path true false
     range in
-    now ∙ sym (list_any-append (goes_on p) asks (ask ∷ []) ∙ ap
-    (λ (b : Bool). list_any (goes_on p) asks || (b || false)) on ∙ or-true
-    (list_any (goes_on p) asks)))
+    now ∙ sym (list_any-append (goes_on_path p) asks (ask ∷ []) ∙ ap
+    (λ (b : Bool). list_any (goes_on_path p) asks || (b || false)) on ∙ or-true
+    (list_any (goes_on_path p) asks)))
     (λ (o : p ≡ path → ⊥).
-    let off : goes_on p ask ≡ false = ne_eqb ask.id.path p (λ e. o (sym e ∙ is)) in
+    let off : goes_on_path p ask ≡ false = ne_eqb ask.id.path p (λ e. o (sym e ∙ is)) in
     get_or-set_other fresh path p true false o ∙ paths p
-    ∙ sym (list_any-append (goes_on p) asks (ask ∷ []) ∙ ap
-    (λ (b : Bool). list_any (goes_on p) asks || (b || false)) off ∙ or-false
-    (list_any (goes_on p) asks)))
+    ∙ sym (list_any-append (goes_on_path p) asks (ask ∷ []) ∙ ap
+    (λ (b : Bool). list_any (goes_on_path p) asks || (b || false)) off ∙ or-false
+    (list_any (goes_on_path p) asks)))
     (cases_eq p path)
   where
     or-true : (b : Bool) → (b || (true || false)) ≡ true
@@ -171,9 +173,9 @@ pub asked-next : (alone : Bool) (net : NetPlan) (n : ℕ) (plan : HostPlan) (hol
     → AskedOnce alone net n hold path old new r r'
     → AskedSoFar alone net n plan hold list new.history r0 r' (set fresh at true)
 asked-next alone net n plan hold path list old new r0 r r' fresh at at_is plan_is a o =
-    let due : due_request (host_at plan (list ++ map ask_of a.asks)) hold ≡ Some o.ask =
+    let due : due_request (host_at plan (list ++ map ask_entry_of a.asks)) hold ≡ Some o.ask =
     ap (λ (v : HostIs). due_request v hold)
-    (sym (host-is old plan (list ++ map ask_of a.asks) plan_is a.in_order.asked)) ∙ o.due in
+    (sym (host-is old plan (list ++ map ask_entry_of a.asks) plan_is a.in_order.asked)) ∙ o.due in
     let size = a.size in
     let high = o.is_path.1 in
     let range : path < length fresh = omega (arith, size, high) in
@@ -182,9 +184,9 @@ asked-next alone net n plan hold path list old new r0 r r' fresh at at_is plan_i
       asks = a.asks ++ o.ask ∷ [];
       in_order = record {
         each = each-next plan hold a.asks list o.ask a.in_order.each due;
-        asked = o.asked ∙ ap (λ (l : List HostEntry). l ++ ask_of o.ask ∷ []) a.in_order.asked
-            ∙ append_assoc list (map ask_of a.asks) (ask_of o.ask ∷ []) ∙ ap
-            (λ (l : List HostEntry). list ++ l) (sym (map-append ask_of a.asks (o.ask ∷ [])));
+        asked = o.asked ∙ ap (λ (l : List HostEntry). l ++ ask_entry_of o.ask ∷ []) a.in_order.asked
+            ∙ append_assoc list (map ask_entry_of a.asks) (ask_entry_of o.ask ∷ []) ∙ ap
+            (λ (l : List HostEntry). list ++ l) (sym (map-append ask_entry_of a.asks (o.ask ∷ [])));
         grew = subst (λ (added : List RingEntry). Grew alone (is_of n) r0 added r')
             (sym (map-append (Post n) a.asks (o.ask ∷ [])))
             (grew-more alone (is_of n) r0 r r' (map (Post n) a.asks) (Post n o.ask ∷ [])

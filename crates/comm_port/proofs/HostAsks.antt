@@ -1,7 +1,7 @@
 -- What a host's asks and give-ups leave.
 use Rattle.std.proofs.Common.{◌≡◌, ℕ, ◌+◌, ◌<◌, ◌≤◌, Bool, true, false, List, []}
 use Rattle.std.proofs.Common.{◌∷◌, ◌++◌, length, Option, Some, None, Ok, refl, sym, ap}
-use Rattle.std.proofs.Common.{subst, ◌∙◌, inl, inr, append-nil, arith}
+use Rattle.std.proofs.Common.{subst, ◌∙◌, inr, append-nil, arith}
 use Rattle.std.specs.Prelude.{IfSome, is_some}
 use Rattle.plant_types.specs.declared.net.NetPlan.{NetPlan}
 use Rattle.std.proofs.lemmas.List.{length_push}
@@ -17,7 +17,7 @@ use Rattle.ring_core.specs.declared.entry.RingEntry.{RingEntry}
 use Rattle.ring_core.specs.declared.entry.RingEntry.TheVariants.{Post, Send, GiveUp, Pass, Leave}
 use Rattle.ring_core.specs.declared.entry.Heard.{Heard}
 use Rattle.ring_core.specs.declared.entry.LeaveCause.{LeaveCause}
-use Rattle.ring_core.specs.Legal.{IsFrom, IsLegal, IsNextNumber}
+use Rattle.ring_core.specs.Legal.{IsFrom, IsLegalRing, IsNextNumber}
 use Rattle.ring_core.specs.Machine.{NodeIs, awaited_number, path_of, ring_after, ring_node}
 use Rattle.host_port.specs.declared.entry.HostEntry.{HostEntry}
 use Rattle.host_port.specs.declared.entry.HostEntry.TheVariants.{Ask, Answer}
@@ -88,11 +88,6 @@ pub ask-legal : (old new : HostIs) (f : Frame) → HostWentOn (Ask f.id f.to f.p
     (old.history ++ Ask f.id f.to f.pdu ∷ [])
 ask-legal old new f w = legal-with old new (Ask f.id f.to f.pdu) w
 
-pub ask-from : (n : ℕ) (old : HostIs) (f : Frame) → old.plan.node ≡ n → f.kind ≡ Request
-    → IsFrom old.plan.node Request f → IsFrom n f.kind f
-ask-from n old f node kind from = subst (λ k. IsFrom n k f) (sym kind)
-    (subst (λ m. IsFrom m Request f) node from)
-
 pub ask-next : {Q : Type 0} (n : ℕ) (f : Frame) (old new : HostIs) (side : RingSideIs Q)
     (ring : List RingEntry) → HostTurning n
     old side ring → f.kind ≡ Request
@@ -113,7 +108,7 @@ pub turning-asked : {Q : Type 0} (alone : Bool) (n : ℕ) (f : Frame) (old new :
     (side : RingSideIs Q) (ring ring' : List
     RingEntry) → HostTurning n old side ring → f.kind ≡ Request
     → HostWentOn (Ask f.id f.to f.pdu ∷ []) old new
-    → WentOn alone (is_of n) ring (Post n f ∷ []) ring' → IsLegal side.net ring' →
+    → WentOn alone (is_of n) ring (Post n f ∷ []) ring' → IsLegalRing side.net ring' →
     HostTurning n new side ring' × KeepsInbox side.net n ring ring'
 turning-asked alone n f old new side ring ring' t kind w went legal =
     let e : HostEntry = Ask f.id f.to f.pdu in
@@ -190,7 +185,7 @@ pub turning-gave : {Q : Type 0} (alone : Bool) (id : CallId) (word : ℕ) (old n
     List RingEntry) → HostTurning id.node old side ring
     → is_unanswered old.history id ≡ true → HostWentOn (Answer id (results.Bad word) ∷ []) old new
     → GaveUp alone side.net id ring
-    ring' (Some word) → IsLegal side.net ring' → HostTurning id.node new side ring'
+    ring' (Some word) → IsLegalRing side.net ring' → HostTurning id.node new side ring'
 turning-gave alone id word old new side ring ring' t out w gave legal =
     let n = id.node in
     let e : HostEntry = Answer id (results.Bad word) in
@@ -216,7 +211,7 @@ turning-gave alone id word old new side ring ring' t out w gave legal =
 pub turning-grew : {Q : Type 0} (alone : Bool) (n : ℕ) (host : HostIs) (side : RingSideIs Q)
     (ring ring' : List RingEntry) →
     HostTurning n host side ring → Grew alone (is_of n) ring [] ring'
-    → KeepsInbox side.net n ring ring' → IsLegal side.net ring' → HostTurning n host side ring'
+    → KeepsInbox side.net n ring ring' → IsLegalRing side.net ring' → HostTurning n host side ring'
 turning-grew alone n host side ring ring' t grew kept legal =
     let same : own n ring' ≡ own n ring = grew-ours alone (is_of n) ring [] ring' grew ∙ append-nil
     (own n ring) in
@@ -238,7 +233,7 @@ pub record Looked {Q : Type 0} (alone : Bool) (n : ℕ) (host : HostIs) (side : 
   pub left : HasLeft side.net ring n → HasLeft side.net ring' n
 
 pub looked : {Q : Type 0} (alone : Bool) (n : ℕ) (host : HostIs) (side : RingSideIs Q)
-    (ring ring' : List RingEntry) → IsLegal
+    (ring ring' : List RingEntry) → IsLegalRing
     side.net ring' → WentOn alone (is_of n) ring [] ring'
     → HostTurning n host side ring → Looked alone n host side ring ring'
 looked alone n host side ring ring' legal went t =
@@ -268,11 +263,11 @@ gave-at {Q} alone id side side' ring ring' o o' same is gave =
 pub gave-none : {Q : Type 0} (alone : Bool) (id : CallId) (o : Option ℕ) (host : HostIs)
     (side side' : RingSideIs Q) (a b c : List
     RingEntry) → Looked alone id.node host side a b → side' ≡ side
-    → GaveUp alone side'.net id b c o → o ≡ None → IsLegal side'.net c
+    → GaveUp alone side'.net id b c o → o ≡ None → IsLegalRing side'.net c
     → Looked alone id.node host side a c
 gave-none {Q} alone id o host side side' a b c l same gave is legal' =
     let g = gave-at alone id side side' b c o None same is gave in
-    let legal = subst (λ (s : RingSideIs Q). IsLegal s.net c) same legal' in
+    let legal = subst (λ (s : RingSideIs Q). IsLegalRing s.net c) same legal' in
     record {
       turning = turning-grew alone id.node host side b c l.turning g.grew g.kept legal;
       kept = kept-both side.net id.node a b c l.kept g.kept;
@@ -283,12 +278,12 @@ gave-none {Q} alone id o host side side' a b c l same gave is legal' =
 pub gave-some : {Q : Type 0} (alone : Bool) (id : CallId) (o : Option ℕ) (word : ℕ)
     (old new : HostIs) (side side' : RingSideIs Q)
     (a b c : List RingEntry) → Looked alone id.node old side a b → side' ≡ side
-    → GaveUp alone side'.net id b c o → o ≡ Some word → IsLegal side'.net c
+    → GaveUp alone side'.net id b c o → o ≡ Some word → IsLegalRing side'.net c
     → is_unanswered old.history id ≡ true → HostWentOn
     (Answer id (results.Bad word) ∷ []) old new → Looked alone id.node new side a c
 gave-some {Q} alone id o word old new side side' a b c l same gave is legal' out w =
     let g = gave-at alone id side side' b c o (Some word) same is gave in
-    let legal = subst (λ (s : RingSideIs Q). IsLegal s.net c) same legal' in
+    let legal = subst (λ (s : RingSideIs Q). IsLegalRing s.net c) same legal' in
     record {
       turning = turning-gave alone id word old new side b c l.turning out w g legal;
       kept = kept-both side.net id.node a b c l.kept g.kept;
@@ -313,7 +308,7 @@ from-some n o f is from = subst (λ (x : Option Frame). IfSome x (IsFrom n Reque
 pub turning-sent : {Q : Type 0} (alone : Bool) (n : ℕ) (heard : Heard) (host : HostIs)
     (side : RingSideIs Q) (ring ring' : List
     RingEntry) → HostTurning n host side ring → SentNext alone side.net n heard ring ring'
-    → IsLegal side.net ring' → HostTurning n host side ring'
+    → IsLegalRing side.net ring' → HostTurning n host side ring'
 turning-sent alone n heard host side ring ring' t sent legal =
     let own_is : own n ring' ≡ own n ring ++ Send n heard ∷ [] = grew-ours alone (is_of n) ring
     (Send n heard ∷ []) ring' sent.grew in
@@ -351,9 +346,9 @@ last-still n done words (Some cause) h b agree = agree_still h b (Leave n cause)
 pub ties-handed : {Q : Type 0} (alone : Bool) (n : ℕ) (done : Bool) (words : List ℕ)
     (cause : Option LeaveCause) (host : HostIs)
     (side : RingSideIs Q) (ring ring' : List RingEntry) → HostTurning n host side ring
-    → HandedOn alone side.net n done words cause ring ring' → IsLegal side.net ring'
-    → HostTies n host side ring'
-ties-handed alone n done words cause host side ring ring' t handed legal =
+    → HandedOn alone side.net n done words cause ring ring' → IsLegalRing side.net ring'
+    → 0 < side.net.answer → HostTies n host side ring'
+ties-handed alone n done words cause host side ring ring' t handed legal wait =
     let own_is = grew-ours alone (is_of n) ring (last_entry n done words cause ∷ []) ring'
     handed.grew in
     record {
@@ -361,6 +356,7 @@ ties-handed alone n done words cause host side ring ring' t handed legal =
       legal = t.legal;
       serves = t.own_turn.serves;
       on = on-ring side ring ring' n t.own_turn legal;
+      answer = wait;
       tied = subst (Tied AHost (host_items_of host.history)) (sym own_is)
           (tied-all AHost _ _ (last-quiet n done words cause _ _ (tied-none AHost _ _ t.tied)));
       paths = subst (PathsAgree host.history) (sym own_is)
@@ -374,28 +370,6 @@ turning-left n host side ring t gone = record {
   node = t.node;
   legal = t.legal;
   own_turn = record { serves = t.serves; on = t.on; free = inr gone };
-  tied = t.tied;
-  paths = t.paths;
-}
-
-pub turning-held : {Q : Type 0} (n : ℕ) (host : HostIs) (side : RingSideIs Q)
-    (ring : List RingEntry) → HostTies n host side ring
-    → Holds side.net ring n → HostTurning n host side ring
-turning-held n host side ring t holds = record {
-  node = t.node;
-  legal = t.legal;
-  own_turn = record { serves = t.serves; on = t.on; free = inl holds };
-  tied = t.tied;
-  paths = t.paths;
-}
-
-pub ties-of : {Q : Type 0} (n : ℕ) (host : HostIs) (side : RingSideIs Q) (ring : List RingEntry)
-    → HostTurning n host side ring → HostTies n host side ring
-ties-of n host side ring t = record {
-  node = t.node;
-  legal = t.legal;
-  serves = t.own_turn.serves;
-  on = t.own_turn.on;
   tied = t.tied;
   paths = t.paths;
 }

@@ -13,15 +13,17 @@ use Rattle.ring_core.specs.declared.entry.RingEntry.TheVariants.{Post, Send, Tak
 use Rattle.ring_core.specs.declared.entry.RingEntry.TheVariants.{Pass, Leave}
 use Rattle.ring_core.specs.Words.{maker, asks_for}
 use Rattle.ring_core.specs.Machine.{NodeIs}
-use Rattle.ring_core.specs.Legal.{IsLegal}
+use Rattle.ring_core.specs.Legal.{IsLegalRing}
 use Rattle.tied_lists.specs.Own.{is_of, own, Adds}
 use Rattle.tied_lists.specs.Waits.{IsOnRing, Holds}
 use Rattle.tied_lists.proofs.Histories.{heard-inbox}
 use Rattle.tied_lists.proofs.Turns.{Moved, after-post, after-give_up, found-at, legal-parts}
 use Rattle.comm_port.specs.Giving.{part_at, BoxesEmpty}
-use Rattle.comm_port.specs.HostTurns.{AsksAllDue, EachSends, GivesUpDue, GivenUp, IsSendingStep}
+use Rattle.comm_port.specs.HostTurns.{AsksAllDue, GivesUpDue, GivenUp}
 use Rattle.comm_port.specs.HostTurns.{SendsOut, give_up_of}
+use Rattle.comm_port.specs.SendsAll.{IsNextSending}
 use Rattle.comm_port.specs.Order.{IsGivingUp}
+use Rattle.comm_port.proofs.Parts.{each-added}
 use Rattle.comm_port.proofs.Sends.{sent-one}
 use Rattle.comm_port.proofs.Through.{own-moves}
 
@@ -40,14 +42,15 @@ HolderKeeps net n Sort Q = (past after' : List RingEntry) (e : RingEntry) → ma
 
 holder-run : (net : NetPlan) (n : ℕ) (Sort : RingEntry → Type 0) (Q : NodeIs → Type 0)
     → HolderKeeps net n Sort Q → (past more : List RingEntry) → IsOnRing net past n
-    → IsLegal net (past ++ more) → Each Sort (own n more) → Holds net past n
+    → IsLegalRing net (past ++ more) → Each Sort (own n more) → Holds net past n
     → Q (part_at net n past) → Q (part_at net n (past ++ more))
 holder-run net n Sort Q keeps past [] on legal sorts h it = subst
     (λ (l : List RingEntry). Q (part_at net n l)) (sym (append-nil past)) it
 holder-run net n Sort Q keeps past (e ∷ es) on legal sorts h it =
     let join = append_assoc past (e ∷ []) es in
     let run = (legal-parts net past (e ∷ es) legal).1 in
-    let legal' : IsLegal net ((past ++ e ∷ []) ++ es) = subst (IsLegal net) (sym join) legal in
+    let legal' : IsLegalRing net ((past ++ e ∷ []) ++ es) = subst (IsLegalRing net)
+    (sym join) legal in
     let near = (legal-parts net (past ++ e ∷ []) es legal').0 in
     let on' : IsOnRing net (past ++ e ∷ []) n = record
     { members = on.members; legal = near; member = on.member } in
@@ -70,12 +73,12 @@ holder-run net n Sort Q keeps past (e ∷ es) on legal sorts h it =
 
 holder-through : (alone : Bool) (net : NetPlan) (n : ℕ) (Sort : RingEntry → Type 0)
     (Q : NodeIs → Type 0) (ring ring' : List RingEntry) → HolderKeeps net n Sort Q → IsOnRing
-    net ring n → IsLegal net ring' → Holds net ring n → Adds alone (is_of n) Sort ring ring'
+    net ring n → IsLegalRing net ring' → Holds net ring n → Adds alone (is_of n) Sort ring ring'
     → Q (part_at net n ring) → Q (part_at net n ring')
 holder-through alone net n Sort Q ring ring' keeps on legal h adds it =
     let g = adds.grew in
     subst (λ (l : List RingEntry). Q (part_at net n l)) (sym g.after_is)
-    (holder-run net n Sort Q keeps ring g.more on (subst (IsLegal net) g.after_is legal)
+    (holder-run net n Sort Q keeps ring g.more on (subst (IsLegalRing net) g.after_is legal)
     (subst (Each Sort) (sym g.ours_are) adds.sort) h it)
 
 inbox-keeps : (net : NetPlan) (n : ℕ) → HolderKeeps net n KeepsBox (λ c. c.inbox ≡ [])
@@ -119,37 +122,22 @@ gives-sort : (ends : List GivenUp) → Each IsGivingUp (map give_up_of ends)
 gives-sort [] = tt
 gives-sort (e ∷ ends) = (tt, gives-sort ends)
 
-step-sort : (net : NetPlan) (on : ℕ → Bool) (c : NodeIs) (e : RingEntry) → IsSendingStep net on c e
-    → KeepsBox e
-step-sort net on c (Send m heard) it = tt
-step-sort net on c (GiveUp id word) it = tt
-step-sort net on c (Post m f) it = absurd it
-step-sort net on c (Take m f) it = absurd it
-step-sort net on c (Local m id op result) it = absurd it
-step-sort net on c (Pass m done words) it = absurd it
-step-sort net on c (Leave m cause) it = absurd it
-
-sends-sort : (net : NetPlan) (n : ℕ) (on : ℕ → Bool) (past more : List RingEntry)
-    → EachSends net n on past more → Each KeepsBox (own n more)
-sends-sort net n on past [] each = tt
-sends-sort net n on past (e ∷ es) each = ⊎_elim
-    (λ (mine : is_of n e ≡ true). subst
-    (λ (b : Bool). Each KeepsBox (cond b (e ∷ own n es) (own n es))) (sym mine) (
-      step-sort net on (part_at net n past) e (each.0 (eqb-true (maker e) n mine)),
-      sends-sort net n
-          on (past ++ e ∷ []) es each.1,
-    ))
-    (λ (other : is_of n e ≡ false). subst
-    (λ (b : Bool). Each KeepsBox (cond b (e ∷ own n es) (own n es))) (sym other)
-    (sends-sort net n on (past ++ e ∷ []) es each.1))
-    (cases_Bool (is_of n e))
+step-sort : (net : NetPlan) (n : ℕ) (on : ℕ → Bool) (past : List RingEntry) (e : RingEntry)
+    → IsNextSending net n on past e → KeepsBox e
+step-sort net n on past (Send m heard) it = tt
+step-sort net n on past (GiveUp id word) it = tt
+step-sort net n on past (Post m f) it = absurd it
+step-sort net n on past (Take m f) it = absurd it
+step-sort net n on past (Local m id op result) it = absurd it
+step-sort net n on past (Pass m done words) it = absurd it
+step-sort net n on past (Leave m cause) it = absurd it
 
 -- both boxes of a host that served, asked, sent and gave up are empty
 pub boxes-empty : (alone : Bool) (net : NetPlan) (n : ℕ) (plan : HostPlan) (hold : ℕ)
     (asks : List Frame) (on : ℕ → Bool) (paths : List ℕ) (k1 k2 k3 k4 : List HostEntry)
     (served asked sent
-    given : List RingEntry) → IsOnRing net served n → Holds net served n → IsLegal net asked
-    → Holds net asked n → IsLegal net sent → Holds net sent n → IsLegal net given
+    given : List RingEntry) → IsOnRing net served n → Holds net served n → IsLegalRing net asked
+    → Holds net asked n → IsLegalRing net sent → Holds net sent n → IsLegalRing net given
     → (part_at net n served).inbox ≡ [] → AsksAllDue alone n plan hold asks k1 k2 served asked
     → SendsOut alone net n on k2 k3 asked sent → GivesUpDue alone net n paths k3 k4 sent given
     → BoxesEmpty (part_at net n given)
@@ -166,11 +154,11 @@ boxes-empty alone net n plan hold asks on paths k1 k2 k3 k4 served asked sent gi
     let two = holder-through alone net n KeepsBox (λ c. c.inbox ≡ []) asked sent (inbox-keeps net n)
     on2 legal3 h2
     (record {
-      added = s.sends.entries;
-      sort = subst (Each KeepsBox) s.sends.grew.ours_are
-          (sends-sort net n on asked s.sends.grew.more s.sends.each);
-      grew = s.sends.grew;
+      added = s.frames.done;
+      sort = each-added alone n (IsNextSending net n on) KeepsBox (step-sort net n on) asked
+          s.frames.done sent s.frames.grew s.frames.each;
+      grew = s.frames.grew;
     }) one in
     holder-through alone net n IsGivingUp BoxesEmpty sent given (boxes-keep net n) on3 legal4 h3
     (record { added = map give_up_of u.ends; sort = gives-sort u.ends; grew = u.grew })
-    (s.empty, two)
+    (s.frames.all_sent, two)

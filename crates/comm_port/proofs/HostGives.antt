@@ -11,7 +11,7 @@ use Rattle.std.proofs.lemmas.List.Elements.{filter-append}
 use Rattle.plant_types.specs.declared.net.NetPlan.{NetPlan}
 use Rattle.mstr_block.specs.Table.{network_paths}
 use Rattle.mstr_block.specs.declared.call.CallId.{CallId}
-use Rattle.ring_core.specs.Legal.{IsLegal}
+use Rattle.ring_core.specs.Legal.{IsLegalRing}
 use Rattle.ring_core.specs.Machine.{awaited_number, NodeIs, path_of, ring_after}
 use Rattle.ring_core.specs.Refusals.{give_up_no}
 use Rattle.ring_core.specs.declared.frame.Frame.{Frame}
@@ -37,7 +37,6 @@ use Rattle.comm_port.specs.HostTurns.{GivesUpDue, give_up_of, HostTurning, wante
 use Rattle.comm_port.proofs.HostRuns.{all-let, due-both, due-nothing, due-one, due-same, ends_on}
 use Rattle.comm_port.proofs.HostRuns.{kept_for, kept-why, left-grew, still-none}
 use Rattle.comm_port.proofs.Dues.{named-by}
-use Rattle.comm_port.proofs.HostServes.{grew_not}
 use Rattle.comm_port.proofs.RingTurns.{on-ring}
 
 -- ---- one path
@@ -77,7 +76,7 @@ pub record LooksAt (net : NetPlan) (n p seq : ℕ) (a b : List RingEntry) : Type
 
 pub looks-at : {Q : Type 0} (alone : Bool) (n p seq : ℕ) (host : HostIs) (side : RingSideIs Q)
     (a b : List RingEntry) → HostTurning n host side a
-    → IsLegal side.net b → WentOn alone (is_of n) a [] b
+    → IsLegalRing side.net b → WentOn alone (is_of n) a [] b
     → seq ≡ awaited_number (path_of (part side.net b n) p).awaits → LooksAt side.net n p seq a b
 looks-at alone n p seq host side a b t legal went is =
     let on = on-ring side a b n t.own_turn legal in
@@ -85,7 +84,7 @@ looks-at alone n p seq host side a b t legal went is =
 
 pub gives-zero : {Q : Type 0} (alone : Bool) (n p seq : ℕ) (host : HostIs) (side : RingSideIs Q)
     (list : List HostEntry) (a b : List RingEntry)
-    → HostTurning n host side a → IsLegal side.net b → WentOn alone (is_of n) a [] b
+    → HostTurning n host side a → IsLegalRing side.net b → WentOn alone (is_of n) a [] b
     → seq ≡ awaited_number (path_of (part side.net b n) p).awaits → seq ≡ 0
     → GivesUpDue alone side.net n (p ∷ []) list list a b
 gives-zero alone n p seq host side list a b t legal went is zero' =
@@ -102,9 +101,10 @@ gives-zero alone n p seq host side list a b t legal went is zero' =
 -- the ring does not let it go
 pub gives-kept : {Q : Type 0} (alone : Bool) (n p seq : ℕ) (host : HostIs) (side : RingSideIs Q)
     (list : List HostEntry) (a b c : List RingEntry)
-    → HostTurning n host side a → IsLegal side.net b → WentOn alone (is_of n) a [] b
+    → HostTurning n host side a → IsLegalRing side.net b → WentOn alone (is_of n) a [] b
     → seq ≡ awaited_number (path_of (part side.net b n) p).awaits
-    → GaveUp alone side.net (record { node = n; path = p; seq = seq }) b c None → IsLegal side.net c
+    → GaveUp alone side.net (record { node = n; path = p; seq = seq }) b c None
+    → IsLegalRing side.net c
     → is_none (give_up_no side.net (ring_after side.net c)
     (record { node = n; path = p; seq = seq })) ≡ false
     → GivesUpDue alone side.net n (p ∷ []) list list a c
@@ -135,10 +135,10 @@ gives-kept alone n p seq host side list a b c t legal went is gave legal' kept =
 -- it does
 pub gives-word : {Q : Type 0} (alone : Bool) (n p seq word : ℕ) (host : HostIs)
     (side : RingSideIs Q) (list new : List HostEntry) (a b c : List RingEntry)
-    → HostTurning n host side a → IsLegal side.net b → WentOn alone (is_of n) a [] b
+    → HostTurning n host side a → IsLegalRing side.net b → WentOn alone (is_of n) a [] b
     → seq ≡ awaited_number (path_of (part side.net b n) p).awaits
     → GaveUp alone side.net (record { node = n; path = p; seq = seq }) b c (Some word)
-    → IsLegal side.net c
+    → IsLegalRing side.net c
     → new ≡ list ++ Answer (record { node = n; path = p; seq = seq }) (results.Bad word) ∷ []
     → GivesUpDue alone side.net n (p ∷ []) list new a c
 gives-word alone n p seq word host side list new a b c t legal went is gave legal' new_is =
@@ -256,17 +256,6 @@ gives-none-more alone net n ps l l' l'' a b c on on' free x y =
           l' ∙ x.answers;
       none_left = still-none net n [] b c ps left.free left' x.none_left;
     })
-
--- none at all
-pub gives-start : (alone : Bool) (net : NetPlan) (n : ℕ) (list : List HostEntry)
-    (ring : List RingEntry) → GivesUpDue alone net n [] list list ring ring
-gives-start alone net n list ring = record {
-  ends = [];
-  calls = refl;
-  grew = grew_not alone n ring;
-  answers = sym (append-nil list);
-  none_left = refl;
-}
 
 -- the paths of a loop so far
 abbrev pub paths_to : List Bool → ℕ → List ℕ

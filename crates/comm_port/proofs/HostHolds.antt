@@ -5,9 +5,9 @@ use Rattle.std.proofs.Common.{subst}
 use Rattle.std.proofs.Common.{inl, inr, arith, All, eq-eqb}
 use Rattle.std.specs.Prelude.{if◌then◌else◌, is_some, is_none, flat_map, count_by}
 use Rattle.std.specs.Prelude.{IfOk, Result, Ok, Err}
-use Rattle.std.specs.List.{AllZip, find}
+use Rattle.std.specs.List.{AllByRecursion as Each, AllZip, find}
 use Rattle.std.proofs.Math.Nat.{min-le_left, le-min}
-use Rattle.std.proofs.lemmas.Bool.{cases_Bool, eqb-true, leb-true, le-leb}
+use Rattle.std.proofs.lemmas.Bool.{cases_Bool, leb-true, le-leb}
 use Rattle.std.proofs.lemmas.List.Sums.{sum_by-append}
 use Rattle.plant_types.specs.Plans.{IsAskOf, IsHostPlan}
 use Rattle.plant_types.specs.declared.net.NetPlan.{NetPlan}
@@ -15,9 +15,8 @@ use Rattle.plant_types.specs.declared.net.HostAsk.{HostAsk}
 use Rattle.plant_types.specs.declared.net.HostPlan.{HostPlan}
 use Rattle.mstr_block.specs.Table.{network_paths}
 use Rattle.mstr_block.specs.declared.call.CallId.{CallId}
-use Rattle.ring_core.specs.Words.{maker}
 use Rattle.ring_core.specs.Legal.{IsPath}
-use Rattle.ring_core.specs.Machine.{awaited_number, path_of, ring_after, ring_node, NodeIs}
+use Rattle.ring_core.specs.Machine.{awaited_number, path_of, ring_after}
 use Rattle.ring_core.specs.Refusals.{or_no, other_no}
 use Rattle.ring_core.specs.Scratch.{words_put}
 use Rattle.ring_core.specs.Statistics.{is_stats}
@@ -33,7 +32,7 @@ use Rattle.ring_core.specs.declared.entry.RingEntry.{RingEntry}
 use Rattle.ring_core.specs.declared.entry.RingEntry.TheVariants.{Post, Send, Take, Local, GiveUp}
 use Rattle.ring_core.specs.declared.entry.RingEntry.TheVariants.{Pass, Leave}
 use Rattle.host_port.specs.declared.entry.HostEntry.{HostEntry}
-use Rattle.host_port.specs.Calls.{goes_on, next_host_call, open_on, requests_in, unanswered_in}
+use Rattle.host_port.specs.Calls.{goes_on_path, next_host_call, open_on, requests_in, unanswered_in}
 use Rattle.host_port.specs.Host.{due_request, host_is_done, HostIs, if_due, next_ask}
 use Rattle.host_port.specs.Host.{request_for}
 use Rattle.host_port.specs.Legal.{IsHostHistory}
@@ -49,13 +48,15 @@ use Rattle.joint_history.specs.Complete.{is_pass}
 use Rattle.comm_port.specs.Sides.{RingSideIs}
 use Rattle.comm_port.specs.Leaving.{cause_due, HandedOn, last_entry}
 use Rattle.comm_port.specs.Giving.{due_calls, is_chosen}
-use Rattle.comm_port.specs.HostTurns.{ask_of}
+use Rattle.comm_port.specs.HostTurns.{ask_entry_of}
 use Rattle.comm_port.specs.HostTurns.{AskedAll, AsksAllDue}
-use Rattle.comm_port.specs.HostTurns.{EachSends, EndsHostTurn, GivenUp, GivesUpDue}
+use Rattle.comm_port.specs.HostTurns.{EndsHostTurn, GivenUp, GivesUpDue}
 use Rattle.comm_port.specs.HostTurns.{give_up_of, hold_of, HoldsHostTurn, host_at, HostTurning}
-use Rattle.comm_port.specs.HostTurns.{IsSendingStep, SendsOut, ServesFrame}
+use Rattle.comm_port.specs.HostTurns.{SendsOut, ServesFrame}
 use Rattle.comm_port.specs.HostTurns.{ServesKind, ServesRequest, went_on}
+use Rattle.comm_port.specs.SendsAll.{IsNextSending}
 use Rattle.comm_port.proofs.HostRuns.{due-one, goes_by, kept_for, none-due}
+use Rattle.comm_port.proofs.Parts.{each-added}
 
 -- ---- after a Leave no call of the host is without an answer
 
@@ -95,8 +96,8 @@ none-open : (plan : HostPlan) (h : List HostEntry) (u : List Frame) → IsHostHi
 none-open plan h [] legal is none = refl
 none-open plan h (f ∷ fs) legal is none =
     let p = f.id.path in
-    let here : open_on h p ≡ Some f = ap (find (goes_on p)) is ∙ ap
-    (λ (b : Bool). cond b (Some f) (find (goes_on p) fs)) (eq-eqb p p refl) in
+    let here : open_on h p ≡ Some f = ap (find (goes_on_path p)) is ∙ ap
+    (λ (b : Bool). cond b (Some f) (find (goes_on_path p) fs)) (eq-eqb p p refl) in
     let last = open_requests.last plan h p f legal here in
     absurd (let wrong : Some f ≡ None = sym here ∙ none p last.is_path in cc)
 
@@ -148,7 +149,8 @@ pub leaves-host : (alone : Bool) (net : NetPlan) (n : ℕ) (plan : HostPlan) (bu
 leaves-host alone net n plan budget done list new ring handed ring' is left handed_on gives
     none = record {
       handed_ring = handed;
-      left_is = left ∙ ap (λ (d : Bool). is_some (cause_due net (ring_after net ring) n d budget)) is;
+      left_is = left
+          ∙ ap (λ (d : Bool). is_some (cause_due net (ring_after net ring) n d budget)) is;
       handed = subst (λ (d : Bool). HandedOn alone net n d (words_put n ring)
           (cause_due net (ring_after net ring) n d budget) ring handed) is handed_on;
       ends_there = λ e. absurd (cc);
@@ -204,7 +206,7 @@ asks-at-hold alone n plan hold h asks list new ring ring' sound is a =
     (ap (due_request v) is ∙ due-min plan v h sound same) in
     record {
       in_order = record {
-        each = λ before after' f here. at (host_at plan (list ++ map ask_of before)) refl
+        each = λ before after' f here. at (host_at plan (list ++ map ask_entry_of before)) refl
             ∙ a.in_order.each before after' f here;
         asked = a.in_order.asked;
         grew = a.in_order.grew;
@@ -252,33 +254,23 @@ gave-passes : (ends : List GivenUp) → passes_in (map give_up_of ends) ≡ 0
 gave-passes [] = refl
 gave-passes (g ∷ ends) = gave-passes ends
 
-step-none : (net : NetPlan) (on : ℕ → Bool) (c : NodeIs) (e : RingEntry) → IsSendingStep net on c e
-    → is_pass e ≡ false
-step-none net on c (Post n f) s = refl
-step-none net on c (Send n heard) s = refl
-step-none net on c (Take n f) s = refl
-step-none net on c (Local n id op result) s = refl
-step-none net on c (GiveUp id word) s = refl
-step-none net on c (Pass n done words) s = absurd s
-step-none net on c (Leave n cause) s = refl
+step-none : (net : NetPlan) (n : ℕ) (on : ℕ → Bool) (past : List RingEntry) (e : RingEntry)
+    → IsNextSending net n on past e → is_pass e ≡ false
+step-none net n on past (Post m f) s = refl
+step-none net n on past (Send m heard) s = refl
+step-none net n on past (Take m f) s = refl
+step-none net n on past (Local m id op result) s = refl
+step-none net n on past (GiveUp id word) s = refl
+step-none net n on past (Pass m done words) s = absurd s
+step-none net n on past (Leave m cause) s = refl
 
-none-of-both : (a b c : ℕ) → a ≡ b + c → b ≡ 0 → c ≡ 0 → a ≡ 0
-none-of-both a b c is one two = omega arith
-
-sent-passes : (net : NetPlan) (n : ℕ) (on : ℕ → Bool) (past more : List RingEntry)
-    → EachSends net n on past more → passes_in (own n more) ≡ 0
-sent-passes net n on past [] each = refl
-sent-passes net n on past (e ∷ more) each = elim (cases_Bool (is_of n e)) [
-  | inl mine ↦
-      let none = step-none net on (ring_node (ring_after net past) n) e
-      (each.0 (eqb-true (maker e) n mine)) in
-      none-of-both (passes_in (own n (e ∷ more))) (passes_in (e ∷ [])) (passes_in (own n more))
-      (ap passes_in (ap (λ (b : Bool). cond b (e ∷ own n more) (own n more)) mine) ∙ passes-both
-      (e ∷ []) (own n more))
-      (ap (λ (b : Bool). 0 + cond b 1 0) none) (sent-passes net n on (past ++ e ∷ []) more each.1)
-  | inr other ↦ ap passes_in (ap (λ (b : Bool). cond b (e ∷ own n more) (own n more)) other)
-      ∙ sent-passes net n on (past ++ e ∷ []) more each.1
-]
+none-pass : (es : List RingEntry) → Each (λ (e : RingEntry). is_pass e ≡ false) es
+    → passes_in es ≡ 0
+none-pass [] all = refl
+none-pass (e ∷ es) all =
+    let one = ap (λ (b : Bool). 0 + cond b 1 0) all.0 in
+    let rest = none-pass es all.1 in
+    passes-both (e ∷ []) es ∙ (λ i. one i + rest i)
 
 grew-passes : (alone : Bool) (n : ℕ) (a added b : List RingEntry) → Grew alone (is_of n) a added b
     → passes_in (own n b) ≡ passes_in (own n a) + passes_in added
@@ -327,11 +319,14 @@ passes-turn alone net n plan budget l l' a b left t =
     let two = none-more (passes_in (own n t.served_ring)) (passes_in (own n t.asked_ring)) _
     (grew-passes alone n t.served_ring _ t.asked_ring t.makes.in_order.grew)
     (asked-passes n t.asks) in
-    let g = t.sends.sends.grew in
-    let sent : passes_in t.sends.sends.entries ≡ 0 = ap passes_in (sym g.ours_are) ∙ sent-passes net
-    n (went_on t.asks) t.asked_ring g.more t.sends.sends.each in
+    let frames = t.sends.frames in
+    let sent : passes_in frames.done ≡ 0 = none-pass frames.done
+    (each-added alone n (IsNextSending net n (went_on t.asks))
+    (λ (e : RingEntry). is_pass e ≡ false)
+    (step-none net n (went_on t.asks)) t.asked_ring frames.done t.sent_ring frames.grew frames.each)
+    in
     let three = none-more (passes_in (own n t.asked_ring)) (passes_in (own n t.sent_ring)) _
-    (grew-passes alone n t.asked_ring t.sends.sends.entries t.sent_ring g) sent in
+    (grew-passes alone n t.asked_ring frames.done t.sent_ring frames.grew) sent in
     let four = none-more (passes_in (own n t.sent_ring)) (passes_in (own n t.given_ring)) _
     (grew-passes alone n t.sent_ring _ t.given_ring t.gives_up.grew)
     (gave-passes t.gives_up.ends) in

@@ -3,7 +3,7 @@ use Rattle.std.proofs.Common.{◌≡◌, ◌⊎◌, ◌==◌, ℕ, Bool, true, f
 use Rattle.std.proofs.Common.{None}
 use Rattle.std.proofs.Common.{refl, sym, ap, ◌∙◌, ⊎_elim, eq-eqb}
 use Rattle.std.specs.Prelude.{if◌then◌else◌}
-use Rattle.ring_core.specs.Legal.{IsLegal}
+use Rattle.ring_core.specs.Legal.{IsLegalRing}
 use Rattle.ring_core.specs.Machine.{NodeIs, path_of, ring_after, ring_node, RingIs}
 use Rattle.ring_core.specs.Refusals.{or_no, path_no, post_no, taken_no, turn_no}
 use Rattle.ring_core.specs.declared.refusal.RingNo.{RingNo}
@@ -44,7 +44,7 @@ turn-none r false b h k = absurd (cc)
 -- a Take by who holds the token
 pub take-short : {Q : Type 0} (alone : Bool) (n : ℕ) (side : RingSideIs Q)
     (ring ring' : List RingEntry) (why : RingNo) → IsOwnTurn side ring n
-    → Holds side.net ring n → IsLegal side.net ring' → WentOn alone (is_of n) ring [] ring'
+    → Holds side.net ring n → IsLegalRing side.net ring' → WentOn alone (is_of n) ring [] ring'
     → (turn_no (ring_after side.net ring') n ≡ Some why) ⊎
     ((why ≡ NoMemory) × (turn_no (ring_after side.net ring') n ≡ None)) → why ≡ NoMemory
 take-short alone n side ring ring' why t holds legal went refused =
@@ -68,7 +68,7 @@ none-awaits (Failed s word) (Some f) is this = absurd (cc)
 pub post-short : {Q : Type 0} (alone : Bool) (n : ℕ) (f : Frame) (old new : HostIs)
     (side : RingSideIs Q) (ring ring' : List RingEntry) (why : RingNo)
     → HostTurning n old side ring → f.kind ≡ Request → HostWentOn (Ask f.id f.to f.pdu ∷ []) old new
-    → IsLegal side.net ring'
+    → IsLegalRing side.net ring'
     → WentOn alone (is_of n) ring [] ring' → (post_no (ring_after side.net ring') n f ≡ Some why)
     ⊎ ((why ≡ NoMemory) × (post_no (ring_after side.net ring') n f ≡ None)) → why ≡ NoMemory
 post-short alone n f old new side ring ring' why t kind w legal went refused =

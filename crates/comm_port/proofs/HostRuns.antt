@@ -7,14 +7,15 @@ use Rattle.std.proofs.Common.{subst, inl, inr, ⊎_elim, arith, append_assoc, ap
 use Rattle.std.proofs.Common.{get_or-set_same, get_or-set_other, eq-eqb}
 use Rattle.std.specs.Prelude.{if◌then◌else◌, is_none, ◌↔◌}
 use Rattle.std.specs.List.{cons_option, list_any, AllByRecursion as Each}
-use Rattle.std.proofs.lemmas.Bool.{cases_Bool, cases_eq, eqb-true, leb-false, leb-true, le-ltb}
+use Rattle.std.proofs.lemmas.Bool.{cases_Bool, cases_eq, cond_both, eqb-true, leb-false, leb-true}
+use Rattle.std.proofs.lemmas.Bool.{le-ltb}
 use Rattle.std.proofs.lemmas.Bool.{lt-ltb}
 use Rattle.std.proofs.lemmas.List.Folds.{list_any-append}
 use Rattle.std.proofs.lemmas.List.Elements.{filter_map-append}
 use Rattle.plant_types.specs.declared.net.NetPlan.{NetPlan}
 use Rattle.mstr_block.specs.declared.call.CallId.{CallId}
 use Rattle.ring_core.specs.Words.{maker}
-use Rattle.ring_core.specs.Legal.{IsLegal, IsPath}
+use Rattle.ring_core.specs.Legal.{IsLegalRing, IsPath}
 use Rattle.ring_core.specs.Machine.{awaited_number, no_path, NodeIs, passes_of}
 use Rattle.ring_core.specs.Machine.{path_of, ring_after, ring_node, RingIs}
 use Rattle.ring_core.specs.Refusals.{answer_after, awaited_no, due_no, free_no, give_up_no, or_no}
@@ -32,9 +33,10 @@ use Rattle.tied_lists.proofs.Histories.{legal-follows}
 use Rattle.tied_lists.proofs.Turns.{after-give_up, Found, found-at, legal-parts, Moved, moved, part}
 use Rattle.comm_port.specs.Sides.{RingSideIs}
 use Rattle.comm_port.specs.Giving.{due_by, due_calls, due_on, part_at}
-use Rattle.comm_port.specs.HostTurns.{EachSends, GivenUp, give_up_of}
-use Rattle.comm_port.specs.HostTurns.{IsFailed}
-use Rattle.comm_port.specs.HostTurns.{IsSendingStep}
+use Rattle.comm_port.specs.HostTurns.{GivenUp, give_up_of}
+use Rattle.comm_port.specs.Parts.{EachNext}
+use Rattle.comm_port.specs.SendsAll.{HasFailed, IsNextSending}
+use Rattle.comm_port.proofs.Parts.{each-both, each-others, one-each}
 
 -- ---- one entry behind a history
 
@@ -83,8 +85,8 @@ not-due no' why refused other =
     (λ (e : (why ≡ NoMemory) × (no' ≡ None)). absurd (other e.0)) refused
 
 pub legal-at : {Q : Type 0} (side side' : RingSideIs Q) (ring : List RingEntry) → side' ≡ side
-    → IsLegal side'.net ring → IsLegal side.net ring
-legal-at {Q} side side' ring same legal = subst (λ (s : RingSideIs Q). IsLegal s.net ring) same
+    → IsLegalRing side'.net ring → IsLegalRing side.net ring
+legal-at {Q} side side' ring same legal = subst (λ (s : RingSideIs Q). IsLegalRing s.net ring) same
     legal
 
 pub not-due-at : {Q : Type 0} (side side' : RingSideIs Q) (ring : List RingEntry) (id : CallId)
@@ -456,8 +458,12 @@ due-at-none answer pos is =
     (λ (b : Bool). if b then Some (NotDue 0 answer) else None) (sym t) ∙ is in
     cc
 
+number-same : (out seq : ℕ) → other_no out seq ≡ None → out ≡ seq
+number-same out seq is = cond_both (out == seq) None (Some (NotAwaited out))
+    (λ x. x ≡ None → out ≡ seq) (λ y _. eqb-true out seq y) (λ _ x. absurd (cc)) is
+
 failed-of : (answer : ℕ) (a : Await) (seq : ℕ) → passes_of a ≡ 0 → 0 < answer
-    → kept_for answer true a seq ≡ None → IsFailed a
+    → kept_for answer true a seq ≡ None → HasFailed a × (awaited_number a ≡ seq)
 failed-of answer Nothing seq young pos is = absurd (cc)
 failed-of answer (Out s to passes) seq young pos is =
     absurd (due-at-none answer pos (ap (λ (k : ℕ). due_no k answer) (sym young) ∙ or-second
@@ -465,10 +471,8 @@ failed-of answer (Out s to passes) seq young pos is =
 failed-of answer (Arrived s) seq young pos is =
     absurd (let wrong : Some (Untaken 1) ≡ None = or-second (other_no s seq) (Some (Untaken 1)) is
     in cc)
-failed-of answer (Failed s word) seq young pos is = tt
-
-young-nothing : (a : Await) → a ≡ Nothing → passes_of a ≡ 0
-young-nothing a is = ap passes_of is
+failed-of answer (Failed s word) seq young pos is =
+    (tt, number-same s seq (or-first (other_no s seq) None is))
 
 pub still-young : (net : NetPlan) (n : ℕ) (ends : List GivenUp) (on : ℕ → Bool)
     (a b : List RingEntry) → LeftBy net n ends a b
@@ -483,12 +487,16 @@ pub each-gone : (net : NetPlan) (n : ℕ) (on : ℕ → Bool) (past xs : List Ri
     (ends : List GivenUp) → IsOnRing net (past ++ xs) n
     → Holds net past n → own n xs ≡ map give_up_of ends → AreYoung on (part net past n)
     → Each (λ (g : GivenUp). on g.id.path ≡ true) ends
-    → EachSends net n on past xs
-each-gone net n on past [] ends ring holds is young all = tt
-each-gone net n on past (e ∷ xs) ends ring holds is young all =
+    → 0 < net.answer → EachNext n (IsNextSending net n on) past (past ++ xs)
+each-gone net n on past [] ends ring holds is young all wait =
+    each-others n (IsNextSending net n on) past [] refl
+each-gone net n on past (e ∷ xs) ends ring holds is young all wait =
     let ring' = on-step net n past e xs ring in
     let next = on-front net n (past ++ e ∷ []) xs ring' in
-    elim (cases_Bool (is_of n e)) [
+    let both = each-both n (IsNextSending net n on) past (past ++ e ∷ []) ((past ++ e ∷ []) ++ xs)
+    in
+    subst (EachNext n (IsNextSending net n on) past) (append_assoc past (e ∷ []) xs)
+    (elim (cases_Bool (is_of n e)) [
       | inl mine ↦
           let k = first-own n e xs ends is mine in
           let g = k.0 in
@@ -501,27 +509,26 @@ each-gone net n on past (e ∷ xs) ends ring holds is young all =
           let one : LeftBy net n (g ∷ []) past (past ++ e ∷ []) =
           subst (λ (x : RingEntry). LeftBy net n (g ∷ []) past (past ++ x ∷ [])) (sym k.3) one' in
           let rest = each-gone net n on (past ++ e ∷ []) xs k.1 ring' (one.holds holds) k.4
-          (still-young net n (g ∷ []) on past (past ++ e ∷ []) one young) all'.1 in (
-            λ same. subst (λ (x : RingEntry). IsSendingStep net on (part net past n) x) (sym k.3)
-                (all'.0, λ pos. was-failed net n on past g next' holds by young all'.0 pos),
-            rest,
-          )
+          (still-young net n (g ∷ []) on past (past ++ e ∷ []) one young) all'.1 wait in
+          let was = was-failed net n on past g next' holds by young all'.0 wait in
+          both (one-each n (IsNextSending net n on) past e
+          (subst (IsNextSending net n on past) (sym k.3) (all'.0, was.0, was.1))) rest
       | inr other ↦
           let one = left-same net n past (past ++ e ∷ [])
           (other-step net n past e next (inl holds) other) in
           let rest = each-gone net n on (past ++ e ∷ []) xs ends ring' (one.holds holds)
           (not-own n e xs (map give_up_of ends) is other)
-          (still-young net n [] on past (past ++ e ∷ []) one young) all in (
-            λ same. absurd (let wrong : true ≡ false = sym (eq-eqb (maker e) n same) ∙ other in cc),
-            rest,
-          )
-    ]
+          (still-young net n [] on past (past ++ e ∷ []) one young) all wait in
+          both (each-others n (IsNextSending net n on) past (e ∷ [])
+          (ap (λ (b : Bool). cond b (e ∷ []) []) other)) rest
+    ])
   where
     was-failed : (net : NetPlan) (n : ℕ) (on : ℕ → Bool) (past : List RingEntry) (g : GivenUp)
         → IsOnRing net (past ++ give_up_of g ∷ []) n
         → Holds net past n → g.id.node ≡ n → AreYoung on (part net past n) → on g.id.path ≡ true
         → 0 < net.answer
-        → IsFailed (path_of (part net past n) g.id.path).awaits
+        → HasFailed (path_of (part net past n) g.id.path).awaits
+        × (awaited_number (path_of (part net past n) g.id.path).awaits ≡ g.id.seq)
     was-failed net n on past g ring holds by young chosen' pos =
         let m = own-step net n past (give_up_of g) ring (inl holds) by in
         let c = part net past n in

@@ -6,11 +6,10 @@ use Rattle.std.proofs.Common.{append-nil, get_or-set_same, get_or-set_other, eq-
 use Rattle.std.specs.Prelude.{filter_map, if◌then◌else◌, is_none}
 use Rattle.std.specs.List.{cons_option, filter, AllByRecursion as Each}
 use Rattle.std.proofs.lemmas.Bool.{cases_Bool, cases_eq}
-use Rattle.std.proofs.lemmas.List.Elements.{filter-append, filter_map-append}
+use Rattle.std.proofs.lemmas.List.Elements.{filter_map-append}
 use Rattle.plant_types.specs.declared.net.NetPlan.{NetPlan}
 use Rattle.mstr_block.specs.Table.{network_paths}
 use Rattle.mstr_block.specs.declared.call.CallId.{CallId}
-use Rattle.ring_core.specs.Words.{maker}
 use Rattle.ring_core.specs.Legal.{IsFrom, IsPath}
 use Rattle.ring_core.specs.Machine.{awaiting, busy_word, failed, heard_by, no_path, NodeIs}
 use Rattle.ring_core.specs.Machine.{passes_of, path_of, path_places, sent_off, silence_word}
@@ -30,15 +29,18 @@ use Rattle.ring_core.specs.declared.entry.RingEntry.TheVariants.{Send}
 use Rattle.host_port.specs.declared.entry.HostEntry.{HostEntry}
 use Rattle.host_port.proofs.Paths.{at_path}
 use Rattle.tied_lists.specs.Own.{is_of, own, Grew}
-use Rattle.tied_lists.specs.Waits.{Holds, IsFree, IsOnRing}
+use Rattle.tied_lists.specs.Waits.{AwaitsThis, Holds, IsFree, IsOnRing, waiting}
+use Rattle.tied_lists.proofs.Growth.{grew-more}
 use Rattle.tied_lists.proofs.Histories.{legal-follows}
 use Rattle.tied_lists.proofs.Turns.{Found, found-at, part}
 use Rattle.comm_port.specs.Sides.{RingSideIs}
 use Rattle.comm_port.specs.Giving.{due_calls, due_on, part_at, chosen_paths, is_chosen, outbox_of}
 use Rattle.comm_port.specs.HostTurns.{AreRecent, bad_answer_of, bad_answer_to}
-use Rattle.comm_port.specs.HostTurns.{EachSends, GivenUp, GivesUpDue}
-use Rattle.comm_port.specs.HostTurns.{give_up_of, IsFailed, IsRecent, IsSendingStep, NoneFailedOn}
+use Rattle.comm_port.specs.HostTurns.{GivenUp, GivesUpDue, give_up_of, IsRecent}
 use Rattle.comm_port.specs.HostTurns.{looked_at, Sends, SendsOut}
+use Rattle.comm_port.specs.Parts.{EachNext}
+use Rattle.comm_port.specs.SendsAll.{HasFailed, IsNextSending, NoneFailed}
+use Rattle.comm_port.proofs.Parts.{each-both, each-grew, each-others, one-each}
 use Rattle.comm_port.proofs.Dues.{named-by}
 use Rattle.comm_port.proofs.HostGives.{none-ids}
 use Rattle.comm_port.proofs.HostRuns.{AreYoung, due-one, each-gone, goes_by, kept_for, left-grew}
@@ -49,60 +51,18 @@ use Rattle.comm_port.proofs.Sends.{sent-one}
 
 -- ---- entries behind one another
 
-each-join : (net : NetPlan) (n : ℕ) (on : ℕ → Bool) (past xs ys : List RingEntry)
-    → EachSends net n on past xs
-    → EachSends net n on (past ++ xs) ys → EachSends net n on past (xs ++ ys)
-each-join net n on past [] ys a b = subst (λ (l : List RingEntry). EachSends net n on l ys)
-    (append-nil past) b
-each-join net n on past (e ∷ xs) ys a b = (
-  a.0,
-  each-join net n on (past ++ e ∷ []) xs ys a.1
-      (subst (λ (l : List RingEntry). EachSends net n on l ys) (sym (append_assoc past (e ∷ []) xs))
-      b),
-)
-
-each-others : (net : NetPlan) (n : ℕ) (on : ℕ → Bool) (past xs : List RingEntry) → own n xs ≡ []
-    → EachSends net n on past xs
-each-others net n on past [] none = tt
-each-others net n on past (e ∷ xs) none = elim (cases_Bool (is_of n e)) [
-  | inl mine ↦ absurd (let wrong : e ∷ own n xs ≡ [] = sym
-      (ap (λ (b : Bool). cond b (e ∷ own n xs) (own n xs)) mine) ∙ none in cc)
-  | inr other ↦ (
-    λ same. absurd (let wrong : true ≡ false = sym (eq-eqb (maker e) n same) ∙ other in cc),
-    each-others net n on (past ++ e ∷ []) xs (not-own n e xs [] none other),
-  )
-]
-
--- a list that grew twice
-joined-grew : (alone : Bool) (n : ℕ) (a b c one two : List RingEntry)
-    → (x : Grew alone (is_of n) a one b) → (y : Grew alone (is_of n) b two c)
-    → (g : Grew alone (is_of n) a (one ++ two) c) × (g.more ≡ x.more ++ y.more)
-joined-grew alone n a b c one two x y = (
-  record {
-    more = x.more ++ y.more;
-    after_is = y.after_is ∙ (ap (λ l. l ++ y.more) x.after_is ∙ append_assoc a x.more y.more);
-    ours_are = filter-append (is_of n) x.more y.more ∙ (λ i. x.ours_are i ++ y.ours_are i);
-    all_alone = λ is. (λ i. x.all_alone is i ++ y.all_alone is i);
-  },
-  refl,
-)
-
 pub sends-both : (alone : Bool) (net : NetPlan) (n : ℕ) (on : ℕ → Bool) (l l' l'' : List HostEntry)
     (a b c : List RingEntry)
     → Sends alone net n on l l' a b → Sends alone net n on l' l'' b c
     → Sends alone net n on l l'' a c
-sends-both alone net n on l l' l'' a b c x y = let j = joined-grew alone n a b c x.entries y.entries
-    x.grew y.grew in record {
-      entries = x.entries ++ y.entries;
-      grew = j.0;
-      each = subst (EachSends net n on a) (sym j.1)
-          (each-join net n on a x.grew.more y.grew.more x.each
-          (subst (λ (k : List RingEntry). EachSends net n on k y.grew.more) x.grew.after_is
-          y.each));
-      answers = y.answers ∙ ap (λ h. h ++ filter_map bad_answer_to y.entries) x.answers
-          ∙ append_assoc l (filter_map bad_answer_to x.entries) (filter_map bad_answer_to y.entries)
-          ∙ ap (λ h. l ++ h) (sym (filter_map-append bad_answer_to x.entries y.entries));
-    }
+sends-both alone net n on l l' l'' a b c x y = record {
+  entries = x.entries ++ y.entries;
+  grew = grew-more alone (is_of n) a b c x.entries y.entries x.grew y.grew;
+  each = each-both n (IsNextSending net n on) a b c x.each y.each;
+  answers = y.answers ∙ ap (λ h. h ++ filter_map bad_answer_to y.entries) x.answers
+      ∙ append_assoc l (filter_map bad_answer_to x.entries) (filter_map bad_answer_to y.entries)
+      ∙ ap (λ h. l ++ h) (sym (filter_map-append bad_answer_to x.entries y.entries));
+}
 
 pub sends-none : (alone : Bool) (net : NetPlan) (n : ℕ) (on : ℕ → Bool) (l : List HostEntry)
     (a b : List RingEntry)
@@ -110,7 +70,7 @@ pub sends-none : (alone : Bool) (net : NetPlan) (n : ℕ) (on : ℕ → Bool) (l
 sends-none alone net n on l a b grew = record {
   entries = [];
   grew = grew;
-  each = each-others net n on a grew.more grew.ours_are;
+  each = each-grew alone n (IsNextSending net n on) a b grew;
   answers = sym (append-nil l);
 }
 
@@ -120,22 +80,23 @@ sends-none alone net n on l a b grew = record {
 pub record SentBy (net : NetPlan) (n : ℕ) (heard : Heard) (a b : List RingEntry) : Type 0 where
   pub holds : Holds net b n
   pub paths : (p : ℕ) → (path_of (part net b n) p ≡ path_of (part net a n) p)
-      ⊎ ((heard ≢ Acked) × IsFailed (path_of (part net b n) p).awaits)
+      ⊎ ((heard ≢ Acked) × HasFailed (path_of (part net b n) p).awaits)
 
 abbrev FailedOr : Heard → NodeIs → NodeIs → ℕ → Type 0
 FailedOr heard c d p = (path_of d p ≡ path_of c p) ⊎
-    ((heard ≢ Acked) × IsFailed (path_of d p).awaits)
+    ((heard ≢ Acked) × HasFailed (path_of d p).awaits)
 
 failed-path : (c : NodeIs) (id : CallId) (word p : ℕ) → id.path < length c.paths
-    → (get_or (awaiting c id.path (Failed id.seq word)) p no_path ≡ path_of c p) ⊎ IsFailed
+    → (get_or (awaiting c id.path (Failed id.seq word)) p no_path ≡ path_of c p) ⊎ HasFailed
     (get_or (awaiting c id.path (Failed id.seq word)) p no_path).awaits
 failed-path c id word p range =
     let q = id.path in
     let v : Path = record { awaits = Failed id.seq word; posted = (path_of c q).posted } in
     ⊎_elim
-    (λ (e : p ≡ q). inr (subst (λ (k : ℕ). IsFailed (get_or (set c.paths q v) k no_path).awaits)
+    (λ (e : p ≡ q). inr (subst (λ (k : ℕ). HasFailed (get_or (set c.paths q v) k no_path).awaits)
     (sym e)
-    (subst (λ (x : Path). IsFailed x.awaits) (sym (get_or-set_same c.paths q v no_path range)) tt)))
+    (subst (λ (x : Path). HasFailed x.awaits)
+    (sym (get_or-set_same c.paths q v no_path range)) tt)))
     (λ (o : p ≡ q → ⊥). inl (get_or-set_other c.paths q p v no_path o))
     (cases_eq p q)
 
@@ -168,7 +129,7 @@ from-path n f Reply from is = absurd (cc)
 -- one Send, among the entries of others
 pub record SendStands (net : NetPlan) (n : ℕ) (on : ℕ → Bool) (heard : Heard)
     (past xs : List RingEntry) : Type 0 where
-  pub each : EachSends net n on past xs
+  pub each : EachNext n (IsNextSending net n on) past (past ++ xs)
   pub by : SentBy net n heard past (past ++ xs)
 
 one-send : (net : NetPlan) (n : ℕ) (heard : Heard) (past : List RingEntry)
@@ -208,8 +169,8 @@ found-by net n heard a b c s f = record {
 }
 
 none-failed-at : (net : NetPlan) (n : ℕ) (on : ℕ → Bool) (a b : List RingEntry) → Found net n a b
-    → NoneFailedOn on (part net a n) → NoneFailedOn on (part net b n)
-none-failed-at net n on a b f none = subst (NoneFailedOn on) (sym f.part_is) none
+    → NoneFailed on (part net a n) → NoneFailed on (part net b n)
+none-failed-at net n on a b f none = subst (NoneFailed on) (sym f.part_is) none
 
 one-own : (n : ℕ) (e x : RingEntry) (xs : List RingEntry) → own n (e ∷ xs) ≡ x ∷ []
     → is_of n e ≡ true → (e ≡ x) × (own n xs ≡ [])
@@ -221,13 +182,15 @@ one-own n e x xs is mine = both
 
 send-stands : (net : NetPlan) (n : ℕ) (on : ℕ → Bool) (heard : Heard) (past xs : List RingEntry)
     → IsOnRing net (past ++ xs) n → Holds net past n
-    → NoneFailedOn on (part net past n) → own n xs ≡ Send n heard ∷ []
+    → NoneFailed on (part net past n) → own n xs ≡ Send n heard ∷ []
     → SendStands net n on heard past xs
 send-stands net n on heard past [] ring holds none is = absurd (cc)
 send-stands net n on heard past (e ∷ xs) ring holds none is =
     let ring' = on-step net n past e xs ring in
     let next = on-front net n (past ++ e ∷ []) xs ring' in
     let joined = append_assoc past (e ∷ []) xs in
+    let both = each-both n (IsNextSending net n on) past (past ++ e ∷ []) ((past ++ e ∷ []) ++ xs)
+    in
     elim (cases_Bool (is_of n e)) [
       | inl mine ↦
           let k = one-own n e (Send n heard) xs is mine in
@@ -237,10 +200,10 @@ send-stands net n on heard past (e ∷ xs) ring holds none is =
           (one-send net n heard past next' holds) in
           let rest = found-at net n (past ++ e ∷ []) xs ring'.legal k.1 (inl sent.holds) in
           record {
-            each = (
-              λ same. subst (IsSendingStep net on (part net past n)) (sym k.0) none,
-              each-others net n on (past ++ e ∷ []) xs k.1,
-            );
+            each = subst (EachNext n (IsNextSending net n on) past) joined
+                (both (one-each n (IsNextSending net n on) past e
+                (subst (IsNextSending net n on past) (sym k.0) none))
+                (each-others n (IsNextSending net n on) (past ++ e ∷ []) xs k.1));
             by = subst (SentBy net n heard past) joined
                 (found-by net n heard past (past ++ e ∷ []) ((past ++ e ∷ []) ++ xs) sent rest);
           }
@@ -250,11 +213,9 @@ send-stands net n on heard past (e ∷ xs) ring holds none is =
           (none-failed-at net n on past (past ++ e ∷ []) f none)
           (not-own n e xs (Send n heard ∷ []) is other) in
           record {
-            each = (
-              λ same. absurd (let wrong : true ≡ false = sym (eq-eqb (maker e) n same) ∙ other
-                  in cc),
-              rest.each,
-            );
+            each = subst (EachNext n (IsNextSending net n on) past) joined
+                (both (each-others n (IsNextSending net n on) past (e ∷ [])
+                (ap (λ (b : Bool). cond b (e ∷ []) []) other)) rest.each);
             by = subst (SentBy net n heard past) joined
                 (by-found net n heard past (past ++ e ∷ []) ((past ++ e ∷ []) ++ xs) f holds
                 rest.by);
@@ -263,23 +224,44 @@ send-stands net n on heard past (e ∷ xs) ring holds none is =
 
 send-grew : (alone : Bool) (net : NetPlan) (n : ℕ) (on : ℕ → Bool) (heard : Heard)
     (a b : List RingEntry) → IsOnRing net b n → Holds net a n
-    → NoneFailedOn on (part net a n) → (g : Grew alone (is_of n) a (Send n heard ∷ []) b)
-    → EachSends net n on a g.more × SentBy net n heard a b
+    → NoneFailed on (part net a n) → Grew alone (is_of n) a (Send n heard ∷ []) b
+    → EachNext n (IsNextSending net n on) a b × SentBy net n heard a b
 send-grew alone net n on heard a b ring holds none g =
     let s = send-stands net n on heard a g.more
-    (subst (λ (l : List RingEntry). IsOnRing net l n) g.after_is ring) holds none g.ours_are in
-    (s.each, subst (SentBy net n heard a) (sym g.after_is) s.by)
+    (subst (λ (l : List RingEntry). IsOnRing net l n) g.after_is ring) holds none g.ours_are in (
+      subst (EachNext n (IsNextSending net n on) a) (sym g.after_is) s.each,
+      subst (SentBy net n heard a) (sym g.after_is) s.by,
+    )
 
 -- ---- a Send, and the calls that failed by it
 
-new-none : (a : Await) → IsRecent a → IsFailed a → ⊥
+new-none : (a : Await) → IsRecent a → HasFailed a → ⊥
 new-none Nothing new is = is
 new-none (Out s to passes) new is = is
 new-none (Arrived s) new is = is
 new-none (Failed s word) new is = new
 
-pub none-of-new : (on : ℕ → Bool) (c : NodeIs) → AreRecent on c → NoneFailedOn on c
-none-of-new on c new p is_path chosen' is = new-none (path_of c p).awaits (new p is_path chosen') is
+waits-failed : (a : Await) (w : Option Frame) → HasFailed a → AwaitsThis a w
+    → (f : Frame) × (w ≡ Some f)
+waits-failed Nothing w failed this = absurd failed
+waits-failed (Out s to passes) w failed this = absurd failed
+waits-failed (Arrived s) w failed this = absurd failed
+waits-failed (Failed s word) None failed this = absurd this
+waits-failed (Failed s word) (Some f) failed this = (f, refl)
+
+-- what failed is a path
+failed-path-is : (net : NetPlan) (ring : List RingEntry) (n p : ℕ) → IsOnRing net ring n
+    → HasFailed (path_of (part net ring n) p).awaits → IsPath p
+failed-path-is net ring n p on failed =
+    let follows = (legal-follows net ring n on).node.part in
+    let w = waits-failed (path_of (part net ring n) p).awaits (waiting p (own n ring)) failed
+    (follows.paths p) in
+    (follows.asks p w.0 w.1).is_path
+
+none-of-new : (net : NetPlan) (ring : List RingEntry) (n : ℕ) (on : ℕ → Bool)
+    → IsOnRing net ring n → AreRecent on (part net ring n) → NoneFailed on (part net ring n)
+none-of-new net ring n on here new p chosen' is = new-none (path_of (part net ring n) p).awaits
+    (new p (failed-path-is net ring n p here is) chosen') is
 
 new-passes : (a : Await) → IsRecent a → passes_of a ≡ 0
 new-passes Nothing new = refl
@@ -287,13 +269,13 @@ new-passes (Out s to passes) new = new
 new-passes (Arrived s) new = refl
 new-passes (Failed s word) new = absurd new
 
-failed-passes : (a : Await) → IsFailed a → passes_of a ≡ 0
+failed-passes : (a : Await) → HasFailed a → passes_of a ≡ 0
 failed-passes Nothing is = refl
 failed-passes (Out s to passes) is = absurd is
 failed-passes (Arrived s) is = refl
 failed-passes (Failed s word) is = refl
 
-is-new : (a : Await) → passes_of a ≡ 0 → (IsFailed a → ⊥) → IsRecent a
+is-new : (a : Await) → passes_of a ≡ 0 → (HasFailed a → ⊥) → IsRecent a
 is-new Nothing passes not = tt
 is-new (Out s to p) passes not = passes
 is-new (Arrived s) passes not = tt
@@ -306,7 +288,7 @@ young-sent net n on heard a b new s p is_path chosen' = ⊎_elim
     (λ (e : path_of (part net b n) p ≡ path_of (part net a n) p). ap
     (λ (x : Path). passes_of x.awaits) e ∙ new-passes (path_of (part net a n) p).awaits
     (new p is_path chosen'))
-    (λ (k : (heard ≢ Acked) × IsFailed (path_of (part net b n) p).awaits). failed-passes
+    (λ (k : (heard ≢ Acked) × HasFailed (path_of (part net b n) p).awaits). failed-passes
     (path_of (part net b n) p).awaits k.1)
     (s.paths p)
 
@@ -319,7 +301,7 @@ failed-kept : (answer : ℕ) (here : Bool) (seq word : ℕ)
 failed-kept answer true seq word = ap (λ (o : Option RingNo). or_no o None) (other-same seq)
 failed-kept answer false seq word = ap (λ (o : Option RingNo). or_no o None) (other-same seq)
 
-failed-goes : (answer : ℕ) (here : Bool) (n p : ℕ) (a : Await) → IsFailed a
+failed-goes : (answer : ℕ) (here : Bool) (n p : ℕ) (a : Await) → HasFailed a
     → goes_by answer here n p a ≡ [] → ⊥
 failed-goes answer here n p Nothing is none = is
 failed-goes answer here n p (Out s to passes) is none = is
@@ -402,7 +384,7 @@ sent-all-acked : (net : NetPlan) (n : ℕ) (on : ℕ → Bool) (a b : List RingE
 sent-all-acked net n on a b new s p is_path chosen' = ⊎_elim
     (λ (e : path_of (part net b n) p ≡ path_of (part net a n) p). subst
     (λ (x : Path). IsRecent x.awaits) (sym e) (new p is_path chosen'))
-    (λ (k : (Acked ≢ Acked) × IsFailed (path_of (part net b n) p).awaits). absurd (k.0 refl))
+    (λ (k : (Acked ≢ Acked) × HasFailed (path_of (part net b n) p).awaits). absurd (k.0 refl))
     (s.paths p)
 
 new-left : (net : NetPlan) (n : ℕ) (ends : List GivenUp) (on : ℕ → Bool) (b c : List RingEntry)
@@ -415,32 +397,31 @@ new-left net n ends on b c new l p is_path chosen' = ⊎_elim
 
 step-sends : (alone : Bool) (net : NetPlan) (n : ℕ) (on : ℕ → Bool) (heard : Heard)
     (which : List Bool) (l l' : List HostEntry) (a b c : List RingEntry)
-    → (g : Grew alone (is_of n) a (Send n heard ∷ []) b) → EachSends net n on a g.more
+    → Grew alone (is_of n) a (Send n heard ∷ []) b → EachNext n (IsNextSending net n on) a b
     → SentBy net n heard a b → AreYoung on (part net b n)
     → IsOnRing net c n → (x : GivesUpDue alone net n (chosen_paths which) l l' b c)
-    → Each (λ (e : GivenUp). on e.id.path ≡ true) x.ends
+    → Each (λ (e : GivenUp). on e.id.path ≡ true) x.ends → 0 < net.answer
     → Sends alone net n on l l' a c
-step-sends alone net n on heard which l l' a b c g each s young ring x all =
+step-sends alone net n on heard which l l' a b c g each s young ring x all wait =
     let ring' = subst (λ (k : List RingEntry). IsOnRing net k n) x.grew.after_is ring in
-    let gone' = each-gone net n on b x.grew.more x.ends ring' s.holds x.grew.ours_are young all in
-    let j = joined-grew alone n a b c (Send n heard ∷ []) (map give_up_of x.ends) g x.grew in
+    let gone' = each-gone net n on b x.grew.more x.ends ring' s.holds x.grew.ours_are young all wait
+    in
     record {
       entries = Send n heard ∷ map give_up_of x.ends;
-      grew = j.0;
-      each = subst (EachSends net n on a) (sym j.1)
-          (each-join net n on a g.more x.grew.more each
-          (subst (λ (k : List RingEntry). EachSends net n on k x.grew.more) g.after_is gone'));
+      grew = grew-more alone (is_of n) a b c (Send n heard ∷ []) (map give_up_of x.ends) g x.grew;
+      each = each-both n (IsNextSending net n on) a b c each
+          (subst (EachNext n (IsNextSending net n on) b) (sym x.grew.after_is) gone');
       answers = x.answers ∙ ap (λ h. l ++ h) (sym (answers-given x.ends));
     }
 
 step-acked : (alone : Bool) (net : NetPlan) (n : ℕ) (fresh : List Bool) (l l' : List HostEntry)
     (a b c : List RingEntry)
-    → IsOnRing net c n → (g : Grew alone (is_of n) a (Send n Acked ∷ []) b)
-    → EachSends net n (is_chosen fresh) a g.more → SentBy net n Acked a b
+    → 0 < net.answer → IsOnRing net c n → Grew alone (is_of n) a (Send n Acked ∷ []) b
+    → EachNext n (IsNextSending net n (is_chosen fresh)) a b → SentBy net n Acked a b
     → AreRecent (is_chosen fresh) (part net a n)
     → GivesUpDue alone net n (chosen_paths (replicate path_places false)) l l' b c
     → SentStep alone net n (is_chosen fresh) l l' a c
-step-acked alone net n fresh l l' a b c ring g each s new x =
+step-acked alone net n fresh l l' a b c wait ring g each s new x =
     let none : x.ends ≡ [] = none-ids x.ends x.calls in
     let young = young-sent net n (is_chosen fresh) Acked a b new s in
     let left = left-grew alone net n x.ends b c ring (inl s.holds) x.grew in
@@ -448,19 +429,19 @@ step-acked alone net n fresh l l' a b c ring g each s new x =
       sends = step-sends alone net n (is_chosen fresh) Acked (replicate path_places false) l l' a b
           c g each s young ring x
           (subst (λ (k : List GivenUp). Each (λ (e : GivenUp). is_chosen fresh e.id.path ≡ true) k)
-          (sym none) tt);
+          (sym none) tt) wait;
       new_calls = new-left net n x.ends (is_chosen fresh) b c
           (sent-all-acked net n (is_chosen fresh) a b new s) left;
     }
 
 step-failed : (alone : Bool) (net : NetPlan) (n : ℕ) (heard : Heard) (fresh : List Bool)
     (l l' : List HostEntry) (a b c : List RingEntry)
-    → IsOnRing net c n → (g : Grew alone (is_of n) a (Send n heard ∷ []) b)
-    → EachSends net n (is_chosen fresh) a g.more → SentBy net n heard a b
+    → 0 < net.answer → IsOnRing net c n → Grew alone (is_of n) a (Send n heard ∷ []) b
+    → EachNext n (IsNextSending net n (is_chosen fresh)) a b → SentBy net n heard a b
     → AreRecent (is_chosen fresh) (part net a n)
     → GivesUpDue alone net n (chosen_paths fresh) l l' b c
     → SentStep alone net n (is_chosen fresh) l l' a c
-step-failed alone net n heard fresh l l' a b c ring g each s new x =
+step-failed alone net n heard fresh l l' a b c wait ring g each s new x =
     let on = is_chosen fresh in
     let young = young-sent net n on heard a b new s in
     let left = left-grew alone net n x.ends b c ring (inl s.holds) x.grew in
@@ -469,7 +450,7 @@ step-failed alone net n heard fresh l l' a b c ring g each s new x =
     (subst (λ (k : List CallId). Each (λ (id : CallId). on id.path ≡ true) k) (sym x.calls)
     (on-chosen net b n on (filter on network_paths) (chosen-pass on network_paths))) in
     record {
-      sends = step-sends alone net n on heard fresh l l' a b c g each s young ring x all;
+      sends = step-sends alone net n on heard fresh l l' a b c g each s young ring x all wait;
       new_calls = λ p is_path chosen'. is-new (path_of (part net c n) p).awaits
           (young' p is_path chosen')
           (λ is. failed-goes net.answer (part net c n).here n p (path_of (part net c n) p).awaits is
@@ -478,23 +459,26 @@ step-failed alone net n heard fresh l l' a b c ring g each s new x =
 
 pub sent-step : (alone : Bool) (net : NetPlan) (n : ℕ) (heard : Heard) (fresh which : List Bool)
     (l l' : List HostEntry) (a b c : List RingEntry)
-    → IsOnRing net b n → IsOnRing net c n → Holds net a n
+    → 0 < net.answer → IsOnRing net b n → IsOnRing net c n → Holds net a n
     → AreRecent (is_chosen fresh) (part net a n) → Grew alone (is_of n) a (Send n heard ∷ []) b
     → which ≡ looked_at heard fresh → GivesUpDue alone net n (chosen_paths which) l l' b c
     → SentStep alone net n (is_chosen fresh) l l' a c
-sent-step alone net n heard fresh which l l' a b c ring ring' holds new g look x =
+sent-step alone net n heard fresh which l l' a b c wait ring ring' holds new g look x =
+    let first = on-front net n a g.more
+    (subst (λ (l : List RingEntry). IsOnRing net l n) g.after_is ring) in
     let s = send-grew alone net n (is_chosen fresh) heard a b ring holds
-    (none-of-new (is_chosen fresh) (part net a n) new) g in
+    (none-of-new net a n (is_chosen fresh) first new) g in
     by-heard heard g s (subst (λ (w : List Bool). GivesUpDue alone net n (chosen_paths w) l l' b c)
     look x)
   where
-    by-heard : (heard : Heard) → (g : Grew alone (is_of n) a (Send n heard ∷ []) b)
-        → EachSends net n (is_chosen fresh) a g.more × SentBy net n heard a b
+    by-heard : (heard : Heard) → Grew alone (is_of n) a (Send n heard ∷ []) b
+        → EachNext n (IsNextSending net n (is_chosen fresh)) a b × SentBy net n heard a b
         → GivesUpDue alone net n (chosen_paths (looked_at heard fresh)) l l' b c
         → SentStep alone net n (is_chosen fresh) l l' a c
-    by-heard Acked g s x = step-acked alone net n fresh l l' a b c ring' g s.0 s.1 new x
-    by-heard Silent g s x = step-failed alone net n Silent fresh l l' a b c ring' g s.0 s.1 new x
-    by-heard Busy g s x = step-failed alone net n Busy fresh l l' a b c ring' g s.0 s.1 new x
+    by-heard Acked g s x = step-acked alone net n fresh l l' a b c wait ring' g s.0 s.1 new x
+    by-heard Silent g s x =
+        step-failed alone net n Silent fresh l l' a b c wait ring' g s.0 s.1 new x
+    by-heard Busy g s x = step-failed alone net n Busy fresh l l' a b c wait ring' g s.0 s.1 new x
 
 -- nothing was added
 pub new-still : (alone : Bool) (net : NetPlan) (n : ℕ) (on : ℕ → Bool) (a b : List RingEntry)
@@ -522,7 +506,15 @@ sends-out-at {Q} alone n on l l' a b side side' same x = subst
     (λ (s : RingSideIs Q). SendsOut alone s.net n on l l' a b) (sym same) x
 
 pub sent-out : (alone : Bool) (net : NetPlan) (n : ℕ) (on : ℕ → Bool) (l l' : List HostEntry)
-    (a b : List RingEntry) → Sends alone net n on l l' a b
+    (a b : List RingEntry) → IsOnRing net b n → Sends alone net n on l l' a b
     → outbox_of net n b ≡ [] → AreRecent on (part net b n) → SendsOut alone net n on l l' a b
-sent-out alone net n on l l' a b sends empty new = record
-    { sends = sends; empty = empty; none_failed = none-of-new on (part net b n) new }
+sent-out alone net n on l l' a b ring sends empty new = record {
+  frames = record {
+    done = sends.entries;
+    grew = sends.grew;
+    each = sends.each;
+    all_sent = empty;
+    none_failed = none-of-new net b n on ring new;
+  };
+  answers = sends.answers;
+}

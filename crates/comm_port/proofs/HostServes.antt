@@ -5,7 +5,7 @@ use Rattle.std.specs.Prelude.{flat_map}
 use Rattle.std.specs.List.{AllZip}
 use Rattle.std.proofs.lemmas.Grind.{flat_map-append}
 use Rattle.plant_types.specs.declared.net.NetPlan.{NetPlan}
-use Rattle.ring_core.specs.Legal.{IsFirst, IsLegal}
+use Rattle.ring_core.specs.Legal.{IsFirst, IsLegalRing}
 use Rattle.ring_core.specs.Machine.{NodeIs}
 use Rattle.ring_core.specs.Statistics.{is_stats}
 use Rattle.ring_core.specs.declared.frame.FrameKind.{FrameKind}
@@ -161,7 +161,7 @@ first-drop (g ∷ gs) f first = ap (λ (x : Frame). x ∷ gs) first
 pub so-far-next : {Q : Type 0} (alone : Bool) (n : ℕ) (f : Frame) (side : RingSideIs Q)
     (l0 l l' : List HostEntry)
     (r0 r r1 r2 : List RingEntry) → IsOwnTurn side r n → ServedSoFar alone side.net n l0 l r0 r
-    → IsLegal side.net r1
+    → IsLegalRing side.net r1
     → WentOn alone (is_of n) r (Take n f ∷ []) r1 → KeepsInbox side.net n r1 r2
     → ServesTaken alone n f l l' r1 r2
     → ServedSoFar alone side.net n l0 l' r0 r2
@@ -183,7 +183,7 @@ so-far-next alone n f side l0 l l' r0 r r1 r2 turn a legal went kept t =
 
 pub so-far-end : {Q : Type 0} (alone : Bool) (n : ℕ) (side : RingSideIs Q) (l0 l : List HostEntry)
     (r0 r r1 : List RingEntry)
-    → IsOwnTurn side r n → ServedSoFar alone side.net n l0 l r0 r → IsLegal side.net r1
+    → IsOwnTurn side r n → ServedSoFar alone side.net n l0 l r0 r → IsLegalRing side.net r1
     → WentOn alone (is_of n) r [] r1
     → inbox_of side.net n r1 ≡ [] → ServesInbox alone side.net n l0 l r0 r1
 so-far-end alone n side l0 l r0 r r1 turn a legal went empty =

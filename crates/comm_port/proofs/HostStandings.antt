@@ -7,7 +7,7 @@ use Rattle.std.proofs.lemmas.Bool.{cases_Bool, eqb-true}
 use Rattle.plant_types.specs.declared.net.NetPlan.{NetPlan}
 use Rattle.plant_types.specs.declared.net.HostPlan.{HostPlan}
 use Rattle.ring_core.specs.Words.{maker}
-use Rattle.ring_core.specs.Legal.{IsLegal, IsMember}
+use Rattle.ring_core.specs.Legal.{IsLegalRing, IsMember}
 use Rattle.ring_core.specs.Machine.{addresses, fresh, opening_nodes, ring_after, ring_node}
 use Rattle.ring_core.specs.Stability.{IsLeave, NoLeave}
 use Rattle.ring_core.specs.declared.entry.RingEntry.{RingEntry}
@@ -17,9 +17,8 @@ use Rattle.ring_core.proofs.Stability.{member-stays}
 use Rattle.host_port.specs.declared.entry.HostEntry.{HostEntry}
 use Rattle.host_port.specs.Host.{HostIs}
 use Rattle.tied_lists.specs.Own.{own, is_of}
-use Rattle.comm_port.specs.Leaving.{IsHere}
 use Rattle.comm_port.specs.HostStands.{own_side, HostIsReady}
-use Rattle.comm_port.specs.HostTurns.{after_turn, CountsPasses, HoldsHostTurn, HostTies}
+use Rattle.comm_port.specs.HostTurns.{HoldsHostTurn, HostTies}
 use Rattle.comm_port.specs.HostTurns.{HostWorkerIs}
 use Rattle.comm_port.proofs.HostTurnLaws.{counts-others, host-ties-others, host-turn-grew}
 
@@ -76,7 +75,7 @@ no-leave m n (e ∷ xs) apart each = (not-leave m n e apart each.0, no-leave m n
 
 pub stands-on : (m n : ℕ) (host : HostIs) (w : HostWorkerIs) (left : Bool) (net : NetPlan)
     (plan : HostPlan) (budget : Bool) (l l' : List HostEntry)
-    (a b : List RingEntry) (gone' : Bool) → m ≢ n → IsLegal net b
+    (a b : List RingEntry) (gone' : Bool) → m ≢ n → IsLegalRing net b
     → HoldsHostTurn true net n plan budget l l' a b gone' → HostIsReady m host w left net a
     → HostIsReady m host w left net b
 stands-on m n host w left net plan budget l l' a b gone' apart legal turn t =
@@ -84,7 +83,7 @@ stands-on m n host w left net plan budget l l' a b gone' apart legal turn t =
     let g = by.grew in
     let made = all-made n g.more (g.ours_are ∙ sym (g.all_alone refl)) in
     let none = none-made m n g.more apart made in
-    let legal' = subst (IsLegal net) g.after_is legal in
+    let legal' = subst (IsLegalRing net) g.after_is legal in
     subst (λ (r : List RingEntry). HostIsReady m host w left net r) (sym g.after_is) (record {
       worker_node = t.worker_node;
       ties = host-ties-others m host (own_side net) a g.more none legal' t.ties;
@@ -92,26 +91,6 @@ stands-on m n host w left net plan budget l l' a b gone' apart legal turn t =
           t.counts;
       here = λ stays. member-stays net a g.more m (t.here stays) (no-leave m n g.more apart made);
     })
-
--- ---- the host that has its turn
-
-after-node : (w : HostWorkerIs) (left : Bool) → (after_turn w left).node ≡ w.node
-after-node w true = refl
-after-node w false = refl
-
-pub stands-turn : (n : ℕ) (host : HostIs) (old new : HostWorkerIs) (left : Bool) (net : NetPlan)
-    (ring : List RingEntry) → old.node ≡ n
-    → new ≡ after_turn old left → HostTies new.node host (own_side net) ring → CountsPasses new ring
-    → (left ≡ false → IsHere net ring old.node)
-    → HostIsReady n host new left net ring
-stands-turn n host old new left net ring node is ties counts here =
-    let same : new.node ≡ n = ap (λ (w : HostWorkerIs). w.node) is ∙ after-node old left ∙ node in
-    record {
-      worker_node = same;
-      ties = subst (λ (k : ℕ). HostTies k host (own_side net) ring) same ties;
-      counts = counts;
-      here = λ stays. subst (IsHere net ring) node (here stays);
-    }
 
 -- ---- at the start, on a ring of nodes 1 and 2
 
@@ -121,11 +100,11 @@ low-two (suc zero) d range = omega arith
 low-two (suc (suc k)) d range = absurd (omega (arith, range))
 
 pub stands-first : (n : ℕ) (host : HostIs) (w : HostWorkerIs) (left : Bool) (net : NetPlan)
-    → net.members ≡ 1 ∷ 2 ∷ [] → IsMember net n
+    → net.members ≡ 1 ∷ 2 ∷ [] → 0 < net.answer → IsMember net n
     → (ring_node (ring_after net []) n).here ≡ true → host.plan.node ≡ n → host.history ≡ []
     → w ≡ record { node = n; budget = true; passes = 0 }
     → HostIsReady n host w left net []
-stands-first n host w left net members member here node empty is = record {
+stands-first n host w left net members wait member here node empty is = record {
   worker_node = ap (λ (x : HostWorkerIs). x.node) is;
   ties = subst (λ (h : List HostEntry). HostTies n (record { plan = host.plan; history = h })
       (own_side net) []) (sym empty) (record {
@@ -141,6 +120,7 @@ stands-first n host w left net members member here node empty is = record {
           legal = tt;
           member = member;
         };
+        answer = wait;
         tied = record { asks = refl; peers = refl; port = refl; replies = refl; ends = refl };
         paths = record { waits = λ p. refl; numbers = λ p. refl };
       });
@@ -154,19 +134,19 @@ stands-first n host w left net members member here node empty is = record {
     not-there (x ∷ before) after' entry k = cc
 
 pub stands-one : (host : HostIs) (w : HostWorkerIs) (left : Bool) (net : NetPlan)
-    → net.members ≡ 1 ∷ 2 ∷ [] → host.plan.node ≡ 1
+    → net.members ≡ 1 ∷ 2 ∷ [] → 0 < net.answer → host.plan.node ≡ 1
     → host.history ≡ [] → w ≡ record { node = 1; budget = true; passes = 0 }
     → HostIsReady 1 host w left net []
-stands-one host w left net members node empty is =
-    stands-first 1 host w left net members
+stands-one host w left net members wait node empty is =
+    stands-first 1 host w left net members wait
     (subst (λ (l : List ℕ). Contains l 1) (sym members) (0, omega arith, refl))
     (ap (λ (l : List ℕ). (get_or (opening_nodes l) 1 (fresh false)).here) members) node empty is
 
 pub stands-two : (host : HostIs) (w : HostWorkerIs) (left : Bool) (net : NetPlan)
-    → net.members ≡ 1 ∷ 2 ∷ [] → host.plan.node ≡ 2
+    → net.members ≡ 1 ∷ 2 ∷ [] → 0 < net.answer → host.plan.node ≡ 2
     → host.history ≡ [] → w ≡ record { node = 2; budget = true; passes = 0 }
     → HostIsReady 2 host w left net []
-stands-two host w left net members node empty is =
-    stands-first 2 host w left net members
+stands-two host w left net members wait node empty is =
+    stands-first 2 host w left net members wait
     (subst (λ (l : List ℕ). Contains l 2) (sym members) (1, omega arith, refl))
     (ap (λ (l : List ℕ). (get_or (opening_nodes l) 2 (fresh false)).here) members) node empty is

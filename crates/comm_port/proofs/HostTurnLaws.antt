@@ -1,16 +1,15 @@
 -- What a host's turn tells those above: by whose entries the ring went on, and what others leave.
-use Rattle.std.proofs.Common.{◌≡◌, ℕ, Bool, true, false, List, [], ◌∷◌, ◌++◌, map, refl, sym, ap}
+use Rattle.std.proofs.Common.{◌≡◌, ℕ, Bool, true, false, List, [], ◌++◌, map, refl, sym, ap}
 use Rattle.std.proofs.Common.{◌∙◌, subst}
 use Rattle.std.specs.Prelude.{flat_map, min, count_by}
-use Rattle.std.specs.List.{AllByRecursion as Each}
 use Rattle.plant_types.specs.declared.net.NetPlan.{NetPlan}
 use Rattle.plant_types.specs.declared.net.HostPlan.{HostPlan}
-use Rattle.ring_core.specs.Legal.{IsLegal}
+use Rattle.ring_core.specs.Legal.{IsLegalRing}
 use Rattle.ring_core.specs.declared.entry.RingEntry.{RingEntry}
 use Rattle.ring_core.specs.declared.entry.RingEntry.TheVariants.{Post}
 use Rattle.host_port.specs.declared.entry.HostEntry.{HostEntry}
 use Rattle.host_port.specs.Host.{HostIs}
-use Rattle.tied_lists.specs.Own.{Adds, Grew, is_of, own}
+use Rattle.tied_lists.specs.Own.{Grew, is_of, own}
 use Rattle.tied_lists.specs.Items.{AHost}
 use Rattle.tied_lists.specs.Tied.{Tied}
 use Rattle.tied_lists.proofs.Growth.{grew-more}
@@ -57,27 +56,15 @@ host-turn-grew alone net n plan budget l l' a b left t =
     (by-both alone n a t.served_ring t.asked_ring
     (record { added = flat_map (λ p. p) t.serves.all.parts; grew = t.serves.all.grew })
     (record { added = map (Post n) t.asks; grew = t.makes.in_order.grew }))
-    (record { added = t.sends.sends.entries; grew = t.sends.sends.grew }))
+    (record { added = t.sends.frames.done; grew = t.sends.frames.grew }))
     (record { added = map give_up_of t.gives_up.ends; grew = t.gives_up.grew }))
     (end-grew alone net n plan budget t.given_list l' t.given_ring b left t.ends)
-
-any-each : (xs : List RingEntry) → Each (λ e. Unit {0}) xs
-any-each [] = tt
-any-each (x ∷ xs) = (tt, any-each xs)
-
--- the ring went on by entries of the node
-pub host-turn-adds : (alone : Bool) (net : NetPlan) (n : ℕ) (plan : HostPlan) (budget : Bool)
-    (l l' : List HostEntry) (a b : List RingEntry) (left : Bool)
-    → HoldsHostTurn alone net n plan budget l l' a b left → Adds alone (is_of n) (λ e. Unit {0}) a b
-host-turn-adds alone net n plan budget l l' a b left t =
-    let g = host-turn-grew alone net n plan budget l l' a b left t in
-    record { added = g.added; sort = any-each g.added; grew = g.grew }
 
 -- ---- what others leave
 
 pub host-ties-others : {Q : Type 0} (n : ℕ) (host : HostIs) (side : RingSideIs Q)
     (ring more : List RingEntry) → own n more ≡ []
-    → IsLegal side.net (ring ++ more) → HostTies n host side ring
+    → IsLegalRing side.net (ring ++ more) → HostTies n host side ring
     → HostTies n host side (ring ++ more)
 host-ties-others n host side ring more none legal t =
     let same = own-found n ring more none in
@@ -86,6 +73,7 @@ host-ties-others n host side ring more none legal t =
       legal = t.legal;
       serves = t.serves;
       on = record { members = t.on.members; legal = legal; member = t.on.member };
+      answer = t.answer;
       tied = subst (Tied AHost (host_items_of host.history)) (sym same) t.tied;
       paths = subst (PathsAgree host.history) (sym same) t.paths;
     }

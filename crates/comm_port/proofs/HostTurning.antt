@@ -7,7 +7,7 @@ use Rattle.ring_core.specs.declared.frame.FrameKind.TheVariants.{Request, Reply}
 use Rattle.ring_core.specs.declared.frame.Frame.{Frame}
 use Rattle.ring_core.specs.declared.entry.RingEntry.{RingEntry}
 use Rattle.ring_core.specs.declared.entry.RingEntry.TheVariants.{Post, Take, Local}
-use Rattle.ring_core.specs.Legal.{IsLegal}
+use Rattle.ring_core.specs.Legal.{IsLegalRing}
 use Rattle.ring_core.specs.Statistics.{is_stats}
 use Rattle.host_port.specs.declared.entry.HostEntry.{HostEntry}
 use Rattle.host_port.specs.declared.entry.HostEntry.TheVariants.{Answer, Served}
@@ -38,7 +38,7 @@ use Rattle.comm_port.proofs.Sends.{kept-found}
 
 -- a turn goes on
 pub own-turn : {Q : Type 0} (side : RingSideIs Q) (ring ring' : List RingEntry) (n : ℕ)
-    → IsOwnTurn side ring n → IsLegal side.net
+    → IsOwnTurn side ring n → IsLegalRing side.net
     ring' → KeepsInbox side.net n ring ring' → IsOwnTurn side ring' n
 own-turn side ring ring' n t legal k = record
     { serves = t.serves; on = on-ring side ring ring' n t legal; free = k.free }
@@ -83,7 +83,7 @@ pub turning-served : {Q : Type 0} (n : ℕ) (f : Frame) (reply : List ℕ) (old 
     (ring ring' : List RingEntry) → HostTaking n f old side ring → f.kind ≡ Request
     → is_stats f.pdu ≡ false → HostWentOn (Served f.id f.pdu reply ∷ []) old new
     → Grew alone (is_of n) ring (Post n (reply_frame f.id reply) ∷ []) ring'
-    → IsLegal side.net ring' → KeepsInbox side.net n ring ring' → HostTurning n new side ring'
+    → IsLegalRing side.net ring' → KeepsInbox side.net n ring ring' → HostTurning n new side ring'
 turning-served n f reply old new side alone ring ring' t kind plain w grew legal kept =
     let e : HostEntry = Served f.id f.pdu reply in
     let g = reply_frame f.id reply in
@@ -115,7 +115,8 @@ turning-served n f reply old new side alone ring ring' t kind plain w grew legal
 pub turning-told : {Q : Type 0} (n : ℕ) (f : Frame) (host : HostIs) (side : RingSideIs Q)
     (alone : Bool) (ring ring' : List
     RingEntry) → HostTaking n f host side ring → f.kind ≡ Request
-    → is_stats f.pdu ≡ true → TellsStatistics alone n f.id f.pdu ring ring' → IsLegal side.net ring'
+    → is_stats f.pdu ≡ true → TellsStatistics alone n f.id f.pdu ring ring'
+    → IsLegalRing side.net ring'
     → KeepsInbox side.net n ring ring' → HostTurning n host side ring'
 turning-told n f host side alone ring ring' t kind stats tells legal kept =
     let g = reply_frame f.id (reply_of tells.result) in
@@ -149,7 +150,7 @@ turning-told n f host side alone ring ring' t kind stats tells legal kept =
 -- a Take, of a frame of another node or of a Reply that is awaited
 pub taking-now : {Q : Type 0} (alone : Bool) (n : ℕ) (f : Frame) (host : HostIs)
     (side side' : RingSideIs Q) (ring ring' : List
-    RingEntry) → side' ≡ side → IsLegal side.net ring'
+    RingEntry) → side' ≡ side → IsLegalRing side.net ring'
     → WentOn alone (is_of n) ring (Take n f ∷ []) ring' → HostTurning n host side ring
     → HostTaking n f host side' ring'
 taking-now {Q} alone n f host side side' ring ring' same legal went t =
@@ -178,7 +179,7 @@ taking-now {Q} alone n f host side side' ring ring' same legal went t =
 -- the node took nothing, as its inbox is empty
 pub turning-still : {Q : Type 0} (alone : Bool) (n : ℕ) (host : HostIs) (side : RingSideIs Q)
     (ring ring' : List RingEntry) →
-    IsLegal side.net ring' → WentOn alone (is_of n) ring [] ring'
+    IsLegalRing side.net ring' → WentOn alone (is_of n) ring [] ring'
     → HostTurning n host side ring → HostTurning n host side ring'
 turning-still alone n host side ring ring' legal went t =
     let found = unmoved side.net n alone ring ring' (on-ring side ring ring' n t.own_turn legal)

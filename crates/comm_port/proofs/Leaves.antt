@@ -32,7 +32,8 @@ use Rattle.tied_lists.proofs.Histories.{legal-follows}
 use Rattle.comm_port.specs.Ending.{AsksIfDone}
 use Rattle.comm_port.specs.Giving.{part_at, due_by, due_on, due_calls, is_chosen, NonePathFailed}
 use Rattle.comm_port.specs.Giving.{MaySend, GivesWhere}
-use Rattle.comm_port.specs.HoldTurn.{overdue_by, overdue_on, overdue, NoneFailed}
+use Rattle.comm_port.specs.HoldTurn.{overdue_by, overdue_on, overdue}
+use Rattle.comm_port.specs.SendsAll.{HasFailed, NoneFailed, each_path}
 use Rattle.comm_port.specs.Order.{IsGivingUp}
 use Rattle.comm_port.specs.Parts.{calls_waiting}
 use Rattle.mstr_block.specs.Table.{network_paths}
@@ -113,13 +114,12 @@ pub asks-so : (alone : Bool) (fixed : Fixed) (n : ℕ) (a : Items) (ring : List 
     → AsksIfDone alone fixed (IsIdle w) known known' done
     → AsksIfDone alone fixed (calls_waiting n ring ≡ []) known known' done
 asks-so alone fixed n a ring w known known' done k q = record {
-  at_end = q.at_end;
-  first = q.first;
-  then_on = q.then_on;
-  ended = q.ended;
-  collected = q.collected;
-  idle = λ is. idle-none n a ring w k (q.idle is);
-  all = λ ended started none. q.all ended started (none-idle n a ring w k none);
+  all_yes = q.all_yes;
+  asked = q.asked;
+  done_is = (
+    λ is. ((q.done_is.0 is).0, idle-none n a ring w k (q.done_is.0 is).1),
+    λ both. q.done_is.1 (both.0, none-idle n a ring w k both.1),
+  );
 }
 
 -- ---- what is due of a node that has left is what waits
@@ -221,10 +221,8 @@ overdue-is net n ring here none = four-same (due_on net n c) (overdue_on net n c
     at p = ap (λ (b : Bool). due_by net.answer b n p (path_of c p).awaits) here ∙ due-over
         net.answer n p (path_of c p).awaits (none p)
 
-pub paths-of-none : (net : NetPlan) (n : ℕ) (ring : List RingEntry) → NoneFailed net ring n
-    → NonePathFailed (part_at net n ring)
-paths-of-none net n ring none p seq word is = none (record { node = n; path = p; seq = seq }) refl
-    (word, is)
+pub paths-of-none : (c : NodeIs) → NoneFailed each_path c → NonePathFailed c
+paths-of-none c none p seq word is = none p refl (subst HasFailed (sym is) tt)
 
 -- ---- the paths that are free before the calls are made
 

@@ -5,6 +5,7 @@ pub mod Made
 pub mod TurnEnds
 pub mod Sends
 pub mod Given
+pub mod Asked
 pub mod TurnsEnded
 pub mod HostServes
 pub mod HostAsked

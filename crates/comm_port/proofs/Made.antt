@@ -23,7 +23,7 @@ use Rattle.ring_core.specs.declared.entry.RingEntry.TheVariants.{Post, Send, Tak
 use Rattle.ring_core.specs.declared.entry.RingEntry.TheVariants.{Pass, Leave}
 use Rattle.ring_core.specs.Words.{is_same_call}
 use Rattle.ring_core.specs.Machine.{path_places, path_of}
-use Rattle.ring_core.specs.Legal.{IsLegal, IsPath, HasRoom}
+use Rattle.ring_core.specs.Legal.{IsLegalRing, IsPath, HasRoom}
 use Rattle.tied_lists.specs.Own.{is_of, own, WentOn, Grew}
 use Rattle.tied_lists.specs.Items.{AController, Items, Called, CallSort, OverNet, AtHome, Kind}
 use Rattle.tied_lists.specs.Items.{NetCall, LocalCall, Ended, Asked, Came, net_ask, kind_in}
@@ -258,7 +258,7 @@ pub posted-lead : {P Q : Type 0} (alone : Bool) (n : ℕ) (c : Called) (rest : L
     P) (known : List Entry) (side side' : RingSideIs Q) (ring ring' : List RingEntry)
     (w : List (Option Frame)) → side' ≡ side →
     c.sort ≡ OverNet to pdu
-    → IsLegal side.net ring' → KeepsInbox side.net n ring ring'
+    → IsLegalRing side.net ring' → KeepsInbox side.net n ring ring'
     → Grew alone (is_of n) ring (Post n (request_frame c.id to pdu) ∷
     []) ring' → Owing n (c ∷ rest) ram known side ring w
     → Owing n rest ram known side' ring' (set w c.id.path (Some
@@ -377,7 +377,7 @@ pub done-lead : {P Q : Type 0} (alone alone' : Bool) (n : ℕ) (c : Called) (res
     RamSideIs P) (known known' : List Entry) (side side' : RingSideIs Q)
     (ring ring' : List RingEntry) (w : List (Option Frame)) →
     ram' ≡ ram → side' ≡ side → c.sort ≡ AtHome op
-    → IsLegal side.net ring' → KeepsInbox side.net n ring ring'
+    → IsLegalRing side.net ring' → KeepsInbox side.net n ring ring'
     → DoesAtHome alone alone' n c.id op known known' ring ring' → Owing n (c
     ∷ rest) ram known side ring w → Owing n rest ram' known' side' ring' w
 done-lead {P} {Q} alone alone' n c rest op ram ram' known known' side side' ring ring' w same same'

@@ -1,6 +1,7 @@
 -- Parts of a turn, joined.
 use Rattle.std.proofs.Common.{◌≡◌, ℕ, Bool, List, [], ◌∷◌, ◌++◌, refl, sym, ap, ◌∙◌, subst}
 use Rattle.std.proofs.Common.{append_assoc, append-nil, true, false, cond, inl, inr, ◌⊎◌, ⊎_elim}
+use Rattle.std.specs.List.{AllByRecursion as Each}
 use Rattle.ring_core.specs.declared.entry.RingEntry.{RingEntry}
 use Rattle.tied_lists.specs.Own.{is_of, own, WentOn, Grew}
 use Rattle.tied_lists.proofs.Growth.{grew-more}
@@ -74,13 +75,14 @@ pub part-both : {A : Type 0} (alone alone' : Bool) (ours : A → Bool) (n : ℕ)
     → PartOf alone alone' ours n One known known' ring ring'
     → PartOf alone alone' ours n Two known' known'' ring' ring''
     → PartOf alone alone' ours n Both known known'' ring ring''
-part-both alone alone' ours n One Two Both known known' known'' ring ring' ring'' join a b = record {
-  noted = a.noted ++ b.noted;
-  done = a.done ++ b.done;
-  due = join a.noted b.noted a.done b.done a.due b.due;
-  station = grew-more alone ours known known' known'' a.noted b.noted a.station b.station;
-  node = grew-more alone' (is_of n) ring ring' ring'' a.done b.done a.node b.node;
-}
+part-both alone alone' ours n One Two Both known known' known'' ring ring' ring'' join a b =
+    record {
+      noted = a.noted ++ b.noted;
+      done = a.done ++ b.done;
+      due = join a.noted b.noted a.done b.done a.due b.due;
+      station = grew-more alone ours known known' known'' a.noted b.noted a.station b.station;
+      node = grew-more alone' (is_of n) ring ring' ring'' a.done b.done a.node b.node;
+    }
 
 -- the same part, said otherwise
 pub part-as : {A : Type 0} (alone alone' : Bool) (ours : A → Bool) (n : ℕ)
@@ -202,7 +204,7 @@ each-still alone n IsNext ring ring' w =
     subst (EachNext n IsNext ring) (sym (w.after_is ∙ append-nil (ring ++ w.between)))
     (each-others n IsNext ring w.between w.others)
 
-one-each : (n : ℕ) (IsNext : List RingEntry → RingEntry → Type 0) (ring : List RingEntry)
+pub one-each : (n : ℕ) (IsNext : List RingEntry → RingEntry → Type 0) (ring : List RingEntry)
     (e : RingEntry) → IsNext ring e → EachNext n IsNext ring (ring ++ e ∷ [])
 one-each n IsNext ring e it = record {
   more = e ∷ [];
@@ -229,6 +231,36 @@ each-went alone n IsNext ring e ring' w it =
     each-both n IsNext ring (ring ++ w.between) ring' (each-others n IsNext ring w.between w.others)
     (subst (EachNext n IsNext (ring ++ w.between)) (sym w.after_is)
     (one-each n IsNext (ring ++ w.between) e it))
+
+-- what follows from each next entry holds of each entry by which the list grew
+each-own : (n : ℕ) (IsNext : List RingEntry → RingEntry → Type 0) (P : RingEntry → Type 0)
+    → ((past : List RingEntry) (e : RingEntry) → IsNext past e → P e)
+    → (ring front rest : List RingEntry)
+    → ((before after' : List RingEntry) (e : RingEntry) → front ++ rest ≡ before ++ e ∷ after'
+    → is_of n e ≡ true → IsNext (ring ++ before) e)
+    → Each P (own n rest)
+each-own n IsNext P f ring front [] each = tt
+each-own n IsNext P f ring front (e ∷ rest) each =
+    at (is_of n e) refl
+    (each-own n IsNext P f ring (front ++ e ∷ []) rest
+    (λ before after' x is. each before after' x (sym (append_assoc front (e ∷ []) rest) ∙ is)))
+  where
+    at : (b : Bool) → is_of n e ≡ b → Each P (own n rest)
+        → Each P (cond b (e ∷ own n rest) (own n rest))
+    at true mine all = (f (ring ++ front) e (each front rest e refl mine), all)
+    at false other all = all
+
+cancel : {X : Type 0} (a b c : List X) → a ++ b ≡ a ++ c → b ≡ c
+cancel [] b c is = is
+cancel (x ∷ a) b c is = cancel a b c (cc)
+
+pub each-added : (alone : Bool) (n : ℕ) (IsNext : List RingEntry → RingEntry → Type 0)
+    (P : RingEntry → Type 0) → ((past : List RingEntry) (e : RingEntry) → IsNext past e → P e)
+    → (ring added ring' : List RingEntry) → Grew alone (is_of n) ring added ring'
+    → EachNext n IsNext ring ring' → Each P added
+each-added alone n IsNext P f ring added ring' g a =
+    let same : a.more ≡ g.more = cancel ring a.more g.more (sym a.after_is ∙ g.after_is) in
+    subst (Each P) (ap (own n) same ∙ g.ours_are) (each-own n IsNext P f ring [] a.more a.each)
 
 -- ---- sides that are the same
 

@@ -10,7 +10,7 @@ use Rattle.ring_core.specs.declared.entry.RingEntry.{RingEntry}
 use Rattle.ring_core.specs.declared.entry.RingEntry.TheVariants.{Post, Local}
 use Rattle.ring_core.specs.Words.{maker}
 use Rattle.ring_core.specs.Machine.{NodeIs}
-use Rattle.ring_core.specs.Legal.{IsLegal}
+use Rattle.ring_core.specs.Legal.{IsLegalRing}
 use Rattle.tied_lists.specs.Own.{is_of, WentOn}
 use Rattle.tied_lists.specs.Waits.{IsOnRing}
 use Rattle.tied_lists.proofs.Turns.{Moved, moved, Wrote, after-post, after-local}
@@ -18,7 +18,7 @@ use Rattle.comm_port.specs.Sides.{RingSideIs}
 use Rattle.comm_port.specs.Turns.{IsOwnTurn, KeepsInbox}
 
 pub on-ring : {Q : Type 0} (side : RingSideIs Q) (ring ring' : List RingEntry) (n : ℕ)
-    → IsOwnTurn side ring n → IsLegal side.net
+    → IsOwnTurn side ring n → IsLegalRing side.net
     ring' → IsOnRing side.net ring' n
 on-ring side ring ring' n t legal = record
     { members = t.on.members; legal = legal; member = t.on.member }
@@ -29,7 +29,7 @@ mine n e is = ap (λ b. cond b (e ∷ []) []) (eq-eqb (maker e) n is)
 
 pub own-moved : {Q : Type 0} (side : RingSideIs Q) (alone : Bool) (n : ℕ) (ring : List RingEntry)
     (e : RingEntry) (ring' : List
-    RingEntry) → maker e ≡ n → IsOwnTurn side ring n → IsLegal side.net ring'
+    RingEntry) → maker e ≡ n → IsOwnTurn side ring n → IsLegalRing side.net ring'
     → WentOn alone (is_of n) ring (e ∷ []) ring'
     → Moved side.net n ring e ring'
 own-moved side alone n ring e ring' is t legal w = moved side.net n alone ring e ring' is
@@ -63,7 +63,7 @@ kept-same {Q} side side' n a b same k = subst (λ (s : RingSideIs Q). KeepsInbox
 
 pub turn-on : {Q : Type 0} (side side' : RingSideIs Q) (ring ring' : List RingEntry) (n : ℕ)
     → side' ≡ side → IsOwnTurn side ring
-    n → IsLegal side.net ring' → KeepsInbox side.net n ring ring' → IsOwnTurn side' ring' n
+    n → IsLegalRing side.net ring' → KeepsInbox side.net n ring ring' → IsOwnTurn side' ring' n
 turn-on {Q} side side' ring ring' n same t legal k =
     subst (λ (s : RingSideIs Q). IsOwnTurn s ring' n) (sym same)
     (record { serves = t.serves; on = on-ring side ring ring' n t legal; free = k.free })

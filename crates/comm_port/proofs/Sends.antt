@@ -21,7 +21,7 @@ use Rattle.ring_core.specs.Machine.{NodeIs, RingIs, addresses, part_of, ring_aft
 use Rattle.ring_core.specs.Machine.{fate_at, arrival, arrived, heard_of, heard_by, sent_head}
 use Rattle.ring_core.specs.Machine.{is_head, sent_off, failed, silence_word}
 use Rattle.ring_core.specs.Refusals.{or_no, empty_no, send_no}
-use Rattle.ring_core.specs.Legal.{IsLegal, IsHeard}
+use Rattle.ring_core.specs.Legal.{IsLegalRing, IsHeard}
 use Rattle.tied_lists.specs.Own.{is_of, WentOn}
 use Rattle.tied_lists.specs.Waits.{IsOnRing, Holds, IsFree}
 use Rattle.tied_lists.proofs.Histories.{IsOwn, RingFollows, at-same, arrived-part, heard-here}
@@ -170,17 +170,17 @@ few-tries net h n on = (legal-follows net h n on).node.part.tries_few
 -- others before an entry leave the node's part
 part-between : {Q : Type 0} (side : RingSideIs Q) (alone : Bool) (n : ℕ) (ring : List RingEntry)
     (e : RingEntry) (ring' : List
-    RingEntry) → IsOwnTurn side ring n → IsLegal side.net ring'
+    RingEntry) → IsOwnTurn side ring n → IsLegalRing side.net ring'
     → (w : WentOn alone (is_of n) ring (e ∷ []) ring')
     → part_at side.net n (ring ++ w.between) ≡ part_at side.net n ring
 part-between side alone n ring e ring' t legal w =
     let parts = legal-parts side.net (ring ++ w.between) (e ∷ [])
-    (subst (IsLegal side.net) w.after_is legal) in
+    (subst (IsLegalRing side.net) w.after_is legal) in
     (found-at side.net n ring w.between parts.0 w.others t.free).part_is
 
 pub sent-next : {Q : Type 0} (side : RingSideIs Q) (alone : Bool) (n : ℕ) (ring : List RingEntry)
     (heard : Heard) (ring' : List
-    RingEntry) → IsOwnTurn side ring n → Holds side.net ring n → IsLegal side.net ring'
+    RingEntry) → IsOwnTurn side ring n → Holds side.net ring n → IsLegalRing side.net ring'
     → WentOn alone (is_of n) ring (Send n heard ∷ []) ring'
     → SentNext alone side.net n heard ring ring'
 sent-next side alone n ring heard ring' t holds legal w =
@@ -222,7 +222,7 @@ kept-found net n ring ring' f = record
 
 pub all-sent : {Q : Type 0} (side : RingSideIs Q) (alone : Bool) (n : ℕ)
     (ring ring' : List RingEntry) (why : RingNo) → IsOwnTurn
-    side ring n → IsLegal side.net ring'
+    side ring n → IsLegalRing side.net ring'
     → WentOn alone (is_of n) ring [] ring'
     → (send_no (ring_after side.net ring') n ≡ Some why) ⊎ ((why ≡ NoMemory) × (send_no
     (ring_after side.net ring') n ≡ None)) → why ≡ NothingToSend
@@ -253,7 +253,7 @@ second-some (Some x) b why none e = absurd (cc)
 
 pub gave-up : {Q : Type 0} (side : RingSideIs Q) (alone : Bool) (id : CallId) (word : ℕ)
     (ring ring' : List RingEntry) → IsOwnTurn
-    side ring id.node → IsLegal side.net ring'
+    side ring id.node → IsLegalRing side.net ring'
     → WentOn alone (is_of id.node) ring (GiveUp id word ∷ []) ring'
     → GaveUp alone side.net id ring ring' (Some word)
 gave-up side alone id word ring ring' t legal w =
@@ -280,7 +280,7 @@ gave-up side alone id word ring ring' t legal w =
 
 pub gave-not : {Q : Type 0} (side : RingSideIs Q) (alone : Bool) (id : CallId)
     (ring ring' : List RingEntry) → IsOwnTurn side ring
-    id.node → IsLegal side.net ring'
+    id.node → IsLegalRing side.net ring'
     → WentOn alone (is_of id.node) ring [] ring' → (why : RingNo) → (why ≡ NoMemory → ⊥)
     → (give_up_no side.net (ring_after
     side.net ring') id ≡ Some why) ⊎

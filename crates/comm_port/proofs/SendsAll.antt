@@ -23,19 +23,20 @@ use Rattle.ring_core.specs.declared.entry.RingEntry.TheVariants.{Post, Send, Tak
 use Rattle.ring_core.specs.declared.entry.RingEntry.TheVariants.{Pass, Leave}
 use Rattle.ring_core.specs.Legal.{IsPath, IsFrom}
 use Rattle.ring_core.specs.Machine.{NodeIs, no_path, path_of, passes_of, failed, sent_off, heard_by}
-use Rattle.ring_core.specs.Machine.{busy_word, silence_word}
+use Rattle.ring_core.specs.Machine.{awaited_number, busy_word, silence_word}
 use Rattle.tied_lists.specs.Own.{is_of, Grew}
 use Rattle.tied_lists.specs.Waits.{IsOnRing}
 use Rattle.tied_lists.proofs.Boxes.{each-drop}
 use Rattle.tied_lists.proofs.Histories.{IsOwn, legal-follows}
 use Rattle.comm_port.specs.Giving.{part_at, due_by, due_on, is_chosen, AsksAreOn, NonePathFailed}
 use Rattle.comm_port.specs.Giving.{MaySend, HasSent, GivesWhere, IsDueNext, IsOtherPath}
-use Rattle.comm_port.specs.HoldTurn.{NoneFailed, IsNextSending, IsGivenUp, SendsAll, finish_of}
+use Rattle.comm_port.specs.HoldTurn.{IsGivenUp, SendsAll, finish_of}
+use Rattle.comm_port.specs.SendsAll.{HasFailed, IsNextSending, NoneFailed, each_path}
 use Rattle.comm_port.specs.Parts.{InOrder, PartOf, EachNext}
 use Rattle.joint_history.specs.Reading.{is_ours}
 use Rattle.comm_port.specs.Sending.{SentNext, AllSent, IsThis}
 use Rattle.comm_port.proofs.Parts.{grew-none, part-as, part-both, each-as, each-both, each-grew}
-use Rattle.comm_port.proofs.Dues.{noted-of, named-by}
+use Rattle.comm_port.proofs.Dues.{noted-of}
 
 -- ---- a Send, by the node's part
 
@@ -237,40 +238,42 @@ may-again net n chosen ring ring' wait s g = record {
 
 -- ---- each entry
 
-pub none-of : (net : NetPlan) (n : ℕ) (past : List RingEntry) → NonePathFailed (part_at net n past)
-    → NoneFailed net past n
-none-of net n past none id own' failed' =
-    none id.path id.seq failed'.0 (subst
-    (λ (m : ℕ). (path_of (part_at net m past) id.path).awaits ≡ Failed id.seq failed'.0) own'
-    failed'.1)
+-- a path that failed
+pub failed-is : (a : Await) → HasFailed a → (seq word : ℕ) × (a ≡ Failed seq word)
+failed-is Nothing f = absurd f
+failed-is (Out seq to passes) f = absurd f
+failed-is (Arrived seq) f = absurd f
+failed-is (Failed seq word) f = (seq, word, refl)
+
+none-of : (c : NodeIs) → NonePathFailed c → NoneFailed each_path c
+none-of c none p on f =
+    let is = failed-is (path_of c p).awaits f in none p is.0 is.1 is.2
 
 pub send-each : (alone : Bool) (net : NetPlan) (n : ℕ) (chosen : List Bool) (heard : Heard)
     (ring ring' : List RingEntry) → SentNext alone net n heard ring
-    ring' → MaySend net n chosen (part_at net n ring) → EachNext n (IsNextSending net n) ring ring'
+    ring' → MaySend net n chosen (part_at net n ring)
+    → EachNext n (IsNextSending net n each_path) ring ring'
 send-each alone net n chosen heard ring ring' s m =
-    each-as n (IsThis net n (Send n heard) ring) (IsNextSending net n) ring ring'
-    (λ past e it. subst (IsNextSending net n past) (sym it.0)
-    (none-of net n past (subst NonePathFailed (sym it.1) m.none_failed))) s.each
+    each-as n (IsThis net n (Send n heard) ring) (IsNextSending net n each_path) ring ring'
+    (λ past e it. subst (IsNextSending net n each_path past) (sym it.0)
+    (none-of (part_at net n past) (subst NonePathFailed (sym it.1) m.none_failed))) s.each
 
 pub given-each : (net : NetPlan) (n : ℕ) (chosen : List Bool) (ring ring' : List RingEntry)
     → (part_at net n ring).here ≡ true → HasSent net n chosen
     (part_at net n ring) → GivesWhere net n chosen 5 ring ring'
-    → EachNext n (IsNextSending net n) ring ring'
+    → EachNext n (IsNextSending net n each_path) ring ring'
 given-each net n chosen ring ring' here s g =
     each-as n (IsDueNext net n (λ p. is_chosen chosen p ≡ true) (part_at net n ring))
-    (IsNextSending net n) ring ring' then-failed g.each
+    (IsNextSending net n each_path) ring ring' then-failed g.each
   where
     then-failed : (past : List RingEntry) (e : RingEntry)
         → IsDueNext net n (λ p. is_chosen chosen p ≡ true) (part_at net n ring) past e
-        → IsNextSending net n past e
+        → IsNextSending net n each_path past e
     then-failed past (GiveUp id word) it =
         let f = due-failed net n id.path (part_at net n ring) id here (s.young id.path it.0) it.2 in
-        let named = named-by net n id.path (part_at net n ring) id it.2 in (
-          f.0,
-          subst (λ (m : ℕ). (path_of (part_at net m past) id.path).awaits ≡ Failed id.seq f.0)
-              (sym named.node)
-              (ap (λ (x : Path). x.awaits) it.1 ∙ f.1),
-        )
+        let is : (path_of (part_at net n past) id.path).awaits ≡ Failed id.seq f.0 =
+        ap (λ (x : Path). x.awaits) it.1 ∙ f.1 in
+        (refl, subst HasFailed (sym is) tt, ap awaited_number is)
     then-failed past (Post m f) it = absurd it
     then-failed past (Send m heard) it = absurd it
     then-failed past (Take m f) it = absurd it
@@ -311,7 +314,7 @@ pub sent-all : (alone alone' : Bool) (net : NetPlan) (n : ℕ) (chosen : List Bo
     (known known' : List Entry) (ring0 ring ring' : List RingEntry)
     → AllSent alone' net n ring ring' → MaySend net n chosen (part_at net n ring)
     → PartOf alone alone' is_ours n Finished known known' ring0 ring
-    → EachNext n (IsNextSending net n) ring0 ring
+    → EachNext n (IsNextSending net n each_path) ring0 ring
     → SendsAll alone alone' net n known known' ring0 ring'
 sent-all alone alone' net n chosen known known' ring0 ring ring' s m p each =
     let q = part-both alone alone' is_ours n Finished (λ noted done. (noted ≡ []) × (done ≡ []))
@@ -326,11 +329,14 @@ sent-all alone alone' net n chosen known known' ring0 ring ring' s m p each =
       node = s.grew;
     }) in
     record {
-      done = q.done;
-      grew = q.node;
-      each = each-both n (IsNextSending net n) ring0 ring ring' each
-          (each-grew alone' n (IsNextSending net n) ring ring' s.grew);
+      frames = record {
+        done = q.done;
+        grew = q.node;
+        each = each-both n (IsNextSending net n each_path) ring0 ring ring' each
+            (each-grew alone' n (IsNextSending net n each_path) ring ring' s.grew);
+        all_sent = s.empty;
+        none_failed = none-of (part_at net n ring')
+            (subst NonePathFailed (sym s.part_is) m.none_failed);
+      };
       finishes = subst (λ (l : List Entry). Grew alone is_ours known l known') q.due q.station;
-      all_sent = s.empty;
-      none_failed = none-of net n ring' (subst NonePathFailed (sym s.part_is) m.none_failed);
     }

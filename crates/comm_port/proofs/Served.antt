@@ -17,7 +17,7 @@ use Rattle.ring_core.specs.declared.entry.RingEntry.TheVariants.{Post, Take, Loc
 use Rattle.ring_core.specs.Words.{is_same_call}
 use Rattle.ring_core.specs.Statistics.{is_stats}
 use Rattle.ring_core.specs.Machine.{path_places, NodeIs}
-use Rattle.ring_core.specs.Legal.{IsLegal, IsFirst}
+use Rattle.ring_core.specs.Legal.{IsLegalRing, IsFirst}
 use Rattle.reply_laws.specs.Result.{result_of}
 use Rattle.tied_lists.specs.Own.{is_of, own, WentOn, Grew}
 use Rattle.tied_lists.specs.Items.{AController, Items, Called, NetCall, Came, asked_by, last_asked}
@@ -89,7 +89,7 @@ waiting-ended n a a' b b' w q low here others out k =
 pub take-lead : {P Q : Type 0} (alone : Bool) (n : ℕ) (f : Frame) (ram : RamSideIs P)
     (known : List Entry) (side side' :
     RingSideIs Q) (ring ring' : List RingEntry) (w : List (Option Frame)) → side' ≡ side
-    → IsLegal side.net ring' → WentOn alone
+    → IsLegalRing side.net ring' → WentOn alone
     (is_of n) ring (Take n f ∷ []) ring'
     → Turning n [] ram known side ring w → Taking n f ram known side' ring' w
 take-lead {P} {Q} alone n f ram known side side' ring ring' w same legal went t =
@@ -191,7 +191,8 @@ pub answer-lead : {P Q : Type 0} (alone alone' : Bool) (n : ℕ) (f : Frame) (re
     (ram ram' : RamSideIs P) (known known'
     : List Entry) (side side' : RingSideIs Q) (ring ring' : List RingEntry)
     (w : List (Option Frame))
-    → ram' ≡ ram → side' ≡ side → f.kind ≡ Request → is_stats f.pdu ≡ false → IsLegal side.net ring'
+    → ram' ≡ ram → side' ≡ side → f.kind ≡ Request → is_stats f.pdu ≡ false
+    → IsLegalRing side.net ring'
     → KeepsInbox side.net n ring ring'
     → WentOn alone is_ours known (Peer f.id f.pdu reply ∷ []) known'
     → Grew alone' (is_of n) ring (Post n (reply_frame f.id reply)
@@ -225,7 +226,7 @@ answer-lead {P} {Q} alone alone' n f reply ram ram' known known' side side' ring
 pub port-lead : {P Q : Type 0} (alone' : Bool) (n : ℕ) (f : Frame) (ram : RamSideIs P)
     (known : List Entry) (side side' :
     RingSideIs Q) (ring ring' : List RingEntry) (w : List (Option Frame))
-    → side' ≡ side → f.kind ≡ Request → is_stats f.pdu ≡ true → IsLegal side.net ring'
+    → side' ≡ side → f.kind ≡ Request → is_stats f.pdu ≡ true → IsLegalRing side.net ring'
     → KeepsInbox side.net n ring ring' → TellsStatistics
     alone' n f.id f.pdu ring ring' → Taking n f ram known side ring w
     → Turning n [] ram known side' ring' w
@@ -270,7 +271,7 @@ reply-out n f ram known side ring w kind t =
 pub ring-still : {P Q : Type 0} (alone : Bool) (n : ℕ) (rest : List Called) (ram : RamSideIs P)
     (known : List Entry) (side side' :
     RingSideIs Q) (ring ring' : List RingEntry) (w : List (Option Frame)) → side' ≡ side
-    → IsLegal side.net ring' → WentOn alone
+    → IsLegalRing side.net ring' → WentOn alone
     (is_of n) ring [] ring'
     → Turning n rest ram known side ring w → Turning n rest ram known side' ring' w
 ring-still {P} {Q} alone n rest ram known side side' ring ring' w same legal went t =
@@ -291,7 +292,7 @@ ring-still {P} {Q} alone n rest ram known side side' ring ring' w same legal wen
 
 pub holds-still : {Q : Type 0} (alone : Bool) (n : ℕ) (side side' : RingSideIs Q)
     (ring ring' : List RingEntry) → side' ≡ side →
-    IsLegal side.net ring' → WentOn alone (is_of n) ring [] ring' → IsOwnTurn side ring n
+    IsLegalRing side.net ring' → WentOn alone (is_of n) ring [] ring' → IsOwnTurn side ring n
     → Holds side.net ring n → Holds
     side'.net ring' n
 holds-still {Q} alone n side side' ring ring' same legal went t h =
@@ -299,7 +300,7 @@ holds-still {Q} alone n side side' ring ring' same legal went t h =
     subst (λ (s : RingSideIs Q). Holds s.net ring' n) (sym same) (f.holds h)
 
 pub holds-took : {Q : Type 0} (alone : Bool) (n : ℕ) (f : Frame) (side : RingSideIs Q)
-    (ring ring' : List RingEntry) → IsLegal
+    (ring ring' : List RingEntry) → IsLegalRing
     side.net ring' → WentOn alone (is_of n) ring (Take n f ∷ []) ring' → IsOwnTurn side ring n
     → Holds side.net ring n → Holds
     side.net ring' n
@@ -313,7 +314,7 @@ shorter [] f first = absurd first
 shorter (g ∷ gs) f first = omega arith
 
 pub take-less : {Q : Type 0} (alone : Bool) (n : ℕ) (f : Frame) (side : RingSideIs Q)
-    (ring ring' : List RingEntry) → IsLegal
+    (ring ring' : List RingEntry) → IsLegalRing
     side.net ring' → WentOn alone (is_of n) ring (Take n f ∷ []) ring' → IsOwnTurn side ring n
     → length (part side.net ring' n).inbox < length (part side.net ring n).inbox
 take-less alone n f side ring ring' legal went t =

@@ -11,7 +11,7 @@ use Rattle.ring_core.specs.declared.frame.Frame.{Frame}
 use Rattle.ring_core.specs.declared.entry.RingEntry.{RingEntry}
 use Rattle.ring_core.specs.declared.entry.RingEntry.TheVariants.{Post, Take, Local}
 use Rattle.ring_core.specs.Statistics.{is_stats}
-use Rattle.ring_core.specs.Legal.{IsLegal, IsFirst}
+use Rattle.ring_core.specs.Legal.{IsLegalRing, IsFirst}
 use Rattle.ring_core.specs.Machine.{NodeIs}
 use Rattle.tied_lists.specs.Items.{reply_of}
 use Rattle.tied_lists.specs.Own.{is_of, WentOn}
@@ -58,7 +58,7 @@ first-out [] f first = absurd first
 first-out (g ∷ gs) f first = ap (λ (x : Frame). x ∷ gs) first
 
 pub inbox-took : {Q : Type 0} (alone : Bool) (n : ℕ) (f : Frame) (side : RingSideIs Q)
-    (ring ring' : List RingEntry) → IsLegal
+    (ring ring' : List RingEntry) → IsLegalRing
     side.net ring' → WentOn alone (is_of n) ring (Take n f ∷ []) ring' → IsOwnTurn side ring n
     → inbox_of side.net n ring ≡ f ∷ inbox_of side.net n ring'
 inbox-took alone n f side ring ring' legal went t =
@@ -70,7 +70,7 @@ inbox-took alone n f side ring ring' legal went t =
     (sym (ap (λ (c : NodeIs). c.inbox) w.part_is))
 
 pub inbox-still : {Q : Type 0} (alone : Bool) (n : ℕ) (side : RingSideIs Q)
-    (ring ring' : List RingEntry) → IsLegal side.net ring' →
+    (ring ring' : List RingEntry) → IsLegalRing side.net ring' →
     WentOn alone (is_of n) ring [] ring' → IsOwnTurn side ring n
     → inbox_of side.net n ring' ≡ inbox_of side.net n ring
 inbox-still alone n side ring ring' legal went t =
@@ -91,7 +91,7 @@ took-and net n f start old new is noted noted' done done' a b = (
 -- one frame more was served
 pub serves-more : {Q : Type 0} (alone alone' : Bool) (n : ℕ) (f : Frame) (start : List Frame)
     (side : RingSideIs Q) (known0 known
-    known' : List Entry) (ring0 ring ring1 ring' : List RingEntry) → IsLegal side.net ring1
+    known' : List Entry) (ring0 ring ring1 ring' : List RingEntry) → IsLegalRing side.net ring1
     → WentOn alone' (is_of n) ring (Take n f ∷ []) ring1
     → IsOwnTurn side ring n → KeepsInbox side.net n ring1 ring'
     → PartOf alone alone' is_ours n (ServesOn n start (inbox_of side.net n ring)) known0 known ring0
@@ -133,7 +133,7 @@ serves-more alone alone' n f start side known0 known known' ring0 ring ring1 rin
 -- the inbox is empty
 pub all-served : {Q : Type 0} (alone alone' : Bool) (n : ℕ) (start : List Frame)
     (side : RingSideIs Q) (known0 known : List Entry)
-    (ring0 ring ring' : List RingEntry) → IsLegal side.net ring'
+    (ring0 ring ring' : List RingEntry) → IsLegalRing side.net ring'
     → WentOn alone' (is_of n) ring [] ring' → IsOwnTurn side ring n
     → inbox_of side.net n ring' ≡ []
     → PartOf alone alone' is_ours n (ServesOn n start (inbox_of side.net n ring)) known0 known ring0

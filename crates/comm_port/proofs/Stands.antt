@@ -3,9 +3,9 @@ use Rattle.std.proofs.Common.{◌≡◌, ℕ, Bool, List, ◌++◌, filter, sym}
 use Rattle.plant_types.specs.declared.net.NetPlan.{NetPlan}
 use Rattle.controller_core.specs.declared.fixed.Fixed.{Fixed}
 use Rattle.controller_core.specs.declared.entry.Entry.{Entry}
-use Rattle.controller_core.specs.Controller.{IsLegal as IsLegalRam}
+use Rattle.controller_core.specs.Controller.{IsLegal}
 use Rattle.ring_core.specs.declared.entry.RingEntry.{RingEntry}
-use Rattle.ring_core.specs.Legal.{IsLegal}
+use Rattle.ring_core.specs.Legal.{IsLegalRing}
 use Rattle.tied_lists.specs.Own.{is_of, WentOn}
 use Rattle.tied_lists.proofs.Growth.{grew-one, grew-more}
 use Rattle.joint_history.specs.Reading.{is_ours}
@@ -38,7 +38,8 @@ grown-went alone ours before added after' mine w = record
 
 -- ---- the ring's
 
-pub ring-stays : (alone : Bool) (net : NetPlan) (n : ℕ) (ring : List RingEntry) → IsLegal net ring
+pub ring-stays : (alone : Bool) (net : NetPlan) (n : ℕ) (ring : List RingEntry)
+    → IsLegalRing net ring
     → RingStands alone net n ring ring
 ring-stays alone net n ring legal = record
     { grown = grown-none alone (is_of n) ring; legal = legal }
@@ -49,7 +50,7 @@ pub ring-on : {Q : Type 0} (alone : Bool) (n : ℕ) (side side' : RingSideIs Q)
     → RingStands alone side.net n first last
 ring-on alone n side side' first middle last same a b = record {
   grown = grown-more alone (is_of n) first middle last a.grown b.grown;
-  legal = net-as (λ (m : NetPlan). IsLegal m last) _ _ same b.legal;
+  legal = net-as (λ (m : NetPlan). IsLegalRing m last) _ _ same b.legal;
 }
 
 -- ---- the controller's
@@ -64,6 +65,6 @@ pub ram-on : {P : Type 0} (alone : Bool) (side side' : RamSideIs P) (first middl
     → RamStands alone side.fixed first last
 ram-on alone side side' first middle last same a b = record {
   grown = grown-more alone is_ours first middle last a.grown b.grown;
-  legal = λ l. fixed-as (λ (f : Fixed). IsLegalRam f last) _ _ same
-      (b.legal (fixed-as (λ (f : Fixed). IsLegalRam f middle) _ _ (sym same) (a.legal l)));
+  legal = λ l. fixed-as (λ (f : Fixed). IsLegal f last) _ _ same
+      (b.legal (fixed-as (λ (f : Fixed). IsLegal f middle) _ _ (sym same) (a.legal l)));
 }

@@ -3,12 +3,12 @@ use Rattle.std.proofs.Common.{◌≡◌, ℕ, Bool, true, false, List, [], ◌�
 use Rattle.std.proofs.Common.{None, Result, refl, sym, ap, ◌∙◌, subst, append_assoc, append-nil}
 use Rattle.std.proofs.Common.{arith}
 use Rattle.controller_core.specs.declared.entry.Entry.{Entry}
-use Rattle.controller_core.specs.Controller.{IsLegal as IsLegalRam}
+use Rattle.controller_core.specs.Controller.{IsLegal}
 use Rattle.ring_core.specs.declared.frame.Frame.{Frame}
 use Rattle.ring_core.specs.declared.entry.LeaveCause.{LeaveCause}
 use Rattle.ring_core.specs.declared.entry.RingEntry.{RingEntry}
 use Rattle.ring_core.specs.declared.entry.RingEntry.TheVariants.{Leave, Take}
-use Rattle.ring_core.specs.Legal.{IsLegal}
+use Rattle.ring_core.specs.Legal.{IsLegalRing}
 use Rattle.host_port.specs.declared.entry.HostEntry.{HostEntry}
 use Rattle.host_port.specs.Host.{HostIs, HostWentOn}
 use Rattle.host_port.specs.Legal.{IsHostHistory}
@@ -59,7 +59,7 @@ mine-taken n (Some f) = mine n (Take n f) refl
 
 module _ {R Q : Type 0} (r : ring_sides.Ghosts R Q) where
   -- nothing was done
-  pub ring-rest : (n : ℕ) (ring : R) → IsLegal (r.side ring).net (r.known ring)
+  pub ring-rest : (n : ℕ) (ring : R) → IsLegalRing (r.side ring).net (r.known ring)
       → RingStep r n ring ring
   ring-rest n ring legal = record {
     same = refl;
@@ -79,7 +79,7 @@ module _ {R Q : Type 0} (r : ring_sides.Ghosts R Q) where
   -- a call, done or refused
   pub ring-called : (n : ℕ) {T X : Type 0} {a b : R} {result : Result T X}
       {added : T → List RingEntry} → r.side b ≡ r.side a
-      → IsLegal (r.side a).net (r.known b) → CallAdds r.alone r.known r.room n a b result added
+      → IsLegalRing (r.side a).net (r.known b) → CallAdds r.alone r.known r.room n a b result added
       → filter (is_of n) (added_if result added) ≡ added_if result added → RingStep r n a b
   ring-called n {T} {X} {a} {b} {result} {added} same legal went own = record {
     same = same;
@@ -92,7 +92,7 @@ module _ {R Q : Type 0} (r : ring_sides.Ghosts R Q) where
   }
 
   -- a question
-  pub ring-asked : (n : ℕ) {a b : R} → r.side b ≡ r.side a → IsLegal (r.side a).net (r.known b)
+  pub ring-asked : (n : ℕ) {a b : R} → r.side b ≡ r.side a → IsLegalRing (r.side a).net (r.known b)
       → AddsNothing r.alone r.known r.room n a b → RingStep r n a b
   ring-asked n {a} {b} same legal went = record {
     same = same;
@@ -107,7 +107,7 @@ module _ {R Q : Type 0} (r : ring_sides.Ghosts R Q) where
   -- a Leave, done or refused
   pub ring-left : (n : ℕ) {T X : Type 0} {cause : LeaveCause} {a b : R} {result : Result T X}
       → r.side b ≡ r.side a
-      → IsLegal (r.side a).net (r.known b) → LeaveAdds r.alone r.known r.room n cause a b result
+      → IsLegalRing (r.side a).net (r.known b) → LeaveAdds r.alone r.known r.room n cause a b result
       → filter (is_of n) (added_if result (λ _. Leave n cause ∷ [])) ≡ added_if result
       (λ _. Leave n cause ∷ []) → RingStep r n a b
   ring-left n {T} {X} {cause} {a} {b} {result} same legal went own = record {
@@ -144,7 +144,7 @@ module _ {M P : Type 0} (m : ram_sides.Ghosts M P) where
 
   pub ram-called : {T X : Type 0} {a b : M} {result : Result T X} {added : T → List Entry}
       → m.side b ≡ m.side a
-      → IsLegalRam (m.side a).fixed (m.known b)
+      → IsLegal (m.side a).fixed (m.known b)
       → CallNotes m.alone m.known m.reserved a b result added
       → filter is_ours (added_if result added) ≡ added_if result added → RamStep m a b
   ram-called {T} {X} {a} {b} {result} {added} same legal went own = record {
@@ -157,7 +157,7 @@ module _ {M P : Type 0} (m : ram_sides.Ghosts M P) where
     };
   }
 
-  pub ram-asked : {a b : M} → m.side b ≡ m.side a → IsLegalRam (m.side a).fixed (m.known b)
+  pub ram-asked : {a b : M} → m.side b ≡ m.side a → IsLegal (m.side a).fixed (m.known b)
       → NotesNothing m.alone m.known m.reserved a b
       → RamStep m a b
   ram-asked {a} {b} same legal went = record {
@@ -172,7 +172,7 @@ module _ {M P : Type 0} (m : ram_sides.Ghosts M P) where
 -- ---- at both
 
 module _ {M P R Q : Type 0} (m : ram_sides.Ghosts M P) (r : ring_sides.Ghosts R Q) where
-  pub both-rest : (n : ℕ) (ram : M) (ring : R) → IsLegal (r.side ring).net (r.known ring)
+  pub both-rest : (n : ℕ) (ram : M) (ring : R) → IsLegalRing (r.side ring).net (r.known ring)
       → BothStep m r n ram ram ring ring
   both-rest n ram ring legal = record { station = ram-rest m ram; node = ring-rest r n ring legal }
 
@@ -188,7 +188,7 @@ module _ {M P R Q : Type 0} (m : ram_sides.Ghosts M P) (r : ring_sides.Ghosts R 
   pub both-ring : (n : ℕ) (ram : M) {x y : R} → RingStep r n x y → BothStep m r n ram ram x y
   both-ring n ram s = record { station = ram-rest m ram; node = s }
 
-  pub both-ram : (n : ℕ) {a b : M} (ring : R) → IsLegal (r.side ring).net (r.known ring)
+  pub both-ram : (n : ℕ) {a b : M} (ring : R) → IsLegalRing (r.side ring).net (r.known ring)
       → RamStep m a b → BothStep m r n a b ring ring
   both-ram n ring legal s = record { station = s; node = ring-rest r n ring legal }
 

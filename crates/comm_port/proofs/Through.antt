@@ -26,7 +26,7 @@ use Rattle.ring_core.specs.declared.refusal.RingNo.{RingNo}
 use Rattle.ring_core.specs.Refusals.{or_no, taken_no, path_no, free_no}
 use Rattle.std.proofs.lemmas.List.Elements.{All-contains}
 use Rattle.std.proofs.Common.{not, length, Option, Some, None}
-use Rattle.ring_core.specs.Legal.{IsLegal, IsRingStep, IsFrom}
+use Rattle.ring_core.specs.Legal.{IsLegalRing, IsRingStep, IsFrom}
 use Rattle.tied_lists.specs.Own.{is_of, own, Adds}
 use Rattle.tied_lists.specs.Waits.{IsOnRing, IsFree}
 use Rattle.tied_lists.proofs.Boxes.{each-push}
@@ -81,14 +81,16 @@ Keeps net n Sort Q = (past after' : List RingEntry) (e : RingEntry) → maker e 
 
 run-through : (net : NetPlan) (n : ℕ) (Sort : RingEntry → Type 0) (Q : NodeIs → Type 0)
     → Keeps net n Sort Q → (past more : List RingEntry)
-    → IsOnRing net past n → IsLegal net (past ++ more) → Each Sort (own n more) → IsFree net past n
+    → IsOnRing net past n → IsLegalRing net (past ++ more) → Each Sort (own n more)
+    → IsFree net past n
     → Q (part_at net n past) → Q (part_at net n (past ++ more))
 run-through net n Sort Q keeps past [] on legal sorts free it = subst
     (λ (l : List RingEntry). Q (part_at net n l)) (sym (append-nil past)) it
 run-through net n Sort Q keeps past (e ∷ es) on legal sorts free it =
     let join = append_assoc past (e ∷ []) es in
     let run = (legal-parts net past (e ∷ es) legal).1 in
-    let legal' : IsLegal net ((past ++ e ∷ []) ++ es) = subst (IsLegal net) (sym join) legal in
+    let legal' : IsLegalRing net ((past ++ e ∷ []) ++ es) = subst (IsLegalRing net)
+    (sym join) legal in
     let near = (legal-parts net (past ++ e ∷ []) es legal').0 in
     let on' : IsOnRing net (past ++ e ∷ []) n = record
     { members = on.members; legal = near; member = on.member } in
@@ -111,12 +113,12 @@ run-through net n Sort Q keeps past (e ∷ es) on legal sorts free it =
 
 pub through : (alone : Bool) (net : NetPlan) (n : ℕ) (Sort : RingEntry → Type 0)
     (Q : NodeIs → Type 0) (ring ring' : List RingEntry) → Keeps net n Sort Q
-    → IsOnRing net ring n → IsLegal net ring' → IsFree net ring n
+    → IsOnRing net ring n → IsLegalRing net ring' → IsFree net ring n
     → Adds alone (is_of n) Sort ring ring' → Q (part_at net n ring) → Q (part_at net n ring')
 through alone net n Sort Q ring ring' keeps on legal free adds it =
     let g = adds.grew in
     subst (λ (l : List RingEntry). Q (part_at net n l)) (sym g.after_is)
-    (run-through net n Sort Q keeps ring g.more on (subst (IsLegal net) g.after_is legal)
+    (run-through net n Sort Q keeps ring g.more on (subst (IsLegalRing net) g.after_is legal)
     (subst (Each Sort) (sym g.ours_are) adds.sort) free it)
 
 -- ---- serving leaves no Request in the outbox and no path failed
@@ -223,7 +225,8 @@ calling-keeps net n chosen wait past after' (Post m f) mine move sort q =
     (path_no (part_at net n move'.past) f.kind f.id.path) move'.step.1.1) in (
       w.free,
       subst (Asks chosen net.answer) (sym w.part_is)
-          (calls-more chosen net.answer n (part_at net n past) f f.kind wait refl sort move'.step.0.1
+          (calls-more chosen net.answer n (part_at net n past) f f.kind wait refl sort
+          move'.step.0.1
           free q),
     )
 calling-keeps net n chosen wait past after' (Local m id op result) mine move sort q =
@@ -335,13 +338,14 @@ rest-own net n r (Take m f) size low mine sort q = absurd sort
 rest-own net n r (Local m id op result) size low mine sort q = absurd sort
 
 rest-run : (net : NetPlan) (n : ℕ) (past more : List RingEntry) → IsOnRing net past n
-    → IsLegal net (past ++ more) → Each IsEnding (own n more)
+    → IsLegalRing net (past ++ more) → Each IsEnding (own n more)
     → RestsIn (part_at net n past) → RestsIn (part_at net n (past ++ more))
 rest-run net n past [] on legal sorts q = subst (λ (l : List RingEntry). RestsIn (part_at net n l))
     (sym (append-nil past)) q
 rest-run net n past (e ∷ es) on legal sorts q =
     let join = append_assoc past (e ∷ []) es in
-    let legal' : IsLegal net ((past ++ e ∷ []) ++ es) = subst (IsLegal net) (sym join) legal in
+    let legal' : IsLegalRing net ((past ++ e ∷ []) ++ es) = subst (IsLegalRing net)
+    (sym join) legal in
     let near = (legal-parts net (past ++ e ∷ []) es legal').0 in
     let on' : IsOnRing net (past ++ e ∷ []) n = record
     { members = on.members; legal = near; member = on.member } in
@@ -367,11 +371,11 @@ rest-run net n past (e ∷ es) on legal sorts q =
     (cases_Bool (is_of n e)))
 
 pub rest-through : (alone : Bool) (net : NetPlan) (n : ℕ) (ring ring' : List RingEntry)
-    → IsOnRing net ring n → IsLegal net ring' → Adds alone (is_of n) IsEnding
+    → IsOnRing net ring n → IsLegalRing net ring' → Adds alone (is_of n) IsEnding
     ring ring' → IsAtRest net n ring → IsAtRest net n ring'
 rest-through alone net n ring ring' on legal adds q =
     let g = adds.grew in
     let k = subst (λ (l : List RingEntry). RestsIn (part_at net n l)) (sym g.after_is)
-    (rest-run net n ring g.more on (subst (IsLegal net) g.after_is legal)
+    (rest-run net n ring g.more on (subst (IsLegalRing net) g.after_is legal)
     (subst (Each IsEnding) (sym g.ours_are) adds.sort) (q.all_sent, q.none_failed)) in
     record { all_sent = k.0; none_failed = k.1 }

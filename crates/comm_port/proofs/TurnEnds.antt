@@ -22,7 +22,7 @@ use Rattle.ring_core.specs.Machine.{NodeIs, RingIs, ring_after, ring_node}
 use Rattle.ring_core.specs.Refusals.{or_no, unsent_no, untaken_no, pass_no, due_no, leave_no}
 use Rattle.ring_core.specs.Refusals.{cause_held, needed_of, quiet_for}
 use Rattle.ring_core.specs.Scratch.{put_after, put_with, words_put}
-use Rattle.ring_core.specs.Legal.{IsLegal}
+use Rattle.ring_core.specs.Legal.{IsLegalRing}
 use Rattle.ring_core.specs.Stability.{Stays}
 use Rattle.ring_core.proofs.Stability.{holder-stays}
 use Rattle.tied_lists.specs.Own.{is_of, own, WentOn, Grew}
@@ -38,17 +38,17 @@ use Rattle.comm_port.proofs.RingTurns.{mine, on-ring}
 -- ---- what others leave of a node that holds the token
 
 pub stays-between : (net : NetPlan) (n : ℕ) (alone : Bool) (before added after' : List RingEntry)
-    → IsLegal net after' → (w :
+    → IsLegalRing net after' → (w :
     WentOn alone (is_of n) before added after')
     → Holds net before n → Stays (ring_after net before) (ring_after net (before ++ w.between)) n
 stays-between net n alone before added after' legal w holds =
-    let all = subst (IsLegal net) w.after_is legal in
+    let all = subst (IsLegalRing net) w.after_is legal in
     let front = (legal-parts net (before ++ w.between) added all).0 in
     holder-stays net before w.between n (legal-parts net before w.between front).1 holds.holder
     (none-by n w.between w.others)
 
 pub stood-still : (net : NetPlan) (n : ℕ) (alone : Bool) (before after' : List RingEntry)
-    → IsLegal net after' → WentOn alone (is_of n) before [] after'
+    → IsLegalRing net after' → WentOn alone (is_of n) before [] after'
     → Holds net before n → StoodStill alone net n before after'
 stood-still net n alone before after' legal w holds =
     let is : after' ≡ before ++ w.between = w.after_is ∙ append-nil (before ++ w.between) in
@@ -138,7 +138,7 @@ leave-early net r n cause h k is =
 
 pub did-leave : (net : NetPlan) (n : ℕ) (cause : LeaveCause) (alone : Bool)
     (before after' : List RingEntry) → IsOnRing net before
-    n → IsLegal net after' → Holds net before n
+    n → IsLegalRing net after' → Holds net before n
     → WentOn alone (is_of n) before (Leave n cause ∷ []) after'
     → (true ≡ is_due net (ring_after net before) n cause) × LeftRing alone net n cause before
     after'
@@ -149,7 +149,7 @@ did-leave net n cause alone before after' on legal holds w =
     let s = stays-between net n alone before (Leave n cause ∷ []) after' legal w holds in
     let past = before ++ w.between in
     let step = (legal-parts net past (Leave n cause ∷ [])
-    (subst (IsLegal net) w.after_is legal)).1.0 in (
+    (subst (IsLegalRing net) w.after_is legal)).1.0 in (
       leave-due net (ring_after net past) n cause step.1 ∙ due-as net (ring_after net before)
           (ring_after net past) n cause s.part s.quiet,
       record {
@@ -161,7 +161,7 @@ did-leave net n cause alone before after' on legal holds w =
 
 pub did-not : (net : NetPlan) (n : ℕ) (cause : LeaveCause) (alone : Bool)
     (before after' : List RingEntry) (why : RingNo) (h k :
-    ℕ) → IsLegal net after' → Holds net before n
+    ℕ) → IsLegalRing net after' → Holds net before n
     → WentOn alone (is_of n) before [] after'
     → (why ≡ NoMemory) ⊎ (leave_no net (ring_after net after') n cause ≡ Some why)
     → why ≡ NotDue h k
@@ -268,7 +268,7 @@ pub passed-on : {Q : Type 0} (side side' side'' : RingSideIs Q) (n : ℕ) (done 
     → ended ≡ (done && is_due side'.net (ring_after side'.net b) n Ended)
     → LeftOrStood alone side'.net n Ended b c ended → ended ≡ false
     → WentOn alone (is_of n) c (Pass n done (words_put n c) ∷ []) d → IsOwnTurn side a n
-    → IsLegal side''.net d
+    → IsLegalRing side''.net d
     → HandedOn alone side.net n done (words_put n a)
     (cause_due side.net (ring_after side.net a) n done budget) a d
 passed-on {Q} side side' side'' n done budget alone a b c d spent ended same next_same one did_one
@@ -277,7 +277,7 @@ passed-on {Q} side side' side'' n done budget alone a b c d spent ended same nex
     (subst (λ (s : RingSideIs Q). ended ≡ (done && is_due s.net (ring_after s.net b) n Ended)) same
     two)
     (subst (λ (s : RingSideIs Q). LeftOrStood alone s.net n Ended b c ended) same did_two) not_two w
-    (on-ring side a d n turn (subst (λ (s : RingSideIs Q). IsLegal s.net d) (next_same ∙ same)
+    (on-ring side a d n turn (subst (λ (s : RingSideIs Q). IsLegalRing s.net d) (next_same ∙ same)
     legal))
 
 -- ---- a turn whose node leaves since it is done

@@ -8,7 +8,8 @@ use Rattle.controller_core.specs.declared.entry.Entry.{Entry}
 use Rattle.ring_core.specs.declared.entry.RingEntry.{RingEntry}
 use Rattle.tied_lists.specs.Own.{is_of, WentOn, Grew, Adds}
 use Rattle.tied_lists.proofs.Growth.{grew-one, grew-more}
-use Rattle.comm_port.specs.HoldTurn.{Collects, Ends, HoldsTurn, VisitsEnd}
+use Rattle.comm_port.specs.HoldTurn.{Collects, EndsHoldTurn, HoldsTurn, VisitsEnd}
+use Rattle.comm_port.proofs.Asked.{both-asked}
 use Rattle.joint_history.specs.Reading.{is_ours}
 
 -- a list went on by these own entries
@@ -43,13 +44,13 @@ collects-grown alone alone' fixed n Due k k' r r' c = (
 )
 
 ends-grown : (alone alone' : Bool) (fixed : Fixed) (net : NetPlan) (n : ℕ) (budget : Bool)
-    (k k' : List Entry) (r r' : List RingEntry) (left : Bool) → Ends alone alone'
+    (k k' : List Entry) (r r' : List RingEntry) (left : Bool) → EndsHoldTurn alone alone'
     fixed net n budget k k' r r' left → Grown alone is_ours k k' × Grown alone' (is_of n) r r'
 ends-grown alone alone' fixed net n budget k k' r r' left e = (
   grown-both alone is_ours k e.asked_known k'
-      (grown-both alone is_ours k e.asked.at_end e.asked_known
-      (still alone k e.asked.at_end e.asked.first)
-      (still alone e.asked.at_end e.asked_known e.asked.then_on))
+      (grown-both alone is_ours k (both-asked e.asked).at_end e.asked_known
+      (still alone k (both-asked e.asked).at_end (both-asked e.asked).first)
+      (still alone (both-asked e.asked).at_end e.asked_known (both-asked e.asked).then_on))
       (record { added = e.gives_up.noted; grew = e.gives_up.station }),
   grown-both alone' (is_of n) r e.handed_ring r' (record { added = _; grew = e.handed.grew })
       (record { added = e.gives_up.done; grew = e.gives_up.node }),
@@ -75,7 +76,7 @@ turn-grown alone alone' fixed net n budget k k' r r' left t =
           (record { added = t.serves.done; grew = t.serves.node })
           (grown-both alone' (is_of n) t.served_ring t.called_ring r' c.1
           (grown-both alone' (is_of n) t.called_ring t.sent_ring r'
-          (record { added = t.sends.done; grew = t.sends.grew })
+          (record { added = t.sends.frames.done; grew = t.sends.frames.grew })
           (grown-both alone' (is_of n) t.sent_ring t.given_ring r'
           (record { added = t.gives_up.done; grew = t.gives_up.node }) e.1))),
     )

@@ -6,7 +6,7 @@ use Rattle.controller_core.specs.declared.entry.Entry.{Entry}
 use Rattle.ring_core.specs.declared.frame.Frame.{Frame}
 use Rattle.ring_core.specs.declared.entry.RingEntry.{RingEntry}
 use Rattle.ring_core.specs.Machine.{NodeIs}
-use Rattle.ring_core.specs.Legal.{IsLegal}
+use Rattle.ring_core.specs.Legal.{IsLegalRing}
 use Rattle.std.proofs.Common.{Option}
 use Rattle.std.specs.List.{AllByRecursion as Each}
 use Rattle.tied_lists.specs.Own.{is_of, Adds}
@@ -35,7 +35,7 @@ pub sends-next : {P Q : Type 0} (alone : Bool) (n : ℕ) (ram : RamSideIs P) (kn
     List (Option Frame)) → 0 < side.net.answer → IsAtRest side.net n ring → IsOnRing side.net ring n
     → IsFree side.net ring n → Adds alone (is_of n) (IsServing n)
     ring served → Turning n [] ram known side served w
-    → Adds alone (is_of n) (IsCalling n) served called → IsLegal side.net called
+    → Adds alone (is_of n) (IsCalling n) served called → IsLegalRing side.net called
     → MaySend side.net n (free_paths w) (part_at side.net n called)
 sends-next alone n ram known side ring served called w wait rest on free one t two legal =
     let net = side.net in
@@ -51,12 +51,14 @@ sends-next alone n ram known side ring served called w wait rest on free one t t
 pub rest-sent : (alone alone' : Bool) (net : NetPlan) (n : ℕ) (known known' : List Entry)
     (ring ring' : List RingEntry) → SendsAll alone alone' net n known known' ring
     ring' → IsAtRest net n ring'
-rest-sent alone alone' net n known known' ring ring' s = record
-    { all_sent = s.all_sent; none_failed = paths-of-none net n ring' s.none_failed }
+rest-sent alone alone' net n known known' ring ring' s = record {
+  all_sent = s.frames.all_sent;
+  none_failed = paths-of-none (part_at net n ring') s.frames.none_failed;
+}
 
 -- and so after the fourth
 pub rest-given : (alone : Bool) (net : NetPlan) (n : ℕ) (ring ring' : List RingEntry)
-    → IsOnRing net ring n → IsLegal net ring' → Adds alone (is_of n) IsGivingUp
+    → IsOnRing net ring n → IsLegalRing net ring' → Adds alone (is_of n) IsGivingUp
     ring ring' → IsAtRest net n ring → IsAtRest net n ring'
 rest-given alone net n ring ring' on legal adds q =
     rest-through alone net n ring ring' on legal

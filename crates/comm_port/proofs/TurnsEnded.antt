@@ -8,7 +8,7 @@ use Rattle.ring_core.specs.declared.frame.Frame.{Frame}
 use Rattle.ring_core.specs.declared.entry.LeaveCause.{LeaveCause}
 use Rattle.ring_core.specs.declared.entry.RingEntry.{RingEntry}
 use Rattle.ring_core.specs.declared.entry.RingEntry.TheVariants.{Pass, Leave}
-use Rattle.ring_core.specs.Legal.{IsLegal}
+use Rattle.ring_core.specs.Legal.{IsLegalRing}
 use Rattle.tied_lists.specs.Own.{is_of, own}
 use Rattle.tied_lists.specs.Items.{AController, Items}
 use Rattle.tied_lists.specs.Tied.{Tied, TiedBut}
@@ -21,6 +21,7 @@ use Rattle.joint_history.specs.Reading.{items_of}
 use Rattle.comm_port.specs.Leaving.{last_entry, HandedOn}
 use Rattle.comm_port.specs.Turns.{AreWaiting, Turning, Rested}
 use Rattle.comm_port.specs.Ending.{AsksIfDone}
+use Rattle.comm_port.proofs.Asked.{both-asked}
 use Rattle.comm_port.specs.Waiting.{IsIdle}
 use Rattle.comm_port.proofs.RingTurns.{on-ring}
 use Rattle.comm_port.proofs.Made.{ram-still}
@@ -45,7 +46,7 @@ pub handed-lead : {P Q : Type 0} (alone : Bool) (n : ℕ) (done : Bool) (words :
     (cause : Option LeaveCause) (ram :
     RamSideIs P) (known : List Entry) (side side' : RingSideIs Q) (ring ring' : List RingEntry)
     (w : List (Option Frame)) → side'
-    ≡ side → IsLegal side.net ring'
+    ≡ side → IsLegalRing side.net ring'
     → HandedOn alone side.net n done words cause ring ring' → Turning n [] ram known side ring w
     → Rested n ram known side' ring' w
 handed-lead {P} {Q} alone n done words cause ram known side side' ring ring' w same legal h t =
@@ -93,6 +94,6 @@ pub asked-lead : {P Q : Type 0} (alone : Bool) (n : ℕ) (fixed : Fixed) (done :
     known' done → Turning n [] ram known side ring w
     → Turning n [] ram' known' side ring w
 asked-lead alone n fixed done ram ram' known known' side ring w same asked t =
-    ram-still alone n [] ram ram' asked.at_end known' side ring w same asked.then_on
-    (ram-still alone n [] ram ram known
-    asked.at_end side ring w refl asked.first t)
+    let both = both-asked asked in
+    ram-still alone n [] ram ram' both.at_end known' side ring w same both.then_on
+    (ram-still alone n [] ram ram known both.at_end side ring w refl both.first t)

@@ -11,7 +11,7 @@ use Rattle.controller_core.specs.declared.entry.Entry.TheVariants.{Finish}
 use Rattle.ring_core.specs.declared.frame.Frame.{Frame}
 use Rattle.ring_core.specs.declared.entry.RingEntry.{RingEntry}
 use Rattle.ring_core.specs.Words.{is_same_call}
-use Rattle.ring_core.specs.Legal.{IsLegal}
+use Rattle.ring_core.specs.Legal.{IsLegalRing}
 use Rattle.tied_lists.specs.Own.{own, WentOn}
 use Rattle.tied_lists.specs.Items.{Called, Kind, Ended, Items}
 use Rattle.tied_lists.specs.Items.{Came, kind_in, asked_by, last_asked}
@@ -62,7 +62,7 @@ pub owing-given : {P Q : Type 0} (rest : List Called) (alone alone' : Bool) (n p
     RamSideIs P) (known known' : List Entry) (side side' : RingSideIs Q)
     (ring ring' : List RingEntry) (w : List (Option Frame)) →
     ram' ≡ ram → side' ≡ side
-    → IsLegal side.net ring' → Waits n p id ram known side ring w
+    → IsLegalRing side.net ring' → Waits n p id ram known side ring w
     → GaveUp alone' side.net id ring ring' (Some word) → WentOn
     alone is_ours known (Finish id (Bad word) ∷ []) known' → Owing n rest ram known side ring w
     → Owing n rest ram' known'

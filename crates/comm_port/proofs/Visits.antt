@@ -24,7 +24,7 @@ use Rattle.ring_core.specs.declared.refusal.RingNo.{RingNo}
 use Rattle.ring_core.specs.Words.{maker, asks_for}
 use Rattle.ring_core.specs.Machine.{NodeIs, ring_after, path_of, posted, gave_up}
 use Rattle.ring_core.specs.Refusals.{or_no, free_no, path_no, taken_no}
-use Rattle.ring_core.specs.Legal.{IsLegal}
+use Rattle.ring_core.specs.Legal.{IsLegalRing}
 use Rattle.tied_lists.specs.Own.{is_of, own, Grew}
 use Rattle.tied_lists.specs.Waits.{waiting as waits_on, waits_posted, AwaitsThis, IsOnRing, IsFree}
 use Rattle.tied_lists.specs.Waits.{HasLeft}
@@ -99,7 +99,7 @@ pub record OneEntry (net : NetPlan) (n : ℕ) (ring : List RingEntry) (e : RingE
   pub later : IsFree net mid n → part_at net n ring' ≡ part_at net n mid
 
 pub one-entry : (alone : Bool) (net : NetPlan) (n : ℕ) (ring : List RingEntry) (e : RingEntry)
-    (ring' : List RingEntry) → IsOnRing net ring n → IsLegal net ring' →
+    (ring' : List RingEntry) → IsOnRing net ring n → IsLegalRing net ring' →
     IsFree net ring n → Grew alone (is_of n) ring (e ∷ []) ring' → OneEntry net n ring e ring'
 one-entry alone net n ring e ring' on legal free g =
     let k = alone-in n g.more e g.ours_are in
@@ -108,7 +108,7 @@ one-entry alone net n ring e ring' on legal free g =
     let all : ring' ≡ mid ++ k.later = g.after_is
     ∙ (ap (λ l. ring ++ l) k.is ∙ (sym (append_assoc ring k.before (e ∷ k.later)) ∙ sym
     (append_assoc past (e ∷ []) k.later))) in
-    let legal' : IsLegal net (mid ++ k.later) = subst (IsLegal net) all legal in
+    let legal' : IsLegalRing net (mid ++ k.later) = subst (IsLegalRing net) all legal in
     let near = (legal-parts net mid k.later legal').0 in
     let parts = legal-parts net past (e ∷ []) near in
     let found = found-at net n ring k.before parts.0 k.none_before free in
@@ -140,7 +140,7 @@ second-none None b e = e
 second-none (Some x) b e = absurd (cc)
 
 pub posted-at : (alone : Bool) (net : NetPlan) (n : ℕ) (ring : List RingEntry) (f : Frame)
-    (ring' : List RingEntry) → IsOnRing net ring n → IsLegal net ring' → IsFree
+    (ring' : List RingEntry) → IsOnRing net ring n → IsLegalRing net ring' → IsFree
     net ring n → Grew alone (is_of n) ring (Post n f ∷ []) ring' → Posted net n ring f ring'
 posted-at alone net n ring f ring' on legal free g =
     let o = one-entry alone net n ring (Post n f) ring' on legal free g in
@@ -155,7 +155,7 @@ posted-at alone net n ring f ring' on legal free g =
 
 pub local-at : (alone : Bool) (net : NetPlan) (n : ℕ) (ring : List RingEntry) (id : CallId)
     (op : LocalOp) (r : MstrResult) (ring' : List RingEntry) → IsOnRing net ring
-    n → IsLegal net ring' → IsFree net ring n
+    n → IsLegalRing net ring' → IsFree net ring n
     → Grew alone (is_of n) ring (Local n id op r ∷ []) ring'
     → part_at net n ring' ≡ part_at net n ring
 local-at alone net n ring id op r ring' on legal free g =
@@ -345,13 +345,13 @@ ended-local alone alone' n calls at c op known known' ring ring' low one kind p 
 pub net-posted : {Q : Type 0} (alone alone' : Bool) (n : ℕ) (calls : List Call) (at : ℕ) (c : Call)
     (to : ℕ) (pdu : List ℕ) (known known' : List Entry) (side side' :
     RingSideIs Q) (ring ring' : List RingEntry) → at < length calls → c ≡ get_or calls at c
-    → c.kind ≡ kinds.Net to pdu → side' ≡ side → IsOwnTurn side ring n → IsLegal
+    → c.kind ≡ kinds.Net to pdu → side' ≡ side → IsOwnTurn side ring n → IsLegalRing
     side'.net ring' → PartOf alone alone' is_ours n (IsDueAt (IsMade n) calls at) known known' ring
     ring' → Posted side.net n ring (request_frame c.id to pdu) ring'
 net-posted alone alone' n calls at c to pdu known known' side side' ring ring' low one kind same t
     legal p =
     posted-at alone' side.net n ring (request_frame c.id to pdu) ring' t.on
-    (net-as (λ (m : NetPlan). IsLegal m ring') side side' same legal) t.free
+    (net-as (λ (m : NetPlan). IsLegalRing m ring') side side' same legal) t.free
     (made-net-at alone alone' n calls at c to pdu known known' ring ring' low one kind p).1
 
 pub record AsItWas (net : NetPlan) (n : ℕ) (ring ring' : List RingEntry) : Type 0 where
@@ -361,7 +361,7 @@ pub record AsItWas (net : NetPlan) (n : ℕ) (ring ring' : List RingEntry) : Typ
 pub local-done : {Q : Type 0} (alone alone' : Bool) (n : ℕ) (calls : List Call) (at : ℕ) (c : Call)
     (op : LocalOp) (known known' : List Entry) (side side' : RingSideIs Q)
     (ring ring' : List RingEntry) → at < length calls → c ≡ get_or calls at c
-    → c.kind ≡ kinds.Local op → side' ≡ side → IsOwnTurn side ring n → IsLegal side'.net ring'
+    → c.kind ≡ kinds.Local op → side' ≡ side → IsOwnTurn side ring n → IsLegalRing side'.net ring'
     → PartOf alone alone' is_ours n (IsDueAt (IsMade n) calls at) known known' ring ring'
     → AsItWas side.net n ring ring'
 local-done alone alone' n calls at c op known known' side side' ring ring' low one kind same t legal
@@ -369,7 +369,7 @@ local-done alone alone' n calls at c op known known' side side' ring ring' low o
     let k = made-local-at alone alone' n calls at c op known known' ring ring' low one kind p in
     record {
       part_is = local-at alone' side.net n ring c.id op k.0 ring' t.on
-          (net-as (λ (m : NetPlan). IsLegal m ring') side side' same legal) t.free k.1;
+          (net-as (λ (m : NetPlan). IsLegalRing m ring') side side' same legal) t.free k.1;
       waits = local-before n c.id op k.0 ring ring'
           (grew-ours alone' (is_of n) ring (Local n c.id op k.0 ∷ []) ring' k.1);
     }

@@ -14,7 +14,7 @@ use Rattle.comm_port.specs.Calling.{IsDueAt}
 use Rattle.comm_port.specs.Ending.{AsksIfDone}
 use Rattle.comm_port.specs.Giving.{due_calls, chosen_paths, inbox_of}
 use Rattle.comm_port.specs.HoldTurn.{IsServed, IsMade, IsEnded, IsGivenUp, Collects}
-use Rattle.comm_port.specs.HoldTurn.{SendsAll, Ends, HoldsTurn, VisitsEnd}
+use Rattle.comm_port.specs.HoldTurn.{SendsAll, EndsHoldTurn, HoldsTurn, VisitsEnd}
 use Rattle.comm_port.specs.Making.{DoesAtHome, Owing, calls_from}
 use Rattle.comm_port.specs.Parts.{InOrder, PartOf}
 use Rattle.comm_port.specs.RingSteps.{RingStep}
@@ -93,8 +93,8 @@ module _ {M P R Q : Type 0} (m : ram_sides.Ghosts M P) (r : ring_sides.Ghosts R 
       ram ram' ring ring'
 
   -- The call at a place was made.
-  abbrev pub Makes : ℕ → List Call → ℕ → M → M → R → R → Type 0
-  Makes n calls at ram ram' ring ring' =
+  abbrev pub MakesCallAt : ℕ → List Call → ℕ → M → M → R → R → Type 0
+  MakesCallAt n calls at ram ram' ring ring' =
       PartOver n (IsDueAt (IsMade n) calls at) ram ram' ring ring'
 
   -- The call at a place was made, and ended at once.
@@ -135,7 +135,7 @@ module _ {M P R Q : Type 0} (m : ram_sides.Ghosts M P) (r : ring_sides.Ghosts R 
 
   -- The turn ended: the node left, or passed the token on, as was due.
   abbrev pub EndsOver : ℕ → Bool → M → M → R → R → Bool → Type 0
-  EndsOver n budget ram ram' ring ring' left = Ends m.alone r.alone (m.side ram).fixed
+  EndsOver n budget ram ram' ring ring' left = EndsHoldTurn m.alone r.alone (m.side ram).fixed
       (r.side ring).net n budget (m.known ram) (m.known ram') (r.known ring) (r.known ring') left
 
   -- A turn: its five parts one after another.

@@ -1,19 +1,35 @@
 -- How a controller's turn ends. This project's own.
-use Rattle.std.specs.Prelude.{◌≡◌, Bool, true, false, List, []}
+use Rattle.std.specs.Prelude.{◌≡◌, ◌↔◌, Bool, true, false, not, List, [], ◌∷◌}
 use Rattle.controller_core.specs.declared.fixed.Fixed.{Fixed}
 use Rattle.controller_core.specs.declared.entry.Entry.{Entry}
 use Rattle.tied_lists.specs.Own.{WentOn}
 use Rattle.joint_history.specs.Reading.{is_ours, has_ended_at, has_started_at}
 
--- A turn asked whether the controller is done: first whether its scans have ended, then whether a
--- call is uncollected, then whether its paths are idle.
+-- What a turn asks of a controller's list to know whether it is done, in this order: whether the
+-- scans have ended, then whether no call is uncollected.
+abbrev pub questions : Fixed → List (List Entry → Bool)
+questions fixed =
+    has_ended_at fixed ∷ (λ (list : List Entry). not (has_started_at fixed list)) ∷ []
+
+-- A question was asked of a list as it stood then. Where the answer was no, nothing more was asked.
+pub record AskedFirst (alone : Bool) (question : List Entry → Bool)
+    (AskedLater : List Entry → Type 0) (old new : List Entry) (all : Bool) : Type 0 where
+  pub at : List Entry
+  pub went : WentOn alone is_ours old [] at
+  pub yes : question at ≡ true → AskedLater at
+  pub no : question at ≡ false → (new ≡ at) × (all ≡ false)
+
+-- Questions were asked of a list one after another, as far as each was answered by yes; and that
+-- is whether all were.
+abbrev pub AskedInOrder : Bool → List (List Entry → Bool) → List Entry → List Entry → Bool → Type 0
+AskedInOrder alone [] old new all = (new ≡ old) × (all ≡ true)
+AskedInOrder alone (question ∷ later) old new all =
+    AskedFirst alone question (λ at. AskedInOrder alone later at new all) old new all
+
+-- A turn asked whether the controller is done: it is exactly where each question is answered by yes
+-- and its paths are idle.
 pub record AsksIfDone (alone : Bool) (fixed : Fixed) (Idle : Type 0) (old new : List Entry)
     (done : Bool) : Type 0 where
-  pub at_end : List Entry
-  pub first : WentOn alone is_ours old [] at_end
-  pub then_on : WentOn alone is_ours at_end [] new
-  pub ended : done ≡ true → has_ended_at fixed at_end ≡ true
-  pub collected : done ≡ true → has_started_at fixed new ≡ false
-  pub idle : done ≡ true → Idle
-  pub all : has_ended_at fixed at_end ≡ true → has_started_at fixed new ≡ false
-      → Idle → done ≡ true
+  pub all_yes : Bool
+  pub asked : AskedInOrder alone (questions fixed) old new all_yes
+  pub done_is : (done ≡ true) ↔ ((all_yes ≡ true) × Idle)

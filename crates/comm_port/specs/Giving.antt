@@ -79,8 +79,8 @@ AsksAreOn chosen outbox =
     AllByRecursion (λ (f : Frame). f.kind ≡ Request → is_chosen chosen f.id.path ≡ true) outbox
 
 -- A path whose call was due awaits nothing any more.
-abbrev pub IsSettled : NetPlan → ℕ → NodeIs → NodeIs → ℕ → Type 0
-IsSettled net n old new path = ((path_of new path).awaits ≡ Nothing)
+abbrev pub IsPathSettled : NetPlan → ℕ → NodeIs → NodeIs → ℕ → Type 0
+IsPathSettled net n old new path = ((path_of new path).awaits ≡ Nothing)
     ⊎ ((path_of new path ≡ path_of old path) × (due_on net n old path ≡ None))
 
 -- A path that is not chosen, or not from 1 to below a number.
@@ -93,7 +93,7 @@ pub record GaveUpBelow (net : NetPlan) (n : ℕ) (chosen : List Bool) (below : �
     : Type 0 where
   pub here : new.here ≡ old.here
   pub settled : (path : ℕ) → 1 ≤ path → path < below → is_chosen chosen path ≡ true
-      → IsSettled net n old new path
+      → IsPathSettled net n old new path
   pub others : (path : ℕ) → IsOtherPath chosen below path → path_of new path ≡ path_of old path
   pub asks : (on : List Bool) → AsksAreOn on old.outbox → AsksAreOn on new.outbox
   pub sent : old.outbox ≡ [] → new.outbox ≡ []

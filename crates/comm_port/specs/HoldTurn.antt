@@ -16,23 +16,24 @@ use Rattle.ring_core.specs.Machine.{NodeIs, ring_node, ring_after, path_of}
 use Rattle.ring_core.specs.Scratch.{words_put}
 use Rattle.ring_core.specs.Statistics.{is_stats}
 use Rattle.ring_core.specs.declared.path.Await.{Await}
-use Rattle.ring_core.specs.declared.path.Await.TheVariants.{Out, Failed}
+use Rattle.ring_core.specs.declared.path.Await.TheVariants.{Out}
 use Rattle.ring_core.specs.declared.frame.FrameKind.{FrameKind}
 use Rattle.ring_core.specs.declared.frame.FrameKind.TheVariants.{Request, Reply}
 use Rattle.ring_core.specs.declared.frame.Frame.{Frame}
 use Rattle.ring_core.specs.declared.entry.LocalOp.{LocalOp}
 use Rattle.ring_core.specs.declared.entry.RingEntry.{RingEntry}
-use Rattle.ring_core.specs.declared.entry.RingEntry.TheVariants.{Post, Send, Take, Local, GiveUp}
-use Rattle.tied_lists.specs.Own.{is_of, WentOn, Grew}
+use Rattle.ring_core.specs.declared.entry.RingEntry.TheVariants.{Post, Take, Local, GiveUp}
+use Rattle.tied_lists.specs.Own.{WentOn, Grew}
 use Rattle.tied_lists.specs.Items.{request_of, reply_of}
 pub use Rattle.comm_port.specs.Giving.{inbox_of}
 use Rattle.comm_port.specs.Giving.{due_by}
 use Rattle.comm_port.specs.Ending.{AsksIfDone}
 use Rattle.comm_port.specs.Leaving.{cause_due, HandedOn}
 use Rattle.comm_port.specs.Making.{request_frame}
-use Rattle.comm_port.specs.Parts.{InOrder, PartOf, EachNext, calls_waiting}
+use Rattle.comm_port.specs.Parts.{InOrder, PartOf, calls_waiting}
 use Rattle.joint_history.specs.Reading.{is_ours, has_started_at}
 use Rattle.comm_port.specs.Replies.{reply_frame}
+use Rattle.comm_port.specs.SendsAll.{SendsFrames, each_path}
 
 -- ---- First: what lies in the inbox is served.
 
@@ -80,21 +81,6 @@ pub record Collects (alone_ram alone_ring : Bool) (fixed : Fixed) (n : ℕ)
 
 -- ---- Third: the outbox is sent.
 
--- A call has failed: its path says so.
-abbrev pub HasFailed : NetPlan → List RingEntry → CallId → Type 0
-HasFailed net ring id = (word : ℕ)
-    × ((path_of (ring_node (ring_after net ring) id.node) id.path).awaits ≡ Failed id.seq word)
-
--- No call of a node has failed.
-abbrev pub NoneFailed : NetPlan → List RingEntry → ℕ → Type 0
-NoneFailed net ring n = (id : CallId) → id.node ≡ n → HasFailed net ring id → ⊥
-
--- What a node does next while it sends: it gives up a call that failed, and sends where none has.
-abbrev pub IsNextSending : NetPlan → ℕ → List RingEntry → RingEntry → Type 0
-IsNextSending net n past (Send m heard) = NoneFailed net past n
-IsNextSending net n past (GiveUp id word) = HasFailed net past id
-IsNextSending net n past _ = ⊥
-
 -- A call that is given up finishes with its word.
 abbrev pub finish_of : RingEntry → Option Entry
 finish_of (GiveUp id word) = Some (Finish id (Bad word))
@@ -103,12 +89,8 @@ finish_of _ = None
 -- A node sends until its outbox is empty; each call that fails is given up at once and finished.
 pub record SendsAll (alone_ram alone_ring : Bool) (net : NetPlan) (n : ℕ)
     (known new_known : List Entry) (ring new_ring : List RingEntry) : Type 0 where
-  pub done : List RingEntry
-  pub grew : Grew alone_ring (is_of n) ring done new_ring
-  pub each : EachNext n (IsNextSending net n) ring new_ring
-  pub finishes : Grew alone_ram is_ours known (filter_map finish_of done) new_known
-  pub all_sent : (ring_node (ring_after net new_ring) n).outbox ≡ []
-  pub none_failed : NoneFailed net new_ring n
+  pub frames : SendsFrames alone_ring net n each_path ring new_ring
+  pub finishes : Grew alone_ram is_ours known (filter_map finish_of frames.done) new_known
 
 -- ---- Fourth: calls that waited for too long are given up.
 
@@ -134,7 +116,7 @@ IsGivenUp id noted done = (word : ℕ) × (noted ≡ Finish id (Bad word) ∷ []
 
 -- The node leaves or passes the token on, as is due, and a Pass says exactly whether the
 -- controller is done. After a Leave each call that waits is given up, and none is left.
-pub record Ends (alone_ram alone_ring : Bool) (fixed : Fixed) (net : NetPlan) (n : ℕ)
+pub record EndsHoldTurn (alone_ram alone_ring : Bool) (fixed : Fixed) (net : NetPlan) (n : ℕ)
     (budget : Bool) (known new_known : List Entry) (ring new_ring : List RingEntry)
     (left : Bool) : Type 0 where
   pub done : Bool
@@ -170,7 +152,7 @@ pub record HoldsTurn (alone_ram alone_ring : Bool) (fixed : Fixed) (net : NetPla
   pub given_ring : List RingEntry
   pub gives_up : PartOf alone_ram alone_ring is_ours n (InOrder IsGivenUp (overdue net n sent_ring))
       sent_known given_known sent_ring given_ring
-  pub ends : Ends alone_ram alone_ring fixed net n budget given_known new_known given_ring
+  pub ends : EndsHoldTurn alone_ram alone_ring fixed net n budget given_known new_known given_ring
       new_ring left
 
 -- ---- A controller that has left.

@@ -8,7 +8,6 @@ use Rattle.plant_types.specs.declared.net.HostPlan.{HostPlan}
 use Rattle.mstr_block.specs.Table.{network_paths}
 use Rattle.mstr_block.specs.declared.call.CallId.{CallId}
 use Rattle.mstr_block.specs.declared.call.MstrResult.{MstrResult}
-use Rattle.ring_core.specs.Words.{maker}
 use Rattle.ring_core.specs.Machine.{NodeIs, path_of, path_places, ring_after}
 use Rattle.ring_core.specs.Machine.{ring_node}
 use Rattle.ring_core.specs.Scratch.{words_put}
@@ -23,13 +22,13 @@ use Rattle.ring_core.specs.declared.entry.Heard.TheVariants.{Acked, Silent, Busy
 use Rattle.ring_core.specs.declared.entry.LocalOp.{LocalOp}
 use Rattle.ring_core.specs.declared.entry.LeaveCause.{LeaveCause}
 use Rattle.ring_core.specs.declared.entry.RingEntry.{RingEntry}
-use Rattle.ring_core.specs.declared.entry.RingEntry.TheVariants.{Post, Send, Take, Local, GiveUp}
+use Rattle.ring_core.specs.declared.entry.RingEntry.TheVariants.{Post, Take, Local, GiveUp}
 use Rattle.ring_core.specs.declared.entry.RingEntry.TheVariants.{Pass}
 use Rattle.ring_core.specs.Legal.{IsPath}
 use Rattle.host_port.specs.declared.entry.HostEntry.{HostEntry}
 use Rattle.host_port.specs.declared.entry.HostEntry.TheVariants.{Ask, Answer, Served}
 use Rattle.host_port.specs.declared.entry.HostResult.TheVariants as results
-use Rattle.host_port.specs.Calls.{asked_on, goes_on, is_unanswered, open_on, requests_in}
+use Rattle.host_port.specs.Calls.{asked_on, goes_on_path, is_unanswered, open_on, requests_in}
 use Rattle.host_port.specs.Calls.{unanswered_in}
 use Rattle.host_port.specs.Host.{HostIs, due_request, host_is_done}
 use Rattle.host_port.specs.Legal.{IsHostHistory, refusal_to}
@@ -41,7 +40,9 @@ use Rattle.comm_port.specs.Sides.{RingSideIs, MayWrite}
 use Rattle.joint_history.specs.Reading.{host_items_of}
 use Rattle.comm_port.specs.Turns.{IsOwnTurn}
 use Rattle.comm_port.specs.Leaving.{cause_due, HandedOn}
-use Rattle.comm_port.specs.Giving.{due_calls, inbox_of, is_chosen, outbox_of}
+use Rattle.comm_port.specs.Giving.{due_calls, inbox_of, is_chosen}
+use Rattle.comm_port.specs.Parts.{EachNext}
+use Rattle.comm_port.specs.SendsAll.{IsNextSending, SendsFrames}
 use Rattle.comm_port.specs.Replies.{reply_frame}
 use Rattle.joint_history.specs.Complete.{is_pass}
 
@@ -60,13 +61,15 @@ pub record HostTurning {Q : Type 0} (n : ℕ) (host : HostIs) (side : RingSideIs
   pub tied : Tied AHost (host_items_of host.history) (own n ring)
   pub paths : PathsAgree host.history (own n ring)
 
--- A worker's host and the ring agree, whichever node holds the token.
+-- A worker's host and the ring agree, whichever node holds the token; a call waits for its answer
+-- for one Pass at least.
 pub record HostTies {Q : Type 0} (n : ℕ) (host : HostIs) (side : RingSideIs Q)
     (ring : List RingEntry) : Type 0 where
   pub node : host.plan.node ≡ n
   pub legal : IsHostHistory host.plan host.history
   pub serves : MayWrite side.writer n
   pub on : IsOnRing side.net ring n
+  pub answer : 0 < side.net.answer
   pub tied : Tied AHost (host_items_of host.history) (own n ring)
   pub paths : PathsAgree host.history (own n ring)
 
@@ -180,16 +183,16 @@ pub record ServesInbox (alone : Bool) (net : NetPlan) (n : ℕ)
 
 -- ---- Second: requests are made.
 
-abbrev pub ask_of : Frame → HostEntry
-ask_of f = Ask f.id f.to f.pdu
+abbrev pub ask_entry_of : Frame → HostEntry
+ask_entry_of f = Ask f.id f.to f.pdu
 
 -- These Requests were made and posted in their order: each was the one that was due behind those
 -- before it, which is the next of the plan, on the least free path.
 pub record AsksInOrder (alone : Bool) (n : ℕ) (plan : HostPlan) (hold : ℕ) (asks : List Frame)
     (list new_list : List HostEntry) (ring new_ring : List RingEntry) : Type 0 where
   pub each : (before after : List Frame) (ask : Frame) → asks ≡ before ++ ask ∷ after
-      → due_request (host_at plan (list ++ map ask_of before)) hold ≡ Some ask
-  pub asked : new_list ≡ list ++ map ask_of asks
+      → due_request (host_at plan (list ++ map ask_entry_of before)) hold ≡ Some ask
+  pub asked : new_list ≡ list ++ map ask_entry_of asks
   pub grew : Grew alone (is_of n) ring (map (Post n) asks) new_ring
 
 -- The Requests made are all that were due: none is afterwards, or no path is free.
@@ -228,34 +231,9 @@ abbrev pub bad_answer_to : RingEntry → Option HostEntry
 bad_answer_to (GiveUp id word) = Some (Answer id (results.Bad word))
 bad_answer_to _ = None
 
--- A path's call failed.
-abbrev pub IsFailed : Await → Type 0
-IsFailed (Failed seq word) = Unit {0}
-IsFailed _ = ⊥
-
 -- One of these Requests went on this path.
 abbrev pub went_on : List Frame → ℕ → Bool
-went_on asks path = list_any (goes_on path) asks
-
--- On none of these paths is a failed call.
-abbrev pub NoneFailedOn : (ℕ → Bool) → NodeIs → Type 0
-NoneFailedOn on part =
-    (path : ℕ) → IsPath path → on path ≡ true → IsFailed (path_of part path).awaits → ⊥
-
--- An entry while the calls on these paths are sent, with the node's part before it: a Send comes
--- only where none of them is a failed one, and a GiveUp is of a failed one.
-abbrev pub IsSendingStep : NetPlan → (ℕ → Bool) → NodeIs → RingEntry → Type 0
-IsSendingStep net on part (Send m heard) = NoneFailedOn on part
-IsSendingStep net on part (GiveUp id word) =
-    (on id.path ≡ true) × (0 < net.answer → IsFailed (path_of part id.path).awaits)
-IsSendingStep net on part _ = ⊥
-
--- Each of a node's entries is a step of sending behind those before it.
-abbrev pub EachSends : NetPlan → ℕ → (ℕ → Bool) → List RingEntry → List RingEntry → Type 0
-EachSends net n on past [] = Unit {0}
-EachSends net n on past (e ∷ more) =
-    (maker e ≡ n → IsSendingStep net on (ring_node (ring_after net past) n) e)
-    × EachSends net n on (past ++ e ∷ []) more
+went_on asks path = list_any (goes_on_path path) asks
 
 -- Frames were sent, and those of the calls on these paths that failed were given up at once and
 -- answered with their word.
@@ -263,15 +241,15 @@ pub record Sends (alone : Bool) (net : NetPlan) (n : ℕ) (on : ℕ → Bool)
     (list new_list : List HostEntry) (ring new_ring : List RingEntry) : Type 0 where
   pub entries : List RingEntry
   pub grew : Grew alone (is_of n) ring entries new_ring
-  pub each : EachSends net n on ring grew.more
+  pub each : EachNext n (IsNextSending net n on) ring new_ring
   pub answers : new_list ≡ list ++ filter_map bad_answer_to entries
 
--- Frames were sent until nothing was left to be sent, and none of the calls is a failed one.
+-- A node sent until its outbox was empty, and each call on these paths that failed was given up at
+-- once and answered with its word.
 pub record SendsOut (alone : Bool) (net : NetPlan) (n : ℕ) (on : ℕ → Bool)
     (list new_list : List HostEntry) (ring new_ring : List RingEntry) : Type 0 where
-  pub sends : Sends alone net n on list new_list ring new_ring
-  pub empty : outbox_of net n new_ring ≡ []
-  pub none_failed : NoneFailedOn on (ring_node (ring_after net new_ring) n)
+  pub frames : SendsFrames alone net n on ring new_ring
+  pub answers : new_list ≡ list ++ filter_map bad_answer_to frames.done
 
 -- ---- The end, and the whole.
 
@@ -343,7 +321,7 @@ pub record AskedOnce (alone : Bool) (net : NetPlan) (n hold : ℕ) (path : ℕ) 
     (ring new_ring : List RingEntry) : Type 0 where
   pub ask : Frame
   pub due : due_request old hold ≡ Some ask
-  pub asked : new.history ≡ old.history ++ ask_of ask ∷ []
+  pub asked : new.history ≡ old.history ++ ask_entry_of ask ∷ []
   pub grew : Grew alone (is_of n) ring (Post n ask ∷ []) new_ring
   pub path_is : ask.id.path ≡ path
   pub is_path : IsPath path

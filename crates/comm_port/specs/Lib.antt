@@ -5,6 +5,7 @@ pub mod Replies
 pub mod Making
 pub mod Leaving
 pub mod Sending
+pub mod SendsAll
 pub mod Ending
 pub mod Worker
 pub mod Stands

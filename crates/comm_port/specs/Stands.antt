@@ -3,9 +3,9 @@ use Rattle.std.specs.Prelude.{ℕ, Bool, List}
 use Rattle.plant_types.specs.declared.net.NetPlan.{NetPlan}
 use Rattle.controller_core.specs.declared.fixed.Fixed.{Fixed}
 use Rattle.controller_core.specs.declared.entry.Entry.{Entry}
-use Rattle.controller_core.specs.Controller.{IsLegal as IsLegalRam}
+use Rattle.controller_core.specs.Controller.{IsLegal}
 use Rattle.ring_core.specs.declared.entry.RingEntry.{RingEntry}
-use Rattle.ring_core.specs.Legal.{IsLegal}
+use Rattle.ring_core.specs.Legal.{IsLegalRing}
 use Rattle.tied_lists.specs.Own.{is_of, Grew}
 use Rattle.joint_history.specs.Reading.{is_ours}
 
@@ -19,9 +19,9 @@ pub record HasGrown {E : Type 0} (alone : Bool) (ours : E → Bool) (before afte
 pub record RingStands (alone : Bool) (net : NetPlan) (n : ℕ) (before after : List RingEntry)
     : Type 0 where
   pub grown : HasGrown alone (is_of n) before after
-  pub legal : IsLegal net after
+  pub legal : IsLegalRing net after
 
 -- The controller's list went on by calls of its worker, and is legal if it was.
 pub record RamStands (alone : Bool) (fixed : Fixed) (before after : List Entry) : Type 0 where
   pub grown : HasGrown alone is_ours before after
-  pub legal : IsLegalRam fixed before → IsLegalRam fixed after
+  pub legal : IsLegal fixed before → IsLegal fixed after

@@ -3,7 +3,7 @@ use Rattle.std.specs.Prelude.{◌≡◌, ℕ, ◌<◌, Bool, List, All, Option, 
 use Rattle.plant_types.specs.declared.net.NetPlan.{NetPlan}
 use Rattle.controller_core.specs.declared.entry.Entry.{Entry}
 use Rattle.ring_core.specs.Machine.{addresses, path_places}
-use Rattle.ring_core.specs.Legal.{IsMember, IsLegal}
+use Rattle.ring_core.specs.Legal.{IsMember, IsLegalRing}
 use Rattle.ring_core.specs.declared.frame.Frame.{Frame}
 use Rattle.ring_core.specs.declared.entry.RingEntry.{RingEntry}
 use Rattle.tied_lists.specs.Own.{own}
@@ -42,7 +42,7 @@ pub record Standing {P Q : Type 0} (w : WorkerIs) (ram : RamSideIs P) (known : L
   pub node : ram.fixed.plan.node ≡ w.node
   pub net : side.net ≡ w.net
   pub serves : MayWrite side.writer w.node
-  pub legal : IsLegal side.net ring
+  pub legal : IsLegalRing side.net ring
   pub tied : Tied AController (items_of known) (own w.node ring)
   pub waits : AreWaiting w.node (items_of known) (own w.node ring) w.waiting
   pub rest : IsAtRest side.net w.node ring

@@ -11,7 +11,7 @@ ghost use Rattle.joint_history.specs.Reading.{items_of};
 ghost use Rattle.comm_port.specs.Making.{request_frame};
 ghost use Rattle.comm_port.specs.RingSteps.{AddsOver, GrewBy, KeepsInboxOver, OwnTurnAt};
 ghost use Rattle.comm_port.specs.RingSteps.{RingStep, node_at};
-ghost use Rattle.comm_port.specs.BothSteps.{BothStep, DoesOver, Makes, MakesAll, Owes};
+ghost use Rattle.comm_port.specs.BothSteps.{BothStep, DoesOver, MakesCallAt, MakesAll, Owes};
 ghost use Rattle.comm_port.specs.BothSteps.{TurningBetween};
 
 use crate::asking::{do_local, post_frame};
@@ -100,7 +100,7 @@ pub(crate) fn make_call<M: RamSide, R: RingSide>(
     ensures kept { OnOk result (KeepsInboxOver R.RingSide node ring.old ring.new) }
     ensures ring_adds { OnOk result (AddsOver R.RingSide node (IsCalling node) ring.old ring.new) }
     ensures made { OnOk result
-        (Makes M.RamSide R.RingSide node calls.now at ram.old ram.new ring.old ring.new) }
+        (MakesCallAt M.RamSide R.RingSide node calls.now at ram.old ram.new ring.old ring.new) }
     ensures step { BothStep M.RamSide R.RingSide node ram.old ram.new ring.old ring.new }
 {
     let call = &calls[at];

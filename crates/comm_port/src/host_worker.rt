@@ -1,6 +1,6 @@
 //! A host's hold turn.
-ghost use Rattle.std.specs.Prelude.{◌≡◌, min, true, false, [], ◌∷◌, OnOk, OnErr, IfOk};
-ghost use Rattle.ring_core.specs.Legal.{IsLegal, IsPath};
+ghost use Rattle.std.specs.Prelude.{◌≡◌, ◌<◌, min, true, false, [], ◌∷◌, OnOk, OnErr, IfOk};
+ghost use Rattle.ring_core.specs.Legal.{IsLegalRing, IsPath};
 ghost use Rattle.ring_core.specs.Statistics.{is_stats};
 ghost use Rattle.host_port.specs.Legal.{IsHostHistory};
 ghost use Rattle.comm_port.specs.Giving.{BoxesEmpty, is_chosen};
@@ -269,6 +269,7 @@ fn send_one<R: RingSide>(
 ) -> Result<bool, Short>
     requires turning { HostTurningAt R.RingSide node host.old ring.old }
     requires holds { HoldsAt R.RingSide node ring.old }
+    requires wait { 0 < (R.side ring.old).net.answer }
     requires new_calls { AreRecent (is_chosen fresh) (node_at R.RingSide node ring.old) }
     ensures turning { OnOk result (HostTurningAfter R.RingSide node host.new ring.old ring.new) }
     ensures holds { OnOk result (HoldsAfter R.RingSide node ring.old ring.new) }
@@ -298,6 +299,7 @@ fn send_all<R: RingSide>(
 ) -> Result<(), Short>
     requires turning { HostTurningAt R.RingSide node host.old ring.old }
     requires holds { HoldsAt R.RingSide node ring.old }
+    requires wait { 0 < (R.side ring.old).net.answer }
     requires new_calls { AreRecent (is_chosen fresh) (node_at R.RingSide node ring.old) }
     ensures turning { OnOk result (HostTurningAfter R.RingSide node host.new ring.old ring.new) }
     ensures holds { OnOk result (HoldsAfter R.RingSide node ring.old ring.new) }
@@ -318,6 +320,7 @@ fn end_turn<R: RingSide>(
 ) -> Result<bool, Short>
     requires turning { HostTurningAt R.RingSide node host.old ring.old }
     requires holds { HoldsAt R.RingSide node ring.old }
+    requires wait { 0 < (R.side ring.old).net.answer }
     requires boxes { BoxesEmpty (node_at R.RingSide node ring.old) }
     ensures ties { OnOk result (HostTiesAfter R.RingSide node host.new ring.old ring.new) }
     ensures passed { IfOk result
@@ -350,6 +353,7 @@ fn turn<R: RingSide>(
 ) -> Result<bool, Short>
     requires turning { HostTurningAt R.RingSide node host.old ring.old }
     requires holds { HoldsAt R.RingSide node ring.old }
+    requires wait { 0 < (R.side ring.old).net.answer }
     requires hold { hold ≡ min (hold_of node (R.known ring.old)) 4294967295 }
     ensures ties { OnOk result (HostTiesAfter R.RingSide node host.new ring.old ring.new) }
     ensures passed { IfOk result

@@ -4,7 +4,7 @@ ghost use Rattle.modbus_pdu.specs.Spelling.{IsReplyInRange, reply_bytes};
 ghost use Rattle.ring_core.specs.Legal.{HasRoom};
 ghost use Rattle.ring_core.specs.declared.entry.RingEntry.TheVariants.{Post};
 ghost use Rattle.ring_core.specs.Statistics.{is_stats};
-ghost use Rattle.tied_lists.specs.Items.{request_of, words_told};
+ghost use Rattle.tied_lists.specs.Items.{request_of};
 ghost use Rattle.comm_port.specs.Replies.{reply_frame};
 ghost use Rattle.comm_port.specs.RingSteps.{GrewBy, KeepsInboxOver, OwnTurnAt, RingStep};
 ghost use Rattle.comm_port.specs.RingSteps.{TellsOver};
@@ -14,7 +14,7 @@ use crate::asking::{do_local, post_frame};
 use crate::ring_side::RingSide;
 use crate::short::Short;
 use modbus_pdu::{Reply, encode_reply};
-use mstr_block::{CallId, MstrResult};
+use mstr_block::CallId;
 use plant_types::{Pdu, Words};
 use ring_core::{Frame, FrameKind, GET_STATISTICS, LocalOp};
 use std::alloc::{AllocError, Global};
@@ -61,15 +61,6 @@ fn operation_for(request: &Pdu) -> LocalOp
     }
 }
 
-fn words_told(outcome: &MstrResult) -> &[u16]
-    ensures { result.now ≡ words_told outcome.now }
-{
-    match outcome {
-        MstrResult::Good(words) => words.words(),
-        MstrResult::Bad(_) => &[],
-    }
-}
-
 /// The reply that tells twenty words of statistics, or none after a clear.
 fn statistics_reply(alloc: Global, words: &[u16]) -> Result<Pdu, AllocError>
     requires { IsReplyInRange (replies.Stats words.now) }
@@ -95,7 +86,7 @@ pub(crate) fn tell_statistics<R: RingSide>(
 {
     let op = operation_for(&request.pdu);
     let result = do_local(node, request.id, op, ring)?;
-    let pdu = statistics_reply(alloc, words_told(&result))?;
+    let pdu = statistics_reply(alloc, result.words_told())?;
     post_reply(node, request.id, pdu, ring)?;
     Ok(())
 }

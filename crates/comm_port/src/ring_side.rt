@@ -2,7 +2,8 @@
 ghost use Rattle.std.specs.Prelude.{◌≡◌, ◌∷◌, [], ℕ, List, Bool, true, None, IfOk};
 ghost use Rattle.ring_core.specs.Machine.{ring_after};
 ghost use Rattle.ring_core.specs.Refusals.{post_no, send_no, turn_no, free_no, pass_no, quiet_for};
-ghost use Rattle.ring_core.specs.Legal.{IsMember, IsPath, IsFrom, IsNextNumber, HasRoom, IsLegal};
+ghost use Rattle.ring_core.specs.Legal.{IsMember, IsPath, IsFrom, IsNextNumber, HasRoom};
+ghost use Rattle.ring_core.specs.Legal.{IsLegalRing};
 ghost use Rattle.ring_core.specs.declared.entry.RingEntry.TheVariants.{Post, Send, Local, GiveUp};
 ghost use Rattle.comm_port.specs.Sides.{MayWrite, IsRefusedFor, IsRefusedOrShort, taken_entries};
 ghost use Rattle.comm_port.specs.Sides.{CallAdds, AddsNothing, LeaveAdds, PassAdds};
@@ -44,7 +45,7 @@ pub trait RingSide {
             (part_at (side self.old).net node (known self.old)) frame.kind frame.id }
         ensures went { CallAdds alone known room node self.old self.new result
             (λ _. Post node frame ∷ []) }
-        ensures legal { IsLegal (side self.old).net (known self.new) }
+        ensures legal { IsLegalRing (side self.old).net (known self.new) }
         ensures refused { IsRefusedFor
             (post_no (ring_after (side self.old).net (known self.new)) node frame) result }
         ensures same { side self.new ≡ side self.old };
@@ -54,7 +55,7 @@ pub trait RingSide {
         requires member { IsMember (side self.old).net node }
         ensures went { CallAdds alone known room node self.old self.new result
             (λ heard. Send node heard ∷ []) }
-        ensures legal { IsLegal (side self.old).net (known self.new) }
+        ensures legal { IsLegalRing (side self.old).net (known self.new) }
         ensures refused { IsRefusedFor
             (send_no (ring_after (side self.old).net (known self.new)) node) result }
         ensures same { side self.new ≡ side self.old };
@@ -67,7 +68,7 @@ pub trait RingSide {
             (taken_entries node) }
         ensures empty { IfOk result
             (λ took. took ≡ None → inbox_of (side self.old).net node (known self.new) ≡ []) }
-        ensures legal { IsLegal (side self.old).net (known self.new) }
+        ensures legal { IsLegalRing (side self.old).net (known self.new) }
         ensures refused { IsRefusedFor
             (turn_no (ring_after (side self.old).net (known self.new)) node) result }
         ensures same { side self.new ≡ side self.old };
@@ -78,7 +79,7 @@ pub trait RingSide {
         requires room { HasRoom op }
         ensures went { CallAdds alone known room node self.old self.new result
             (λ given. Local node id op given ∷ []) }
-        ensures legal { IsLegal (side self.old).net (known self.new) }
+        ensures legal { IsLegalRing (side self.old).net (known self.new) }
         ensures refused { IsRefusedFor
             (free_no (ring_after (side self.old).net (known self.new)) node) result }
         ensures same { side self.new ≡ side self.old };
@@ -89,7 +90,7 @@ pub trait RingSide {
         requires path { IsPath id.path }
         ensures went { CallAdds alone known room id.node self.old self.new result
             (λ word. GiveUp id word ∷ []) }
-        ensures legal { IsLegal (side self.old).net (known self.new) }
+        ensures legal { IsLegalRing (side self.old).net (known self.new) }
         ensures refused { IsRefusedFor
             (give_up_no_at (side self.old).net (known self.new) id) result }
         ensures same { side self.new ≡ side self.old };
@@ -101,7 +102,7 @@ pub trait RingSide {
         requires path { IsPath path }
         ensures answer { result ≡ number_awaited (side self.old).net (known self.new) node path }
         ensures went { AddsNothing alone known room node self.old self.new }
-        ensures legal { IsLegal (side self.old).net (known self.new) }
+        ensures legal { IsLegalRing (side self.old).net (known self.new) }
         ensures same { side self.new ≡ side self.old };
 
     /// Who holds the token; 0 where all have left.
@@ -109,7 +110,7 @@ pub trait RingSide {
         ensures answer { result ≡ (ring_after (side self.old).net (known self.new)).holder }
         ensures went { (n : ℕ)
             → MayWrite (side self.old).writer n → AddsNothing alone known room n self.old self.new }
-        ensures legal { IsLegal (side self.old).net (known self.new) }
+        ensures legal { IsLegalRing (side self.old).net (known self.new) }
         ensures same { side self.new ≡ side self.old };
 
     /// For how many Passes in a row every member has been done; 0 where the node has left.
@@ -118,14 +119,14 @@ pub trait RingSide {
         requires member { IsMember (side self.old).net node }
         ensures answer { result ≡ quiet_for (ring_after (side self.old).net (known self.new)) node }
         ensures went { AddsNothing alone known room node self.old self.new }
-        ensures legal { IsLegal (side self.old).net (known self.new) }
+        ensures legal { IsLegalRing (side self.old).net (known self.new) }
         ensures same { side self.new ≡ side self.old };
 
     fn pass(&mut self, node: u8, done: bool) -> Result<(), RingNo>
         requires serves { MayWrite (side self.old).writer node }
         requires member { IsMember (side self.old).net node }
         ensures went { PassAdds alone known room node done self.old self.new result }
-        ensures legal { IsLegal (side self.old).net (known self.new) }
+        ensures legal { IsLegalRing (side self.old).net (known self.new) }
         ensures refused { IsRefusedFor
             (pass_no (ring_after (side self.old).net (known self.new)) node) result }
         ensures same { side self.new ≡ side self.old };
@@ -135,7 +136,7 @@ pub trait RingSide {
         requires serves { MayWrite (side self.old).writer node }
         requires member { IsMember (side self.old).net node }
         ensures went { LeaveAdds alone known room node cause self.old self.new result }
-        ensures legal { IsLegal (side self.old).net (known self.new) }
+        ensures legal { IsLegalRing (side self.old).net (known self.new) }
         ensures refused { IsRefusedOrShort
             (leave_no_at (side self.old).net (known self.new) node cause) result }
         ensures same { side self.new ≡ side self.old };

@@ -12,8 +12,8 @@ use Rattle.mstr_block.specs.Laws.{CallsAreTakenInOrder, FinishesEndOneCall}
 use Rattle.mstr_block.specs.declared.state.BlockState.{BlockState}
 use Rattle.mstr_block.specs.declared.state.BlockState.TheVariants.{Idle, Waiting, Active, Aborted}
 use Rattle.mstr_block.specs.declared.state.BlockState.TheVariants.{Ready}
-use Rattle.mstr_block.specs.Table.{BlockTable, call_taken, is_untaken, has_started as has_untaken}
-use Rattle.mstr_block.specs.Table.{is_out as is_taken_out, started_calls}
+use Rattle.mstr_block.specs.Table.{BlockTable, call_taken, is_untaken, has_untaken}
+use Rattle.mstr_block.specs.Table.{is_taken_out, started_calls}
 use Rattle.mstr_block.specs.declared.call.CallId.{CallId}
 use Rattle.mstr_block.specs.declared.call.MstrCall.{MstrCall}
 use Rattle.scan_order.specs.declared.due.ScanStep.{ScanStep}
@@ -26,8 +26,9 @@ use Rattle.controller_core.specs.Calls.{call_of, calls_of}
 use Rattle.controller_core.specs.Controller.{AreOf, ControllerIs, answering, due_step, grown}
 use Rattle.controller_core.specs.Controller.{has_ended, made, state_of}
 use Rattle.controller_core.specs.Event.{entry_of, maker_of}
-use Rattle.controller_core.specs.Laws.{CallsFollow, ConditionsStay, KeepsCallsOf, is_among}
-use Rattle.controller_core.specs.Replay.{State, apply, control_is_on, read_in, segment_solved}
+use Rattle.controller_core.specs.Laws.{CallsFollow, ConditionsStay, KeepsCallsOf, is_call_among}
+use Rattle.controller_core.specs.Replay.{ControllerState, apply, control_is_on, read_in}
+use Rattle.controller_core.specs.Replay.{segment_solved}
 use Rattle.controller_core.specs.Replay.{solved, start, table_of}
 use Rattle.controller_core.proofs.Keeping.{maker_of_made, replay_more}
 use Rattle.controller_core.proofs.NextEntry.{replay_append, stays}
@@ -44,23 +45,29 @@ keeps_same t u is = record {
   out = λ id yes. ap (λ (x : BlockTable). is_taken_out x id) is ∙ yes;
 }
 
-keeps_read : (drops : List IoDrop) (drop : Option ℕ) (s : State) → table_of (read_in drops drop s) ≡ table_of s
+keeps_read : (drops : List IoDrop) (drop : Option ℕ) (s : ControllerState)
+    → table_of (read_in drops drop s) ≡ table_of s
 keeps_read drops None s = refl
 keeps_read drops (Some drop) s = refl
 
-keeps_segment : SegmentsKeepCalls → (segments : List Segment) (number : ℕ) (s : State) → Keeps (table_of s) (table_of (segment_solved segments number s))
+keeps_segment : SegmentsKeepCalls → (segments : List Segment) (number : ℕ) (s : ControllerState)
+    → Keeps (table_of s) (table_of (segment_solved segments number s))
 keeps_segment law segments number s =
-    let calls = law.calls segments number s.solving in record { started = calls.started; out = calls.out }
+    let calls = law.calls segments number s.solving in
+    record { started = calls.started; out = calls.out }
 
-keeps_solve : SegmentsKeepCalls → (segments : List Segment) (row : Option OrderRow) (s : State) → Keeps (table_of s) (table_of (solved segments row s))
+keeps_solve : SegmentsKeepCalls → (segments : List Segment) (row : Option OrderRow)
+    (s : ControllerState) → Keeps (table_of s) (table_of (solved segments row s))
 keeps_solve law segments None s = keeps_same (table_of s) (table_of s) refl
 keeps_solve law segments (Some row) s = either (control_is_on s.solving.map row.control)
   where
-    either : (b : Bool) → Keeps (table_of s) (table_of (if b then segment_solved segments row.segment s else s))
+    either : (b : Bool)
+        → Keeps (table_of s) (table_of (if b then segment_solved segments row.segment s else s))
     either true = keeps_segment law segments row.segment s
     either false = keeps_same (table_of s) (table_of s) refl
 
-keeps_entry : SegmentsKeepCalls → (f : Fixed) (s : State) (e : Entry) → maker_of e ≡ makers.Scan → Keeps (table_of s) (table_of (apply f s e))
+keeps_entry : SegmentsKeepCalls → (f : Fixed) (s : ControllerState) (e : Entry)
+    → maker_of e ≡ makers.Scan → Keeps (table_of s) (table_of (apply f s e))
 keeps_entry law f s entries.Begin of = keeps_same _ _ refl
 keeps_entry law f s (entries.Input row) of = keeps_same (table_of s) _ (keeps_read f.plan.drops _ s)
 keeps_entry law f s (entries.Solve row) of = keeps_solve law f.plan.segments (row_of f.plan row) s
@@ -70,35 +77,45 @@ keeps_entry law f s (entries.Collect calls) of = absurd cc
 keeps_entry law f s (entries.Peer id request reply) of = absurd cc
 keeps_entry law f s (entries.Finish id result) of = absurd cc
 
-keeps_entries : SegmentsKeepCalls → (f : Fixed) (s : State) (added : List Entry) → AreOf makers.Scan added
+keeps_entries : SegmentsKeepCalls → (f : Fixed) (s : ControllerState) (added : List Entry)
+    → AreOf makers.Scan added
     → Keeps (table_of s) (table_of (fold (apply f) s added))
 keeps_entries law f s [] of = keeps_same (table_of s) (table_of s) refl
 keeps_entries law f s (e ∷ added) of =
     let one = keeps_entry law f s e of.0 in
     let rest = keeps_entries law f (apply f s e) added of.1 in
-    record { started = λ yes. rest.started (one.started yes); out = λ id yes. rest.out id (one.out id yes) }
+    record {
+      started = λ yes. rest.started (one.started yes);
+      out = λ id yes. rest.out id (one.out id yes);
+    }
 
 -- ---- in controllers
 
-keeps_of : (v w : ControllerIs) (t : BlockTable) → table_of (state_of w) ≡ t → Keeps (table_of (state_of v)) t → KeepsCallsOf v w
+keeps_of : (v w : ControllerIs) (t : BlockTable) → table_of (state_of w) ≡ t
+    → Keeps (table_of (state_of v)) t → KeepsCallsOf v w
 keeps_of v w t is keeps = record {
   started = λ yes. ap has_untaken is ∙ keeps.started yes;
   out = λ id yes. ap (λ (x : BlockTable). is_taken_out x id) is ∙ keeps.out id yes;
 }
 
-keeps_scans : SegmentsKeepCalls → (v : ControllerIs) (added : List Entry) (reserved : Bool) → AreOf makers.Scan added
+keeps_scans : SegmentsKeepCalls → (v : ControllerIs) (added : List Entry) (reserved : Bool)
+    → AreOf makers.Scan added
     → KeepsCallsOf v (grown v added reserved)
 keeps_scans law v added reserved of =
     keeps_of v (grown v added reserved) (table_of (fold (apply v.fixed) (state_of v) added))
-    (ap table_of (replay_append v.fixed (start v.fixed.plan) v.history added)) (keeps_entries law v.fixed (state_of v) added of)
+    (ap table_of (replay_append v.fixed (start v.fixed.plan) v.history added))
+    (keeps_entries law v.fixed (state_of v) added of)
 
-keeps_made : SegmentsKeepCalls → (v : ControllerIs) (due : Option ScanStep) → KeepsCallsOf v (made v due)
+keeps_made : SegmentsKeepCalls → (v : ControllerIs) (due : Option ScanStep)
+    → KeepsCallsOf v (made v due)
 keeps_made law v None = keeps_of v v (table_of (state_of v)) refl (keeps_same _ _ refl)
 keeps_made law v (Some step) =
-    keeps_scans law v (entry_of v.fixed (state_of v) step ∷ []) (made v (Some step)).reserved (maker_of_made v.fixed (state_of v) step, tt)
+    keeps_scans law v (entry_of v.fixed (state_of v) step ∷ []) (made v (Some step)).reserved
+    (maker_of_made v.fixed (state_of v) step, tt)
 
 -- the table with one more entry
-more : (v : ControllerIs) (e : Entry) (reserved : Bool) → state_of (grown v (e ∷ []) reserved) ≡ apply v.fixed (state_of v) e
+more : (v : ControllerIs) (e : Entry) (reserved : Bool)
+    → state_of (grown v (e ∷ []) reserved) ≡ apply v.fixed (state_of v) e
 more v e reserved = replay_more v.fixed (start v.fixed.plan) v.history e
 
 pub conditions : SegmentsKeepCalls → ConditionsStay
@@ -119,9 +136,11 @@ one_taken (Ready kept result) = refl
 
 all_taken : (blocks : List BlockState) → list_any is_untaken (map call_taken blocks) ≡ false
 all_taken [] = refl
-all_taken (b ∷ blocks) = ap (λ x. x || list_any is_untaken (map call_taken blocks)) (one_taken b) ∙ all_taken blocks
+all_taken (b ∷ blocks) = ap (λ x. x || list_any is_untaken (map call_taken blocks)) (one_taken b)
+    ∙ all_taken blocks
 
-among : (id : CallId) (calls : List MstrCall) → list_any (λ call. is_same_call call.id id) calls ≡ is_among id (map call_of calls)
+among : (id : CallId) (calls : List MstrCall)
+    → list_any (λ call. is_same_call call.id id) calls ≡ is_call_among id (map call_of calls)
 among id [] = refl
 among id (call ∷ calls) = ap (λ b. is_same_call call.id id || b) (among id calls)
 
@@ -142,6 +161,7 @@ calls order finish = record {
       record {
         started = ap has_untaken after ∙ ends.started;
         gone = ap (λ (x : BlockTable). is_taken_out x id) after ∙ ends.gone;
-        out = λ other apart. ap (λ (x : BlockTable). is_taken_out x other) after ∙ ends.out other apart;
+        out = λ other apart. ap (λ (x : BlockTable). is_taken_out x other) after
+            ∙ ends.out other apart;
       };
 }

@@ -14,7 +14,8 @@ pub record IsNext {X : Type 0} (xs : List X) (next : ℕ) (x : X) : Type 0 where
   pub more : take (next + 1 - 1) xs ≡ take (next - 1) xs ++ x ∷ []
 
 numbered : {X : Type 0} (xs : List X) (next : ℕ) (found : Option X) → 1 ≤ next
-    → found ≡ (if next == 0 then None else slice_get xs (next - 1)) → found ≡ slice_get xs (next - 1)
+    → found ≡ (if next == 0 then None else slice_get xs (next - 1))
+    → found ≡ slice_get xs (next - 1)
 numbered xs next found from is =
     let not : (next == 0) ≡ false = grind arith in
     is ∙ ap (λ b. if b then None else slice_get xs (next - 1)) not
@@ -24,10 +25,12 @@ pub next_item : {X : Type 0} (xs : List X) (next : ℕ) (x : X) → 1 ≤ next
 next_item {X} xs next x from is =
     let found = sym (numbered xs next (Some x) from is) in
     let within = slice_get_within xs (next - 1) x found in
-    let item : get_or xs (next - 1) x ≡ x = let got = slice_get-get_or xs (next - 1) x within in cc in
+    let item : get_or xs (next - 1) x ≡ x =
+    let got = slice_get-get_or xs (next - 1) x within in cc in
     record {
       within = within;
-      more = (let same : next + 1 - 1 ≡ suc (next - 1) = omega arith in ap (λ n. take n xs) same) ∙ take-suc xs (next - 1) x
+      more = (let same : next + 1 - 1 ≡ suc (next - 1) = omega arith in ap (λ n. take n xs) same)
+          ∙ take-suc xs (next - 1) x
           within ∙ ap (λ (y : X). take (next - 1) xs ++ y ∷ []) item;
     }
 
@@ -41,10 +44,12 @@ no_item xs next from is =
     ]
 
 -- what is picked from a list is no longer
-pub length-filter_map : {X Y : Type 0} (pick : X → Option Y) (xs : List X) → length (filter_map pick xs) ≤ length xs
+pub length-filter_map : {X Y : Type 0} (pick : X → Option Y) (xs : List X)
+    → length (filter_map pick xs) ≤ length xs
 length-filter_map pick [] = omega arith
 length-filter_map {X} {Y} pick (x ∷ xs) = kept (pick x) refl (length-filter_map pick xs)
   where
-    kept : (picked : Option Y) → pick x ≡ picked → length (filter_map pick xs) ≤ length xs → length (filter_map pick (x ∷ xs)) ≤ length (x ∷ xs)
+    kept : (picked : Option Y) → pick x ≡ picked → length (filter_map pick xs) ≤ length xs
+        → length (filter_map pick (x ∷ xs)) ≤ length (x ∷ xs)
     kept None is h = grind (arith, is)
     kept (Some y) is h = grind (arith, is)

@@ -23,23 +23,28 @@ row_few plan row =
     let all = length-append (input_steps plan row) (steps.Solve row ∷ output_steps plan row) in
     omega arith
 
-rows_few : (plan : ControllerPlan) (row n : ℕ) → length (flat_map (row_steps plan) (range_with_len row n)) ≤ 3 * n
+rows_few : (plan : ControllerPlan) (row n : ℕ)
+    → length (flat_map (row_steps plan) (range_with_len row n)) ≤ 3 * n
 rows_few plan row zero = omega arith
 rows_few plan row (suc n) =
     let first = row_few plan row in
     let later = rows_few plan (row + 1) n in
-    let all = length-append (row_steps plan row) (flat_map (row_steps plan) (range_with_len (row + 1) n)) in
+    let all = length-append (row_steps plan row)
+    (flat_map (row_steps plan) (range_with_len (row + 1) n)) in
     omega arith
 
 -- the steps from a row on
-pub rows_from-few : (plan : ControllerPlan) (row : ℕ) → length (rows_from plan row) ≤ 3 * (suc (length plan.orders) - row) + 1
+pub rows_from-few : (plan : ControllerPlan) (row : ℕ)
+    → length (rows_from plan row) ≤ 3 * (suc (length plan.orders) - row) + 1
 unfolding rows_from
 rows_from-few plan row =
     let rows = rows_few plan row (suc (length plan.orders) - row) in
-    let all = length-append (flat_map (row_steps plan) (range_with_len row (suc (length plan.orders) - row))) (steps.End ∷ []) in
+    let all = length-append (flat_map (row_steps plan)
+    (range_with_len row (suc (length plan.orders) - row))) (steps.End ∷ []) in
     omega arith
 
-output_few : (plan : ControllerPlan) (row : ℕ) → length (output_steps plan row ++ rows_from plan (row + 1)) ≤ 3 * (suc (length plan.orders) - (row + 1)) + 2
+output_few : (plan : ControllerPlan) (row : ℕ) → length (output_steps plan row
+    ++ rows_from plan (row + 1)) ≤ 3 * (suc (length plan.orders) - (row + 1)) + 2
 output_few plan row =
     let first = step_few (output_of (row_of plan row)) (steps.Out row) in
     let later = rows_from-few plan (row + 1) in
@@ -51,12 +56,16 @@ pub fits_room : (plan : ControllerPlan) (scan : ℕ) (at : ScanPlace) → IsPlac
     → length (due_after plan scan at) ≤ 3 * length plan.orders + 2
 fits_room plan scan places.Start is = let e = rows_from-few plan 1 in omega arith
 fits_room plan scan places.Began is = let e = rows_from-few plan 1 in omega arith
-fits_room plan scan (places.DidIn row) is = let e = output_few plan row in let a = is.0 in let b = is.1 in omega arith
-fits_room plan scan (places.DidSolve row) is = let e = output_few plan row in let a = is.0 in let b = is.1 in omega arith
-fits_room plan scan (places.DidOut row) is = let e = rows_from-few plan (row + 1) in let a = is.0 in let b = is.1 in omega arith
+fits_room plan scan (places.DidIn row) is =
+    let e = output_few plan row in let a = is.0 in let b = is.1 in omega arith
+fits_room plan scan (places.DidSolve row) is =
+    let e = output_few plan row in let a = is.0 in let b = is.1 in omega arith
+fits_room plan scan (places.DidOut row) is =
+    let e = rows_from-few plan (row + 1) in let a = is.0 in let b = is.1 in omega arith
 
 -- and what is due in so many scans is bounded
-pub scans_few : (fixed : Fixed) (scan n : ℕ) → length fixed.plan.orders ≤ 32 → length (scans_from fixed scan n) ≤ 98 * n
+pub scans_few : (fixed : Fixed) (scan n : ℕ) → length fixed.plan.orders ≤ 32
+    → length (scans_from fixed scan n) ≤ 98 * n
 scans_few fixed scan zero h = omega arith
 scans_few fixed scan (suc n) h =
     let first = rows_from-few fixed.plan 1 in

@@ -21,11 +21,12 @@ use Rattle.traffic_cop.proofs.ModuleLemmas.{HasModules-kept}
 use Rattle.controller_core.specs.declared.entry.Entry.{Entry}
 use Rattle.controller_core.specs.declared.machine.Machine.{Machine}
 use Rattle.controller_core.specs.Replay.{apply}
-use Rattle.traffic_cop.specs.Rows.{FitsPlan, HasControl}
-use Rattle.controller_core.specs.Machine.{CanRun, Does, IsSound, IsTimely, state_is}
+use Rattle.traffic_cop.specs.Rows.{FitsPlan, HasControl, IsRunnablePlan}
+use Rattle.controller_core.specs.Machine.{DoesEntry, IsSound, IsTimely, state_is}
 
 -- a row of a plan that can be run fits it
-pub row_fits : (plan : ControllerPlan) (number : ℕ) (row : OrderRow) → CanRun plan → row_of plan number ≡ Some row → FitsPlan plan row
+pub row_fits : (plan : ControllerPlan) (number : ℕ) (row : OrderRow) → IsRunnablePlan plan
+    → row_of plan number ≡ Some row → FitsPlan plan row
 row_fits plan number row runs is =
     let within = slice_get_within plan.orders (number - 1) row is in
     let got = slice_get-get_or plan.orders (number - 1) row within in
@@ -33,7 +34,8 @@ row_fits plan number row runs is =
     all_at_item (FitsPlan plan) plan.orders (number - 1) row within same runs.rows
 
 -- a drop whose modules a store has, each store that keeps its references has too
-pub ready-kept : (drops : List IoDrop) (number : ℕ) (m n : Contents) → Keeps m n → CanExchange drops number m → CanExchange drops number n
+pub ready-kept : (drops : List IoDrop) (number : ℕ) (m n : Contents) → Keeps m n
+    → CanExchange drops number m → CanExchange drops number n
 ready-kept drops number m n keeps ready = record {
   found = ready.found;
   named = ready.named;
@@ -41,27 +43,32 @@ ready-kept drops number m n keeps ready = record {
   room = HasModules-kept m n ready.found.modules keeps ready.room;
 }
 
-pub control-kept : (m n : Contents) (control : Option Ref) → Keeps m n → HasControl m control → HasControl n control
+pub control-kept : (m n : Contents) (control : Option Ref) → Keeps m n → HasControl m control
+    → HasControl n control
 control-kept m n None keeps has = tt
 control-kept m n (Some at) keeps has = (keeps at has.0, has.1)
 
 -- what a segment asks of the stores of a machine is there
-pub operands_there : (machine : Machine) → GridsAskNoMore → CheckedPlansFindAll → KeptStoresFindAll → IsSound machine
+pub operands_there : (machine : Machine) → GridsAskNoMore → CheckedPlansFindAll → KeptStoresFindAll
+    → IsSound machine
     → HasGridOperands machine.ram machine.ladder.grids
 operands_there machine law checked kept sound =
     let plan = machine.fixed.plan in
     let found = checked plan sound.runs.plan.passes in
     subst (HasGridOperands machine.ram) sound.grids
-    (law.operands machine.ram plan.segments (kept.operands (cleared (sizes_of plan)) machine.ram plan.segments sound.keeps found.operands))
+    (law.operands machine.ram plan.segments
+    (kept.operands (cleared (sizes_of plan)) machine.ram plan.segments sound.keeps found.operands))
 
 -- a block for each MSTR too
-pub blocks_there : (machine : Machine) → GridsAskNoMore → IsSound machine → mstr_count machine.ladder.grids ≤ length machine.bank.blocks
+pub blocks_there : (machine : Machine) → GridsAskNoMore → IsSound machine
+    → mstr_count machine.ladder.grids ≤ length machine.bank.blocks
 blocks_there machine law sound =
     let grids = ap mstr_count (sym sound.grids) ∙ law.blocks machine.fixed.plan.segments in
     let blocks = sound.blocks in
     omega (arith, grids, blocks)
 
-pub past_there : (machine : Machine) → GridsAskNoMore → CheckedPlansFindAll → KeptStoresFindAll → DiscretesFollow → IsSound machine
+pub past_there : (machine : Machine) → GridsAskNoMore → CheckedPlansFindAll → KeptStoresFindAll
+    → DiscretesFollow → IsSound machine
     → HasGridPast machine.past machine.ladder.grids
 past_there machine law checked kept follow sound =
     let plan = machine.fixed.plan in
@@ -71,7 +78,8 @@ past_there machine law checked kept follow sound =
     subst (HasGridPast machine.past) sound.grids
     (law.past machine.past plan.segments
     (subst (λ (past : Contents). HasSegmentPast past plan.segments) (sym sound.past.is)
-    (kept.past (cleared (discretes_of sizes)) (discretes sizes sound.past.store) plan.segments there found.past)))
+    (kept.past (cleared (discretes_of sizes)) (discretes sizes sound.past.store) plan.segments
+    there found.past)))
 
 -- a machine that is in time still is a step later
 pub later : (machine : Machine) (steps : ℕ) → IsTimely machine steps → IsTimely machine (steps + 1)
@@ -83,7 +91,8 @@ later machine steps timely = record {
 
 -- a machine that stays as it is does an event that leaves the state as it is
 pub does_nothing : (machine : Machine) (entry : Entry) → IsSound machine
-    → apply machine.fixed (state_is machine) entry ≡ state_is machine → Does entry machine machine
+    → apply machine.fixed (state_is machine) entry ≡ state_is machine
+    → DoesEntry entry machine machine
 does_nothing machine entry sound same =
     record { fixed = refl; state = sym same; sound = sound; timely = later machine }
 
@@ -93,6 +102,8 @@ pub counted : (xs : List ℕ) (place most : ℕ) → ((i : ℕ) → get_or xs i 
 counted xs place most all within i =
     elim (cases_eq i place) [
       | inl same ↦ let e = ap (λ n. get_or (set xs place (get_or xs place 0 + 1)) n 0) same
-          ∙ get_or-set_same xs place (get_or xs place 0 + 1) 0 within in let h = all place in omega arith
-      | inr other ↦ let e = get_or-set_other xs place i (get_or xs place 0 + 1) 0 other in let h = all i in omega arith
+          ∙ get_or-set_same xs place
+          (get_or xs place 0 + 1) 0 within in let h = all place in omega arith
+      | inr other ↦ let e = get_or-set_other xs place i (get_or xs place 0 + 1) 0 other in
+          let h = all i in omega arith
     ]

@@ -18,11 +18,12 @@ use Rattle.controller_core.specs.declared.entry.Entry.{Entry}
 use Rattle.controller_core.specs.declared.entry.Entry.TheVariants as entries
 use Rattle.controller_core.specs.declared.entry.Maker.{Maker}
 use Rattle.controller_core.specs.declared.entry.Maker.TheVariants as makers
-use Rattle.controller_core.specs.Replay.{State, apply, start}
+use Rattle.controller_core.specs.Replay.{ControllerState, apply, start}
 use Rattle.controller_core.specs.Event.{entry_of, maker_of, scan_steps, step_of}
 use Rattle.controller_core.specs.Scans.{all_due}
 use Rattle.controller_core.specs.Controller.{AreOf, ControllerIs, EachFits, Fits, GoesOn, IsLegal}
-use Rattle.controller_core.specs.Controller.{WentOn, due_entry, due_step, entry_for, first_of}
+use Rattle.controller_core.specs.Controller.{ControllerWentOn, due_entry, due_step, entry_for}
+use Rattle.controller_core.specs.Controller.{first_step}
 use Rattle.controller_core.specs.Controller.{grown, has_ended, is_none, left_of, made, reply_to}
 use Rattle.controller_core.specs.Controller.{state_of, stepped, uncollected, collecting}
 use Rattle.controller_core.specs.Controller.{has_started}
@@ -32,17 +33,21 @@ use Rattle.controller_core.proofs.Keeping.{scan_steps-quiet, told_entry}
 
 -- ---- the last entry of a legal history
 
-each_last : (f : Fixed) (s : State) (h : List Entry) (e : Entry) → EachFits f s (h ++ e ∷ []) → Fits f (fold (apply f) s h) e
+each_last : (f : Fixed) (s : ControllerState) (h : List Entry) (e : Entry)
+    → EachFits f s (h ++ e ∷ []) → Fits f (fold (apply f) s h) e
 unfolding EachFits
 each_last f s [] e each = each.0
 each_last f s (x ∷ h) e each = each_last f (apply f s x) h e each.1
 
 -- the front of a legal history is legal, as far as what is left
-left_is : (f : Fixed) (h : List Entry) (rest : List ScanStep) → scan_steps h ++ rest ≡ all_due f → left_of f h ≡ rest
+left_is : (f : Fixed) (h : List Entry) (rest : List ScanStep) → scan_steps h ++ rest ≡ all_due f
+    → left_of f h ≡ rest
 left_is f h rest is =
-    ap (λ (l : List ScanStep). drop (length (scan_steps h)) l) (sym is) ∙ drop-append_seam (scan_steps h) rest
+    ap (λ (l : List ScanStep). drop (length (scan_steps h)) l) (sym is)
+    ∙ drop-append_seam (scan_steps h) rest
 
-front_fits : (f : Fixed) (s : State) (h rest : List Entry) → EachFits f s (h ++ rest) → EachFits f s h
+front_fits : (f : Fixed) (s : ControllerState) (h rest : List Entry) → EachFits f s (h ++ rest)
+    → EachFits f s h
 unfolding EachFits
 front_fits f s [] rest each = tt
 front_fits f s (x ∷ h) rest each = (each.0, front_fits f (apply f s x) h rest each.1)
@@ -53,7 +58,8 @@ front_legal f h rest legal = record {
   due = (
     scan_steps rest ++ legal.due.0,
     sym (append_assoc (scan_steps h) (scan_steps rest) legal.due.0)
-        ∙ ap (λ (l : List ScanStep). l ++ legal.due.0) (sym (filter_map-append step_of h rest)) ∙ legal.due.1,
+        ∙ ap (λ (l : List ScanStep). l ++ legal.due.0) (sym (filter_map-append step_of h rest))
+        ∙ legal.due.1,
   );
 }
 
@@ -63,7 +69,8 @@ the_step : {a b : ScanStep} → Some a ≡ Some b → a ≡ b
 the_step is = cc
 
 -- it is the entry of its step, if its words are those of the row
-entry_is : (f : Fixed) (s : State) (e : Entry) (step : ScanStep) → step_of e ≡ Some step → HasWords f s e → entry_of f s step ≡ e
+entry_is : (f : Fixed) (s : ControllerState) (e : Entry) (step : ScanStep) → step_of e ≡ Some step
+    → HasWords f s e → entry_of f s step ≡ e
 entry_is f s entries.Begin step is words = ap (entry_of f s) (sym (the_step is))
 entry_is f s (entries.Input row) step is words = ap (entry_of f s) (sym (the_step is))
 entry_is f s (entries.Solve row) step is words = ap (entry_of f s) (sym (the_step is))
@@ -75,7 +82,8 @@ entry_is f s (entries.Peer id request reply) step is words = absurd cc
 entry_is f s (entries.Finish id result) step is words = absurd cc
 
 -- an entry of a step that fits is made where the controller goes on, and has the words of its row
-fits_goes : (f : Fixed) (s : State) (e : Entry) (step : ScanStep) → step_of e ≡ Some step → Fits f s e → GoesOn s × HasWords f s e
+fits_goes : (f : Fixed) (s : ControllerState) (e : Entry) (step : ScanStep) → step_of e ≡ Some step
+    → Fits f s e → GoesOn s × HasWords f s e
 fits_goes f s entries.Begin step is fits = (fits, tt)
 fits_goes f s (entries.Input row) step is fits = (fits, tt)
 fits_goes f s (entries.Solve row) step is fits = (fits, tt)
@@ -96,12 +104,15 @@ scan_step (entries.Collect calls) of = absurd cc
 scan_step (entries.Peer id request reply) of = absurd cc
 scan_step (entries.Finish id result) of = absurd cc
 
-steps_with : (h : List Entry) (e : Entry) (step : ScanStep) → step_of e ≡ Some step → scan_steps (h ++ e ∷ []) ≡ scan_steps h ++ step ∷ []
+steps_with : (h : List Entry) (e : Entry) (step : ScanStep) → step_of e ≡ Some step
+    → scan_steps (h ++ e ∷ []) ≡ scan_steps h ++ step ∷ []
 steps_with h e step is =
-    filter_map-append step_of h (e ∷ []) ∙ ap (λ (o : Option ScanStep). scan_steps h ++ cons_option o []) is
+    filter_map-append step_of h (e ∷ [])
+    ∙ ap (λ (o : Option ScanStep). scan_steps h ++ cons_option o []) is
 
 -- what is due where an entry of a step may come next
-pub due_of : (v : ControllerIs) (e : Entry) (step : ScanStep) → step_of e ≡ Some step → MayFollow v e → due_entry v ≡ Some e
+pub due_of : (v : ControllerIs) (e : Entry) (step : ScanStep) → step_of e ≡ Some step
+    → MayFollow v e → due_entry v ≡ Some e
 due_of v e step is may =
     let f = v.fixed in
     let h = v.history in
@@ -110,7 +121,7 @@ due_of v e step is may =
     left_is f h (step ∷ may.due.0) (sym (append_assoc (scan_steps h) (step ∷ []) may.due.0)
     ∙ ap (λ (l : List ScanStep). l ++ may.due.0) (sym (steps_with h e step is)) ∙ may.due.1) in
     let due : due_step v ≡ Some step =
-    ap (λ n. if n == 0 then first_of (left_of f h) else None) fits.0 ∙ ap first_of left in
+    ap (λ n. if n == 0 then first_step (left_of f h) else None) fits.0 ∙ ap first_step left in
     ap (entry_for v) due ∙ ap Some (entry_is f (state_of v) e step is fits.1)
 
 -- ---- and the other way round
@@ -120,17 +131,20 @@ step_in : (v : ControllerIs) (due : Option ScanStep) (e : Entry) → entry_for v
 step_in v None e is = absurd cc
 step_in v (Some step) e is = (step, refl, cc)
 
-first_in : (left : List ScanStep) (step : ScanStep) → first_of left ≡ Some step → (rest : List ScanStep) × (left ≡ step ∷ rest)
+first_in : (left : List ScanStep) (step : ScanStep) → first_step left ≡ Some step
+    → (rest : List ScanStep) × (left ≡ step ∷ rest)
 first_in [] step is = absurd cc
-first_in (x ∷ rest) step is = let same : x ≡ step = cc in (rest, ap (λ (y : ScanStep). y ∷ rest) same)
+first_in (x ∷ rest) step is =
+    let same : x ≡ step = cc in (rest, ap (λ (y : ScanStep). y ∷ rest) same)
 
 due_in : (v : ControllerIs) (b : Bool) → ((state_of v).stop == 0) ≡ b → (step : ScanStep)
-    → (if b then first_of (left_of v.fixed v.history) else None) ≡ Some step
+    → (if b then first_step (left_of v.fixed v.history) else None) ≡ Some step
     → GoesOn (state_of v) × ((rest : List ScanStep) × (left_of v.fixed v.history ≡ step ∷ rest))
 due_in v false b step is = absurd cc
 due_in v true b step is = (grind arith, first_in (left_of v.fixed v.history) step is)
 
-pub may_of : (v : ControllerIs) (e : Entry) → IsLegal v.fixed v.history → due_entry v ≡ Some e → MayFollow v e
+pub may_of : (v : ControllerIs) (e : Entry) → IsLegal v.fixed v.history → due_entry v ≡ Some e
+    → MayFollow v e
 may_of v e legal is =
     let f = v.fixed in
     let h = v.history in
@@ -139,10 +153,16 @@ may_of v e legal is =
     let due = due_in v (s.stop == 0) refl step.0 step.1 in
     let rest = due.1.0 in
     let all : scan_steps h ++ (step.0 ∷ rest) ≡ all_due f =
-    ap (λ (l : List ScanStep). scan_steps h ++ l) (sym due.1.1 ∙ left_is f h legal.due.0 legal.due.1) ∙ legal.due.1 in
+    ap (λ (l : List ScanStep). scan_steps h ++ l)
+    (sym due.1.1 ∙ left_is f h legal.due.0 legal.due.1) ∙ legal.due.1 in
     let next : IsLegal f (h ++ entry_of f s step.0 ∷ []) = record {
-      each = EachFits-more f (start f.plan) h (entry_of f s step.0) legal.each (fits_made f s step.0 due.0);
-      due = (rest, ap (λ (l : List ScanStep). l ++ rest) (scan_steps-more f s h step.0) ∙ append_assoc (scan_steps h) (step.0 ∷ []) rest ∙ all);
+      each = EachFits-more f (start f.plan) h (entry_of f s step.0) legal.each
+          (fits_made f s step.0 due.0);
+      due = (
+        rest,
+        ap (λ (l : List ScanStep). l ++ rest) (scan_steps-more f s h step.0)
+            ∙ append_assoc (scan_steps h) (step.0 ∷ []) rest ∙ all,
+      );
     } in
     subst (λ (x : Entry). IsLegal f (h ++ x ∷ [])) step.2 next
 
@@ -151,59 +171,76 @@ may_of v e legal is =
 pub fits_last : (v : ControllerIs) (e : Entry) → MayFollow v e → Fits v.fixed (state_of v) e
 fits_last v e may = each_last v.fixed (start v.fixed.plan) v.history e may.each
 
-pub legal_went : (maker : Maker) (added : List Entry) (old new : ControllerIs) → WentOn maker added old new → IsLegal old.fixed (old.history ++ added)
+pub legal_went : (maker : Maker) (added : List Entry) (old new : ControllerIs)
+    → ControllerWentOn maker added old new → IsLegal old.fixed (old.history ++ added)
 legal_went maker added old new went =
     subst (λ (f : Fixed). IsLegal f (old.history ++ added)) went.fixed
     (subst (λ (h : List Entry). IsLegal new.fixed h) went.history went.legal)
 
 -- a reply may come next exactly where it is the one that was made
-pub peer_may : (v : ControllerIs) (id : CallId) (request reply given : List ℕ) → given ≡ reply_to v request
-    → IsLegal v.fixed (v.history ++ entries.Peer id request given ∷ []) → (b : Bool) → b ≡ pointwise nat_eq given reply
-    → (b ≡ true → MayFollow v (entries.Peer id request reply)) × (MayFollow v (entries.Peer id request reply) → b ≡ true)
+pub peer_may : (v : ControllerIs) (id : CallId) (request reply given : List ℕ)
+    → given ≡ reply_to v request
+    → IsLegal v.fixed (v.history ++ entries.Peer id request given ∷ []) → (b : Bool)
+    → b ≡ pointwise nat_eq given reply
+    → (b ≡ true → MayFollow v (entries.Peer id request reply))
+    × (MayFollow v (entries.Peer id request reply) → b ≡ true)
 peer_may v id request reply given due legal true eq =
-    let same : entries.Peer id request given ≡ entries.Peer id request reply = ap (entries.Peer id request) (same_text given reply eq) in
+    let same : entries.Peer id request given ≡ entries.Peer id request reply =
+    ap (entries.Peer id request) (same_text given reply eq) in
     (λ yes. subst (λ (x : Entry). IsLegal v.fixed (v.history ++ x ∷ [])) same legal, λ may. refl)
-peer_may v id request reply given due legal false eq =
-    (λ no. absurd cc, λ may. absurd (other_text given reply eq (due ∙ sym (fits_last v (entries.Peer id request reply) may))))
+peer_may v id request reply given due legal false eq = (
+  λ no. absurd cc,
+  λ may. absurd
+      (other_text given reply eq (due ∙ sym (fits_last v (entries.Peer id request reply) may))),
+)
 
 -- so may calls exactly where they are those that were collected
 pub collect_may : (v : ControllerIs) (calls given : List Call) → given ≡ uncollected v
-    → IsLegal v.fixed (v.history ++ entries.Collect given ∷ []) → (b : Bool) → ((b ≡ true → given ≡ calls) × (given ≡ calls → b ≡ true))
-    → (b ≡ true → MayFollow v (entries.Collect calls)) × (MayFollow v (entries.Collect calls) → b ≡ true)
+    → IsLegal v.fixed (v.history ++ entries.Collect given ∷ []) → (b : Bool)
+    → ((b ≡ true → given ≡ calls) × (given ≡ calls → b ≡ true))
+    → (b ≡ true → MayFollow v (entries.Collect calls))
+    × (MayFollow v (entries.Collect calls) → b ≡ true)
 collect_may v calls given due legal b both = (
-  λ yes. subst (λ (l : List Call). IsLegal v.fixed (v.history ++ entries.Collect l ∷ [])) (both.0 yes) legal,
+  λ yes. subst (λ (l : List Call). IsLegal v.fixed (v.history ++ entries.Collect l ∷ []))
+      (both.0 yes) legal,
   λ may. both.1 (due ∙ sym (fits_last v (entries.Collect calls) may).1),
 )
 
 -- ---- other makers
 
-steps_stay : (h added : List Entry) → AreOf makers.Communication added → scan_steps (h ++ added) ≡ scan_steps h
+steps_stay : (h added : List Entry) → AreOf makers.Communication added
+    → scan_steps (h ++ added) ≡ scan_steps h
 steps_stay h [] of = ap scan_steps (append-nil h)
 steps_stay h (e ∷ added) of =
     sym (ap scan_steps (append_assoc h (e ∷ []) added))
     ∙ steps_stay (h ++ e ∷ []) added of.1
     ∙ scan_steps-quiet h e (told_entry e of.0).step
 
-stop_from : (f : Fixed) (s : State) (added : List Entry) → AreOf makers.Communication added → (fold (apply f) s added).stop ≡ s.stop
+stop_from : (f : Fixed) (s : ControllerState) (added : List Entry)
+    → AreOf makers.Communication added → (fold (apply f) s added).stop ≡ s.stop
 stop_from f s [] of = refl
 stop_from f s (e ∷ added) of = stop_from f (apply f s e) added of.1 ∙ (told_entry e of.0).stop f s
 
-pub replay_append : (f : Fixed) (s : State) (h added : List Entry) → fold (apply f) s (h ++ added) ≡ fold (apply f) (fold (apply f) s h) added
+pub replay_append : (f : Fixed) (s : ControllerState) (h added : List Entry)
+    → fold (apply f) s (h ++ added) ≡ fold (apply f) (fold (apply f) s h) added
 replay_append f s [] added = refl
 replay_append f s (x ∷ h) added = replay_append f (apply f s x) h added
 
 pub stop_stays : (v : ControllerIs) (added : List Entry) → AreOf makers.Communication added
     → (state_of (grown v added v.reserved)).stop ≡ (state_of v).stop
 stop_stays v added of =
-    ap (λ (t : State). t.stop) (replay_append v.fixed (start v.fixed.plan) v.history added)
+    ap (λ (t : ControllerState). t.stop) (replay_append v.fixed
+    (start v.fixed.plan) v.history added)
     ∙ stop_from v.fixed (state_of v) added of
 
 pub due_stays : (v : ControllerIs) (added : List Entry) → AreOf makers.Communication added
     → due_step (grown v added v.reserved) ≡ due_step v
 due_stays v added of =
     let steps = steps_stay v.history added of in
-    ap (λ n. if n == 0 then first_of (left_of v.fixed (v.history ++ added)) else None) (stop_stays v added of)
-    ∙ ap (λ (l : List ScanStep). if (state_of v).stop == 0 then first_of (drop (length l) (all_due v.fixed)) else None) steps
+    ap (λ n. if n == 0 then first_step (left_of v.fixed (v.history ++ added)) else None)
+    (stop_stays v added of)
+    ∙ ap (λ (l : List ScanStep). if (state_of v).stop == 0
+    then first_step (drop (length l) (all_due v.fixed)) else None) steps
 
 pub ended_stays : (v : ControllerIs) (added : List Entry) → AreOf makers.Communication added
     → has_ended (grown v added v.reserved) ≡ has_ended v
@@ -218,10 +255,12 @@ stays v ended = made_none v (due_step v) ended
 
 -- ---- following
 
-made_takes : (v : ControllerIs) (due : Option ScanStep) (e : Entry) → entry_for v due ≡ Some e → (made v due).history ≡ v.history ++ e ∷ []
+made_takes : (v : ControllerIs) (due : Option ScanStep) (e : Entry) → entry_for v due ≡ Some e
+    → (made v due).history ≡ v.history ++ e ∷ []
 made_takes v None e is = absurd cc
 made_takes v (Some step) e is =
-    let same : entry_of v.fixed (state_of v) step ≡ e = cc in ap (λ (x : Entry). v.history ++ x ∷ []) same
+    let same : entry_of v.fixed (state_of v) step ≡ e = cc in
+    ap (λ (x : Entry). v.history ++ x ∷ []) same
 
 step_takes : (v : ControllerIs) (e : Entry) → maker_of e ≡ makers.Scan → MayFollow v e
     → (followed_step v true).history ≡ v.history ++ e ∷ []
@@ -230,7 +269,8 @@ step_takes v e of may =
     let w : ControllerIs = record v { reserved = true } in
     made_takes w (due_step w) e (due_of w e step.0 step.1 may)
 
-pub takes : (v : ControllerIs) (e : Entry) → MayFollow v e → (followed v e true).history ≡ v.history ++ e ∷ []
+pub takes : (v : ControllerIs) (e : Entry) → MayFollow v e
+    → (followed v e true).history ≡ v.history ++ e ∷ []
 takes v entries.Begin may = step_takes v entries.Begin refl may
 takes v (entries.Input row) may = step_takes v (entries.Input row) refl may
 takes v (entries.Solve row) may = step_takes v (entries.Solve row) refl may
@@ -238,9 +278,11 @@ takes v (entries.Output row words) may = step_takes v (entries.Output row words)
 takes v entries.End may = step_takes v entries.End refl may
 takes v (entries.Collect calls) may =
     let fits = fits_last v (entries.Collect calls) may in
-    ap (λ b. (if b then collecting v else v).history) fits.0 ∙ ap (λ (l : List Call). v.history ++ entries.Collect l ∷ []) (sym fits.1)
+    ap (λ b. (if b then collecting v else v).history) fits.0
+    ∙ ap (λ (l : List Call). v.history ++ entries.Collect l ∷ []) (sym fits.1)
 takes v (entries.Peer id request reply) may =
-    ap (λ (l : List ℕ). v.history ++ entries.Peer id request l ∷ []) (sym (fits_last v (entries.Peer id request reply) may))
+    ap (λ (l : List ℕ). v.history ++ entries.Peer id request l ∷ [])
+    (sym (fits_last v (entries.Peer id request reply) may))
 takes v (entries.Finish id result) may = refl
 
 made_fixed : (v : ControllerIs) (due : Option ScanStep) → (made v due).fixed ≡ v.fixed
@@ -267,14 +309,17 @@ fixed_stays v (entries.Finish id result) true = refl
 fixed_stays v (entries.Finish id result) false = refl
 
 -- the same of whatever is answered
-pub takes_ok : {E : Type 0} (v w : ControllerIs) (e : Entry) (r : Result Bool E) → IfOk r (λ same. w ≡ followed v e same)
+pub takes_ok : {E : Type 0} (v w : ControllerIs) (e : Entry) (r : Result Bool E)
+    → IfOk r (λ same. w ≡ followed v e same)
     → IfOk r (λ same. (same ≡ true → MayFollow v e) × (MayFollow v e → same ≡ true))
     → IfOk r (λ same. same ≡ true → w.history ≡ v.history ++ e ∷ [])
 takes_ok v w e (Ok same) state legal =
-    λ yes. ap (λ (u : ControllerIs). u.history) (state ∙ ap (followed v e) yes) ∙ takes v e (legal.0 yes)
+    λ yes. ap (λ (u : ControllerIs). u.history) (state ∙ ap (followed v e) yes)
+    ∙ takes v e (legal.0 yes)
 takes_ok v w e (Err x) state legal = tt
 
-pub fixed_ok : {E : Type 0} (v w : ControllerIs) (e : Entry) (r : Result Bool E) → IfOk r (λ same. w ≡ followed v e same)
+pub fixed_ok : {E : Type 0} (v w : ControllerIs) (e : Entry) (r : Result Bool E)
+    → IfOk r (λ same. w ≡ followed v e same)
     → OnErr r (w ≡ v) → w.fixed ≡ v.fixed
 fixed_ok v w e (Ok same) state err = ap (λ (u : ControllerIs). u.fixed) state ∙ fixed_stays v e same
 fixed_ok v w e (Err x) state err = ap (λ (u : ControllerIs). u.fixed) err

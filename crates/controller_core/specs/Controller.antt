@@ -6,7 +6,7 @@ use Rattle.plant_types.specs.declared.plan.ControllerPlan.{ControllerPlan}
 use Rattle.plant_types.specs.Store.{Contents}
 use Rattle.mstr_block.specs.declared.call.CallId.{CallId}
 use Rattle.mstr_block.specs.declared.call.MstrResult.{MstrResult}
-use Rattle.mstr_block.specs.Table.{has_started as has_untaken, is_out as is_taken_out}
+use Rattle.mstr_block.specs.Table.{has_untaken, is_taken_out}
 use Rattle.modbus_exec.specs.Answer.{answer_of}
 use Rattle.scan_order.specs.declared.due.ScanStep.{ScanStep}
 use Rattle.controller_core.specs.declared.call.Call.{Call}
@@ -17,7 +17,7 @@ use Rattle.controller_core.specs.declared.entry.Maker.{Maker}
 use Rattle.controller_core.specs.declared.entry.StepEnd.{StepEnd}
 use Rattle.controller_core.specs.declared.entry.StepEnd.TheVariants as ends
 use Rattle.controller_core.specs.Calls.{calls_of}
-use Rattle.controller_core.specs.Replay.{State, apply, replay, start, table_of}
+use Rattle.controller_core.specs.Replay.{ControllerState, apply, replay, start, table_of}
 use Rattle.controller_core.specs.Event.{entry_of, maker_of, outputs_at, scan_steps}
 use Rattle.controller_core.specs.Scans.{all_due, closes_scan}
 
@@ -38,7 +38,7 @@ abbrev pub at_start : Fixed → ControllerIs
 at_start fixed = record { fixed = fixed; history = []; reserved = false }
 
 -- A controller goes on: it has not stopped. This project's own.
-abbrev pub GoesOn : State → Type 0
+abbrev pub GoesOn : ControllerState → Type 0
 GoesOn s = s.stop ≡ 0
 
 -- What holds of an entry where it is made: an event of a scan is made where the controller has
@@ -46,7 +46,7 @@ GoesOn s = s.stop ≡ 0
 -- it has stopped: a Collect has all calls that were started and not yet collected, in block order,
 -- and at least one; the reply of a Peer is the answer to its request; a Finish names a call that
 -- was collected and has no result. This project's own.
-abbrev pub Fits : Fixed → State → Entry → Type 0
+abbrev pub Fits : Fixed → ControllerState → Entry → Type 0
 Fits fixed s (entries.Collect calls) =
     (has_untaken (table_of s) ≡ true) × (calls ≡ calls_of (table_of s))
 Fits fixed s (entries.Peer id request reply) = reply ≡ (answer_of request s.solving.map).reply
@@ -55,7 +55,7 @@ Fits fixed s (entries.Output row words) = GoesOn s × (words ≡ outputs_at fixe
 Fits fixed s _ = GoesOn s
 
 -- Each entry fits the state that those before it leave. This project's own.
-unfoldable pub EachFits : Fixed → State → List Entry → Type 0
+unfoldable pub EachFits : Fixed → ControllerState → List Entry → Type 0
 EachFits fixed s [] = Unit {0}
 EachFits fixed s (entry ∷ entries) =
     Fits fixed s entry × EachFits fixed (apply fixed s entry) entries
@@ -67,7 +67,7 @@ pub record IsLegal (fixed : Fixed) (history : List Entry) : Type 0 where
   pub due : (rest : List ScanStep) × (scan_steps history ++ rest ≡ all_due fixed)
 
 -- The state of a controller: the replay of its history. This project's own.
-abbrev pub state_of : ControllerIs → State
+abbrev pub state_of : ControllerIs → ControllerState
 state_of v = replay v.fixed v.history
 
 -- The store of a controller. This project's own.
@@ -75,9 +75,9 @@ abbrev pub store_of : ControllerIs → Contents
 store_of v = (state_of v).solving.map
 
 -- The first of some steps, if there is one. This project's own.
-abbrev pub first_of : List ScanStep → Option ScanStep
-first_of [] = None
-first_of (step ∷ steps) = Some step
+abbrev pub first_step : List ScanStep → Option ScanStep
+first_step [] = None
+first_step (step ∷ steps) = Some step
 
 -- What is due in all scans behind the steps of a history. This project's own.
 abbrev pub left_of : Fixed → List Entry → List ScanStep
@@ -86,7 +86,7 @@ left_of fixed history = drop (length (scan_steps history)) (all_due fixed)
 -- The step that is due: the first that is left of all scans; none in a controller that has
 -- stopped. This project's own.
 abbrev pub due_step : ControllerIs → Option ScanStep
-due_step v = if (state_of v).stop == 0 then first_of (left_of v.fixed v.history) else None
+due_step v = if (state_of v).stop == 0 then first_step (left_of v.fixed v.history) else None
 
 -- The fixed part stays, and the history grows by these entries. This project's own.
 abbrev pub grown : ControllerIs → List Entry → Bool → ControllerIs
@@ -187,7 +187,8 @@ AreOf maker added = AllByRecursion (λ entry. maker_of entry ≡ maker) added
 -- What each call that may change a controller says of it, whatever it answers: the fixed part
 -- stays; the history grows by the entries that it added, each of its maker; and it is legal. This
 -- project's own.
-pub record WentOn (maker : Maker) (added : List Entry) (old new : ControllerIs) : Type 0 where
+pub record ControllerWentOn (maker : Maker) (added : List Entry) (old new : ControllerIs)
+    : Type 0 where
   pub fixed : new.fixed ≡ old.fixed
   pub history : new.history ≡ old.history ++ added
   pub made : AreOf maker added

@@ -12,19 +12,19 @@ use Rattle.controller_core.specs.declared.entry.Entry.{Entry}
 use Rattle.controller_core.specs.declared.entry.Entry.TheVariants as entries
 use Rattle.controller_core.specs.declared.entry.Maker.{Maker}
 use Rattle.controller_core.specs.declared.entry.Maker.TheVariants as makers
-use Rattle.controller_core.specs.Replay.{State}
+use Rattle.controller_core.specs.Replay.{ControllerState}
 
 -- The output words of the drop that a row names; none where it names no drop. This project's own.
 abbrev pub outputs_to : List IoDrop → Option ℕ → Contents → List ℕ
 outputs_to drops None m = []
 outputs_to drops (Some drop) m = outputs_of drops drop m
 
-abbrev pub outputs_at : Fixed → State → ℕ → List ℕ
+abbrev pub outputs_at : Fixed → ControllerState → ℕ → List ℕ
 outputs_at fixed s row =
     outputs_to fixed.plan.drops (output_of (row_of fixed.plan row)) s.solving.map
 
 -- The entry of a step that is made in a state. This project's own.
-abbrev pub entry_of : Fixed → State → ScanStep → Entry
+abbrev pub entry_of : Fixed → ControllerState → ScanStep → Entry
 entry_of fixed s steps.Begin = entries.Begin
 entry_of fixed s (steps.In row) = entries.Input row
 entry_of fixed s (steps.Solve row) = entries.Solve row

@@ -3,7 +3,7 @@ use Rattle.std.specs.Prelude.{◌≡◌, Bool, true, false, if◌then◌else◌,
 use Rattle.scan_order.specs.Due.{IsRow}
 use Rattle.controller_core.specs.declared.entry.Entry.{Entry}
 use Rattle.controller_core.specs.declared.entry.Entry.TheVariants as entries
-use Rattle.controller_core.specs.Replay.{State}
+use Rattle.controller_core.specs.Replay.{ControllerState}
 use Rattle.controller_core.specs.declared.fixed.Fixed.{Fixed}
 use Rattle.controller_core.specs.Event.{outputs_at}
 use Rattle.controller_core.specs.Controller.{ControllerIs, IsLegal, answering, collecting}
@@ -14,7 +14,7 @@ abbrev pub MayFollow : ControllerIs → Entry → Type 0
 MayFollow v entry = IsLegal v.fixed (v.history ++ entry ∷ [])
 
 -- The words of an Output are those of the row's drop. This project's own.
-abbrev pub HasWords : Fixed → State → Entry → Type 0
+abbrev pub HasWords : Fixed → ControllerState → Entry → Type 0
 HasWords fixed s (entries.Output row words) = words ≡ outputs_at fixed s row
 HasWords fixed s _ = Unit {0}
 

@@ -11,7 +11,7 @@ use Rattle.controller_core.specs.Event.{scan_steps}
 use Rattle.controller_core.specs.Machine.{state_is, IsSound, IsTimely}
 use Rattle.controller_core.specs.Scans.{all_due, remaining, scans_at}
 use Rattle.controller_core.specs.Controller.{EachFits}
-use Rattle.controller_core.specs.Notes.{IsNoted}
+use Rattle.controller_core.specs.Notes.{IsPanelNoted}
 
 -- While a scan runs and the controller goes on, networks are left to the watchdog. This project's
 -- own.
@@ -40,4 +40,4 @@ pub record IsWhole (machine : Machine) (history : List Entry) (at : ScanPlace) (
   pub kept : IsKept machine.fixed machine history at
   pub room : reserved ≡ true
       → length history + length (due_after machine.fixed.plan (machine.ended + 1) at) ≤ capacity
-  pub noted : IsNoted machine.fixed history reserved values values_capacity
+  pub noted : IsPanelNoted machine.fixed history reserved values values_capacity

@@ -31,14 +31,14 @@ pub record ConditionsStay : Type 0 where
       → KeepsCallsOf v (answering v id request)
 
 -- The call of this name is among them.
-abbrev pub is_among : CallId → List Call → Bool
-is_among id calls = list_any (λ call. is_same_call call.id id) calls
+abbrev pub is_call_among : CallId → List Call → Bool
+is_call_among id calls = list_any (λ call. is_same_call call.id id) calls
 
 -- After a Collect nothing is left to collect, and what was collected is out too.
 pub record TakesAll (v : ControllerIs) : Type 0 where
   pub started : has_started (collecting v) ≡ false
   pub out : (id : CallId)
-      → is_out (collecting v) id ≡ (is_out v id || is_among id (uncollected v))
+      → is_out (collecting v) id ≡ (is_out v id || is_call_among id (uncollected v))
 
 -- After a Finish its call is out no more, and every other call is as it was.
 pub record EndsOneCallOf (v w : ControllerIs) (id : CallId) : Type 0 where

@@ -1,10 +1,10 @@
 -- What the fields of a machine stand for, and what they keep.
-use Rattle.std.specs.Prelude.{◌≡◌, ◌≤◌, ◌<◌, ℕ, ◌+◌, ◌*◌, true, List, length, slice_index}
-use Rattle.std.specs.List.{AllByRecursion}
-use Rattle.plant_types.specs.declared.plan.ControllerPlan.{ControllerPlan}
-use Rattle.plant_types.specs.Checks.{passes_check, sizes_of}
+use Rattle.std.specs.Prelude.{◌≡◌, ◌≤◌, ◌<◌, ℕ, ◌+◌, ◌*◌, List, length, slice_index}
+use Rattle.plant_types.specs.Checks.{sizes_of}
 use Rattle.plant_types.specs.Discretes.{discretes_on}
-use Rattle.plant_types.specs.Standing.{cells_of_segments, message_count, message_limit}
+use Rattle.plant_types.specs.Limits.{most_scans, scan_time_limit}
+use Rattle.plant_types.specs.PlanTests.{drop_limit}
+use Rattle.plant_types.specs.Standing.{message_limit}
 use Rattle.plant_types.specs.declared.sizes.Sizes.{Sizes}
 use Rattle.plant_types.specs.Sizes.{cleared, discretes}
 use Rattle.plant_types.specs.Store.{Contents, Keeps}
@@ -15,32 +15,25 @@ use Rattle.ladder_solver.specs.declared.watch.SolveEnd.{SolveEnd}
 use Rattle.ladder_solver.specs.declared.watch.SolveEnd.TheVariants as ends
 use Rattle.scan_order.specs.declared.due.ScanStep.{ScanStep}
 use Rattle.scan_order.specs.declared.due.ScanStep.TheVariants as steps
-use Rattle.traffic_cop.specs.Rows.{FitsPlan}
+use Rattle.traffic_cop.specs.Rows.{IsRunnablePlan}
 use Rattle.mstr_block.specs.declared.call.CallId.{CallId}
 use Rattle.controller_core.specs.declared.entry.Entry.{Entry}
 use Rattle.controller_core.specs.declared.entry.Entry.TheVariants as entries
 use Rattle.controller_core.specs.declared.fixed.Fixed.{Fixed}
 use Rattle.controller_core.specs.declared.machine.Machine.{Machine}
-use Rattle.controller_core.specs.Replay.{State, apply, exchanged, segment_solved, watchdog_stop}
-
--- A plan that can be run: it passes its tests, has no more messages than a controller can have, and
--- each row of its order of solve fits it. This project's own.
-pub record CanRun (plan : ControllerPlan) : Type 0 where
-  pub passes : passes_check plan ≡ true
-  pub messages : message_count (cells_of_segments plan.segments) ≤ message_limit
-  pub count : length plan.orders ≤ 32
-  pub rows : AllByRecursion (FitsPlan plan) plan.orders
+use Rattle.controller_core.specs.Replay.{ControllerState, apply, exchanged, segment_solved}
+use Rattle.controller_core.specs.Replay.{watchdog_stop}
 
 -- A fixed part that can be run: its plan, its scan time, its watchdog and its number of scans.
 -- This project's own limits.
 pub record IsRunnable (fixed : Fixed) : Type 0 where
-  pub plan : CanRun fixed.plan
-  pub scan_time : fixed.scan_time ≤ 1000
+  pub plan : IsRunnablePlan fixed.plan
+  pub scan_time : fixed.scan_time ≤ scan_time_limit
   pub watchdog : 1 ≤ fixed.watchdog
-  pub scans : fixed.scans ≤ 2000
+  pub scans : fixed.scans ≤ most_scans
 
 -- The state that a machine's fields stand for. This project's own.
-abbrev pub state_is : Machine → State
+abbrev pub state_is : Machine → ControllerState
 state_is machine = record {
   solving =
       solve_state machine.ram (discretes_on machine.past) machine.ladder.edges machine.bank
@@ -67,7 +60,7 @@ pub record IsSound (machine : Machine) : Type 0 where
   pub node : machine.bank.node ≡ machine.fixed.plan.node
   pub blocks : length machine.bank.blocks ≡ mstr_blocks machine.fixed.plan.segments
   pub few : length machine.bank.blocks ≤ message_limit
-  pub exchanges : length machine.exchanges.items ≡ 32
+  pub exchanges : length machine.exchanges.items ≡ drop_limit
 
 -- The most steps that scans make: 98 in each of 2000. This project's own.
 abbrev pub most_steps : ℕ
@@ -76,12 +69,12 @@ most_steps = 196000
 -- After so many steps the clock and the counts are no further than these can bring them. This
 -- project's own.
 pub record IsTimely (machine : Machine) (steps : ℕ) : Type 0 where
-  pub clock : machine.clock.now ≤ 1000 * steps
+  pub clock : machine.clock.now ≤ scan_time_limit * steps
   pub exchanges : (i : ℕ) → slice_index machine.exchanges.items i ≤ steps
   pub ended : machine.ended ≤ steps
 
 -- A call does what an event does, once, and keeps what a machine's fields keep. This project's own.
-pub record Does (entry : Entry) (old new : Machine) : Type 0 where
+pub record DoesEntry (entry : Entry) (old new : Machine) : Type 0 where
   pub fixed : new.fixed ≡ old.fixed
   pub state : state_is new ≡ apply old.fixed (state_is old) entry
   pub sound : IsSound new
@@ -120,6 +113,6 @@ pub record Tells (entry : Entry) (old new : Machine) : Type 0 where
   pub timely : (steps : ℕ) → IsTimely old steps → IsTimely new steps
 
 -- A call answers a request, whoever asked, and whatever is told as its reply. This project's own.
-abbrev pub Serves : List ℕ → Machine → Machine → Type 0
-Serves request old new =
+abbrev pub ServesRequest : List ℕ → Machine → Machine → Type 0
+ServesRequest request old new =
     (id : CallId) (reply : List ℕ) → Tells (entries.Peer id request reply) old new

@@ -8,7 +8,7 @@ use Rattle.scan_order.specs.declared.due.ScanStep.{ScanStep}
 use Rattle.controller_core.specs.declared.fixed.Fixed.{Fixed}
 use Rattle.controller_core.specs.declared.entry.Entry.{Entry}
 use Rattle.controller_core.specs.declared.notes.Notes.{Notes}
-use Rattle.controller_core.specs.Replay.{State, apply, replay, start}
+use Rattle.controller_core.specs.Replay.{ControllerState, apply, replay, start}
 use Rattle.controller_core.specs.Event.{step_of}
 use Rattle.controller_core.specs.Scans.{closes_scan}
 
@@ -18,13 +18,13 @@ values_of store panel = map (value_at store) panel
 
 -- What is noted at an event, by the state right after it: the values of the panel's references,
 -- if it is the last of its scan.
-abbrev pub note_of_step : ControllerPlan → Option ScanStep → State → List ℕ
+abbrev pub note_of_step : ControllerPlan → Option ScanStep → ControllerState → List ℕ
 note_of_step plan None s = []
 note_of_step plan (Some step) s =
     if closes_scan step s.stop then values_of s.solving.map plan.panel else []
 
 -- The values that entries note from a state on.
-unfoldable pub noted_from : Fixed → State → List Entry → List ℕ
+unfoldable pub noted_from : Fixed → ControllerState → List Entry → List ℕ
 noted_from fixed s [] = []
 noted_from fixed s (entry ∷ entries) =
     let after = apply fixed s entry in
@@ -45,7 +45,7 @@ notes_of fixed history = record {
 
 -- The values are those of the history, with room for those of one scan more where a scan is
 -- reserved.
-pub record IsNoted (fixed : Fixed) (history : List Entry) (reserved : Bool) (values : List ℕ)
+pub record IsPanelNoted (fixed : Fixed) (history : List Entry) (reserved : Bool) (values : List ℕ)
     (capacity : ℕ) : Type 0 where
   pub are : values ≡ noted_values fixed history
   pub room : reserved ≡ true → length values + length fixed.plan.panel ≤ capacity

@@ -12,7 +12,7 @@ use Rattle.controller_core.specs.declared.fixed.Fixed.{Fixed}
 use Rattle.controller_core.specs.declared.entry.Entry.{Entry}
 use Rattle.controller_core.specs.declared.entry.StepEnd.{StepEnd}
 use Rattle.controller_core.specs.declared.entry.StepEnd.TheVariants as ends
-use Rattle.controller_core.specs.Replay.{State, apply, start}
+use Rattle.controller_core.specs.Replay.{ControllerState, apply, start}
 use Rattle.controller_core.specs.Event.{step_of}
 use Rattle.controller_core.specs.Scans.{closes_scan}
 
@@ -31,7 +31,7 @@ line_text scan node told =
 
 -- What is told of a scan right after its last event: the values of the panel's references in
 -- their order, or the code with which the controller stopped. This project's own.
-abbrev pub told_of : ControllerPlan → State → List ℕ
+abbrev pub told_of : ControllerPlan → ControllerState → List ℕ
 told_of plan s =
     if s.stop == 0
     then flat_map (value_text s.solving.map) plan.panel
@@ -39,20 +39,20 @@ told_of plan s =
 
 -- The number of the scan that is over: it has ended, or the controller stopped in it, and it is
 -- the one behind those that have ended. This project's own.
-abbrev pub scan_over : State → ℕ
+abbrev pub scan_over : ControllerState → ℕ
 scan_over s = if s.stop == 0 then s.ended else s.ended + 1
 
 -- The panel line of a scan, by the state right after its last event. This project's own.
-abbrev pub panel_line : ControllerPlan → State → List ℕ
+abbrev pub panel_line : ControllerPlan → ControllerState → List ℕ
 panel_line plan s = line_text (scan_over s) plan.node (told_of plan s)
 
 -- The line of an event, if it is the last of its scan, by the state right after it. This
 -- project's own.
-abbrev pub line_of_step : ControllerPlan → Option ScanStep → State → List (List ℕ)
+abbrev pub line_of_step : ControllerPlan → Option ScanStep → ControllerState → List (List ℕ)
 line_of_step plan None s = []
 line_of_step plan (Some step) s = if closes_scan step s.stop then panel_line plan s ∷ [] else []
 
-unfoldable pub lines_from : Fixed → State → List Entry → List (List ℕ)
+unfoldable pub lines_from : Fixed → ControllerState → List Entry → List (List ℕ)
 lines_from fixed s [] = []
 lines_from fixed s (entry ∷ entries) =
     let after = apply fixed s entry in
@@ -65,10 +65,10 @@ panel_lines fixed history = lines_from fixed (start fixed.plan) history
 
 -- Whether what a step answered was the last event of its scan, by the state behind it. This
 -- project's own.
-abbrev pub has_line : StepEnd → State → Bool
+abbrev pub has_line : StepEnd → ControllerState → Bool
 has_line (ends.Did step) s = closes_scan step s.stop
 has_line _ s = false
 
 -- The line that a step adds. This project's own.
-abbrev pub line_of_end : ControllerPlan → StepEnd → State → List (List ℕ)
+abbrev pub line_of_end : ControllerPlan → StepEnd → ControllerState → List (List ℕ)
 line_of_end plan end s = if has_line end s then panel_line plan s ∷ [] else []

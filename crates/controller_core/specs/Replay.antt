@@ -12,7 +12,7 @@ use Rattle.plant_types.specs.declared.sizes.Sizes.{Sizes}
 use Rattle.plant_types.specs.Discretes.{discretes_on}
 use Rattle.plant_types.specs.Sizes.{cleared, discretes}
 use Rattle.plant_types.specs.Store.{Contents, is_on}
-use Rattle.ladder_solver.specs.State.{State as Solving}
+use Rattle.ladder_solver.specs.State.{SolveState}
 use Rattle.ladder_solver.specs.Numbers.{mstr_blocks}
 use Rattle.ladder_solver.specs.Segment.{segment_after}
 use Rattle.scan_order.specs.Due.{row_of, input_of}
@@ -27,8 +27,8 @@ use Rattle.controller_core.specs.declared.entry.Entry.TheVariants as entries
 -- The state of a controller: what a solve reads and changes, how many input exchanges each drop
 -- had, by its number from 1, how many scans have ended, and the code with which it stopped, which
 -- is 0 while it goes on. This project's own.
-pub record State : Type 0 where
-  pub solving : Solving
+pub record ControllerState : Type 0 where
+  pub solving : SolveState
   pub exchanges : List ℕ
   pub ended : ℕ
   pub stop : ℕ
@@ -36,7 +36,7 @@ pub record State : Type 0 where
 -- A controller when it starts: each reference is 0 and no discrete was on before, no edge bit is
 -- on, all MSTR blocks are idle, the clock stands at 0, nothing was exchanged, and it goes on. This
 -- project's own.
-abbrev pub start : ControllerPlan → State
+abbrev pub start : ControllerPlan → ControllerState
 start plan = record {
   solving = record {
     map = cleared (sizes_of plan);
@@ -53,7 +53,7 @@ start plan = record {
 
 -- Begin: the clock goes on by the scan time, and keeps when the scan before began; the watchdog
 -- has all its networks. This project's own.
-abbrev pub begun : Fixed → Solving → Solving
+abbrev pub begun : Fixed → SolveState → SolveState
 begun fixed s =
     record s {
       clock = record { before = s.clock.now; now = s.clock.now + fixed.scan_time };
@@ -61,7 +61,7 @@ begun fixed s =
     }
 
 -- Input: the next exchange of the drop that the row names. This project's own.
-abbrev pub exchanged : List IoDrop → ℕ → State → State
+abbrev pub exchanged : List IoDrop → ℕ → ControllerState → ControllerState
 exchanged drops drop s =
     let k = slice_index s.exchanges (drop - 1) + 1 in
     record s {
@@ -69,7 +69,7 @@ exchanged drops drop s =
       exchanges = slice_set s.exchanges (drop - 1) k;
     }
 
-abbrev pub read_in : List IoDrop → Option ℕ → State → State
+abbrev pub read_in : List IoDrop → Option ℕ → ControllerState → ControllerState
 read_in drops None s = s
 read_in drops (Some drop) s = exchanged drops drop s
 
@@ -85,38 +85,38 @@ watchdog_stop = 1
 
 -- A segment is solved, once as a whole. Where no network is left to the watchdog then, the
 -- controller has stopped. This project's own.
-abbrev pub segment_solved : List Segment → ℕ → State → State
+abbrev pub segment_solved : List Segment → ℕ → ControllerState → ControllerState
 segment_solved segments number s =
     let after = segment_after segments number s.solving in
     record s { solving = after; stop = if after.left == 0 then watchdog_stop else s.stop }
 
 -- Solve: the row's segment where its control is on. This project's own.
-abbrev pub solved : List Segment → Option OrderRow → State → State
+abbrev pub solved : List Segment → Option OrderRow → ControllerState → ControllerState
 solved segments None s = s
 solved segments (Some row) s =
     if control_is_on s.solving.map row.control then segment_solved segments row.segment s else s
 
 -- End: which coils and inputs are on is kept, and transitional contacts of the next scan compare
 -- with them. This project's own.
-abbrev pub ended : Sizes → Solving → Solving
+abbrev pub ended : Sizes → SolveState → SolveState
 ended sizes s = record s { past = discretes_on (discretes sizes s.map) }
 
 -- Peer: the store that the answer to the request leaves. This project's own.
-abbrev pub served : List ℕ → State → State
+abbrev pub served : List ℕ → ControllerState → ControllerState
 served request s =
     record s {
       solving = record s.solving { map = (answer_of request s.solving.map).stored };
     }
 
 -- The table of the MSTR blocks. This project's own.
-abbrev pub table_of : State → BlockTable
+abbrev pub table_of : ControllerState → BlockTable
 table_of s = s.solving.table
 
-abbrev pub with_table : BlockTable → State → State
+abbrev pub with_table : BlockTable → ControllerState → ControllerState
 with_table table s = record s { solving = record s.solving { table = table } }
 
 -- What an event does; calls that are collected count as such from then on. This project's own.
-abbrev pub apply : Fixed → State → Entry → State
+abbrev pub apply : Fixed → ControllerState → Entry → ControllerState
 apply fixed s entries.Begin = record s { solving = begun fixed s.solving }
 apply fixed s (entries.Input row) =
     read_in fixed.plan.drops (input_of (row_of fixed.plan row)) s
@@ -132,5 +132,5 @@ apply fixed s (entries.Finish id result) = with_table (finished id result (table
 
 -- The state after a history: that of all its events, one after another, from the start. This
 -- project's own.
-abbrev pub replay : Fixed → List Entry → State
+abbrev pub replay : Fixed → List Entry → ControllerState
 replay fixed history = fold (apply fixed) (start fixed.plan) history

@@ -3,14 +3,14 @@ use Rattle.std.specs.Prelude.{◌==◌, if◌then◌else◌, List, [], ◌∷◌
 use Rattle.scan_order.specs.declared.due.ScanStep.{ScanStep}
 use Rattle.controller_core.specs.declared.fixed.Fixed.{Fixed}
 use Rattle.controller_core.specs.declared.entry.Entry.{Entry}
-use Rattle.controller_core.specs.Replay.{State, apply, start}
+use Rattle.controller_core.specs.Replay.{ControllerState, apply, start}
 use Rattle.controller_core.specs.Event.{entry_of}
 use Rattle.controller_core.specs.Scans.{all_due}
 use Rattle.controller_core.specs.Controller.{ControllerIs, left_of, state_of}
 
 -- The entries of steps from a state on, each made in the state that those before it leave, until
 -- the controller stops. This project's own.
-unfoldable pub entries_from : Fixed → State → List ScanStep → List Entry
+unfoldable pub entries_from : Fixed → ControllerState → List ScanStep → List Entry
 entries_from fixed s [] = []
 entries_from fixed s (step ∷ steps) =
     let entry = entry_of fixed s step in

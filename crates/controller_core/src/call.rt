@@ -1,6 +1,6 @@
 //! The calls that a controller's MSTR blocks make.
 ghost use Rattle.std.specs.Prelude.{◌≡◌, ◌↔◌, IfOk, IsTrue};
-ghost use Rattle.mstr_block.specs.Running.{IsAsk, IsCall};
+ghost use Rattle.mstr_block.specs.Running.{MayBeAsked, IsCall};
 ghost use Rattle.modbus_pdu.specs.Spelling.{IsRequestInRange};
 ghost use Rattle.controller_core.specs.Calls.{call_of, kind_of, request_to};
 
@@ -39,7 +39,7 @@ fn request_to(alloc: Global, to: u8, request: &Request) -> Result<CallKind, Allo
 impl CallKind {
     /// What a block of the station at an address asks for.
     fn of(alloc: Global, own: u8, ask: &MstrAsk) -> Result<CallKind, AllocError>
-        requires { IsAsk own ask.now }
+        requires { MayBeAsked own ask.now }
         ensures { IfOk result (λ kind. kind ≡ kind_of ask.now) }
     {
         match ask {
@@ -83,29 +83,6 @@ impl Call {
     }
 }
 
-/// Whether two operations of the own station are one.
-fn is_same_op(one: &LocalOp, other: &LocalOp) -> bool
-    ensures { IsTrue result ↔ (one.now ≡ other.now) }
-{
-    match one {
-        LocalOp::GetStats => matches!(other, LocalOp::GetStats),
-        LocalOp::ClearStats => matches!(other, LocalOp::ClearStats),
-        LocalOp::PutGlobal(words) => match other {
-            LocalOp::PutGlobal(others) => words.words() == others.words(),
-            _ => false,
-        },
-        LocalOp::GetGlobal { node, length } => match other {
-            LocalOp::GetGlobal {
-                node: from,
-                length: most,
-            } => *node == *from && *length == *most,
-            _ => false,
-        },
-        LocalOp::RemoteGet => matches!(other, LocalOp::RemoteGet),
-        LocalOp::RemoteClear => matches!(other, LocalOp::RemoteClear),
-    }
-}
-
 /// Whether two calls are for one thing.
 fn is_same_kind(one: &CallKind, other: &CallKind) -> bool
     ensures { IsTrue result ↔ (one.now ≡ other.now) }
@@ -119,7 +96,7 @@ fn is_same_kind(one: &CallKind, other: &CallKind) -> bool
             CallKind::Local(_) => false,
         },
         CallKind::Local(op) => match other {
-            CallKind::Local(done) => is_same_op(op, done),
+            CallKind::Local(done) => op.is_same(done),
             CallKind::Net { .. } => false,
         },
     }

@@ -10,7 +10,7 @@ ghost use Rattle.controller_core.specs.Controller.{step_end, step_entries, stepp
 ghost use Rattle.controller_core.specs.Controller.{due_step, has_started, is_out, peer_entries};
 ghost use Rattle.controller_core.specs.Controller.{collect_entries, collecting, uncollected};
 ghost use Rattle.controller_core.specs.Controller.{finish_entries, finishing};
-ghost use Rattle.controller_core.specs.Controller.{at_start, fixed_with, IsLegal, WentOn};
+ghost use Rattle.controller_core.specs.Controller.{at_start, fixed_with, IsLegal, ControllerWentOn};
 ghost use Rattle.controller_core.specs.Following.{HasWords, IsRowOf};
 ghost use Rattle.controller_core.specs.Machine.{IsRunnable};
 ghost use Rattle.controller_core.specs.Notes.{noted_values, notes_of};
@@ -294,7 +294,7 @@ impl Controller {
         ensures ok { OnOk result (self.new ≡ record self.old { reserved = true }) }
         ensures once { self.old.reserved ≡ true → IsOk result }
         ensures err { OnErr result (self.new ≡ self.old) }
-        ensures went_on { WentOn Maker.Scan [] self.old self.new }
+        ensures went_on { ControllerWentOn Maker.Scan [] self.old self.new }
     {
         if self.reserved {
             return Ok(());
@@ -311,7 +311,8 @@ impl Controller {
         requires { has_ended self.old ≡ false → self.old.reserved ≡ true }
         ensures grows { self.new ≡ stepped self.old }
         ensures answer { result ≡ step_end self.old }
-        ensures went_on { WentOn Maker.Scan (step_entries self.old result) self.old self.new }
+        ensures went_on { ControllerWentOn Maker.Scan (step_entries self.old result) self.old
+            self.new }
     {
         if self.machine.stop != 0 {
             return StepEnd::Stopped(self.machine.stop);
@@ -338,7 +339,7 @@ impl Controller {
         ensures ok { OnOk result (self.new ≡ collecting self.old) }
         ensures calls { IfOk result (λ calls. calls ≡ uncollected self.old) }
         ensures err { OnErr result (self.new ≡ self.old) }
-        ensures went_on { WentOn Maker.Communication (collect_entries result)
+        ensures went_on { ControllerWentOn Maker.Communication (collect_entries result)
             self.old self.new }
     {
         // What is left of a scan keeps its room behind this entry.
@@ -357,7 +358,7 @@ impl Controller {
         ensures ok { OnOk result (self.new ≡ answering self.old id request.now) }
         ensures reply { IfOk result (λ reply. reply ≡ reply_to self.old request.now) }
         ensures err { OnErr result (self.new ≡ self.old) }
-        ensures went_on { WentOn Maker.Communication (peer_entries id request.now result)
+        ensures went_on { ControllerWentOn Maker.Communication (peer_entries id request.now result)
             self.old self.new }
     {
         let most = self.longest_scan() + 1;
@@ -379,7 +380,7 @@ impl Controller {
         requires { is_out self.old id ≡ true }
         ensures ok { OnOk result (self.new ≡ finishing self.old id outcome) }
         ensures err { OnErr result (self.new ≡ self.old) }
-        ensures went_on { WentOn Maker.Communication (finish_entries id outcome result)
+        ensures went_on { ControllerWentOn Maker.Communication (finish_entries id outcome result)
             self.old self.new }
     {
         let most = self.longest_scan() + 1;

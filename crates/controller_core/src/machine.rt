@@ -7,13 +7,13 @@ ghost use Rattle.scan_order.specs.Due.{IsRow, IsStep};
 ghost use Rattle.controller_core.specs.Event.{entry_of, outputs_at};
 ghost use Rattle.controller_core.specs.Replay.{control_is_on, start};
 ghost use Rattle.traffic_cop.specs.Rows.{HasControl, HasDrop};
-ghost use Rattle.controller_core.specs.Machine.{state_is, Does, Exchanges};
+ghost use Rattle.controller_core.specs.Machine.{state_is, DoesEntry, Exchanges};
 ghost use Rattle.controller_core.specs.Machine.{CanSolve, IsRunnable, IsSound, IsTimely};
 ghost use Rattle.controller_core.specs.Machine.{most_steps};
 ghost use Rattle.controller_core.specs.Calls.{calls_of};
-ghost use Rattle.controller_core.specs.Machine.{Serves, Solves, Tells, stop_by};
+ghost use Rattle.controller_core.specs.Machine.{ServesRequest, Solves, Tells, stop_by};
 ghost use Rattle.mstr_block.specs.Laws.{collected};
-ghost use Rattle.mstr_block.specs.Table.{has_started, is_out};
+ghost use Rattle.mstr_block.specs.Table.{has_untaken, is_taken_out};
 
 use crate::call::Call;
 use crate::entry::Entry;
@@ -142,7 +142,7 @@ impl Machine {
     fn begin(&mut self)
         requires sound { IsSound self.old }
         requires timely { IsTimely self.old most_steps }
-        ensures { Does Entry.Begin self.old self.new }
+        ensures { DoesEntry Entry.Begin self.old self.new }
     {
         self.clock = Clock {
             before: self.clock.now,
@@ -170,7 +170,7 @@ impl Machine {
         requires sound { IsSound self.old }
         requires timely { IsTimely self.old most_steps }
         requires row { IsRow self.old.fixed.plan row }
-        ensures { Does (Entry.Input row) self.old self.new }
+        ensures { DoesEntry (Entry.Input row) self.old self.new }
     {
         let Some(found) = row_of(&self.fixed.plan, row) else {
             return;
@@ -219,7 +219,7 @@ impl Machine {
         requires sound { IsSound self.old }
         requires row { IsRow self.old.fixed.plan row }
         requires watch { 0 < self.old.watch.left }
-        ensures { Does (Entry.Solve row) self.old self.new }
+        ensures { DoesEntry (Entry.Solve row) self.old self.new }
     {
         let Some(found) = row_of(&self.fixed.plan, row) else {
             return;
@@ -248,7 +248,7 @@ impl Machine {
     fn end(&mut self)
         requires sound { IsSound self.old }
         requires timely { IsTimely self.old most_steps }
-        ensures { Does Entry.End self.old self.new }
+        ensures { DoesEntry Entry.End self.old self.new }
     {
         discretes_follow();
         self.past.copy_from(&self.ram);
@@ -257,14 +257,14 @@ impl Machine {
 
     /// Whether a call was started and not yet collected.
     pub(crate) fn has_started(&self) -> bool
-        ensures { result ≡ has_started self.now.bank }
+        ensures { result ≡ has_untaken self.now.bank }
     {
         self.bank.has_started()
     }
 
     /// Whether the call of this name was collected and has no result.
     pub(crate) fn is_out(&self, id: CallId) -> bool
-        ensures { result ≡ is_out self.now.bank id }
+        ensures { result ≡ is_taken_out self.now.bank id }
     {
         self.bank.is_out(id)
     }
@@ -295,7 +295,7 @@ impl Machine {
     /// is taken before anything changes.
     pub(crate) fn serve(&mut self, alloc: Global, request: &Pdu) -> Result<(Pdu, Pdu), AllocError>
         requires { IsSound self.old }
-        ensures serves { OnOk result (Serves request.now self.old self.new) }
+        ensures serves { OnOk result (ServesRequest request.now self.old self.new) }
         ensures reply { IfOk result (λ pair.
             pair.0 ≡ (answer_of request.now self.old.ram).reply) }
         ensures same { IfOk result (λ pair. pair.1 ≡ pair.0) }
@@ -307,7 +307,7 @@ impl Machine {
     /// A call comes to its result. Takes no memory.
     pub(crate) fn finish(&mut self, id: CallId, outcome: MstrResult)
         requires sound { IsSound self.old }
-        requires out { is_out self.old.bank id ≡ true }
+        requires out { is_taken_out self.old.bank id ≡ true }
         ensures { Tells (Entry.Finish id outcome) self.old self.new }
     {
         self.bank.finish(id, outcome);
@@ -320,7 +320,8 @@ impl Machine {
         requires step { IsStep self.old.fixed.plan step }
         requires watch { CanSolve step self.old }
         ensures entry { result ≡ entry_of self.old.fixed (state_is self.old) step }
-        ensures does { Does (entry_of self.old.fixed (state_is self.old) step) self.old self.new }
+        ensures does { DoesEntry (entry_of self.old.fixed (state_is self.old) step) self.old
+            self.new }
     {
         match step {
             ScanStep::Begin => {

@@ -1,6 +1,6 @@
 //! What a controller is made of at its start.
 ghost use Rattle.std.specs.Prelude.{IfOk};
-ghost use Rattle.controller_core.specs.Machine.{CanRun};
+ghost use Rattle.traffic_cop.specs.Rows.{IsRunnablePlan};
 ghost use Rattle.controller_core.specs.Parts.{ArePartsOf, AreStoresOf, IsSolverOf};
 
 use grid_compile::grids_of;
@@ -36,7 +36,7 @@ pub(crate) struct Parts {
 }
 
 fn solver_of(alloc: Global, plan: &ControllerPlan) -> Result<Solver, AllocError>
-    requires { CanRun plan.now }
+    requires { IsRunnablePlan plan.now }
     ensures { IfOk result (IsSolverOf plan.now) }
 {
     checked_plans_find_all();
@@ -49,7 +49,7 @@ fn solver_of(alloc: Global, plan: &ControllerPlan) -> Result<Solver, AllocError>
 }
 
 fn stores_of(alloc: Global, plan: &ControllerPlan) -> Result<Stores, AllocError>
-    requires { CanRun plan.now }
+    requires { IsRunnablePlan plan.now }
     ensures { IfOk result (AreStoresOf plan.now) }
 {
     let (coils, inputs) = (plan.coils, plan.inputs);
@@ -60,7 +60,7 @@ fn stores_of(alloc: Global, plan: &ControllerPlan) -> Result<Stores, AllocError>
 
 /// The parts of a plan at its start: all references and counts are 0, and all edge bits off.
 pub(crate) fn parts_of(alloc: Global, plan: &ControllerPlan) -> Result<Parts, AllocError>
-    requires { CanRun plan.now }
+    requires { IsRunnablePlan plan.now }
     ensures { IfOk result (ArePartsOf plan.now) }
 {
     let solver = solver_of(alloc, plan)?;

@@ -7,7 +7,7 @@ use Rattle.std.specs.Option.{option_map}
 use Rattle.plant_types.specs.declared.net.HostPlan.{HostPlan}
 use Rattle.modbus_pdu.specs.Spelling.{spelling_of}
 use Rattle.modbus_pdu.specs.declared.request.Request.TheVariants as requests
-use Rattle.mstr_block.specs.Running.{IsAsk, IsRunning, IsStateOf}
+use Rattle.mstr_block.specs.Running.{MayBeAsked, IsRunning, IsStateOf}
 use Rattle.mstr_block.specs.Table.{untaken}
 use Rattle.mstr_block.specs.declared.call.MstrAsk.{MstrAsk}
 use Rattle.mstr_block.specs.declared.call.MstrAsk.TheVariants as asks
@@ -49,7 +49,7 @@ pub record FitItems (a : Items) : Type 0 where
 
 -- ---- calls
 
-ask-is : (own : ℕ) (ask : MstrAsk) → IsAsk own ask → (to : ℕ) (pdu : List ℕ)
+ask-is : (own : ℕ) (ask : MstrAsk) → MayBeAsked own ask → (to : ℕ) (pdu : List ℕ)
     → sort_of (kind_of ask) ≡ OverNet to pdu → NetAsk pdu
 ask-is own (asks.Write other start words) is to pdu e =
     let same : spelling_of (requests.WriteRegisters (start - 1) words) ≡ pdu = cc in
@@ -68,15 +68,15 @@ ask-is own (asks.ClearRemote other) is to pdu e =
 
 running-ask : (n : ℕ) (numbers : List ℕ) (r : Running) (call : MstrCall) (o : Option MstrAsk)
     → r.ask ≡ o → IsRunning n numbers r
-    → option_map (λ ask. record { id = r.id; ask = ask }) o ≡ Some call → IsAsk n call.ask
+    → option_map (λ ask. record { id = r.id; ask = ask }) o ≡ Some call → MayBeAsked n call.ask
 running-ask n numbers r call None asked is e = absurd cc
 running-ask n numbers r call (Some ask) asked is e =
     let this : MstrCall = record { id = r.id; ask = ask } in
     let same : this ≡ call = cc in
-    subst (IsAsk n) (ap (λ (c : MstrCall). c.ask) same) (is.ask ask asked).0
+    subst (MayBeAsked n) (ap (λ (c : MstrCall). c.ask) same) (is.ask ask asked).0
 
 untaken-ask : (n : ℕ) (numbers : List ℕ) (b : BlockState) (call : MstrCall) → IsStateOf n numbers b
-    → untaken b ≡ Some call → IsAsk n call.ask
+    → untaken b ≡ Some call → MayBeAsked n call.ask
 untaken-ask n numbers Idle call is e = absurd cc
 untaken-ask n numbers Waiting call is e = absurd cc
 untaken-ask n numbers (Active r) call is e = running-ask n numbers r call r.ask refl is e

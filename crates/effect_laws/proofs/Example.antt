@@ -1,7 +1,10 @@
 -- A host asks a controller for an echo, and then for what it doesn't serve, as a legal joint
 -- history tells it. The first call reports success; each took effect once.
-use Rattle.std.proofs.Common.{◌≡◌, ℕ, zero, suc, true, false, List, [], ◌∷◌, ◌++◌, refl, inl, inr}
-use Rattle.std.proofs.Common.{arith}
+use Rattle.std.proofs.Common.{◌≡◌, ℕ, zero, suc, ◌+◌, true, false, List, [], ◌∷◌, ◌++◌, refl, inl}
+use Rattle.std.proofs.Common.{inr, take, drop, set, nat_le, Option, Some, unwrap_or, sym, ap, ◌∙◌}
+use Rattle.std.proofs.Common.{subst, arith}
+use Rattle.std.proofs.lemmas.Bool.{cond_both}
+use Rattle.std.specs.FinMap.{empty, get-empty, get-insert}
 use Rattle.std.specs.List.{All, AllByRecursion as Each}
 use Rattle.std.specs.List.Sorted.{IsStrictlyIncreasing}
 use Rattle.std.proofs.lemmas.List.Sorted.{IsPermutation-refl}
@@ -19,7 +22,12 @@ use Rattle.ring_core.specs.declared.frame.Frame.{Frame}
 use Rattle.ring_core.specs.declared.entry.Heard.TheVariants.{Acked}
 use Rattle.ring_core.specs.declared.entry.RingEntry.{RingEntry}
 use Rattle.ring_core.specs.declared.entry.RingEntry.TheVariants.{Post, Send, Take, Pass}
-use Rattle.ring_core.specs.Legal.{IsLegal as IsLegalRing}
+use Rattle.ring_core.specs.Machine.{RingIs, source_of, source_cmp, accepted_of, accepting}
+use Rattle.ring_core.specs.Machine.{ring_node, is_repeat, sent_off, heard_of, arrival, sent_with}
+use Rattle.ring_core.specs.Machine.{after, opening, ring_after}
+use Rattle.ring_core.specs.Legal.{IsLawful, IsTimelyEntry, IsRun, IsLegalRing}
+use Rattle.ring_core.proofs.Runs.{after_all-push}
+use Rattle.ring_core.proofs.Numbers.{sources_total}
 use Rattle.controller_core.specs.declared.entry.Entry.{Entry}
 use Rattle.controller_core.specs.declared.entry.Entry.TheVariants.{Peer}
 use Rattle.controller_core.specs.Controller.{IsLegal, EachFits}
@@ -208,8 +216,134 @@ asker-legal =
     may_of (record { plan = host; history = answered }) (Answer (id 2) (results.Reply refused))
     third refl
 
+-- The numbers that a node accepted are a map, which does not compute. So the ring after each Send
+-- of a Request is told as one that accepted it, and lemmas show that it did.
+
+-- From a ring on, entries are steps one after another.
+abbrev AreSteps : RingIs → List RingEntry → List RingEntry → Type 0
+AreSteps r past [] = Unit {0}
+AreSteps r past (e ∷ es) =
+    (IsLawful net e × IsTimelyEntry net past r e) × AreSteps (after net r e) (past ++ e ∷ []) es
+
+-- from the ring after what was before, they are a run
+are-run : (past es : List RingEntry) → AreSteps (ring_after net past) past es → IsRun net past es
+are-run past [] steps = tt
+are-run past (e ∷ es) steps = (
+  steps.0,
+  are-run (past ++ e ∷ []) es (subst (λ (r : RingIs). AreSteps r (past ++ e ∷ []) es)
+      (sym (after_all-push net (opening net) past e)) steps.1),
+)
+
+-- The ring after node 5 sent a Request that node 1 accepts.
+abbrev sent_to_one : RingIs → Frame → RingIs
+sent_to_one r f =
+    let target = ring_node r 1 in
+    let accepts = record target {
+      inbox = target.inbox ++ f ∷ [];
+      accepted = accepting target.accepted f.id;
+    } in
+    let sender = ring_node r 5 in
+    record {
+      holder = r.holder;
+      sent = r.sent + 1;
+      nodes = set (set r.nodes 1 accepts) 5 (sent_off sender sender.paths);
+    }
+
+-- The ring after its first three entries, after the next Send, and after the one that follows it.
+abbrev both-posted : RingIs
+both-posted = ring_after net (take 3 ring)
+
+abbrev one-sent : RingIs
+one-sent = sent_to_one both-posted (frame Request 1 1 echo)
+
+abbrev both-sent : RingIs
+both-sent = sent_to_one one-sent (frame Request 1 2 unknown)
+
+-- no number was accepted of the first path
+none-of-one : accepted_of empty (id 1) ≡ 0
+none-of-one = ap (λ (last : Option ℕ). unwrap_or last 0) (get-empty source_cmp (source_of (id 1)))
+
+-- and none of the second once one was of the first
+none-of-two : accepted_of (accepting empty (id 1)) (id 2) ≡ 0
+none-of-two = ap (λ (last : Option ℕ). unwrap_or last 0)
+    (get-insert sources_total empty (source_of (id 1)) 1 (source_of (id 2))
+    ∙ get-empty source_cmp (source_of (id 2)))
+
+-- so a Request with the number 1 is no repeat
+no-repeat : (last : ℕ) → last ≡ 0 → nat_le 1 last ≡ true → ⊥
+no-repeat last none repeat = let no' : false ≡ true = sym (ap (nat_le 1) none) ∙ repeat in cc
+
+-- the first Send leaves the ring that is told
+first-sent : after net both-posted (Send 5 Acked) ≡ one-sent
+first-sent = cond_both (is_repeat (ring_node both-posted 1) (id 1)) _ _
+    (λ x. sent_with both-posted 5 (frame Request 1 1 echo) D (Some x) ≡ one-sent)
+    (λ repeat. absurd (no-repeat _ none-of-one repeat))
+    (λ _. refl)
+
+-- so does the second
+second-sent : after net one-sent (Send 5 Acked) ≡ both-sent
+second-sent = cond_both (is_repeat (ring_node one-sent 1) (id 2)) _ _
+    (λ x. sent_with one-sent 5 (frame Request 1 2 unknown) D (Some x) ≡ both-sent)
+    (λ repeat. absurd (no-repeat _ none-of-two repeat))
+    (λ _. refl)
+
+-- the first Send hears that it is acked, which a repeat is too
+first-acked : Acked ≡ heard_of D (arrival both-posted.nodes D (frame Request 1 1 echo))
+first-acked = cond_both (is_repeat (ring_node both-posted 1) (id 1)) _ _
+    (λ x. Acked ≡ heard_of D (Some x)) (λ _. refl) (λ _. refl)
+
+-- so does the second
+second-acked : Acked ≡ heard_of D (arrival one-sent.nodes D (frame Request 1 2 unknown))
+second-acked = cond_both (is_repeat (ring_node one-sent 1) (id 2)) _ _
+    (λ x. Acked ≡ heard_of D (Some x)) (λ _. refl) (λ _. refl)
+
+-- from there on all computes
+after-both : AreSteps both-sent (take 5 ring) (drop 5 ring)
+after-both = (
+  ((1, omega arith, refl), (refl, refl)),
+  (
+    ((0, omega arith, refl), (refl, refl)),
+    (
+      (((0, omega arith, refl), (refl, (λ e. omega (arith, e)))), (tt, refl)),
+      (
+        ((0, omega arith, refl), (refl, refl)),
+        (
+          (((0, omega arith, refl), (refl, (λ e. omega (arith, e)))), (tt, refl)),
+          (
+            ((0, omega arith, refl), (refl, refl)),
+            (
+              ((0, omega arith, refl), (refl, refl)),
+              (
+                ((0, omega arith, refl), (refl, refl)),
+                (
+                  ((1, omega arith, refl), (refl, refl)),
+                  (((1, omega arith, refl), (refl, refl)), tt),
+                ),
+              ),
+            ),
+          ),
+        ),
+      ),
+    ),
+  ),
+)
+
+-- the second Send goes before it
+after-one : AreSteps one-sent (take 4 ring) (drop 4 ring)
+after-one = (
+  ((1, omega arith, refl), (refl, second-acked)),
+  subst (λ (r : RingIs). AreSteps r (take 5 ring) (drop 5 ring)) (sym second-sent) after-both,
+)
+
+-- and before that the first
+after-posts : AreSteps both-posted (take 3 ring) (drop 3 ring)
+after-posts = (
+  ((1, omega arith, refl), (refl, first-acked)),
+  subst (λ (r : RingIs). AreSteps r (take 4 ring) (drop 4 ring)) (sym first-sent) after-one,
+)
+
 ring-legal : IsLegalRing net ring
-ring-legal = (
+ring-legal = are-run [] ring (
   ((0, omega arith, refl), (refl, refl)),
   (
     (
@@ -221,40 +355,7 @@ ring-legal = (
         ((1, omega arith, refl), (refl, (λ e. omega (arith, e)), (omega arith, omega arith))),
         (omega arith, refl),
       ),
-      (
-        ((1, omega arith, refl), (refl, refl)),
-        (
-          ((1, omega arith, refl), (refl, refl)),
-          (
-            ((1, omega arith, refl), (refl, refl)),
-            (
-              ((0, omega arith, refl), (refl, refl)),
-              (
-                (((0, omega arith, refl), (refl, (λ e. omega (arith, e)))), (tt, refl)),
-                (
-                  ((0, omega arith, refl), (refl, refl)),
-                  (
-                    (((0, omega arith, refl), (refl, (λ e. omega (arith, e)))), (tt, refl)),
-                    (
-                      ((0, omega arith, refl), (refl, refl)),
-                      (
-                        ((0, omega arith, refl), (refl, refl)),
-                        (
-                          ((0, omega arith, refl), (refl, refl)),
-                          (
-                            ((1, omega arith, refl), (refl, refl)),
-                            (((1, omega arith, refl), (refl, refl)), tt),
-                          ),
-                        ),
-                      ),
-                    ),
-                  ),
-                ),
-              ),
-            ),
-          ),
-        ),
-      ),
+      after-posts,
     ),
   ),
 )

@@ -34,7 +34,7 @@ use Rattle.ring_core.specs.Scratch.{global_answer, heard_words, local_result, st
 use Rattle.ring_core.specs.Statistics.{clear_statistics, get_statistics}
 use Rattle.host_port.specs.Legal.{refusal_to}
 use Rattle.tied_lists.specs.Items.{reply_of, request_of, words_told}
-use Rattle.reply_laws.specs.Result.{counts, exception_told, fits_plainly, fits_statistics}
+use Rattle.reply_laws.specs.Result.{has_byte_count, exception_told, fits_plainly, fits_statistics}
 use Rattle.reply_laws.specs.Result.{fits_words}
 use Rattle.reply_laws.specs.Result.{function_in, good, or_good, reads_registers, result_of}
 use Rattle.reply_laws.specs.Result.{tells_bytes, told_bytes, writes_registers}
@@ -96,7 +96,7 @@ write-fits address words some few is =
     let whole = eq-eqb (length ask) (6 + 2 * word_in ask 3) (omega (arith, bytes, count)) in
     let quantity : is_up_to most_registers_written (word_in ask 3)
     ≡ true = and_from _ _ least most in
-    let counted : counts (2 * word_in ask 3) ask ≡ true = and_from _ _ told whole in
+    let counted : has_byte_count (2 * word_in ask 3) ask ≡ true = and_from _ _ told whole in
     let writes : writes_registers ask
     ≡ true = and_from _ _ (and_from _ _ enough quantity) counted in
     let same : bytes_eq reply (take 5 ask) ≡ true = (bytes_eq-Decides reply (take 5 ask)).1 refl in

@@ -22,7 +22,7 @@ use Rattle.ring_core.specs.declared.entry.RingEntry.TheVariants.{Pass, Leave}
 use Rattle.ring_core.specs.declared.frame.FrameKind.{FrameKind}
 use Rattle.ring_core.specs.declared.frame.FrameKind.TheVariants.{Request, Reply}
 use Rattle.ring_core.specs.declared.frame.Frame.{Frame}
-use Rattle.ring_core.specs.Legal.{IsLegal, IsRun}
+use Rattle.ring_core.specs.Legal.{IsLegalRing, IsRun}
 use Rattle.ring_core.specs.Scratch.{local_result}
 use Rattle.ring_laws.specs.Once.{HasAsked, IsFailWord, IsRingHistory, posts}
 use Rattle.ring_laws.proofs.Law.{given-up-word, only-its-target, posted-once, reply-by-taker}
@@ -199,8 +199,8 @@ asked-before : (net : NetPlan) (ring front rest : List RingEntry) (n : ℕ) (f :
     → IsRingHistory net ring → ring ≡ front ++ Take n f ∷ rest
     → f.kind ≡ Reply → HasAsked front n f.id
 asked-before net ring front rest n f is ring_is kind =
-    let whole : IsLegal net ((front ++ Take n f ∷ []) ++ rest) =
-    subst (IsLegal net) (ring_is ∙ sym (append_assoc front (Take n f ∷ []) rest)) is.legal in
+    let whole : IsLegalRing net ((front ++ Take n f ∷ []) ++ rest) =
+    subst (IsLegalRing net) (ring_is ∙ sym (append_assoc front (Take n f ∷ []) rest)) is.legal in
     let history : IsRingHistory net (front ++ Take n f ∷ []) = record {
       members = is.members;
       legal = (legal-parts net (front ++ Take n f ∷ []) rest whole).0;

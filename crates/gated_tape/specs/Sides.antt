@@ -1,6 +1,6 @@
 -- What a side says of the tape behind it. All of it is this project's own.
 use Rattle.std.specs.Prelude.{◌≡◌, ℕ, Bool, true, List, ◌++◌, Option, Some, None}
-use Rattle.turn_gate.specs.Known.{GateFacts, own}
+use Rattle.turn_gate.specs.Known.{GateFacts, made_by}
 use Rattle.gated_tape.specs.declared.tapes.Mark.{Mark}
 
 -- the list went on by a suffix, of which the entries that name n are the added ones; all of it
@@ -9,7 +9,7 @@ pub record GoesOnBy {E : Type 0} (alone : Bool) (maker : E → ℕ) (n : ℕ)
     (before added after : List E) : Type 0 where
   pub suffix : List E
   pub after_is : after ≡ before ++ suffix
-  pub own_is : own maker n suffix ≡ added
+  pub own_is : made_by maker n suffix ≡ added
   pub all_alone : alone ≡ true → suffix ≡ added
 
 -- a side may write in this node's name: it writes in anyone's, or in this one's

@@ -3,7 +3,7 @@ use Rattle.std.specs.Prelude.{◌≡◌, ◌⊎◌, ℕ, ◌+◌, ◌≤◌, Boo
 use Rattle.gated_tape.specs.declared.tapes.Mark.{Mark}
 use Rattle.gated_tape.specs.declared.refusals.PutNo.{PutNo}
 use Rattle.gated_tape.specs.declared.refusals.PutNo.TheVariants.{Full}
-use Rattle.gated_tape.specs.Marks.{node_of, count_of}
+use Rattle.gated_tape.specs.Marks.{node_of, mark_count}
 use Rattle.gated_tape.specs.Sides.{Frame, GoesOnBy}
 
 -- a side went on by some marks of the node, and by those of others where it is not alone; its
@@ -18,8 +18,8 @@ pub record Worked {P : Type 0} (alone : Bool) (node : ℕ) (old : Frame P) (befo
 -- as many as the first or one less; where it ended with Full, one of the tapes is full
 pub record WriterEnded {T P Q : Type 0} (node count : ℕ) (result : Result T PutNo)
     (at_one : Frame P) (one : List Mark) (at_two : Frame Q) (two : List Mark) : Type 0 where
-  pub done_one : OnOk result (count_of node one ≡ count)
-  pub done_two : OnOk result (count_of node two ≡ count)
-  pub not_ahead : count_of node two ≤ count_of node one
-  pub not_behind : count_of node one ≤ count_of node two + 1
+  pub done_one : OnOk result (mark_count node one ≡ count)
+  pub done_two : OnOk result (mark_count node two ≡ count)
+  pub not_ahead : mark_count node two ≤ mark_count node one
+  pub not_behind : mark_count node one ≤ mark_count node two + 1
   pub full : result ≡ Err Full → (length one ≡ at_one.limit) ⊎ (length two ≡ at_two.limit)

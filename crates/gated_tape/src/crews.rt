@@ -6,7 +6,7 @@ ghost use Rattle.gated_tape.specs.declared.refusals.PutNo.TheVariants.{Full};
 ghost use Rattle.gated_tape.specs.Sides.{gated_frame};
 ghost use Rattle.gated_tape.specs.Runs.{HasEnded};
 ghost use Rattle.gated_tape.specs.Crews.{count_down, seen_of, cards_of, no_refusal, first_refusal};
-ghost use Rattle.gated_tape.specs.Crews.{IsAt, AreDealt, AreGathering, AreAmong, HasGiven};
+ghost use Rattle.gated_tape.specs.Crews.{IsCardOver, AreDealt, AreGathering, AreAmong, HasGiven};
 ghost use Rattle.gated_tape.specs.Crews.{IsGathered};
 ghost use Rattle.gated_tape.specs.Crews.{HasHeardFull, HasCountsOf, AreByWriters, AreWritten};
 ghost use Rattle.gated_tape.specs.Crews.{IsOneFull};
@@ -90,7 +90,7 @@ fn gather<'a, R: Wait>(
 ) -> (Passes, Result<(), PutNo>)
     requires opening { (one.now.name.opening ≡ []) × (two.now.name.opening ≡ []) }
     requires ended { All (HasEnded gated_frame seen_of count) writers.items }
-    requires at { All (IsAt one.now two.now) (cards_of writers.items) }
+    requires at { All (IsCardOver one.now two.now) (cards_of writers.items) }
     requires passes { AreGathering one.now two.now count no_refusal writers.items
         passes.one passes.two }
     requires positive { is_among 0 passes.one.given ≡ false }

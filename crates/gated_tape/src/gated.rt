@@ -1,7 +1,7 @@
 //! A tape behind a gate.
 ghost use Rattle.std.specs.Prelude.{◌≡◌};
 ghost use Rattle.gated_tape.specs.Marks.{node_of};
-ghost use Rattle.turn_gate.specs.Known.{IsReady};
+ghost use Rattle.turn_gate.specs.Known.{IsPassReady};
 
 use crate::cells::TapeCell;
 use crate::refusals::PutNo;
@@ -19,7 +19,7 @@ pub struct GatedSide<'a, R: Wait> {
 }
 
 impl<'a, R: Wait> Model for GatedSide<'a, R> {
-    ghost use Rattle.turn_gate.specs.Known.{IsReady};
+    ghost use Rattle.turn_gate.specs.Known.{IsPassReady};
     ghost use Rattle.gated_tape.specs.Marks.{node_of};
     ghost use Rattle.gated_tape.specs.Sides.{SideFacts};
 
@@ -27,13 +27,13 @@ impl<'a, R: Wait> Model for GatedSide<'a, R> {
 
     ghost view = { λ s. record { gate = s.gate.now; number = s.pass.number; seen = s.pass.seen } };
 
-    ghost invariant = { λ s. IsReady node_of s.pass.number s.gate.now.name s.pass };
+    ghost invariant = { λ s. IsPassReady node_of s.pass.number s.gate.now.name s.pass };
 }
 
 impl<'a, R: Wait> GatedSide<'a, R> {
     /// A side that goes through this pass.
     pub fn new(rt: &'a R, gate: &'a Gate<TapeCell>, pass: Pass<TapeCell>) -> GatedSide<'a, R>
-        requires { IsReady node_of pass.number gate.now.name pass }
+        requires { IsPassReady node_of pass.number gate.now.name pass }
         ensures { result ≡ record { gate = gate.now; number = pass.number; seen = pass.seen } }
     {
         GatedSide { rt, gate, pass }
@@ -41,7 +41,7 @@ impl<'a, R: Wait> GatedSide<'a, R> {
 
     /// Gives the pass back.
     pub fn into_pass(self) -> Pass<TapeCell>
-        ensures ready { IsReady node_of self.entry.number self.entry.gate.name result }
+        ensures ready { IsPassReady node_of self.entry.number self.entry.gate.name result }
         ensures seen { result.seen ≡ self.entry.seen }
     {
         let GatedSide {

@@ -1,7 +1,7 @@
 //! Writers, one after another or in threads.
 ghost use Rattle.std.specs.Prelude.{◌≡◌, ◌<◌, All, length};
 ghost use Rattle.std.specs.Thread.{IsSync};
-ghost use Rattle.gated_tape.specs.Runs.{card_of, IsFresh, HasEnded, RanEach};
+ghost use Rattle.gated_tape.specs.Runs.{card_of, IsFreshWriter, HasEnded, EachWriterRan};
 
 use crate::refusals::PutNo;
 use crate::sides::Side;
@@ -17,7 +17,7 @@ pub struct Writer<S> {
 }
 
 fn run<S: Side>(writer: &mut Writer<S>, count: u64)
-    requires { IsFresh S.frame S.known writer.old }
+    requires { IsFreshWriter S.frame S.known writer.old }
     ensures ended { HasEnded S.frame S.known count writer.new }
     ensures card { card_of S.frame S.known writer.new ≡ card_of S.frame S.known writer.old }
 {
@@ -33,8 +33,8 @@ pub fn run_each<S: Side + Send, R: Threads + Sync>(
     threads: u32,
     count: u64,
 )
-    requires { All (IsFresh S.frame S.known) writers.old }
-    ensures { RanEach S.frame S.known count writers.old writers.new }
+    requires { All (IsFreshWriter S.frame S.known) writers.old }
+    ensures { EachWriterRan S.frame S.known count writers.old writers.new }
 {
     if writers.is_empty() {
         return;
@@ -60,21 +60,21 @@ fn run_halves<S: Side + Send, R: Threads + Sync>(
     threads: u32,
     count: u64,
 )
-    requires fresh { All (IsFresh S.frame S.known) front.old
-        × All (IsFresh S.frame S.known) back.old }
+    requires fresh { All (IsFreshWriter S.frame S.known) front.old
+        × All (IsFreshWriter S.frame S.known) back.old }
     requires shorter { (0 < length front.old) × (0 < length back.old) }
-    ensures front { RanEach S.frame S.known count front.old front.new }
-    ensures back { RanEach S.frame S.known count back.old back.new }
+    ensures front { EachWriterRan S.frame S.known count front.old front.new }
+    ensures back { EachWriterRan S.frame S.known count back.old back.new }
 {
     join_mut(
         rt,
         &mut ||
-            requires { IsSync R.row × All (IsFresh S.frame S.known) front.now }
-            ensures { RanEach S.frame S.known count front.entry.now front.exit.now }
+            requires { IsSync R.row × All (IsFreshWriter S.frame S.known) front.now }
+            ensures { EachWriterRan S.frame S.known count front.entry.now front.exit.now }
         { run_each(rt, front, threads, count) },
         &mut ||
-            requires { IsSync R.row × All (IsFresh S.frame S.known) back.now }
-            ensures { RanEach S.frame S.known count back.entry.now back.exit.now }
+            requires { IsSync R.row × All (IsFreshWriter S.frame S.known) back.now }
+            ensures { EachWriterRan S.frame S.known count back.entry.now back.exit.now }
         { run_each(rt, back, threads, count) },
     );
 }

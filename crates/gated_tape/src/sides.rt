@@ -1,6 +1,6 @@
 //! What a worker needs of a tape.
 ghost use Rattle.std.specs.Prelude.{◌≡◌, ℕ, List, [], Bool, true, None};
-ghost use Rattle.gated_tape.specs.Marks.{node_of, mark, added_on, count_of, IsNext, IsLegalTape};
+ghost use Rattle.gated_tape.specs.Marks.{node_of, mark, added_on, mark_count, IsNext, IsLegalTape};
 ghost use Rattle.gated_tape.specs.Marks.{TellsRoom};
 ghost use Rattle.gated_tape.specs.Sides.{GoesOnBy, MayWriteFor};
 
@@ -28,7 +28,7 @@ pub trait Side {
     /// How many marks are the node's.
     fn count(&mut self, node: u32) -> u64
         requires serves { MayWriteFor (frame self.old).writer node }
-        ensures answer { result ≡ count_of node (known self.new) }
+        ensures answer { result ≡ mark_count node (known self.new) }
         ensures went { GoesOnBy alone node_of node (known self.old) [] (known self.new) }
         ensures legal { IsLegalTape (frame self.new).limit (known self.new) }
         ensures same { frame self.new ≡ frame self.old };

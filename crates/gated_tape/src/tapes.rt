@@ -1,6 +1,7 @@
 //! A tape by itself.
 ghost use Rattle.std.specs.Prelude.{◌≡◌, ◌++◌, []};
-ghost use Rattle.gated_tape.specs.Marks.{mark, added_on, count_of, IsNext, IsLegalTape, TellsRoom};
+ghost use Rattle.gated_tape.specs.Marks.{mark, added_on, mark_count, IsNext, IsLegalTape};
+ghost use Rattle.gated_tape.specs.Marks.{TellsRoom};
 
 use crate::refusals::PutNo;
 use std::alloc::{AllocError, Global};
@@ -52,7 +53,7 @@ impl Tape {
 
     /// How many marks are the node's. It reads all marks.
     pub fn count(&self, node: u32) -> u64
-        ensures { result ≡ count_of node self.now.marks }
+        ensures { result ≡ mark_count node self.now.marks }
     {
         self.marks.iter().filter(|mark| mark.node == node).count() as u64
     }

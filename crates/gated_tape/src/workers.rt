@@ -1,6 +1,6 @@
 //! A worker with two sides.
 ghost use Rattle.std.specs.Prelude.{◌≡◌, ◌+◌, ◌≤◌};
-ghost use Rattle.gated_tape.specs.Marks.{count_of};
+ghost use Rattle.gated_tape.specs.Marks.{mark_count};
 ghost use Rattle.gated_tape.specs.Sides.{MayWriteFor};
 ghost use Rattle.gated_tape.specs.Workers.{Worked, WriterEnded};
 
@@ -17,8 +17,8 @@ pub fn write_both<A: Side, B: Side>(
 ) -> Result<(), PutNo>
     requires serves_one { MayWriteFor (A.frame one.old).writer node }
     requires serves_two { MayWriteFor (B.frame two.old).writer node }
-    requires even { count_of node (A.known one.old) ≡ count_of node (B.known two.old) }
-    requires few { count_of node (A.known one.old) ≤ count }
+    requires even { mark_count node (A.known one.old) ≡ mark_count node (B.known two.old) }
+    requires few { mark_count node (A.known one.old) ≤ count }
     ensures ended { WriterEnded node count result (A.frame one.new) (A.known one.new)
         (B.frame two.new) (B.known two.new) }
     ensures one { Worked A.alone node (A.frame one.old) (A.known one.old)
@@ -36,8 +36,8 @@ pub fn write_both<A: Side, B: Side>(
 fn put_both<A: Side, B: Side>(one: &mut A, two: &mut B, node: u32, word: u64) -> Result<(), PutNo>
     requires serves_one { MayWriteFor (A.frame one.old).writer node }
     requires serves_two { MayWriteFor (B.frame two.old).writer node }
-    requires next_one { count_of node (A.known one.old) ≡ word }
-    requires next_two { count_of node (B.known two.old) ≡ word }
+    requires next_one { mark_count node (A.known one.old) ≡ word }
+    requires next_two { mark_count node (B.known two.old) ≡ word }
     ensures ended { WriterEnded node (word + 1) result (A.frame one.new) (A.known one.new)
         (B.frame two.new) (B.known two.new) }
     ensures one { Worked A.alone node (A.frame one.old) (A.known one.old)

@@ -1,7 +1,7 @@
 //! A book of the global words, by node.
-ghost use Rattle.std.specs.Prelude.{◌≡◌, ◌≢◌, ◌≤◌, length, IfOk, IfSome, None, Some};
-ghost use Rattle.global_data.specs.Book.{place_at, heard_at, waiting_at, with_put, with_passed};
-ghost use Rattle.global_data.specs.Book.{new_book};
+ghost use Rattle.std.specs.Prelude.{◌≡◌, ◌≤◌, [], length, true, is_some, None, IfOk, IfSome};
+ghost use Rattle.std.specs.FinMap.{contains_key};
+ghost use Rattle.global_data.specs.Book.{words_at, with_put, with_passed, new_book};
 ghost use Rattle.plant_types.specs.Words.{global_limit};
 
 use crate::words::GlobalWords;
@@ -20,11 +20,14 @@ pub struct GlobalBook {
 
 impl Model for GlobalBook {
     ghost use Rattle.std.specs.Prelude.{◌≡◌, length};
-    ghost use Rattle.global_data.specs.Book.{Book, book_places};
+    ghost use Rattle.global_data.specs.Book.{Book};
+    ghost use Rattle.global_data.specs.Places.{filled, book_places, coded_book};
 
     ghost Value = { Book };
 
-    ghost view = { λ b. b.places.items };
+    ghost coded = { coded_book };
+
+    ghost view = { λ b. filled (λ node. node) b.places.items };
 
     ghost invariant = { λ b. length b.places.items ≡ book_places };
 }
@@ -46,7 +49,7 @@ impl GlobalBook {
 
     /// A member puts words, at most 32. Takes no memory.
     pub fn put(&mut self, node: u8, words: &[u16])
-        requires member { place_at self.old node ≢ None }
+        requires member { contains_key self.old node ≡ true }
         requires words { length words.now ≤ global_limit }
         ensures { self.new ≡ with_put self.old node words.now }
     {
@@ -57,7 +60,7 @@ impl GlobalBook {
 
     /// A member passes its token: the words that it has put are heard. Takes no memory.
     pub fn heard(&mut self, node: u8)
-        requires member { place_at self.old node ≢ None }
+        requires member { contains_key self.old node ≡ true }
         ensures { self.new ≡ with_passed self.old node }
     {
         if let Some(place) = &mut self.places[node as usize] {
@@ -67,10 +70,10 @@ impl GlobalBook {
 
     /// The words that went with a member's latest token; None exactly where it is no member.
     pub fn get(&self, node: u8) -> Option<&[u16]>
-        ensures words { IfSome result (λ words. heard_at (place_at self.now node)
-            ≡ Some words.now) }
+        ensures words { IfSome result (λ words. words.now ≡ (words_at self.now node).heard) }
         ensures fits { IfSome result (λ words. length words.now ≤ global_limit) }
-        ensures none { result ≡ None → place_at self.now node ≡ None }
+        ensures none { result ≡ None → (words_at self.now node).heard ≡ [] }
+        ensures member { is_some result ≡ contains_key self.now node }
     {
         match &self.places[node as usize] {
             None => None,
@@ -80,9 +83,9 @@ impl GlobalBook {
 
     /// The words that go with a member's next token; None exactly where it is no member.
     pub fn waiting(&self, node: u8) -> Option<&[u16]>
-        ensures words { IfSome result (λ words. waiting_at (place_at self.now node)
-            ≡ Some words.now) }
-        ensures none { result ≡ None → place_at self.now node ≡ None }
+        ensures words { IfSome result (λ words. words.now ≡ (words_at self.now node).put) }
+        ensures none { result ≡ None → (words_at self.now node).put ≡ [] }
+        ensures member { is_some result ≡ contains_key self.now node }
     {
         match &self.places[node as usize] {
             None => None,

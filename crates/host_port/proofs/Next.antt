@@ -31,30 +31,43 @@ use Rattle.host_port.proofs.Unanswered.{requests_answer, requests_ask, requests_
 
 -- ---- each entry fits those before it
 
-pub last_fits : (plan : HostPlan) (h : List HostEntry) (e : HostEntry) → IsHostHistory plan (h ++ e ∷ []) → FitsHost plan h e
+pub last_fits : (plan : HostPlan) (h : List HostEntry) (e : HostEntry)
+    → IsHostHistory plan (h ++ e ∷ []) → FitsHost plan h e
 last_fits plan h e legal = legal.each h [] e refl
 
-each_more : (plan : HostPlan) (h : List HostEntry) (e : HostEntry) → IsHostHistory plan h → FitsHost plan h e
-    → (before after : List HostEntry) (entry : HostEntry) → h ++ e ∷ [] ≡ before ++ entry ∷ after → FitsHost plan before entry
+each_more : (plan : HostPlan) (h : List HostEntry) (e : HostEntry) → IsHostHistory plan h
+    → FitsHost plan h e
+    → (before after : List HostEntry) (entry : HostEntry) → h ++ e ∷ [] ≡ before ++ entry ∷ after
+    → FitsHost plan before entry
 each_more plan h e legal fits before after entry is = elim (split_last h e before after entry is) [
-  | inl p ↦ subst (λ b. FitsHost plan b entry) (sym p.0) (subst (λ x. FitsHost plan h x) (sym p.1) fits)
+  | inl p ↦
+      subst (λ b. FitsHost plan b entry) (sym p.0) (subst (λ x. FitsHost plan h x) (sym p.1) fits)
   | inr q ↦ legal.each before q.0 entry q.1
 ]
 
 -- ---- an Answer, and what is served
 
-may_answer : (plan : HostPlan) (h : List HostEntry) (id : CallId) (result : HostResult) → IsHostHistory plan h → is_unanswered h id ≡ true
+may_answer : (plan : HostPlan) (h : List HostEntry) (id : CallId) (result : HostResult)
+    → IsHostHistory plan h → is_unanswered h id ≡ true
     → IsHostHistory plan (h ++ Answer id result ∷ [])
 may_answer plan h id result legal out = record {
-  order = (legal.order.0, ap (λ l. map question_of l ++ legal.order.0) (requests_answer h id result) ∙ legal.order.1);
+  order = (
+    legal.order.0,
+    ap (λ l. map question_of l ++ legal.order.0) (requests_answer h id result) ∙ legal.order.1,
+  );
   each = each_more plan h (Answer id result) legal out;
 }
 
-may_serve : (plan : HostPlan) (h : List HostEntry) (id : CallId) (request reply : List ℕ) → IsHostHistory plan h
+may_serve : (plan : HostPlan) (h : List HostEntry) (id : CallId) (request reply : List ℕ)
+    → IsHostHistory plan h
     → reply ≡ refusal_to request
     → IsHostHistory plan (h ++ Served id request reply ∷ [])
 may_serve plan h id request reply legal is = record {
-  order = (legal.order.0, ap (λ l. map question_of l ++ legal.order.0) (requests_served h id request reply) ∙ legal.order.1);
+  order = (
+    legal.order.0,
+    ap (λ l. map question_of l ++ legal.order.0) (requests_served h id request reply)
+        ∙ legal.order.1,
+  );
   each = each_more plan h (Served id request reply) legal is;
 }
 
@@ -65,12 +78,14 @@ pub record NextCall (plan : HostPlan) (h : List HostEntry) (id : CallId) : Type 
   pub free : path_is_free h id.path ≡ true
   pub path : IsPath id.path
 
-named : (plan : HostPlan) (h : List HostEntry) (id : CallId) (at : Option ℕ) → option_map (call_on plan h) at ≡ Some id
+named : (plan : HostPlan) (h : List HostEntry) (id : CallId) (at : Option ℕ)
+    → option_map (call_on plan h) at ≡ Some id
     → (p : ℕ) × (at ≡ Some p) × (call_on plan h p ≡ id)
 named plan h id None is = absurd cc
 named plan h id (Some p) is = (p, refl, cc)
 
-pub next_is : (plan : HostPlan) (h : List HostEntry) (id : CallId) → next_host_call plan h ≡ Some id → NextCall plan h id
+pub next_is : (plan : HostPlan) (h : List HostEntry) (id : CallId) → next_host_call plan h ≡ Some id
+    → NextCall plan h id
 next_is plan h id is =
     let at = named plan h id (free_path h) is in
     let path : at.0 ≡ id.path = ap (λ (i : CallId). i.path) at.2 in
@@ -82,7 +97,8 @@ next_is plan h id is =
     }
 
 asked_place : (plan : HostPlan) (h : List HostEntry)
-    → slice_get (questions_of plan) (length (questions_in h)) ≡ option_map question_due (slice_get plan.requests (length (requests_in h)))
+    → slice_get (questions_of plan) (length (questions_in h))
+    ≡ option_map question_due (slice_get plan.requests (length (requests_in h)))
 asked_place plan h =
     ap (slice_get (questions_of plan)) (length-map (requests_in h) question_of)
     ∙ slice_get-map question_due plan.requests (length (requests_in h))
@@ -91,11 +107,14 @@ questions_ask : (h : List HostEntry) (id : CallId) (to : ℕ) (pdu : List ℕ)
     → questions_in (h ++ Ask id to pdu ∷ []) ≡ questions_in h ++ record { to = to; pdu = pdu } ∷ []
 questions_ask h id to pdu =
     ap (map question_of) (requests_ask h id to pdu)
-    ∙ map-append question_of (requests_in h) (record { kind = Request; to = to; id = id; pdu = pdu } ∷ [])
+    ∙ map-append question_of (requests_in h)
+    (record { kind = Request; to = to; id = id; pdu = pdu } ∷ [])
 
-may_ask : (plan : HostPlan) (h : List HostEntry) (id : CallId) (to : ℕ) (pdu : List ℕ) → IsHostHistory plan h
+may_ask : (plan : HostPlan) (h : List HostEntry) (id : CallId) (to : ℕ) (pdu : List ℕ)
+    → IsHostHistory plan h
     → next_host_call plan h ≡ Some id
-    → option_map question_due (slice_get plan.requests (length (requests_in h))) ≡ Some (record { to = to; pdu = pdu })
+    → option_map question_due (slice_get plan.requests (length (requests_in h)))
+    ≡ Some (record { to = to; pdu = pdu })
     → IsHostHistory plan (h ++ Ask id to pdu ∷ [])
 may_ask plan h id to pdu legal next is =
     let rest = legal.order.0 in
@@ -106,30 +125,38 @@ may_ask plan h id to pdu legal next is =
     record {
       order = (
         more.0,
-        ap (λ l. l ++ more.0) (questions_ask h id to pdu) ∙ append_assoc (questions_in h) (q ∷ []) more.0
+        ap (λ l. l ++ more.0) (questions_ask h id to pdu)
+            ∙ append_assoc (questions_in h) (q ∷ []) more.0
             ∙ ap (λ l. questions_in h ++ l) (sym more.1) ∙ legal.order.1,
       );
       each = each_more plan h (Ask id to pdu) legal next;
     }
 
-ask_is : (plan : HostPlan) (h : List HostEntry) (id : CallId) (to : ℕ) (pdu : List ℕ) → IsHostHistory plan (h ++ Ask id to pdu ∷ [])
-    → option_map question_due (slice_get plan.requests (length (requests_in h))) ≡ Some (record { to = to; pdu = pdu })
+ask_is : (plan : HostPlan) (h : List HostEntry) (id : CallId) (to : ℕ) (pdu : List ℕ)
+    → IsHostHistory plan (h ++ Ask id to pdu ∷ [])
+    → option_map question_due (slice_get plan.requests (length (requests_in h)))
+    ≡ Some (record { to = to; pdu = pdu })
 ask_is plan h id to pdu legal =
     let q : Question = record { to = to; pdu = pdu } in
     let rest = legal.order.0 in
     let all : questions_in h ++ q ∷ rest ≡ questions_of plan =
-    sym (append_assoc (questions_in h) (q ∷ []) rest) ∙ ap (λ l. l ++ rest) (sym (questions_ask h id to pdu)) ∙ legal.order.1 in
-    sym (asked_place plan h) ∙ ap (λ l. slice_get l (length (questions_in h))) (sym all) ∙ get_behind (questions_in h) q rest
+    sym (append_assoc (questions_in h) (q ∷ []) rest)
+    ∙ ap (λ l. l ++ rest) (sym (questions_ask h id to pdu)) ∙ legal.order.1 in
+    sym (asked_place plan h) ∙ ap (λ l. slice_get l (length (questions_in h))) (sym all)
+    ∙ get_behind (questions_in h) q rest
 
 -- ---- any entry
 
-pub may_of : (v : HostIs) (e : HostEntry) → IsHostHistory v.plan v.history → MayComeNext v e → HostMayFollow v e
+pub may_of : (v : HostIs) (e : HostEntry) → IsHostHistory v.plan v.history → MayComeNext v e
+    → HostMayFollow v e
 may_of v (Ask id to pdu) legal next = may_ask v.plan v.history id to pdu legal next.0 next.1
 may_of v (Answer id result) legal next = may_answer v.plan v.history id result legal next
-may_of v (Served id request reply) legal next = may_serve v.plan v.history id request reply legal next
+may_of v (Served id request reply) legal next =
+    may_serve v.plan v.history id request reply legal next
 
 pub next_of : (v : HostIs) (e : HostEntry) → HostMayFollow v e → MayComeNext v e
-next_of v (Ask id to pdu) may = (last_fits v.plan v.history (Ask id to pdu) may, ask_is v.plan v.history id to pdu may)
+next_of v (Ask id to pdu) may =
+    (last_fits v.plan v.history (Ask id to pdu) may, ask_is v.plan v.history id to pdu may)
 next_of v (Answer id result) may = last_fits v.plan v.history (Answer id result) may
 next_of v (Served id request reply) may = last_fits v.plan v.history (Served id request reply) may
 
@@ -142,20 +169,24 @@ record Parts (call : Option CallId) (due : Option HostAsk) (f : Frame) : Type 0 
   pub asked : due ≡ Some ask
   pub frame : record { kind = Request; to = ask.to; id = id; pdu = ask.pdu } ≡ f
 
-parts : (call : Option CallId) (due : Option HostAsk) (f : Frame) → request_for call due ≡ Some f → Parts call due f
+parts : (call : Option CallId) (due : Option HostAsk) (f : Frame) → request_for call due ≡ Some f
+    → Parts call due f
 parts None None f is = absurd cc
 parts None (Some ask) f is = absurd cc
 parts (Some id) None f is = absurd cc
-parts (Some id) (Some ask) f is = record { id = id; ask = ask; named = refl; asked = refl; frame = cc }
+parts (Some id) (Some ask) f is =
+    record { id = id; ask = ask; named = refl; asked = refl; frame = cc }
 
 due_is : (hold : ℕ) (o : Option HostAsk) (ask : HostAsk) → if_due hold o ≡ Some ask → o ≡ Some ask
 due_is hold None ask is = absurd cc
 due_is hold (Some x) ask is = elim (cases_Bool (nat_le x.hold hold)) [
   | inl come ↦ sym (ap (λ b. if b then Some x else None) come) ∙ is
-  | inr early ↦ let none : None ≡ Some ask = sym (ap (λ b. if b then Some x else None) early) ∙ is in absurd cc
+  | inr early ↦ let none : None ≡ Some ask = sym (ap (λ b. if b then Some x else None) early)
+      ∙ is in absurd cc
 ]
 
-pub request_is : (v : HostIs) (hold : ℕ) (f : Frame) → IsHostPlan v.plan → due_request v hold ≡ Some f → IsDueRequest v f
+pub request_is : (v : HostIs) (hold : ℕ) (f : Frame) → IsHostPlan v.plan
+    → due_request v hold ≡ Some f → IsDueRequest v f
 request_is v hold f sound is =
     let p = parts (next_host_call v.plan v.history) (due_ask v hold) f is in
     let here = due_is hold (next_ask v) p.ask p.asked in
@@ -165,7 +196,8 @@ request_is v hold f sound is =
       next = (p.named, ap (option_map question_due) here);
       from = (
         ap (λ (i : CallId). i.node) next.name,
-        (all_at (IsAskOf v.plan.node) v.plan.requests (length (requests_in v.history)) p.ask sound.requests here).other,
+        (all_at (IsAskOf v.plan.node) v.plan.requests (length (requests_in v.history)) p.ask
+            sound.requests here).other,
         next.path,
       );
     } in
@@ -173,7 +205,8 @@ request_is v hold f sound is =
 
 -- ---- how many
 
-pub few_asked : (plan : HostPlan) (h : List HostEntry) → IsHostHistory plan h → length (requests_in h) ≤ length plan.requests
+pub few_asked : (plan : HostPlan) (h : List HostEntry) → IsHostHistory plan h
+    → length (requests_in h) ≤ length plan.requests
 few_asked plan h legal =
     let all = ap length legal.order.1 in
     omega (

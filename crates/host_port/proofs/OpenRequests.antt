@@ -19,7 +19,7 @@ use Rattle.host_port.specs.declared.entry.HostEntry.{HostEntry}
 use Rattle.host_port.specs.declared.entry.HostEntry.TheVariants.{Ask, Answer, Served}
 use Rattle.host_port.specs.declared.host.Path.{Path}
 use Rattle.host_port.specs.Calls.{request_by, requests_in, unanswered_in, is_ask, is_request_of}
-use Rattle.host_port.specs.Calls.{goes_on, open_on}
+use Rattle.host_port.specs.Calls.{goes_on_path, open_on}
 use Rattle.host_port.specs.Legal.{IsHostHistory, Question, question_of, questions_in, questions_of}
 use Rattle.host_port.specs.Kept.{IsHostKept, IsLast, last_on, path_in, paths_after}
 use Rattle.host_port.specs.Laws.{AsksOpenTheirPath, AnswersFreeTheirPath, ServingKeepsPaths}
@@ -41,16 +41,20 @@ front_order : (plan : HostPlan) (h more : List HostEntry) → IsHostHistory plan
 front_order plan h more legal =
     let last = map question_of (requests_in more) in
     let all : questions_in (h ++ more) ≡ questions_in h ++ last =
-    ap (map question_of) (filter_map-append request_by h more) ∙ map-append question_of (requests_in h) (requests_in more) in (
+    ap (map question_of) (filter_map-append request_by h more)
+    ∙ map-append question_of (requests_in h) (requests_in more) in (
       last ++ legal.order.0,
-      sym (append_assoc (questions_in h) last legal.order.0) ∙ ap (λ l. l ++ legal.order.0) (sym all) ∙ legal.order.1,
+      sym (append_assoc (questions_in h) last legal.order.0)
+          ∙ ap (λ l. l ++ legal.order.0) (sym all) ∙ legal.order.1,
     )
 
-front : (plan : HostPlan) (h more : List HostEntry) → IsHostHistory plan (h ++ more) → IsHostHistory plan h
+front : (plan : HostPlan) (h more : List HostEntry) → IsHostHistory plan (h ++ more)
+    → IsHostHistory plan h
 front plan h more legal = record {
   order = front_order plan h more legal;
   each = λ before after entry is.
-      legal.each before (after ++ more) entry (ap (λ l. l ++ more) is ∙ append_assoc before (entry ∷ after) more);
+      legal.each before (after ++ more) entry
+      (ap (λ l. l ++ more) is ∙ append_assoc before (entry ∷ after) more);
 }
 
 record Keeps (plan : HostPlan) (h : List HostEntry) : Type 0 where
@@ -58,8 +62,10 @@ record Keeps (plan : HostPlan) (h : List HostEntry) : Type 0 where
   pub paths : List Path
   pub kept : IsHostKept plan made paths h
 
-keeps_back : (plan : HostPlan) (es : List HostEntry) → IsHostHistory plan (reverse es) → Keeps plan (reverse es)
-keeps_back plan [] legal = record { made = 0; paths = map (path_in []) network_paths; kept = kept_new plan }
+keeps_back : (plan : HostPlan) (es : List HostEntry) → IsHostHistory plan (reverse es)
+    → Keeps plan (reverse es)
+keeps_back plan [] legal =
+    record { made = 0; paths = map (path_in []) network_paths; kept = kept_new plan }
 keeps_back plan (e ∷ es) legal =
     let last : reverse (e ∷ es) ≡ reverse es ++ e ∷ [] = reverse-append (e ∷ []) es in
     let now = subst (IsHostHistory plan) last legal in
@@ -74,7 +80,8 @@ keeps_back plan (e ∷ es) legal =
 legal_keeps : (plan : HostPlan) (h : List HostEntry) → IsHostHistory plan h → Keeps plan h
 legal_keeps plan h legal =
     let back = reverse-reverse h in
-    subst (Keeps plan) back (keeps_back plan (reverse h) (subst (IsHostHistory plan) (sym back) legal))
+    subst (Keeps plan) back
+    (keeps_back plan (reverse h) (subst (IsHostHistory plan) (sym back) legal))
 
 -- ---- the open Request of a path
 
@@ -86,17 +93,21 @@ open_ask plan h id to pdu path legal =
     let kept = (legal_keeps plan h before).kept in
     let next = next_is plan h id (last_fits plan h (Ask id to pdu) legal) in
     let more = unanswered_more plan h id to pdu (not_ended plan h id next kept.ended) in
-    let joined : open_on (h ++ Ask id to pdu ∷ []) path ≡ option_or (find (goes_on path) u) (find (goes_on path) (f ∷ [])) =
-    ap (find (goes_on path)) more ∙ find-append (goes_on path) u (f ∷ []) in
+    let joined : open_on (h ++ Ask id to pdu ∷ []) path
+    ≡ option_or (find (goes_on_path path) u) (find (goes_on_path path) (f ∷ [])) =
+    ap (find (goes_on_path path)) more ∙ find-append (goes_on_path path) u (f ∷ []) in
     elim (cases_Bool (id.path == path)) [
       | inl here ↦
-          let free : list_any (goes_on id.path) u ≡ false = not-true (list_any (goes_on id.path) u) next.free in
-          let none : find (goes_on path) u ≡ None = find_none (goes_on path) u
-          (subst (λ q. list_any (goes_on q) u ≡ false) (eqb-true id.path path here) free) in
-          joined ∙ ap (λ o. option_or o (find (goes_on path) (f ∷ []))) none
-          ∙ ap (λ b. cond b (Some f) None) here ∙ ap (λ b. if b then Some f else open_on h path) (sym here)
+          let free : list_any (goes_on_path id.path) u ≡ false =
+          not-true (list_any (goes_on_path id.path) u) next.free in
+          let none : find (goes_on_path path) u ≡ None = find_none (goes_on_path path) u
+          (subst (λ q. list_any (goes_on_path q) u ≡ false) (eqb-true id.path path here) free) in
+          joined ∙ ap (λ o. option_or o (find (goes_on_path path) (f ∷ []))) none
+          ∙ ap (λ b. cond b (Some f) None) here
+          ∙ ap (λ b. if b then Some f else open_on h path) (sym here)
       | inr other ↦
-          joined ∙ ap (λ b. option_or (find (goes_on path) u) (cond b (Some f) None)) other ∙ or_none (find (goes_on path) u)
+          joined ∙ ap (λ b. option_or (find (goes_on_path path) u) (cond b (Some f) None)) other
+          ∙ or_none (find (goes_on_path path) u)
           ∙ ap (λ b. if b then Some f else open_on h path) (sym other)
     ]
 
@@ -106,32 +117,38 @@ open_answer plan h id result path legal =
     let before = front plan h (Answer id result ∷ []) legal in
     let kept = (legal_keeps plan h before).kept in
     let last = out_last plan h u id kept.unanswered (last_fits plan h (Answer id result) legal) in
-    let fewer = ap (find (goes_on path)) (unanswered_answer h id result) in
+    let fewer = ap (find (goes_on_path path)) (unanswered_answer h id result) in
     elim (cases_Bool (id.path == path)) [
       | inl here ↦
-          let none : list_any (goes_on id.path) (filter (keeps id) u) ≡ false =
-          any_filter (goes_on id.path) (keeps id) u
-          ∙ any_none (IsLast plan h) (λ r. keeps id r && goes_on id.path r) (none_left plan h id last) u kept.unanswered in
-          fewer ∙ find_none (goes_on path) (filter (keeps id) u)
-          (subst (λ q. list_any (goes_on q) (filter (keeps id) u) ≡ false) (eqb-true id.path path here) none)
+          let none : list_any (goes_on_path id.path) (filter (keeps id) u) ≡ false =
+          any_filter (goes_on_path id.path) (keeps id) u
+          ∙ any_none (IsLast plan h) (λ r. keeps id r && goes_on_path id.path r)
+          (none_left plan h id last) u kept.unanswered in
+          fewer ∙ find_none (goes_on_path path) (filter (keeps id) u)
+          (subst (λ q. list_any (goes_on_path q) (filter (keeps id) u) ≡ false)
+          (eqb-true id.path path here) none)
           ∙ ap (λ b. if b then None else open_on h path) (sym here)
       | inr other ↦
-          let apart : path ≡ id.path → ⊥ = λ e. true≢false (sym (eq-eqb id.path path (sym e)) ∙ other) in
-          fewer ∙ find_filter (goes_on path) (keeps id)
-          (λ r on. sym (and_true (keeps id r)) ∙ ap (λ b. keeps id r && b) (sym on) ∙ others_stay id path apart r ∙ on) u
+          let apart : path ≡ id.path → ⊥ =
+          λ e. true≢false (sym (eq-eqb id.path path (sym e)) ∙ other) in
+          fewer ∙ find_filter (goes_on_path path) (keeps id)
+          (λ r on. sym (and_true (keeps id r)) ∙ ap (λ b. keeps id r && b) (sym on)
+          ∙ others_stay id path apart r ∙ on) u
           ∙ ap (λ b. if b then None else open_on h path) (sym other)
     ]
 
 open_served : ServingKeepsPaths
-open_served h id request reply path = ap (find (goes_on path)) (unanswered_served h id request reply)
+open_served h id request reply path =
+    ap (find (goes_on_path path)) (unanswered_served h id request reply)
 
 open_last : OpenRequestsAreLast
 open_last plan h path f legal is =
     let kept = (legal_keeps plan h legal).kept in
-    let has = found (IsLast plan h) (goes_on path) (unanswered_in h) f kept.unanswered is in
+    let has = found (IsLast plan h) (goes_on_path path) (unanswered_in h) f kept.unanswered is in
     let here = eqb-true f.id.path path has.0 in
     record {
-      out = found_any (is_request_of f.id) (goes_on path) (unanswered_in h) f is (is_itself f.id);
+      out = found_any (is_request_of f.id) (goes_on_path path) (unanswered_in h) f is
+          (is_itself f.id);
       name = has.1.name ∙ ap (last_on plan h) here;
       is_path = subst IsPath here has.1.path;
     }
@@ -141,25 +158,37 @@ new_calls plan h id to pdu legal =
     let next = next_is plan h id (last_fits plan h (Ask id to pdu) legal) in
     record {
       name = next.name;
-      free = find_none (goes_on id.path) (unanswered_in h) (not-true (list_any (goes_on id.path) (unanswered_in h)) next.free);
+      free = find_none (goes_on_path id.path) (unanswered_in h)
+          (not-true (list_any (goes_on_path id.path) (unanswered_in h)) next.free);
       is_path = next.path;
     }
 
 counts : CountsFollow
 counts = record {
   asks = asked_ask;
-  answers = λ h id result path. ap (count_by (goes_on path)) (requests_answer h id result);
-  serving = λ h id request reply path. ap (count_by (goes_on path)) (requests_served h id request reply);
+  answers = λ h id result path. ap (count_by (goes_on_path path)) (requests_answer h id result);
+  serving = λ h id request reply path. ap (count_by (goes_on_path path))
+      (requests_served h id request reply);
 }
 
 pub open_requests : OpenRequestsFollow
-open_requests = record { asks = open_ask; answers = open_answer; serving = open_served; last = open_last; new = new_calls; counts = counts }
+open_requests = record {
+  asks = open_ask;
+  answers = open_answer;
+  serving = open_served;
+  last = open_last;
+  new = new_calls;
+  counts = counts;
+}
 
 -- ---- names
 
 pub new_names : AsksHaveNewNames
 new_names plan history before after id to pdu legal is =
-    let joined : history ≡ (before ++ Ask id to pdu ∷ []) ++ after = is ∙ sym (append_assoc before (Ask id to pdu ∷ []) after) in
-    let there = front plan (before ++ Ask id to pdu ∷ []) after (subst (IsHostHistory plan) joined legal) in
+    let joined : history ≡ (before ++ Ask id to pdu ∷ []) ++ after = is
+    ∙ sym (append_assoc before (Ask id to pdu ∷ []) after) in
+    let there = front plan (before ++ Ask id to pdu ∷ []) after
+    (subst (IsHostHistory plan) joined legal) in
     let kept = (legal_keeps plan before (front plan before (Ask id to pdu ∷ []) there)).kept in
-    not_ended plan before id (next_is plan before id (last_fits plan before (Ask id to pdu) there)) kept.ended
+    not_ended plan before id
+    (next_is plan before id (last_fits plan before (Ask id to pdu) there)) kept.ended

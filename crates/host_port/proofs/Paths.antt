@@ -33,17 +33,26 @@ at_path P p is one two three four = elim (path_cases p is) [
 pub paths_are : AllByRecursion IsPath network_paths
 paths_are = search arith
 
-pub get_four : {A : Type 0} (F : ℕ → A) (p : ℕ) (d : A) → IsPath p → get_or (map F network_paths) (p - 1) d ≡ F p
-get_four F p d is = at_path (λ p. get_or (map F network_paths) (p - 1) d ≡ F p) p is refl refl refl refl
+pub get_four : {A : Type 0} (F : ℕ → A) (p : ℕ) (d : A) → IsPath p
+    → get_or (map F network_paths) (p - 1) d ≡ F p
+get_four F p d is =
+    at_path (λ p. get_or (map F network_paths) (p - 1) d ≡ F p) p is refl refl refl refl
 
-pub map_four : {A : Type 0} (F G : ℕ → A) → ((q : ℕ) → F q ≡ G q) → map F network_paths ≡ map G network_paths
+pub map_four : {A : Type 0} (F G : ℕ → A) → ((q : ℕ) → F q ≡ G q)
+    → map F network_paths ≡ map G network_paths
 map_four F G same = λ i. same 1 i ∷ same 2 i ∷ same 3 i ∷ same 4 i ∷ []
 
-pub set_four : {A : Type 0} (F G : ℕ → A) (p : ℕ) (x : A) → IsPath p → x ≡ G p → ((q : ℕ) → (q ≡ p → ⊥) → F q ≡ G q)
+pub set_four : {A : Type 0} (F G : ℕ → A) (p : ℕ) (x : A) → IsPath p → x ≡ G p
+    → ((q : ℕ) → (q ≡ p → ⊥) → F q ≡ G q)
     → set (map F network_paths) (p - 1) x ≡ map G network_paths
 set_four F G p x is =
-    at_path (λ p. x ≡ G p → ((q : ℕ) → (q ≡ p → ⊥) → F q ≡ G q) → set (map F network_paths) (p - 1) x ≡ map G network_paths) p is
-    (λ at other. λ i. at i ∷ other 2 (λ e. omega arith) i ∷ other 3 (λ e. omega arith) i ∷ other 4 (λ e. omega arith) i ∷ [])
-    (λ at other. λ i. other 1 (λ e. omega arith) i ∷ at i ∷ other 3 (λ e. omega arith) i ∷ other 4 (λ e. omega arith) i ∷ [])
-    (λ at other. λ i. other 1 (λ e. omega arith) i ∷ other 2 (λ e. omega arith) i ∷ at i ∷ other 4 (λ e. omega arith) i ∷ [])
-    (λ at other. λ i. other 1 (λ e. omega arith) i ∷ other 2 (λ e. omega arith) i ∷ other 3 (λ e. omega arith) i ∷ at i ∷ [])
+    at_path (λ p. x ≡ G p → ((q : ℕ) → (q ≡ p → ⊥) → F q ≡ G q)
+    → set (map F network_paths) (p - 1) x ≡ map G network_paths) p is
+    (λ at other. λ i. at i ∷ other 2 (λ e. omega arith) i ∷ other 3 (λ e. omega arith) i
+    ∷ other 4 (λ e. omega arith) i ∷ [])
+    (λ at other. λ i. other 1 (λ e. omega arith) i ∷ at i ∷ other 3 (λ e. omega arith) i
+    ∷ other 4 (λ e. omega arith) i ∷ [])
+    (λ at other. λ i. other 1 (λ e. omega arith) i ∷ other 2 (λ e. omega arith) i ∷ at i
+    ∷ other 4 (λ e. omega arith) i ∷ [])
+    (λ at other. λ i. other 1 (λ e. omega arith) i ∷ other 2 (λ e. omega arith) i
+    ∷ other 3 (λ e. omega arith) i ∷ at i ∷ [])

@@ -52,16 +52,16 @@ abbrev pub is_unanswered : List HostEntry → CallId → Bool
 is_unanswered history id = list_any (is_request_of id) (unanswered_in history)
 
 -- A Request goes on this path.
-abbrev pub goes_on : ℕ → Frame → Bool
-goes_on path request = request.id.path == path
+abbrev pub goes_on_path : ℕ → Frame → Bool
+goes_on_path path request = request.id.path == path
 
 -- The Request of a path that has no answer.
 abbrev pub open_on : List HostEntry → ℕ → Option Frame
-open_on history path = find (goes_on path) (unanswered_in history)
+open_on history path = find (goes_on_path path) (unanswered_in history)
 
 -- A path has no Request without an answer.
 abbrev pub path_is_free : List HostEntry → ℕ → Bool
-path_is_free history path = not (list_any (goes_on path) (unanswered_in history))
+path_is_free history path = not (list_any (goes_on_path path) (unanswered_in history))
 
 -- The least free path.
 abbrev pub free_path : List HostEntry → Option ℕ
@@ -69,7 +69,7 @@ free_path history = find (path_is_free history) network_paths
 
 -- How many Requests were made on a path.
 abbrev pub asked_on : List HostEntry → ℕ → ℕ
-asked_on history path = count_by (goes_on path) (requests_in history)
+asked_on history path = count_by (goes_on_path path) (requests_in history)
 
 -- The name of the next call: the least free path, and the next number of this path, from 1 on.
 abbrev pub call_on : HostPlan → List HostEntry → ℕ → CallId

@@ -14,13 +14,13 @@ ghost use Rattle.host_port.specs.Kept.{HasPath, IsDueRequest, paths_after};
 use crate::entry::{HostEntry, HostResult};
 use modbus_pdu::{ILLEGAL_FUNCTION, Reply, encode_reply};
 use mstr_block::CallId;
-use plant_types::{Copied, HostAsk, HostPlan, List, NETWORK_PATHS, NetPlan, Pdu};
+use plant_types::{Copied, HostAsk, HostPlan, List, NETWORK_PATHS, NetPlan, PATH_PLACES, Pdu};
 use ring_core::{Frame, FrameKind, is_path};
 use std::alloc::{AllocError, Global};
 use std::marker::Model;
 
-/// The paths of a node (*Modbus Plus Network Planning and Installation Guide*).
-const PATHS: usize = 4;
+/// How many paths by the network a host has.
+const PATHS: usize = PATH_PLACES - 1;
 
 /// One of the paths, as far as it was used.
 #[derive(Clone, Copy, Drop)]

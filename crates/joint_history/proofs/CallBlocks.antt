@@ -13,7 +13,7 @@ use Rattle.mstr_block.specs.Laws.{collected}
 use Rattle.mstr_block.specs.Running.{IsRunning, IsStateOf, IsTable}
 use Rattle.mstr_block.specs.Running.{RunsAt}
 use Rattle.mstr_block.specs.Table.{BlockTable, call_taken}
-use Rattle.mstr_block.specs.Table.{is_awaited, is_out as is_taken_out, running_in}
+use Rattle.mstr_block.specs.Table.{is_awaited, is_taken_out, running_in}
 use Rattle.mstr_block.specs.Table.{untaken}
 use Rattle.mstr_block.specs.declared.call.CallId.{CallId}
 use Rattle.mstr_block.specs.declared.call.MstrAsk.{MstrAsk}
@@ -40,7 +40,8 @@ same-equal a b h =
     λ i. record { node = node i; path = path i; seq = seq i }
 
 pub same-refl : (a : CallId) → is_same_call a a ≡ true
-same-refl a = λ i. eq-eqb a.node a.node refl i && (eq-eqb a.path a.path refl i && eq-eqb a.seq a.seq refl i)
+same-refl a =
+    λ i. eq-eqb a.node a.node refl i && (eq-eqb a.path a.path refl i && eq-eqb a.seq a.seq refl i)
 
 pub no-true : (b : Bool) → (b ≡ true → ⊥) → b ≡ false
 no-true true no' = absurd (no' refl)
@@ -57,17 +58,20 @@ named id calls = list_any (λ (c : Called). is_same_call c.id id) calls
 abbrev pub over : CallId → List Ended → Bool
 over id ends = list_any (λ (e : Ended). is_same_call e.id id) ends
 
-pub named-kind : (id : CallId) (calls : List Called) (kind : Kind) → kind_in calls id ≡ Some kind → named id calls ≡ true
+pub named-kind : (id : CallId) (calls : List Called) (kind : Kind) → kind_in calls id ≡ Some kind
+    → named id calls ≡ true
 named-kind id [] kind is = absurd cc
 named-kind id (c ∷ cs) kind is = at (is_same_call c.id id) refl is (named-kind id cs kind)
   where
-    at : (b : Bool) → is_same_call c.id id ≡ b → (if b then Some (kind_of_sort c.sort) else kind_in cs id) ≡ Some kind
+    at : (b : Bool) → is_same_call c.id id ≡ b
+        → (if b then Some (kind_of_sort c.sort) else kind_in cs id) ≡ Some kind
         → (kind_in cs id ≡ Some kind → list_any (λ (x : Called). is_same_call x.id id) cs ≡ true)
         → (b || list_any (λ (x : Called). is_same_call x.id id) cs) ≡ true
     at true same found rest = refl
     at false same found rest = rest found
 
-pub unnamed-kind : (id : CallId) (calls : List Called) → named id calls ≡ false → kind_in calls id ≡ None
+pub unnamed-kind : (id : CallId) (calls : List Called) → named id calls ≡ false
+    → kind_in calls id ≡ None
 unnamed-kind id [] is = refl
 unnamed-kind id (c ∷ cs) is = at (is_same_call c.id id) is (unnamed-kind id cs)
   where
@@ -81,7 +85,8 @@ pub no-end : (id : CallId) (ends : List Ended) → over id ends ≡ false → No
 no-end id [] is = tt
 no-end id (e ∷ es) is = at (is_same_call e.id id) refl is (no-end id es)
   where
-    at : (b : Bool) → is_same_call e.id id ≡ b → (b || list_any (λ (x : Ended). is_same_call x.id id) es) ≡ false
+    at : (b : Bool) → is_same_call e.id id ≡ b
+        → (b || list_any (λ (x : Ended). is_same_call x.id id) es) ≡ false
         → (over id es ≡ false → NoEnd id es) → NoEnd id (e ∷ es)
     at true same none rest = absurd cc
     at false same none rest = (same, rest none)
@@ -113,17 +118,21 @@ pub record Awaits (T : BlockTable) (id : CallId) : Type 0 where
   pub name : is_same_call running.id id ≡ true
 
 awaited-runs : (id : CallId) (b : BlockState) → is_awaited id b ≡ true
-    → (r : Running) × (running_in b ≡ Some r) × (is_none r.ask ≡ true) × (is_same_call r.id id ≡ true)
+    → (r : Running) × (running_in b ≡ Some r) × (is_none r.ask ≡ true)
+    × (is_same_call r.id id ≡ true)
 awaited-runs id Idle is = absurd cc
 awaited-runs id Waiting is = absurd cc
-awaited-runs id (Active r) is = let two = and_parts (is_none r.ask) (is_same_call r.id id) is in (r, refl, two.0, two.1)
-awaited-runs id (Aborted r) is = let two = and_parts (is_none r.ask) (is_same_call r.id id) is in (r, refl, two.0, two.1)
+awaited-runs id (Active r) is =
+    let two = and_parts (is_none r.ask) (is_same_call r.id id) is in (r, refl, two.0, two.1)
+awaited-runs id (Aborted r) is =
+    let two = and_parts (is_none r.ask) (is_same_call r.id id) is in (r, refl, two.0, two.1)
 awaited-runs id (Ready kept result) is = absurd cc
 
 pub some-same : {X : Type 0} {x y : X} → Some x ≡ Some y → x ≡ y
 some-same is = cc
 
-runs-awaited : (id : CallId) (b : BlockState) (r : Running) → running_in b ≡ Some r → is_none r.ask ≡ true → is_same_call r.id id ≡ true
+runs-awaited : (id : CallId) (b : BlockState) (r : Running) → running_in b ≡ Some r
+    → is_none r.ask ≡ true → is_same_call r.id id ≡ true
     → is_awaited id b ≡ true
 runs-awaited id Idle r is asked name = absurd cc
 runs-awaited id Waiting r is asked name = absurd cc
@@ -135,16 +144,19 @@ runs-awaited id (Aborted q) r is asked name =
     ap (λ (x : Running). is_none x.ask && is_same_call x.id id) e ∙ (λ i. asked i && name i)
 runs-awaited id (Ready kept result) r is asked name = absurd cc
 
-any-at : (p : BlockState → Bool) (bs : List BlockState) → p Idle ≡ false → list_any p bs ≡ true → (place : ℕ) × (p (get_or bs place Idle) ≡ true)
+any-at : (p : BlockState → Bool) (bs : List BlockState) → p Idle ≡ false → list_any p bs ≡ true
+    → (place : ℕ) × (p (get_or bs place Idle) ≡ true)
 any-at p [] idle is = absurd cc
 any-at p (b ∷ bs) idle is = at (p b) refl is (any-at p bs idle)
   where
-    at : (x : Bool) → p b ≡ x → (x || list_any p bs) ≡ true → (list_any p bs ≡ true → (place : ℕ) × (p (get_or bs place Idle) ≡ true))
+    at : (x : Bool) → p b ≡ x → (x || list_any p bs) ≡ true
+        → (list_any p bs ≡ true → (place : ℕ) × (p (get_or bs place Idle) ≡ true))
         → (place : ℕ) × (p (get_or (b ∷ bs) place Idle) ≡ true)
     at true here found rest = (0, here)
     at false here found rest = let more = rest found in (suc more.0, more.1)
 
-at-any : (p : BlockState → Bool) (bs : List BlockState) (place : ℕ) → p Idle ≡ false → p (get_or bs place Idle) ≡ true → list_any p bs ≡ true
+at-any : (p : BlockState → Bool) (bs : List BlockState) (place : ℕ) → p Idle ≡ false
+    → p (get_or bs place Idle) ≡ true → list_any p bs ≡ true
 at-any p [] place idle is = absurd (clash is idle)
 at-any p (b ∷ bs) zero idle is = ap (λ x. x || list_any p bs) is
 at-any p (b ∷ bs) (suc place) idle is = or-true (p b) (list_any p bs) (at-any p bs place idle is)
@@ -160,7 +172,8 @@ out-awaits T id is =
     record { place = found.0; running = runs.0; there = runs.1; asked = runs.2; name = runs.3 }
 
 pub awaits-out : (T : BlockTable) (id : CallId) → Awaits T id → is_taken_out T id ≡ true
-awaits-out T id a = at-any (is_awaited id) T.blocks a.place refl (runs-awaited id (get_or T.blocks a.place Idle) a.running a.there a.asked a.name)
+awaits-out T id a = at-any (is_awaited id) T.blocks a.place refl
+    (runs-awaited id (get_or T.blocks a.place Idle) a.running a.there a.asked a.name)
 
 -- ---- what blocks have started
 
@@ -171,7 +184,8 @@ pub record Started (b : BlockState) (call : MstrCall) : Type 0 where
   pub id_is : running.id ≡ call.id
   pub ask_is : running.ask ≡ Some call.ask
 
-of-ask : (b : BlockState) (r : Running) (call : MstrCall) (o : Option MstrAsk) → running_in b ≡ Some r → r.ask ≡ o
+of-ask : (b : BlockState) (r : Running) (call : MstrCall) (o : Option MstrAsk)
+    → running_in b ≡ Some r → r.ask ≡ o
     → option_map (λ ask. record { id = r.id; ask = ask }) o ≡ Some call → Started b call
 of-ask b r call None there asked is = absurd cc
 of-ask b r call (Some ask) there asked is =
@@ -204,15 +218,23 @@ pub record StartedAt (bs : List BlockState) (id : CallId) : Type 0 where
 abbrev pub some_named : CallId → List MstrCall → Bool
 some_named id calls = list_any (λ (call : MstrCall). is_same_call call.id id) calls
 
-pub any-started : (id : CallId) (bs : List BlockState) → some_named id (filter_map untaken bs) ≡ true → StartedAt bs id
+pub any-started : (id : CallId) (bs : List BlockState)
+    → some_named id (filter_map untaken bs) ≡ true → StartedAt bs id
 any-started id [] is = absurd cc
 any-started id (b ∷ bs) is = at (untaken b) refl is (any-started id bs)
   where
     shift : StartedAt bs id → StartedAt (b ∷ bs) id
-    shift w = record { place = suc w.place; running = w.running; there = w.there; asked = w.asked; name = w.name }
+    shift w = record {
+      place = suc w.place;
+      running = w.running;
+      there = w.there;
+      asked = w.asked;
+      name = w.name;
+    }
 
     here : (call : MstrCall) (x : Bool) → untaken b ≡ Some call → is_same_call call.id id ≡ x
-        → (x || some_named id (filter_map untaken bs)) ≡ true → (some_named id (filter_map untaken bs) ≡ true → StartedAt bs id)
+        → (x || some_named id (filter_map untaken bs)) ≡ true
+        → (some_named id (filter_map untaken bs) ≡ true → StartedAt bs id)
         → StartedAt (b ∷ bs) id
     here call true is' same found rest =
         let w = started-of b call is' in
@@ -225,12 +247,14 @@ any-started id (b ∷ bs) is = at (untaken b) refl is (any-started id bs)
         }
     here call false is' same found rest = shift (rest found)
 
-    at : (o : Option MstrCall) → untaken b ≡ o → some_named id (cons_option o (filter_map untaken bs)) ≡ true
+    at : (o : Option MstrCall) → untaken b ≡ o
+        → some_named id (cons_option o (filter_map untaken bs)) ≡ true
         → (some_named id (filter_map untaken bs) ≡ true → StartedAt bs id) → StartedAt (b ∷ bs) id
     at None is' found rest = shift (rest found)
     at (Some call) is' found rest = here call (is_same_call call.id id) is' refl found rest
 
-pub named-new : (id : CallId) (calls : List MstrCall) → named id (map called_of (map call_of calls)) ≡ some_named id calls
+pub named-new : (id : CallId) (calls : List MstrCall)
+    → named id (map called_of (map call_of calls)) ≡ some_named id calls
 named-new id [] = refl
 named-new id (call ∷ calls) = ap (λ b. is_same_call call.id id || b) (named-new id calls)
 
@@ -240,12 +264,15 @@ taken-runs : (b : BlockState) (r : Running) → running_in (call_taken b) ≡ So
 taken-runs Idle r is = absurd cc
 taken-runs Waiting r is = absurd cc
 taken-runs (Active q) r is =
-    let e = some-same is in (q, refl, ap (λ (x : Running). x.id) e, sym (ap (λ (x : Running). is_some x.ask) e))
+    let e = some-same is in
+    (q, refl, ap (λ (x : Running). x.id) e, sym (ap (λ (x : Running). is_some x.ask) e))
 taken-runs (Aborted q) r is =
-    let e = some-same is in (q, refl, ap (λ (x : Running). x.id) e, sym (ap (λ (x : Running). is_some x.ask) e))
+    let e = some-same is in
+    (q, refl, ap (λ (x : Running). x.id) e, sym (ap (λ (x : Running). is_some x.ask) e))
 taken-runs (Ready kept result) r is = absurd cc
 
-taken-state : (n : ℕ) (numbers : List ℕ) (b : BlockState) → IsStateOf n numbers b → IsStateOf n numbers (call_taken b)
+taken-state : (n : ℕ) (numbers : List ℕ) (b : BlockState) → IsStateOf n numbers b
+    → IsStateOf n numbers (call_taken b)
 taken-state n numbers Idle is = tt
 taken-state n numbers Waiting is = tt
 taken-state n numbers (Active r) is =
@@ -254,18 +281,22 @@ taken-state n numbers (Aborted r) is =
     record { named = is.named; network = is.network; kept = is.kept; ask = λ ask none. absurd cc }
 taken-state n numbers (Ready kept result) is = is
 
-taken-at : (T : BlockTable) (place : ℕ) → get_or (collected T).blocks place Idle ≡ call_taken (get_or T.blocks place Idle)
+taken-at : (T : BlockTable) (place : ℕ)
+    → get_or (collected T).blocks place Idle ≡ call_taken (get_or T.blocks place Idle)
 taken-at T place = get_or-map call_taken T.blocks place Idle
 
 pub collected-runs : (T : BlockTable) (place : ℕ) (r : Running) → RunsAt (collected T) place r
-    → (was : Running) × (running_in (get_or T.blocks place Idle) ≡ Some was) × (was.id ≡ r.id) × (is_some r.ask ≡ false)
-collected-runs T place r is = taken-runs (get_or T.blocks place Idle) r (sym (ap running_in (taken-at T place)) ∙ is)
+    → (was : Running) × (running_in (get_or T.blocks place Idle) ≡ Some was) × (was.id ≡ r.id)
+    × (is_some r.ask ≡ false)
+collected-runs T place r is =
+    taken-runs (get_or T.blocks place Idle) r (sym (ap running_in (taken-at T place)) ∙ is)
 
 pub collected-table : (T : BlockTable) → IsTable T → IsTable (collected T)
 collected-table T t = record {
   paths = t.paths;
   numbers = t.numbers;
-  states = λ place. subst (IsStateOf T.node T.numbers) (sym (taken-at T place)) (taken-state T.node T.numbers _ (t.states place));
+  states = λ place. subst (IsStateOf T.node T.numbers) (sym (taken-at T place))
+      (taken-state T.node T.numbers _ (t.states place));
   apart = λ one other first second differ here there path.
       let a = collected-runs T one first here in
       let b = collected-runs T other second there in
@@ -276,25 +307,31 @@ collected-table T t = record {
       );
 }
 
-pub all-more : {X : Type 0} (P : X → Type 0) (xs ys : List X) → AllByRecursion P xs → AllByRecursion P ys → AllByRecursion P (xs ++ ys)
+pub all-more : {X : Type 0} (P : X → Type 0) (xs ys : List X) → AllByRecursion P xs
+    → AllByRecursion P ys → AllByRecursion P (xs ++ ys)
 all-more P [] ys all more = more
 all-more P (x ∷ xs) ys all more = (all.0, all-more P xs ys all.1 more)
 
 -- what is known of a block that runs a call
-pub running-is : (n : ℕ) (numbers : List ℕ) (b : BlockState) (r : Running) → IsStateOf n numbers b → running_in b ≡ Some r → IsRunning n numbers r
+pub running-is : (n : ℕ) (numbers : List ℕ) (b : BlockState) (r : Running) → IsStateOf n numbers b
+    → running_in b ≡ Some r → IsRunning n numbers r
 running-is n numbers Idle r is there = absurd cc
 running-is n numbers Waiting r is there = absurd cc
 running-is n numbers (Active q) r is there = subst (IsRunning n numbers) (some-same there) is
 running-is n numbers (Aborted q) r is there = subst (IsRunning n numbers) (some-same there) is
 running-is n numbers (Ready kept result) r is there = absurd cc
 
-pub new-given : (n : ℕ) (numbers : List ℕ) (bs : List BlockState) → ((place : ℕ) → IsStateOf n numbers (get_or bs place Idle))
-    → AllByRecursion (λ (c : Called). c.id.seq ≤ get_or numbers c.id.path 0) (map called_of (map call_of (filter_map untaken bs)))
+pub new-given : (n : ℕ) (numbers : List ℕ) (bs : List BlockState)
+    → ((place : ℕ) → IsStateOf n numbers (get_or bs place Idle))
+    → AllByRecursion (λ (c : Called). c.id.seq ≤ get_or numbers c.id.path 0)
+    (map called_of (map call_of (filter_map untaken bs)))
 new-given n numbers [] states = tt
-new-given n numbers (b ∷ bs) states = at (untaken b) refl (new-given n numbers bs (λ place. states (suc place)))
+new-given n numbers (b ∷ bs) states =
+    at (untaken b) refl (new-given n numbers bs (λ place. states (suc place)))
   where
     at : (o : Option MstrCall) → untaken b ≡ o
-        → AllByRecursion (λ (c : Called). c.id.seq ≤ get_or numbers c.id.path 0) (map called_of (map call_of (filter_map untaken bs)))
+        → AllByRecursion (λ (c : Called). c.id.seq ≤ get_or numbers c.id.path 0)
+        (map called_of (map call_of (filter_map untaken bs)))
         → AllByRecursion (λ (c : Called). c.id.seq ≤ get_or numbers c.id.path 0)
         (map called_of (map call_of (cons_option o (filter_map untaken bs))))
     at None is rest = rest

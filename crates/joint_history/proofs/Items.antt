@@ -8,7 +8,8 @@ use Rattle.tied_lists.specs.Own.{WentOn}
 use Rattle.tied_lists.specs.Items.{Items, no_items}
 use Rattle.joint_history.specs.Reading.{is_ours, item_next, items_after, items_of}
 
-items_after-append : (a : Items) (xs ys : List Entry) → items_after a (xs ++ ys) ≡ items_after (items_after a xs) ys
+items_after-append : (a : Items) (xs ys : List Entry)
+    → items_after a (xs ++ ys) ≡ items_after (items_after a xs) ys
 items_after-append a [] ys = refl
 items_after-append a (x ∷ xs) ys = items_after-append (item_next a x) xs ys
 
@@ -24,14 +25,18 @@ items_after-others a (Collect calls ∷ xs) none = absurd (cc)
 items_after-others a (Peer id request reply ∷ xs) none = absurd (cc)
 items_after-others a (Finish id result ∷ xs) none = absurd (cc)
 
-items-went : (alone : Bool) (known added known' : List Entry) → WentOn alone is_ours known added known' → items_of known' ≡ items_after (items_of known) added
+items-went : (alone : Bool) (known added known' : List Entry)
+    → WentOn alone is_ours known added known' → items_of known' ≡ items_after (items_of known) added
 items-went alone known added known' w =
     ap items_of w.after_is ∙ (items_after-append no_items (known ++ w.between) added
-    ∙ ap (λ (a : Items). items_after a added) (items_after-append no_items known w.between ∙ items_after-others (items_of known) w.between w.others))
+    ∙ ap (λ (a : Items). items_after a added) (items_after-append no_items known w.between
+    ∙ items_after-others (items_of known) w.between w.others))
 
-pub items-one : (alone : Bool) (known : List Entry) (e : Entry) (known' : List Entry) → WentOn alone is_ours known (e ∷ []) known'
+pub items-one : (alone : Bool) (known : List Entry) (e : Entry) (known' : List Entry)
+    → WentOn alone is_ours known (e ∷ []) known'
     → items_of known' ≡ item_next (items_of known) e
 items-one alone known e known' w = items-went alone known (e ∷ []) known' w
 
-pub items-same : (alone : Bool) (known known' : List Entry) → WentOn alone is_ours known [] known' → items_of known' ≡ items_of known
+pub items-same : (alone : Bool) (known known' : List Entry) → WentOn alone is_ours known [] known'
+    → items_of known' ≡ items_of known
 items-same alone known known' w = items-went alone known [] known' w

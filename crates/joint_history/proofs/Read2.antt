@@ -35,7 +35,8 @@ frame kind to pdu = record { kind = kind; to = to; id = id; pdu = pdu }
 
 abbrev reader : List Entry
 reader =
-    Begin ∷ Solve 1 ∷ End ∷ Collect (record { id = id; kind = Net 5 reads } ∷ []) ∷ Finish id (Good (42 ∷ 43 ∷ []))
+    Begin ∷ Solve 1 ∷ End ∷ Collect (record { id = id; kind = Net 5 reads } ∷ []) ∷ Finish id
+    (Good (42 ∷ 43 ∷ []))
     ∷ Begin ∷ Solve 1 ∷ End ∷ []
 
 abbrev target : List Entry
@@ -45,7 +46,8 @@ abbrev ring : List RingEntry
 ring =
     Post 2 (frame Request 5 reads) ∷ Send 2 Acked ∷ Pass 2 false [] ∷ Take 5 (frame Request 5 reads)
     ∷ Post 5 (frame Reply 2 tells) ∷ Send 5 Acked ∷ Pass 5 false [] ∷ Take 2 (frame Reply 2 tells)
-    ∷ Pass 2 false [] ∷ Pass 5 false [] ∷ Pass 2 true [] ∷ Pass 5 true [] ∷ Leave 2 Ended ∷ Leave 5 Ended ∷ []
+    ∷ Pass 2 false [] ∷ Pass 5 false [] ∷ Pass 2 true [] ∷ Pass 5 true [] ∷ Leave 2 Ended
+    ∷ Leave 5 Ended ∷ []
 
 reader-tied : Tied AController (items_of reader) (own 2 ring)
 reader-tied = record { asks = refl; peers = refl; port = refl; replies = refl; ends = refl }

@@ -5,8 +5,9 @@ use Rattle.std.specs.List.{All, AllZip, zip}
 use Rattle.plant_types.specs.declared.net.HostPlan.{HostPlan}
 use Rattle.plant_types.specs.declared.plan.ControllerPlan.{ControllerPlan}
 use Rattle.plant_types.specs.declared.plan.Plant.{Plant}
+pub use Rattle.plant_types.specs.Limits.{most_scans}
 use Rattle.ring_core.specs.declared.entry.RingEntry.{RingEntry}
-use Rattle.ring_core.specs.Legal.{IsLegal as IsLegalRing}
+use Rattle.ring_core.specs.Legal.{IsLegalRing}
 use Rattle.tied_lists.specs.Own.{own}
 use Rattle.tied_lists.specs.Items.{AController, AHost}
 use Rattle.tied_lists.specs.Tied.{Tied}
@@ -31,10 +32,6 @@ IsTiedHost ring log = Tied AHost (host_items_of log.entries) (own log.node ring)
 pub record IsJoint (joint : Joint) : Type 0 where
   pub controllers : All (IsTiedController joint.ring) joint.controllers
   pub hosts : All (IsTiedHost joint.ring) joint.hosts
-
--- The most scans that a run has.
-abbrev pub most_scans : ℕ
-most_scans = 2000
 
 -- A controller's plan, with what the plant says beside it, for so many scans.
 abbrev pub fixed_of : Plant → ℕ → ControllerPlan → Fixed

@@ -4,7 +4,7 @@ use Rattle.std.proofs.Common.{None}
 use Rattle.std.proofs.Common.{refl, sym, ap, ◌∙◌, append-nil}
 use Rattle.std.specs.List.{filter_map}
 use Rattle.std.proofs.lemmas.List.Elements.{filter_map-append}
-use Rattle.tied_lists.specs.Items.{Answered, ForStats, Item, Plain, Taken, due_replies, first_of}
+use Rattle.tied_lists.specs.Items.{Answered, ForStats, Item, Plain, Taken, due_replies, first_reply}
 use Rattle.tied_lists.specs.Items.{item_of, rest_of}
 use Rattle.joint_law.specs.Bound.{Sorted, sorted, sorted_answer}
 use Rattle.joint_law.specs.Taking.{DueNext, items_for, left_plain, left_stats}
@@ -25,9 +25,9 @@ pub due-append : (ts us : List Taken) (P L : List (List ℕ))
     ++ due_replies us (left_plain ts P) (left_stats ts L)
 due-append [] us P L = refl
 due-append (Plain id pdu ∷ ts) us P L =
-    ap (λ (l : List Item). (id, first_of P) ∷ l) (due-append ts us (rest_of P) L)
+    ap (λ (l : List Item). (id, first_reply P) ∷ l) (due-append ts us (rest_of P) L)
 due-append (ForStats id pdu ∷ ts) us P L =
-    ap (λ (l : List Item). (id, first_of L) ∷ l) (due-append ts us P (rest_of L))
+    ap (λ (l : List Item). (id, first_reply L) ∷ l) (due-append ts us P (rest_of L))
 
 pub left_plain-append : (ts us : List Taken) (P : List (List ℕ))
     → left_plain (ts ++ us) P ≡ left_plain us (left_plain ts P)

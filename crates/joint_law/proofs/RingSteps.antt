@@ -6,7 +6,7 @@ use Rattle.std.proofs.Common.{sym, ap, subst, ◌∙◌, append_assoc, append-ni
 use Rattle.plant_types.specs.declared.net.NetPlan.{NetPlan}
 use Rattle.ring_core.specs.declared.entry.RingEntry.{RingEntry}
 use Rattle.ring_core.specs.Kept.{RingLog}
-use Rattle.ring_core.specs.Legal.{IsLegal, IsRingStep, IsRun}
+use Rattle.ring_core.specs.Legal.{IsLegalRing, IsRingStep, IsRun}
 use Rattle.ring_core.proofs.Runs.{IsLegal-push}
 use Rattle.joint_law.specs.Differing.{BreaksAt}
 use Rattle.joint_law.specs.RingFollowing.{RingFollowed}
@@ -21,40 +21,40 @@ run-step net past (f ∷ es) e run =
     subst (λ (h : List RingEntry). IsRingStep net h e) (append_assoc past (f ∷ []) es)
     (run-step net (past ++ f ∷ []) es e run.1)
 
-legal-step : (net : NetPlan) (h : List RingEntry) (e : RingEntry) → IsLegal net (h ++ e ∷ [])
+legal-step : (net : NetPlan) (h : List RingEntry) (e : RingEntry) → IsLegalRing net (h ++ e ∷ [])
     → IsRingStep net h e
 legal-step net h e legal = run-step net [] h e legal
 
 pub ring-breaks : (net : NetPlan) (entries : List RingEntry) (place : ℕ) (e : RingEntry)
     (v w : RingLog) (b : Bool) → v.net ≡ net → v.history ≡ take place entries
-    → IsLegal net (take place entries) → place < length entries → e ≡ get_or entries place e
+    → IsLegalRing net (take place entries) → place < length entries → e ≡ get_or entries place e
     → RingFollowed v e w b → b ≡ false
-    → BreaksAt (IsLegal net) entries (place + 1)
+    → BreaksAt (IsLegalRing net) entries (place + 1)
 ring-breaks net entries place e v w true net-is history legal low is followed no' =
     not-true (sym no')
 ring-breaks net entries place e v w false net-is history legal low is followed no' = record {
   before =
       let n : place + 1 - 1 ≡ place = omega arith in
-      subst (λ (k : ℕ). IsLegal net (take k entries)) (sym n) legal;
+      subst (λ (k : ℕ). IsLegalRing net (take k entries)) (sym n) legal;
   here = λ more.
       let step = legal-step net (take place entries) e
-      (subst (IsLegal net) (take-push entries place e low is) more) in
+      (subst (IsLegalRing net) (take-push entries place e low is) more) in
       followed (subst (λ (h : List RingEntry). IsRingStep v.net h e) (sym history)
       (subst (λ (n : NetPlan). IsRingStep n (take place entries) e) (sym net-is) step));
 }
 
 pub ring-goes-on : (net : NetPlan) (entries : List RingEntry) (place : ℕ) (e : RingEntry)
     (v w : RingLog) (b : Bool) → v.net ≡ net → v.history ≡ take place entries
-    → IsLegal net (take place entries) → place < length entries → e ≡ get_or entries place e
+    → IsLegalRing net (take place entries) → place < length entries → e ≡ get_or entries place e
     → RingFollowed v e w b → b ≡ true
     → (w.history ≡ take (place + 1) entries) × (w.net ≡ net)
-    × IsLegal net (take (place + 1) entries)
+    × IsLegalRing net (take (place + 1) entries)
 ring-goes-on net entries place e v w true net-is history legal low is done sure =
     let push = take-push entries place e low is in
     let step = subst (λ (n : NetPlan). IsRingStep n (take place entries) e) net-is
     (subst (λ (h : List RingEntry). IsRingStep v.net h e) history done.step) in (
       done.history ∙ (ap (λ (h : List RingEntry). h ++ e ∷ []) history ∙ sym push),
       done.net ∙ net-is,
-      subst (IsLegal net) (sym push) (IsLegal-push net (take place entries) e legal step),
+      subst (IsLegalRing net) (sym push) (IsLegal-push net (take place entries) e legal step),
     )
 ring-goes-on net entries place e v w false net-is history legal low is done sure = not-true sure

@@ -16,7 +16,7 @@ use Rattle.plant_types.specs.declared.plan.Plant.{Plant}
 use Rattle.plant_types.specs.Plans.{IsPlant}
 use Rattle.ring_core.specs.Machine.{addresses}
 use Rattle.ring_core.specs.declared.entry.RingEntry.{RingEntry}
-use Rattle.ring_core.specs.Legal.{IsLegal as IsLegalRing, IsRun}
+use Rattle.ring_core.specs.Legal.{IsLegalRing, IsRun}
 use Rattle.controller_core.specs.Controller.{IsLegal}
 use Rattle.controller_core.specs.Laws.{FrontsAreLegal}
 use Rattle.host_port.specs.declared.entry.HostEntry.{HostEntry}

@@ -15,7 +15,7 @@ ghost use Rattle.joint_law.specs.Picked.{AreWithin, picked};
 
 use crate::by_call::ByCall;
 use crate::differing::Same;
-use crate::same::{same_op, same_result};
+use crate::same::same_result;
 use controller_core::{Call, CallKind, Entry};
 use host_port::{HostEntry, HostResult};
 use mstr_block::{CallId, MstrResult};
@@ -76,7 +76,7 @@ fn same_kind(one: &EndKind, other: &EndKind) -> bool
     match one {
         EndKind::Net => matches!(other, EndKind::Net),
         EndKind::Home(op) => match other {
-            EndKind::Home(done) => same_op(op, done),
+            EndKind::Home(done) => op.is_same(done),
             EndKind::Net => false,
         },
     }

@@ -4,7 +4,7 @@ ghost use Rattle.modbus_pdu.specs.Bytes.{words_bytes};
 ghost use Rattle.std.specs.List.{cons_option};
 ghost use Rattle.tied_lists.specs.Items.{answered_of, due_replies, port_answers, replied_by};
 ghost use Rattle.tied_lists.specs.Items.{replied_of, replies_in, reply_of, taken_by, taken_in};
-ghost use Rattle.tied_lists.specs.Items.{taken_of, words_told};
+ghost use Rattle.tied_lists.specs.Items.{taken_of};
 ghost use Rattle.joint_history.specs.Reading.{host_items_of, items_of};
 ghost use Rattle.joint_law.specs.Readings.{answer_in, host_answer_in};
 ghost use Rattle.joint_law.specs.Picked.{AreWithin, picked};
@@ -136,15 +136,6 @@ pub(crate) fn host_answers(
     Ok(list)
 }
 
-fn words_told(outcome: &MstrResult) -> &[u16]
-    ensures { result.now ≡ words_told outcome.now }
-{
-    match outcome {
-        MstrResult::Good(words) => words.words(),
-        MstrResult::Bad(_) => &[],
-    }
-}
-
 fn push_words(bytes: &mut Vec<u8>, words: &[u16]) -> Result<(), AllocError>
     ensures { OnOk result (bytes.new.items ≡ bytes.old.items ++ words_bytes words.now) }
 {
@@ -159,7 +150,7 @@ fn push_words(bytes: &mut Vec<u8>, words: &[u16]) -> Result<(), AllocError>
 fn reply_of(alloc: Global, outcome: &MstrResult) -> Result<Pdu, AllocError>
     ensures { IfOk result (λ pdu. pdu ≡ reply_of outcome.now) }
 {
-    let words = words_told(outcome);
+    let words = outcome.words_told();
     let operation = if words.is_empty() { 4 } else { 3 };
     let mut bytes = Vec::from_array(alloc, [8, 0, 21, 0, operation])?;
     push_words(&mut bytes, words)?;

@@ -1,7 +1,7 @@
 //! Following the ring's list, by the calls of a ring.
 ghost use Rattle.std.specs.Prelude.{◌≡◌, ◌≢◌, ◌↔◌, ◌+◌, ◌<◌, false, None, All, IfOk, IfSome};
 ghost use Rattle.std.specs.Prelude.{IsTrue, length, ℕ, Bool, List, [], ◌∷◌, ◌++◌};
-ghost use Rattle.ring_core.specs.Legal.{HasRoom, IsLegal};
+ghost use Rattle.ring_core.specs.Legal.{HasRoom, IsLegalRing};
 ghost use Rattle.ring_core.specs.Machine.{addresses};
 ghost use Rattle.ring_core.specs.declared.entry.RingEntry.{RingEntry as AnyEntry};
 ghost use Rattle.ring_core.specs.declared.entry.RingEntry.TheVariants as entries;
@@ -10,12 +10,9 @@ ghost use Rattle.joint_law.specs.RingFollowing.{RingFollowed};
 
 use crate::same::{same_frame, same_result, same_words};
 use mstr_block::{CallId, MstrResult};
-use plant_types::{Copied, NetPlan, Words};
+use plant_types::{Copied, GLOBAL_LIMIT, NetPlan, Words};
 use ring_core::{Frame, Heard, LeaveCause, LocalOp, Ring, RingEntry, RingNo, is_from, is_path};
 use std::alloc::{AllocError, Global};
-
-/// The most words that a node puts.
-const WORD_LIMIT: usize = 32;
 
 /// A refused call is that of no legal entry; not so where memory was refused.
 fn refused(why: RingNo) -> Result<bool, AllocError>
@@ -71,7 +68,7 @@ fn has_room(op: &LocalOp) -> bool
     ensures { IsTrue result ↔ HasRoom op.now }
 {
     match op {
-        LocalOp::PutGlobal(words) => words.words().len() <= WORD_LIMIT,
+        LocalOp::PutGlobal(words) => words.words().len() <= usize::from(GLOBAL_LIMIT),
         _ => true,
     }
 }
@@ -172,9 +169,9 @@ pub(crate) fn first_illegal(
 ) -> Result<Option<usize>, AllocError>
     requires members { All (λ m. m < addresses) plan.now.members }
     requires fates { 0 < length plan.now.fates }
-    ensures legal { IfOk result (λ first. first ≡ None → IsLegal plan.now entries.now) }
+    ensures legal { IfOk result (λ first. first ≡ None → IsLegalRing plan.now entries.now) }
     ensures broken { IfOk result (λ first. IfSome first
-        (λ place. BreaksAt (IsLegal plan.now) entries.now (place + 1))) }
+        (λ place. BreaksAt (IsLegalRing plan.now) entries.now (place + 1))) }
 {
     let mut ring = Ring::new(alloc, plan)?;
     for place in 0..entries.len() {

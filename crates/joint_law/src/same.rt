@@ -3,7 +3,7 @@ ghost use Rattle.std.specs.Prelude.{◌≡◌, ◌↔◌, IsTrue};
 
 use mstr_block::MstrResult;
 use plant_types::{Pdu, Words};
-use ring_core::{Frame, LocalOp};
+use ring_core::Frame;
 
 /// Whether two are the same bytes, or both none.
 pub(crate) fn same_bytes(one: &Option<Pdu>, other: &Option<Pdu>) -> bool
@@ -23,29 +23,6 @@ pub(crate) fn same_words(one: &Words, other: &Words) -> bool
     ensures { IsTrue result ↔ (one.now ≡ other.now) }
 {
     one.words() == other.words()
-}
-
-/// Whether two operations are one.
-pub(crate) fn same_op(one: &LocalOp, other: &LocalOp) -> bool
-    ensures { IsTrue result ↔ (one.now ≡ other.now) }
-{
-    match one {
-        LocalOp::GetStats => matches!(other, LocalOp::GetStats),
-        LocalOp::ClearStats => matches!(other, LocalOp::ClearStats),
-        LocalOp::PutGlobal(words) => match other {
-            LocalOp::PutGlobal(others) => words.words() == others.words(),
-            _ => false,
-        },
-        LocalOp::GetGlobal { node, length } => match other {
-            LocalOp::GetGlobal {
-                node: from,
-                length: most,
-            } => *node == *from && *length == *most,
-            _ => false,
-        },
-        LocalOp::RemoteGet => matches!(other, LocalOp::RemoteGet),
-        LocalOp::RemoteClear => matches!(other, LocalOp::RemoteClear),
-    }
 }
 
 /// Whether two results are one.

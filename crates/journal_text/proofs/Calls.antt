@@ -40,34 +40,47 @@ use Rattle.journal_text.proofs.Digits.{pdu_field, words_field, word_field, block
 abbrev IsOwn : LocalOp → Type 0
 IsOwn op = FitsOp op × IsOwnOp op
 
-asked_words : IsField (read_pair read_small read_word 58) (λ p. decimal p.0 ++ 58 ∷ decimal p.1) (λ p. IsSmall p.0 × IsWord p.1) 48 58
+asked_words : IsField (read_pair read_small read_word 58) (λ p. decimal p.0 ++ 58 ∷ decimal p.1)
+    (λ p. IsSmall p.0 × IsWord p.1) 48 58
 asked_words = two_fields 58 48 58 small_field word_number_field refl refl refl refl
 
-global_text : (node count : ℕ) → codes "GG:" ++ (decimal node ++ 58 ∷ decimal count) ≡ op_text (ops.GetGlobal node count)
+global_text : (node count : ℕ)
+    → codes "GG:" ++ (decimal node ++ 58 ∷ decimal count) ≡ op_text (ops.GetGlobal node count)
 global_text node count = simp append_assoc
 
 own_kinds_take : AllByRecursion (IsForm op_text IsOwn) own_op_forms
 own_kinds_take = (
-  form_of_field words_field op_text IsOwn (codes "PG:") (λ words. ops.PutGlobal words) (λ words fits. refl) (λ words fits. (fits, tt)),
-  (form_of_field asked_words op_text IsOwn (codes "GG:") (λ p. ops.GetGlobal p.0 p.1) (λ p fits. global_text p.0 p.1) (λ p fits. (fits, tt)), tt),
+  form_of_field words_field op_text IsOwn (codes "PG:") (λ words. ops.PutGlobal words)
+      (λ words fits. refl) (λ words fits. (fits, tt)),
+  (
+    form_of_field asked_words op_text IsOwn (codes "GG:") (λ p. ops.GetGlobal p.0 p.1)
+        (λ p fits. global_text p.0 p.1) (λ p fits. (fits, tt)),
+    tt,
+  ),
 )
 
-bare_op_takes : (text : List ℕ) (op : LocalOp) → read_bare_op text ≡ Some op → (text ≡ op_text op) × IsOwn op
+bare_op_takes : (text : List ℕ) (op : LocalOp) → read_bare_op text ≡ Some op
+    → (text ≡ op_text op) × IsOwn op
 bare_op_takes text op e =
-    elim (chosen (bytes_eq text (codes "GS")) (Some ops.GetStats) (cond (bytes_eq text (codes "CS")) (Some ops.ClearStats) None) (Some op) e) [
+    elim (chosen (bytes_eq text (codes "GS")) (Some ops.GetStats)
+    (cond (bytes_eq text (codes "CS")) (Some ops.ClearStats) None) (Some op) e) [
       | inl get ↦
-          subst (λ (o : LocalOp). (text ≡ op_text o) × IsOwn o) (some_is ops.GetStats op get.1) (text_is text (codes "GS") get.0, (tt, tt))
+          subst (λ (o : LocalOp). (text ≡ op_text o) × IsOwn o) (some_is ops.GetStats op get.1)
+          (text_is text (codes "GS") get.0, (tt, tt))
       | inr more ↦
           elim (chosen (bytes_eq text (codes "CS")) (Some ops.ClearStats) None (Some op) more.1) [
             | inl clear ↦
-                subst (λ (o : LocalOp). (text ≡ op_text o) × IsOwn o) (some_is ops.ClearStats op clear.1) (text_is text (codes "CS") clear.0, (tt, tt))
+                subst (λ (o : LocalOp). (text ≡ op_text o) × IsOwn o)
+                (some_is ops.ClearStats op clear.1) (text_is text (codes "CS") clear.0, (tt, tt))
             | inr none ↦ none_some ((text ≡ op_text op) × IsOwn op) op none.1
           ]
     ]
 
-own_op_takes : (text : List ℕ) (op : LocalOp) → read_own_op text ≡ Some op → (text ≡ op_text op) × IsOwn op
+own_op_takes : (text : List ℕ) (op : LocalOp) → read_own_op text ≡ Some op
+    → (text ≡ op_text op) × IsOwn op
 unfolding read_own_op
-own_op_takes text op e = first_takes op_text IsOwn own_op_forms (read_bare_op text) text op own_kinds_take (bare_op_takes text op) e
+own_op_takes text op e = first_takes op_text IsOwn own_op_forms
+    (read_bare_op text) text op own_kinds_take (bare_op_takes text op) e
 
 own_op_again : (op : LocalOp) → IsOwn op → read_own_op (op_text op) ≡ Some op
 unfolding read_own_op behind
@@ -75,7 +88,8 @@ own_op_again ops.GetStats is = refl
 own_op_again ops.ClearStats is = refl
 own_op_again (ops.PutGlobal words) is = rw (words_field.again words is.0) refl
 own_op_again (ops.GetGlobal node count) is =
-    subst (λ (t : List ℕ). read_own_op t ≡ Some (ops.GetGlobal node count)) (global_text node count) (rw (asked_words.again (node, count) is.0) refl)
+    subst (λ (t : List ℕ). read_own_op t ≡ Some (ops.GetGlobal node count)) (global_text node count)
+    (rw (asked_words.again (node, count) is.0) refl)
 own_op_again ops.RemoteGet is = absurd is.1
 own_op_again ops.RemoteClear is = absurd is.1
 
@@ -84,7 +98,8 @@ op_lie ops.GetStats is = refl
 op_lie ops.ClearStats is = refl
 op_lie (ops.PutGlobal words) is = lie_in words_field 45 102 refl words is
 op_lie (ops.GetGlobal node count) is =
-    subst (λ (t : List ℕ). all_lie 45 102 t ≡ true) (global_text node count) (lie_in asked_words 45 102 refl (node, count) is)
+    subst (λ (t : List ℕ). all_lie 45 102 t ≡ true) (global_text node count)
+    (lie_in asked_words 45 102 refl (node, count) is)
 op_lie ops.RemoteGet is = refl
 op_lie ops.RemoteClear is = refl
 
@@ -92,13 +107,17 @@ op_lie ops.RemoteClear is = refl
 op_takes : (text : List ℕ) (op : LocalOp) → read_op text ≡ Some op → (text ≡ op_text op) × FitsOp op
 unfolding read_op
 op_takes text op e =
-    elim (chosen (bytes_eq text (codes "RG")) (Some ops.RemoteGet) (cond (bytes_eq text (codes "RC")) (Some ops.RemoteClear) (read_own_op text)) (Some op) e) [
+    elim (chosen (bytes_eq text (codes "RG")) (Some ops.RemoteGet)
+    (cond (bytes_eq text (codes "RC")) (Some ops.RemoteClear) (read_own_op text)) (Some op) e) [
       | inl get ↦
-          subst (λ (o : LocalOp). (text ≡ op_text o) × FitsOp o) (some_is ops.RemoteGet op get.1) (text_is text (codes "RG") get.0, tt)
+          subst (λ (o : LocalOp). (text ≡ op_text o) × FitsOp o) (some_is ops.RemoteGet op get.1)
+          (text_is text (codes "RG") get.0, tt)
       | inr more ↦
-          elim (chosen (bytes_eq text (codes "RC")) (Some ops.RemoteClear) (read_own_op text) (Some op) more.1) [
+          elim (chosen (bytes_eq text (codes "RC")) (Some ops.RemoteClear) (read_own_op text)
+          (Some op) more.1) [
             | inl clear ↦
-                subst (λ (o : LocalOp). (text ≡ op_text o) × FitsOp o) (some_is ops.RemoteClear op clear.1) (text_is text (codes "RC") clear.0, tt)
+                subst (λ (o : LocalOp). (text ≡ op_text o) × FitsOp o)
+                (some_is ops.RemoteClear op clear.1) (text_is text (codes "RC") clear.0, tt)
             | inr own ↦ let t = own_op_takes text op own.1 in (t.0, t.1.0)
           ]
     ]
@@ -118,8 +137,13 @@ op_field = record { takes = op_takes; again = op_again; lie = op_lie }
 -- what a call came to
 result_kinds_take : AllByRecursion (IsForm call_result_text FitsResult) result_forms
 result_kinds_take = (
-  form_of_field block_field call_result_text FitsResult (codes "G ") (λ words. Good words) (λ words fits. refl) (λ words fits. fits),
-  (form_of_field word_field call_result_text FitsResult (codes "B ") (λ word. Bad word) (λ word fits. refl) (λ word fits. fits), tt),
+  form_of_field block_field call_result_text FitsResult (codes "G ") (λ words. Good words)
+      (λ words fits. refl) (λ words fits. fits),
+  (
+    form_of_field word_field call_result_text FitsResult (codes "B ") (λ word. Bad word)
+        (λ word fits. refl) (λ word fits. fits),
+    tt,
+  ),
 )
 
 result_again : (r : MstrResult) → FitsResult r → read_result (call_result_text r) ≡ Some r
@@ -134,7 +158,8 @@ result_lie (Bad word) is = lie_in word_field 32 102 refl word is
 pub result_field : IsField read_result call_result_text FitsResult 32 102
 unfolding read_result
 result_field = record {
-  takes = λ text r e. first_takes call_result_text FitsResult result_forms None text r result_kinds_take (none_some ((text ≡ call_result_text r) × FitsResult r) r) e;
+  takes = λ text r e. first_takes call_result_text FitsResult result_forms None text r
+      result_kinds_take (none_some ((text ≡ call_result_text r) × FitsResult r) r) e;
   again = result_again;
   lie = result_lie;
 }
@@ -143,50 +168,62 @@ result_field = record {
 abbrev IsKindOf : CallKind → Type 0
 IsKindOf kind = FitsKind kind × IsPlainKind kind
 
-net_parts : IsField (read_pair read_small read_pdu 58) (λ p. decimal p.0 ++ 58 ∷ hex_bytes p.1) (λ p. IsSmall p.0 × IsPdu p.1) 48 102
+net_parts : IsField (read_pair read_small read_pdu 58) (λ p. decimal p.0 ++ 58 ∷ hex_bytes p.1)
+    (λ p. IsSmall p.0 × IsPdu p.1) 48 102
 net_parts = two_fields 58 48 102 small_field pdu_field refl refl refl refl
 
 net_text : (to : ℕ) (pdu : List ℕ) → decimal to ++ 58 ∷ hex_bytes pdu ≡ kind_text (Net to pdu)
 net_text to pdu = simp append_assoc
 
-kind_takes : (text : List ℕ) (kind : CallKind) → read_kind text ≡ Some kind → (text ≡ kind_text kind) × IsKindOf kind
+kind_takes : (text : List ℕ) (kind : CallKind) → read_kind text ≡ Some kind
+    → (text ≡ kind_text kind) × IsKindOf kind
 unfolding read_kind
 kind_takes text kind e =
-    elim (chosen (is_digit (slice_index text 0)) (read_net_kind text) (read_local_kind text) (Some kind) e) [
+    elim (chosen (is_digit (slice_index text 0)) (read_net_kind text) (read_local_kind text)
+    (Some kind) e) [
       | inl net ↦
-          let p = bind_some (read_pair read_small read_pdu 58 text) (λ parts. Some (Net parts.0 parts.1)) kind net.1 in
+          let p = bind_some (read_pair read_small read_pdu 58 text)
+          (λ parts. Some (Net parts.0 parts.1)) kind net.1 in
           let t = net_parts.takes text p.0 p.1 in
-          subst (λ (k : CallKind). (text ≡ kind_text k) × IsKindOf k) (some_is (Net p.0.0 p.0.1) kind p.2) (t.0 ∙ net_text p.0.0 p.0.1, (t.1, tt))
+          subst (λ (k : CallKind). (text ≡ kind_text k) × IsKindOf k)
+          (some_is (Net p.0.0 p.0.1) kind p.2) (t.0 ∙ net_text p.0.0 p.0.1, (t.1, tt))
       | inr own ↦
           let p = bind_some (read_own_op text) (λ op. Some (Local op)) kind own.1 in
           let t = own_op_takes text p.0 p.1 in
-          subst (λ (k : CallKind). (text ≡ kind_text k) × IsKindOf k) (some_is (Local p.0) kind p.2) (t.0, t.1)
+          subst (λ (k : CallKind). (text ≡ kind_text k) × IsKindOf k)
+          (some_is (Local p.0) kind p.2) (t.0, t.1)
     ]
 
-digit_first : (text rest : List ℕ) → all_lie 48 57 text ≡ true → text ≢ [] → is_digit (slice_index (text ++ rest) 0) ≡ true
+digit_first : (text rest : List ℕ) → all_lie 48 57 text ≡ true → text ≢ []
+    → is_digit (slice_index (text ++ rest) 0) ≡ true
 digit_first [] rest lie some = absurd (some refl)
 digit_first (b ∷ text) rest lie some = (and_parts (lies 48 57 b) (all_lie 48 57 text) lie).0
 
 some_digits : (n : ℕ) → IsSmall n → decimal n ≢ []
-some_digits n less none = let some = decimal_nonempty n (omega arith) in let size = ap length none in absurd (omega arith)
+some_digits n less none =
+    let some = decimal_nonempty n (omega arith) in let size = ap length none in absurd (omega arith)
 
 op_first : (op : LocalOp) → is_digit (slice_index (op_text op) 0) ≡ false
 op_first ops.GetStats = refl
 op_first ops.ClearStats = refl
 op_first (ops.PutGlobal words) = refl
-op_first (ops.GetGlobal node count) = subst (λ (t : List ℕ). is_digit (slice_index t 0) ≡ false) (global_text node count) refl
+op_first (ops.GetGlobal node count) =
+    subst (λ (t : List ℕ). is_digit (slice_index t 0) ≡ false) (global_text node count) refl
 op_first ops.RemoteGet = refl
 op_first ops.RemoteClear = refl
 
 kind_again : (kind : CallKind) → IsKindOf kind → read_kind (kind_text kind) ≡ Some kind
 unfolding read_kind
 kind_again (Net to pdu) is =
-    let first = digit_first (decimal to) (58 ∷ hex_bytes pdu) (small_field.lie to is.0.0) (some_digits to is.0.0) in
-    subst (λ (t : List ℕ). read_kind t ≡ Some (Net to pdu)) (net_text to pdu) (rw (first, net_parts.again (to, pdu) is.0) refl)
+    let first = digit_first (decimal to) (58 ∷ hex_bytes pdu) (small_field.lie to is.0.0)
+    (some_digits to is.0.0) in
+    subst (λ (t : List ℕ). read_kind t ≡ Some (Net to pdu)) (net_text to pdu)
+    (rw (first, net_parts.again (to, pdu) is.0) refl)
 kind_again (Local op) is = rw (op_first op, own_op_again op is) refl
 
 kind_lie : (kind : CallKind) → IsKindOf kind → all_lie 45 102 (kind_text kind) ≡ true
-kind_lie (Net to pdu) is = subst (λ (t : List ℕ). all_lie 45 102 t ≡ true) (net_text to pdu) (lie_in net_parts 45 102 refl (to, pdu) is.0)
+kind_lie (Net to pdu) is = subst (λ (t : List ℕ). all_lie 45 102 t ≡ true) (net_text to pdu)
+    (lie_in net_parts 45 102 refl (to, pdu) is.0)
 kind_lie (Local op) is = op_lie op is.0
 
 kind_field : IsField read_kind kind_text IsKindOf 45 102
@@ -204,17 +241,20 @@ unfolding read_call
 call_field =
     let all = two_fields 61 45 102 id_field kind_field refl refl refl refl in
     made_field all call_from (λ call. (call.id, call.kind)) call_body IsCall (λ parts. refl)
-    (λ parts fits. ((fits.0, fits.1.0), fits.1.1)) (λ call is. (is.0.0, (is.0.1, is.1))) (λ call. refl)
+    (λ parts fits. ((fits.0, fits.1.0), fits.1.1)) (λ call is. (is.0.0, (is.0.1, is.1)))
+    (λ call. refl)
 
 -- a blank that is not there parts nothing
-split_none : (text : List ℕ) → all_lie 45 102 text ≡ true → slice_split (λ byte. byte == 32) text ≡ text ∷ []
+split_none : (text : List ℕ) → all_lie 45 102 text ≡ true
+    → slice_split (λ byte. byte == 32) text ≡ text ∷ []
 split_none [] lie = refl
 split_none (b ∷ text) lie =
     let (here, more) = and_parts (lies 45 102 b) (all_lie 45 102 text) lie in
     rw (outside 45 102 32 b (inl (omega arith)) here, split_none text more) refl
 
 split_blank : (text rest : List ℕ) → all_lie 45 102 text ≡ true
-    → slice_split (λ byte. byte == 32) (text ++ 32 ∷ rest) ≡ text ∷ slice_split (λ byte. byte == 32) rest
+    → slice_split (λ byte. byte == 32) (text ++ 32 ∷ rest)
+    ≡ text ∷ slice_split (λ byte. byte == 32) rest
 split_blank [] rest lie = refl
 split_blank (b ∷ text) rest lie =
     let (here, more) = and_parts (lies 45 102 b) (all_lie 45 102 text) lie in
@@ -231,23 +271,31 @@ AreCalls calls = (calls ≢ []) × All IsCall calls
 pub call_is : (call : Call) → call_text call ≡ 32 ∷ call_body call
 call_is call = simp append_assoc
 
-pub next_is : (call : Call) (calls : List Call) → flat_map call_text (call ∷ calls) ≡ 32 ∷ calls_body (call ∷ calls)
-next_is call calls = flat_map-cons call_text call calls ∙ ap (λ (t : List ℕ). t ++ flat_map call_text calls) (call_is call)
+pub next_is : (call : Call) (calls : List Call)
+    → flat_map call_text (call ∷ calls) ≡ 32 ∷ calls_body (call ∷ calls)
+next_is call calls = flat_map-cons call_text call calls
+    ∙ ap (λ (t : List ℕ). t ++ flat_map call_text calls) (call_is call)
 
 split_calls : (call : Call) (calls : List Call) → All IsCall (call ∷ calls)
     → slice_split (λ byte. byte == 32) (calls_body (call ∷ calls)) ≡ map call_body (call ∷ calls)
 split_calls call [] each =
-    ap (slice_split (λ byte. byte == 32)) (append-nil (call_body call)) ∙ split_none (call_body call) (call_field.lie call (All-head IsCall call [] each))
+    ap (slice_split (λ byte. byte == 32)) (append-nil (call_body call))
+    ∙ split_none (call_body call) (call_field.lie call (All-head IsCall call [] each))
 split_calls call (next ∷ calls) each =
     let lie = call_field.lie call (All-head IsCall call (next ∷ calls) each) in
     ap (λ (t : List ℕ). slice_split (λ byte. byte == 32) (call_body call ++ t)) (next_is next calls)
     ∙ split_blank (call_body call) (calls_body (next ∷ calls)) lie
-    ∙ ap (λ (texts : List (List ℕ)). call_body call ∷ texts) (split_calls next calls (All-tail IsCall call (next ∷ calls) each))
+    ∙ ap (λ (texts : List (List ℕ)). call_body call ∷ texts)
+    (split_calls next calls (All-tail IsCall call (next ∷ calls) each))
 
-each_again : (calls : List Call) → All IsCall calls → read_each read_call (map call_body calls) ≡ Some calls
+each_again : (calls : List Call) → All IsCall calls
+    → read_each read_call (map call_body calls) ≡ Some calls
 each_again [] each = refl
 each_again (call ∷ calls) each =
-    rw (call_field.again call (All-head IsCall call calls each), each_again calls (All-tail IsCall call calls each)) refl
+    rw (
+      call_field.again call (All-head IsCall call calls each),
+      each_again calls (All-tail IsCall call calls each),
+    ) refl
 
 calls_again : (calls : List Call) → AreCalls calls → read_calls (calls_body calls) ≡ Some calls
 unfolding read_calls
@@ -255,31 +303,41 @@ calls_again [] are = absurd (are.0 refl)
 calls_again (call ∷ calls) are = rw (split_calls call calls are.1) (each_again (call ∷ calls) are.1)
 
 -- what is read as calls is their text
-each_takes : (texts : List (List ℕ)) (calls : List Call) → read_each read_call texts ≡ Some calls → (texts ≡ map call_body calls) × All IsCall calls
+each_takes : (texts : List (List ℕ)) (calls : List Call) → read_each read_call texts ≡ Some calls
+    → (texts ≡ map call_body calls) × All IsCall calls
 each_takes [] calls e =
-    subst (λ (cs : List Call). ([] ≡ map call_body cs) × All IsCall cs) (some_is [] calls e) (refl, All-nil IsCall)
+    subst (λ (cs : List Call). ([] ≡ map call_body cs) × All IsCall cs) (some_is [] calls e)
+    (refl, All-nil IsCall)
 each_takes (text ∷ texts) calls e =
-    let p = bind_some (read_call text) (λ call. read_each read_call texts >>= λ more. Some (call ∷ more)) calls e in
+    let p = bind_some (read_call text)
+    (λ call. read_each read_call texts >>= λ more. Some (call ∷ more)) calls e in
     let q = bind_some (read_each read_call texts) (λ more. Some (p.0 ∷ more)) calls p.2 in
     let one = call_field.takes text p.0 p.1 in
     let rest = each_takes texts q.0 q.1 in
     let same : (text ∷ texts) ≡ map call_body (p.0 ∷ q.0) = λ i. one.0 i ∷ rest.0 i in
-    subst (λ (cs : List Call). (text ∷ texts ≡ map call_body cs) × All IsCall cs) (some_is (p.0 ∷ q.0) calls q.2)
+    subst (λ (cs : List Call). (text ∷ texts ≡ map call_body cs) × All IsCall cs)
+    (some_is (p.0 ∷ q.0) calls q.2)
     (same, All-cons IsCall p.0 q.0 one.1 rest.1)
 
-join_calls : (call : Call) (calls : List Call) → join_with_byte 32 (map call_body (call ∷ calls)) ≡ calls_body (call ∷ calls)
+join_calls : (call : Call) (calls : List Call)
+    → join_with_byte 32 (map call_body (call ∷ calls)) ≡ calls_body (call ∷ calls)
 join_calls call [] = sym (append-nil (call_body call))
 join_calls call (next ∷ calls) =
     ap (λ (t : List ℕ). call_body call ++ 32 ∷ t) (join_calls next calls)
     ∙ ap (λ (t : List ℕ). call_body call ++ t) (sym (next_is next calls))
 
-some_calls : (text : List ℕ) (calls : List Call) → slice_split (λ byte. byte == 32) text ≡ map call_body calls
+some_calls : (text : List ℕ) (calls : List Call)
+    → slice_split (λ byte. byte == 32) text ≡ map call_body calls
     → (text ≡ calls_body calls) × (calls ≢ [])
-some_calls text [] e = absurd (let size = ap length e in let one = length-slice_split (λ byte. byte == 32) text in omega arith)
-some_calls text (call ∷ calls) e =
-    (sym (join_with_byte-slice_split 32 text) ∙ ap (join_with_byte 32) e ∙ join_calls call calls, λ none. cc)
+some_calls text [] e = absurd (let size = ap length e in
+    let one = length-slice_split (λ byte. byte == 32) text in omega arith)
+some_calls text (call ∷ calls) e = (
+  sym (join_with_byte-slice_split 32 text) ∙ ap (join_with_byte 32) e ∙ join_calls call calls,
+  λ none. cc,
+)
 
-calls_takes : (text : List ℕ) (calls : List Call) → read_calls text ≡ Some calls → (text ≡ calls_body calls) × AreCalls calls
+calls_takes : (text : List ℕ) (calls : List Call) → read_calls text ≡ Some calls
+    → (text ≡ calls_body calls) × AreCalls calls
 unfolding read_calls
 calls_takes text calls e =
     let read = each_takes (slice_split (λ byte. byte == 32) text) calls e in
@@ -291,23 +349,30 @@ calls_lie [] are = refl
 calls_lie (call ∷ calls) are =
     all-append (lies 32 102) (call_body call) (flat_map call_text calls)
     (lie_in call_field 32 102 refl call (All-head IsCall call calls are.1))
-    (all-flat_map (lies 32 102) call_text IsCall (λ c is. subst (λ (t : List ℕ). all_lie 32 102 t ≡ true) (sym (call_is c)) (lie_in call_field 32 102 refl c is)) calls (All-tail IsCall call calls are.1))
+    (all-flat_map (lies 32 102) call_text IsCall
+    (λ c is. subst (λ (t : List ℕ). all_lie 32 102 t ≡ true) (sym (call_is c))
+    (lie_in call_field 32 102 refl c is)) calls (All-tail IsCall call calls are.1))
 
 pub calls_field : IsField read_calls calls_body AreCalls 32 102
 calls_field = record { takes = calls_takes; again = calls_again; lie = calls_lie }
 
 -- what stands behind names
-pub named_field : IsField read_named (λ p. id_text p.0 ++ 32 ∷ hex_bytes p.1) (λ p. IsId p.0 × IsPdu p.1) 32 102
+pub named_field : IsField read_named (λ p. id_text p.0 ++ 32 ∷ hex_bytes p.1)
+    (λ p. IsId p.0 × IsPdu p.1) 32 102
 unfolding read_named
 named_field = two_fields 32 32 102 id_field pdu_field refl refl refl refl
 
-pub served_field : IsField read_served (λ p. id_text p.0 ++ 32 ∷ (hex_bytes p.1.0 ++ 32 ∷ hex_bytes p.1.1)) (λ p. IsId p.0 × (IsPdu p.1.0 × IsPdu p.1.1)) 32 102
+pub served_field : IsField read_served
+    (λ p. id_text p.0 ++ 32 ∷ (hex_bytes p.1.0 ++ 32 ∷ hex_bytes p.1.1))
+    (λ p. IsId p.0 × (IsPdu p.1.0 × IsPdu p.1.1)) 32 102
 unfolding read_served
 served_field =
     let last = two_fields 32 32 102 pdu_field pdu_field refl refl refl refl in
     two_fields 32 32 102 id_field last refl refl refl refl
 
-pub asked_field : IsField read_asked (λ p. id_text p.0 ++ 32 ∷ (decimal p.1.0 ++ 32 ∷ hex_bytes p.1.1)) (λ p. IsId p.0 × (IsSmall p.1.0 × IsPdu p.1.1)) 32 102
+pub asked_field : IsField read_asked
+    (λ p. id_text p.0 ++ 32 ∷ (decimal p.1.0 ++ 32 ∷ hex_bytes p.1.1))
+    (λ p. IsId p.0 × (IsSmall p.1.0 × IsPdu p.1.1)) 32 102
 unfolding read_asked
 asked_field =
     let last = two_fields 32 32 102 small_field pdu_field refl refl refl refl in

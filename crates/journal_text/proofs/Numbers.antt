@@ -21,14 +21,16 @@ use Rattle.journal_text.proofs.ReadLaws.{IsField, two_fields, made_field}
 
 -- decimal digits are those of std
 numerals : IsNumeralModel (λ ds. list_all is_digit ds ≡ true) value_of
-numerals = numerals_by_fold (λ ds. list_all is_digit ds ≡ true) (search rules) (λ n ds. fold (λ value digit. value * 10 + (digit - 48)) n ds) (search rules)
+numerals = numerals_by_fold (λ ds. list_all is_digit ds ≡ true) (search rules)
+    (λ n ds. fold (λ value digit. value * 10 + (digit - 48)) n ds) (search rules)
 
 -- one to ten bytes
 abbrev has_some_digits : List ℕ → Bool
 has_some_digits text = nat_le 1 (length text) && nat_le (length text) 10
 
 -- the form of a number
-front_of : (text : List ℕ) → has_no_leading_zero text ≡ true → get_or text 0 0 ≡ 48 → length text ≡ 1
+front_of : (text : List ℕ) → has_no_leading_zero text ≡ true → get_or text 0 0 ≡ 48
+    → length text ≡ 1
 front_of text front zero_first = grind (arith, nat_tests)
 
 some_of : (text : List ℕ) → has_some_digits text ≡ true → 0 < length text
@@ -41,25 +43,34 @@ below_test : (n limit : ℕ) → n < limit → nat_lt n limit ≡ true
 below_test n limit below = grind (arith, nat_tests)
 
 -- what is read as a number is its text
-numeral_text : (limit : ℕ) (text : List ℕ) → limit ≤ 2 ^ 32 → (is_numeral_up_to 10 text && nat_lt (value_of text) limit) ≡ true
+numeral_text : (limit : ℕ) (text : List ℕ) → limit ≤ 2 ^ 32
+    → (is_numeral_up_to 10 text && nat_lt (value_of text) limit) ≡ true
     → (text ≡ decimal (value_of text)) × (value_of text < limit)
 numeral_text limit text most all =
     let (numeral, less) = and_parts (is_numeral_up_to 10 text) (nat_lt (value_of text) limit) all in
-    let (digits, form) = and_parts (list_all is_digit text) (has_some_digits text && has_no_leading_zero text) numeral in
+    let (digits, form) = and_parts (list_all is_digit text)
+    (has_some_digits text && has_no_leading_zero text) numeral in
     let (some, front) = and_parts (has_some_digits text) (has_no_leading_zero text) form in
-    let below = below_of (value_of text) limit less in
-    (sym (decimal-digits_value numerals text digits (some_of text some) (front_of text front) (omega arith)), below)
+    let below = below_of (value_of text) limit less in (
+      sym (decimal-digits_value numerals text digits (some_of text some) (front_of text front)
+          (omega arith)),
+      below,
+    )
 
-pub number_takes : (limit : ℕ) (text : List ℕ) (n : ℕ) → limit ≤ 2 ^ 32 → read_number limit text ≡ Some n → (text ≡ decimal n) × (n < limit)
+pub number_takes : (limit : ℕ) (text : List ℕ) (n : ℕ) → limit ≤ 2 ^ 32
+    → read_number limit text ≡ Some n → (text ≡ decimal n) × (n < limit)
 number_takes limit text n most e =
-    elim (chosen (is_numeral_up_to 10 text && nat_lt (value_of text) limit) (Some (value_of text)) None (Some n) e) [
+    elim (chosen (is_numeral_up_to 10 text && nat_lt (value_of text) limit)
+    (Some (value_of text)) None (Some n) e) [
       | inl passed ↦
-          subst (λ (k : ℕ). (text ≡ decimal k) × (k < limit)) (some_is (value_of text) n passed.1) (numeral_text limit text most passed.0)
+          subst (λ (k : ℕ). (text ≡ decimal k) × (k < limit)) (some_is (value_of text) n passed.1)
+          (numeral_text limit text most passed.0)
       | inr apart ↦ none_some ((text ≡ decimal n) × (n < limit)) n apart.1
     ]
 
 -- what is written of a number is read as the number
-form_test : (text : List ℕ) → 0 < length text → length text ≤ 10 → (48 < get_or text 0 0 ⊎ (length text ≡ 1))
+form_test : (text : List ℕ) → 0 < length text → length text ≤ 10
+    → (48 < get_or text 0 0 ⊎ (length text ≡ 1))
     → (has_some_digits text && has_no_leading_zero text) ≡ true
 form_test text some few front = grind (arith, nat_tests)
 
@@ -69,11 +80,13 @@ is_numeral-decimal (suc n) few =
     let small : suc n < 2 ^ 64 = omega arith in
     let below : suc n < 10 ^ 10 = omega arith in
     let read : list_all is_digit (decimal (suc n)) ≡ true = digits_decimal numerals (suc n) small in
-    let front = form_test (decimal (suc n)) (decimal_nonempty (suc n) small) (length-decimal-le 10 (suc n) (omega arith) below small)
+    let front = form_test (decimal (suc n)) (decimal_nonempty (suc n) small)
+    (length-decimal-le 10 (suc n) (omega arith) below small)
     (inl (first_decimal (suc n) (omega arith) small)) in
     rw (read, front) refl
 
-pub number_again : (limit n : ℕ) → limit ≤ 2 ^ 32 → n < limit → read_number limit (decimal n) ≡ Some n
+pub number_again : (limit n : ℕ) → limit ≤ 2 ^ 32 → n < limit
+    → read_number limit (decimal n) ≡ Some n
 number_again limit n most less =
     let value : value_of (decimal n) ≡ n = digits_value-decimal numerals n (omega arith) in
     rw (is_numeral-decimal n (omega arith), value, below_test n limit less) refl
@@ -112,5 +125,7 @@ unfolding read_id
 id_field =
     let last = two_fields 46 46 57 small_field long_field refl refl refl refl in
     let all = two_fields 46 46 57 small_field last refl refl refl refl in
-    made_field all id_from (λ id. (id.node, (id.path, id.seq))) id_text IsId (λ parts. simp append_assoc)
-    (λ parts fits. record { node = fits.0; path = fits.1.0; seq = fits.1.1 }) (λ id is. (is.node, (is.path, is.seq))) (λ id. refl)
+    made_field all id_from (λ id. (id.node, (id.path, id.seq))) id_text IsId
+    (λ parts. simp append_assoc)
+    (λ parts fits. record { node = fits.0; path = fits.1.0; seq = fits.1.1 })
+    (λ id is. (is.node, (is.path, is.seq))) (λ id. refl)

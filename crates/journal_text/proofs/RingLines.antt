@@ -41,7 +41,8 @@ abbrev sent_parts : FrameKind → CallId → ℕ → List ℕ → List ℕ
 sent_parts Request id to pdu = codes "Q " ++ (id_text id ++ 32 ∷ (decimal to ++ 32 ∷ hex_bytes pdu))
 sent_parts Reply id to pdu = codes "R " ++ (id_text id ++ 32 ∷ hex_bytes pdu)
 
-sent_is : (kind : FrameKind) (id : CallId) (to : ℕ) (pdu : List ℕ) → sent_text kind id to pdu ≡ sent_parts kind id to pdu
+sent_is : (kind : FrameKind) (id : CallId) (to : ℕ) (pdu : List ℕ)
+    → sent_text kind id to pdu ≡ sent_parts kind id to pdu
 sent_is Request id to pdu = simp append_assoc
 sent_is Reply id to pdu = simp append_assoc
 
@@ -53,28 +54,38 @@ IsSent frame = FitsFrame frame × IsPlainFrame frame.kind frame
 
 sent_kinds_take : AllByRecursion (IsForm sent_body IsSent) sent_forms
 sent_kinds_take = (
-  form_of_field asked_field sent_body IsSent (codes "Q ") sent_request (λ p fits. refl) (λ p fits. ((fits.1.0, fits.0, fits.1.1), tt)),
-  (form_of_field named_field sent_body IsSent (codes "R ") sent_reply (λ p fits. refl) (λ p fits. ((fits.0.node, fits.0, fits.1), refl)), tt),
+  form_of_field asked_field sent_body IsSent (codes "Q ") sent_request (λ p fits. refl)
+      (λ p fits. ((fits.1.0, fits.0, fits.1.1), tt)),
+  (
+    form_of_field named_field sent_body IsSent (codes "R ") sent_reply (λ p fits. refl)
+        (λ p fits. ((fits.0.node, fits.0, fits.1), refl)),
+    tt,
+  ),
 )
 
 abbrev framed : FrameKind → ℕ → CallId → List ℕ → Frame
 framed kind to id pdu = record { kind = kind; to = to; id = id; pdu = pdu }
 
-sent_again : (kind : FrameKind) (to : ℕ) (id : CallId) (pdu : List ℕ) → IsSent (framed kind to id pdu) → read_sent (sent_parts kind id to pdu) ≡ Some (framed kind to id pdu)
+sent_again : (kind : FrameKind) (to : ℕ) (id : CallId) (pdu : List ℕ) → IsSent
+    (framed kind to id pdu) → read_sent (sent_parts kind id to pdu) ≡ Some (framed kind to id pdu)
 unfolding read_sent behind
-sent_again Request to id pdu is = rw (asked_field.again (id, (to, pdu)) (is.0.1, (is.0.0, is.0.2))) refl
+sent_again Request to id pdu is =
+    rw (asked_field.again (id, (to, pdu)) (is.0.1, (is.0.0, is.0.2))) refl
 sent_again Reply to id pdu is =
     let target : to ≡ id.node = is.1 in
-    rw (named_field.again (id, pdu) (is.0.1, is.0.2)) (ap (λ (n : ℕ). Some (framed Reply n id pdu)) (sym target))
+    rw (named_field.again (id, pdu) (is.0.1, is.0.2))
+    (ap (λ (n : ℕ). Some (framed Reply n id pdu)) (sym target))
 
-sent_lie : (kind : FrameKind) (to : ℕ) (id : CallId) (pdu : List ℕ) → IsSent (framed kind to id pdu) → all_lie 32 102 (sent_parts kind id to pdu) ≡ true
+sent_lie : (kind : FrameKind) (to : ℕ) (id : CallId) (pdu : List ℕ) → IsSent (framed kind to id pdu)
+    → all_lie 32 102 (sent_parts kind id to pdu) ≡ true
 sent_lie Request to id pdu is = asked_field.lie (id, (to, pdu)) (is.0.1, (is.0.0, is.0.2))
 sent_lie Reply to id pdu is = named_field.lie (id, pdu) (is.0.1, is.0.2)
 
 sent_field : IsField read_sent sent_body IsSent 32 102
 unfolding read_sent
 sent_field = record {
-  takes = λ text f e. first_takes sent_body IsSent sent_forms None text f sent_kinds_take (none_some ((text ≡ sent_body f) × IsSent f) f) e;
+  takes = λ text f e. first_takes sent_body IsSent sent_forms None text f sent_kinds_take
+      (none_some ((text ≡ sent_body f) × IsSent f) f) e;
   again = λ f is. sent_again f.kind f.to f.id f.pdu is;
   lie = λ f is. sent_lie f.kind f.to f.id f.pdu is;
 }
@@ -87,7 +98,8 @@ abbrev got_parts : FrameKind → CallId → List ℕ → List ℕ
 got_parts Request id pdu = codes "Q " ++ (id_text id ++ 32 ∷ hex_bytes pdu)
 got_parts Reply id pdu = codes "R " ++ (id_text id ++ 32 ∷ hex_bytes pdu)
 
-got_is : (kind : FrameKind) (id : CallId) (pdu : List ℕ) → got_text kind id pdu ≡ got_parts kind id pdu
+got_is : (kind : FrameKind) (id : CallId) (pdu : List ℕ)
+    → got_text kind id pdu ≡ got_parts kind id pdu
 got_is Request id pdu = simp append_assoc
 got_is Reply id pdu = simp append_assoc
 
@@ -99,39 +111,51 @@ IsGot got = IsId got.1.0 × IsPdu got.1.1
 
 got_kinds_take : AllByRecursion (IsForm got_body IsGot) got_forms
 got_kinds_take = (
-  form_of_field named_field got_body IsGot (codes "Q ") (got_from Request) (λ p fits. refl) (λ p fits. fits),
-  (form_of_field named_field got_body IsGot (codes "R ") (got_from Reply) (λ p fits. refl) (λ p fits. fits), tt),
+  form_of_field named_field got_body IsGot (codes "Q ") (got_from Request) (λ p fits. refl)
+      (λ p fits. fits),
+  (
+    form_of_field named_field got_body IsGot (codes "R ") (got_from Reply) (λ p fits. refl)
+        (λ p fits. fits),
+    tt,
+  ),
 )
 
-got_again : (kind : FrameKind) (named : CallId × List ℕ) → IsId named.0 × IsPdu named.1 → read_got (got_parts kind named.0 named.1) ≡ Some (kind, named)
+got_again : (kind : FrameKind) (named : CallId × List ℕ) → IsId named.0 × IsPdu named.1
+    → read_got (got_parts kind named.0 named.1) ≡ Some (kind, named)
 unfolding read_got behind
 got_again Request named is = rw (named_field.again named is) refl
 got_again Reply named is = rw (named_field.again named is) refl
 
-got_lie : (kind : FrameKind) (named : CallId × List ℕ) → IsId named.0 × IsPdu named.1 → all_lie 32 102 (got_parts kind named.0 named.1) ≡ true
+got_lie : (kind : FrameKind) (named : CallId × List ℕ) → IsId named.0 × IsPdu named.1
+    → all_lie 32 102 (got_parts kind named.0 named.1) ≡ true
 got_lie Request named is = named_field.lie named is
 got_lie Reply named is = named_field.lie named is
 
 got_field : IsField read_got got_body IsGot 32 102
 unfolding read_got
 got_field = record {
-  takes = λ text g e. first_takes got_body IsGot got_forms None text g got_kinds_take (none_some ((text ≡ got_body g) × IsGot g) g) e;
+  takes = λ text g e. first_takes got_body IsGot got_forms None text g got_kinds_take
+      (none_some ((text ≡ got_body g) × IsGot g) g) e;
   again = λ g is. got_again g.0 g.1 is;
   lie = λ g is. got_lie g.0 g.1 is;
 }
 
 -- words of one letter
-heard_takes : (text : List ℕ) (heard : Heard) → read_heard text ≡ Some heard → (text ≡ heard_text heard) × Unit {0}
+heard_takes : (text : List ℕ) (heard : Heard) → read_heard text ≡ Some heard
+    → (text ≡ heard_text heard) × Unit {0}
 unfolding read_heard
 heard_takes text heard e =
-    elim (chosen (bytes_eq text (codes "A")) (Some Acked) (cond (bytes_eq text (codes "S")) (Some Silent) (cond (bytes_eq text (codes "B")) (Some Busy) None)) (Some heard) e) [
+    elim (chosen (bytes_eq text (codes "A")) (Some Acked) (cond (bytes_eq text (codes "S"))
+    (Some Silent) (cond (bytes_eq text (codes "B")) (Some Busy) None)) (Some heard) e) [
       | inl a ↦ (text_is text (codes "A") a.0 ∙ ap heard_text (some_is Acked heard a.1), tt)
       | inr rest ↦
-          elim (chosen (bytes_eq text (codes "S")) (Some Silent) (cond (bytes_eq text (codes "B")) (Some Busy) None) (Some heard) rest.1) [
+          elim (chosen (bytes_eq text (codes "S")) (Some Silent)
+          (cond (bytes_eq text (codes "B")) (Some Busy) None) (Some heard) rest.1) [
             | inl s ↦ (text_is text (codes "S") s.0 ∙ ap heard_text (some_is Silent heard s.1), tt)
             | inr more ↦
                 elim (chosen (bytes_eq text (codes "B")) (Some Busy) None (Some heard) more.1) [
-                  | inl b ↦ (text_is text (codes "B") b.0 ∙ ap heard_text (some_is Busy heard b.1), tt)
+                  | inl b ↦
+                      (text_is text (codes "B") b.0 ∙ ap heard_text (some_is Busy heard b.1), tt)
                   | inr none ↦ none_some ((text ≡ heard_text heard) × Unit {0}) heard none.1
                 ]
           ]
@@ -151,10 +175,12 @@ heard_lie Busy is = refl
 heard_field : IsField read_heard heard_text (λ heard. Unit {0}) 48 102
 heard_field = record { takes = heard_takes; again = heard_again; lie = heard_lie }
 
-cause_takes : (text : List ℕ) (cause : LeaveCause) → read_cause text ≡ Some cause → (text ≡ cause_text cause) × Unit {0}
+cause_takes : (text : List ℕ) (cause : LeaveCause) → read_cause text ≡ Some cause
+    → (text ≡ cause_text cause) × Unit {0}
 unfolding read_cause
 cause_takes text cause e =
-    elim (chosen (bytes_eq text (codes "E")) (Some Ended) (cond (bytes_eq text (codes "S")) (Some Spent) None) (Some cause) e) [
+    elim (chosen (bytes_eq text (codes "E")) (Some Ended)
+    (cond (bytes_eq text (codes "S")) (Some Spent) None) (Some cause) e) [
       | inl a ↦ (text_is text (codes "E") a.0 ∙ ap cause_text (some_is Ended cause a.1), tt)
       | inr rest ↦
           elim (chosen (bytes_eq text (codes "S")) (Some Spent) None (Some cause) rest.1) [
@@ -175,10 +201,12 @@ cause_lie Spent is = refl
 cause_field : IsField read_cause cause_text (λ cause. Unit {0}) 48 102
 cause_field = record { takes = cause_takes; again = cause_again; lie = cause_lie }
 
-done_takes : (text : List ℕ) (done : Bool) → read_done text ≡ Some done → (text ≡ done_text done) × Unit {0}
+done_takes : (text : List ℕ) (done : Bool) → read_done text ≡ Some done
+    → (text ≡ done_text done) × Unit {0}
 unfolding read_done
 done_takes text done e =
-    elim (chosen (bytes_eq text (codes "1")) (Some true) (cond (bytes_eq text (codes "0")) (Some false) None) (Some done) e) [
+    elim (chosen (bytes_eq text (codes "1")) (Some true)
+    (cond (bytes_eq text (codes "0")) (Some false) None) (Some done) e) [
       | inl a ↦ (text_is text (codes "1") a.0 ∙ ap done_text (some_is true done a.1), tt)
       | inr rest ↦
           elim (chosen (bytes_eq text (codes "0")) (Some false) None (Some done) rest.1) [
@@ -203,97 +231,130 @@ done_field = record { takes = done_takes; again = done_again; lie = done_lie }
 abbrev pub ring_body : RingEntry → List ℕ
 ring_body (ring.Post node frame) = codes "PO " ++ (decimal node ++ 32 ∷ sent_body frame)
 ring_body (ring.Send node heard) = codes "SE " ++ (decimal node ++ 32 ∷ heard_text heard)
-ring_body (ring.Take node frame) = codes "TA " ++ (decimal node ++ 32 ∷ got_parts frame.kind frame.id frame.pdu)
+ring_body (ring.Take node frame) =
+    codes "TA " ++ (decimal node ++ 32 ∷ got_parts frame.kind frame.id frame.pdu)
 ring_body (ring.Local node id op result) =
-    codes "LO " ++ (decimal node ++ 32 ∷ (id_text id ++ 32 ∷ (op_text op ++ 32 ∷ call_result_text result)))
+    codes "LO "
+    ++ (decimal node ++ 32 ∷ (id_text id ++ 32 ∷ (op_text op ++ 32 ∷ call_result_text result)))
 ring_body (ring.GiveUp id word) = codes "GU " ++ (id_text id ++ 32 ∷ hex_word word)
-ring_body (ring.Pass node done words) = codes "PA " ++ (decimal node ++ 32 ∷ (done_text done ++ 32 ∷ hex_words words))
+ring_body (ring.Pass node done words) =
+    codes "PA " ++ (decimal node ++ 32 ∷ (done_text done ++ 32 ∷ hex_words words))
 ring_body (ring.Leave node cause) = codes "LE " ++ (decimal node ++ 32 ∷ cause_text cause)
 
 abbrev pub IsRingEntry : RingEntry → Type 0
 IsRingEntry entry = FitsRingEntry entry × IsPlainRing entry
 
 -- a text of three or more parts, with its line feed
-parts : (front a b : List ℕ) → front ++ a ++ 32 ∷ [] ++ b ++ 10 ∷ [] ≡ (front ++ (a ++ 32 ∷ b)) ++ 10 ∷ []
+parts : (front a b : List ℕ)
+    → front ++ a ++ 32 ∷ [] ++ b ++ 10 ∷ [] ≡ (front ++ (a ++ 32 ∷ b)) ++ 10 ∷ []
 parts front a b = simp append_assoc
 
-parts_three : (front a b d : List ℕ) → front ++ a ++ 32 ∷ [] ++ b ++ 32 ∷ [] ++ d ++ 10 ∷ [] ≡ (front ++ (a ++ 32 ∷ (b ++ 32 ∷ d))) ++ 10 ∷ []
+parts_three : (front a b d : List ℕ) → front ++ a ++ 32 ∷ [] ++ b ++ 32 ∷ [] ++ d ++ 10 ∷ []
+    ≡ (front ++ (a ++ 32 ∷ (b ++ 32 ∷ d))) ++ 10 ∷ []
 parts_three front a b d = simp append_assoc
 
 parts_four : (front a b d f : List ℕ)
-    → front ++ a ++ 32 ∷ [] ++ b ++ 32 ∷ [] ++ d ++ 32 ∷ [] ++ f ++ 10 ∷ [] ≡ (front ++ (a ++ 32 ∷ (b ++ 32 ∷ (d ++ 32 ∷ f)))) ++ 10 ∷ []
+    → front ++ a ++ 32 ∷ [] ++ b ++ 32 ∷ [] ++ d ++ 32 ∷ [] ++ f ++ 10 ∷ []
+    ≡ (front ++ (a ++ 32 ∷ (b ++ 32 ∷ (d ++ 32 ∷ f)))) ++ 10 ∷ []
 parts_four front a b d f = simp append_assoc
 
 pub ring_ended : (entry : RingEntry) → ring_line entry ≡ with_feed (ring_body entry)
 ring_ended (ring.Post node frame) =
     parts (codes "PO ") (decimal node) (sent_text frame.kind frame.id frame.to frame.pdu)
-    ∙ ap (λ (t : List ℕ). with_feed (codes "PO " ++ (decimal node ++ 32 ∷ t))) (sent_is frame.kind frame.id frame.to frame.pdu)
+    ∙ ap (λ (t : List ℕ). with_feed (codes "PO " ++ (decimal node ++ 32 ∷ t)))
+    (sent_is frame.kind frame.id frame.to frame.pdu)
 ring_ended (ring.Send node heard) = parts (codes "SE ") (decimal node) (heard_text heard)
 ring_ended (ring.Take node frame) =
     parts (codes "TA ") (decimal node) (got_text frame.kind frame.id frame.pdu)
-    ∙ ap (λ (t : List ℕ). with_feed (codes "TA " ++ (decimal node ++ 32 ∷ t))) (got_is frame.kind frame.id frame.pdu)
-ring_ended (ring.Local node id op result) = parts_four (codes "LO ") (decimal node) (id_text id) (op_text op) (call_result_text result)
+    ∙ ap (λ (t : List ℕ). with_feed (codes "TA " ++ (decimal node ++ 32 ∷ t)))
+    (got_is frame.kind frame.id frame.pdu)
+ring_ended (ring.Local node id op result) =
+    parts_four (codes "LO ") (decimal node) (id_text id) (op_text op) (call_result_text result)
 ring_ended (ring.GiveUp id word) = parts (codes "GU ") (id_text id) (hex_word word)
-ring_ended (ring.Pass node done words) = parts_three (codes "PA ") (decimal node) (done_text done) (hex_words words)
+ring_ended (ring.Pass node done words) =
+    parts_three (codes "PA ") (decimal node) (done_text done) (hex_words words)
 ring_ended (ring.Leave node cause) = parts (codes "LE ") (decimal node) (cause_text cause)
 
 -- what stands behind the letters
-post_field : IsField (read_pair read_small read_sent 32) (λ p. decimal p.0 ++ 32 ∷ sent_body p.1) (λ p. IsSmall p.0 × IsSent p.1) 32 102
+post_field : IsField (read_pair read_small read_sent 32) (λ p. decimal p.0 ++ 32 ∷ sent_body p.1)
+    (λ p. IsSmall p.0 × IsSent p.1) 32 102
 post_field = two_fields 32 32 102 small_field sent_field refl refl refl refl
 
-send_field : IsField (read_pair read_small read_heard 32) (λ p. decimal p.0 ++ 32 ∷ heard_text p.1) (λ p. IsSmall p.0 × Unit {0}) 32 102
+send_field : IsField (read_pair read_small read_heard 32) (λ p. decimal p.0 ++ 32 ∷ heard_text p.1)
+    (λ p. IsSmall p.0 × Unit {0}) 32 102
 send_field = two_fields 32 32 102 small_field heard_field refl refl refl refl
 
-take_field : IsField (read_pair read_small read_got 32) (λ p. decimal p.0 ++ 32 ∷ got_body p.1) (λ p. IsSmall p.0 × IsGot p.1) 32 102
+take_field : IsField (read_pair read_small read_got 32) (λ p. decimal p.0 ++ 32 ∷ got_body p.1)
+    (λ p. IsSmall p.0 × IsGot p.1) 32 102
 take_field = two_fields 32 32 102 small_field got_field refl refl refl refl
 
-local_field : IsField (read_pair read_small (read_pair read_id (read_pair read_op read_result 32) 32) 32)
-    (λ p. decimal p.0 ++ 32 ∷ (id_text p.1.0 ++ 32 ∷ (op_text p.1.1.0 ++ 32 ∷ call_result_text p.1.1.1)))
+local_field : IsField
+    (read_pair read_small (read_pair read_id (read_pair read_op read_result 32) 32) 32)
+    (λ p. decimal p.0
+    ++ 32 ∷ (id_text p.1.0 ++ 32 ∷ (op_text p.1.1.0 ++ 32 ∷ call_result_text p.1.1.1)))
     (λ p. IsSmall p.0 × (IsId p.1.0 × (FitsOp p.1.1.0 × FitsResult p.1.1.1))) 32 102
 local_field =
     let last = two_fields 32 32 102 op_field result_field refl refl refl refl in
     let rest = two_fields 32 32 102 id_field last refl refl refl refl in
     two_fields 32 32 102 small_field rest refl refl refl refl
 
-give_up_field : IsField (read_pair read_id read_hex_word 32) (λ p. id_text p.0 ++ 32 ∷ hex_word p.1) (λ p. IsId p.0 × IsWord p.1) 32 102
+give_up_field : IsField (read_pair read_id read_hex_word 32) (λ p. id_text p.0 ++ 32 ∷ hex_word p.1)
+    (λ p. IsId p.0 × IsWord p.1) 32 102
 give_up_field = two_fields 32 32 102 id_field word_field refl refl refl refl
 
-pass_field : IsField (read_pair read_small (read_pair read_done read_hex_words 32) 32) (λ p. decimal p.0 ++ 32 ∷ (done_text p.1.0 ++ 32 ∷ hex_words p.1.1))
+pass_field : IsField (read_pair read_small (read_pair read_done read_hex_words 32) 32)
+    (λ p. decimal p.0 ++ 32 ∷ (done_text p.1.0 ++ 32 ∷ hex_words p.1.1))
     (λ p. IsSmall p.0 × (Unit {0} × AreWords p.1.1)) 32 102
 pass_field =
     let last = two_fields 32 32 102 done_field words_field refl refl refl refl in
     two_fields 32 32 102 small_field last refl refl refl refl
 
-leave_field : IsField (read_pair read_small read_cause 32) (λ p. decimal p.0 ++ 32 ∷ cause_text p.1) (λ p. IsSmall p.0 × Unit {0}) 32 102
+leave_field : IsField (read_pair read_small read_cause 32) (λ p. decimal p.0 ++ 32 ∷ cause_text p.1)
+    (λ p. IsSmall p.0 × Unit {0}) 32 102
 leave_field = two_fields 32 32 102 small_field cause_field refl refl refl refl
 
 -- a frame that was taken is plain, and so are its numbers
-target_fits : (kind : FrameKind) (node : ℕ) (id : CallId) → IsSmall node → IsId id → IsSmall (target_of kind node id)
+target_fits : (kind : FrameKind) (node : ℕ) (id : CallId) → IsSmall node → IsId id
+    → IsSmall (target_of kind node id)
 target_fits Request node id less is = less
 target_fits Reply node id less is = is.node
 
-plain_got : (kind : FrameKind) (node : ℕ) (id : CallId) (pdu : List ℕ) → IsPlainGot node kind (framed kind (target_of kind node id) id pdu)
+plain_got : (kind : FrameKind) (node : ℕ) (id : CallId) (pdu : List ℕ)
+    → IsPlainGot node kind (framed kind (target_of kind node id) id pdu)
 plain_got Request node id pdu = refl
 plain_got Reply node id pdu = refl
 
 taken_fits : (node : ℕ) (got : Got) → IsSmall node → IsGot got → IsRingEntry (taken node got)
-taken_fits node got less is = ((less, (target_fits got.0 node got.1.0 less is.0, is.0, is.1)), plain_got got.0 node got.1.0 got.1.1)
+taken_fits node got less is = (
+  (less, (target_fits got.0 node got.1.0 less is.0, is.0, is.1)),
+  plain_got got.0 node got.1.0 got.1.1,
+)
 
 ring_kinds_take : AllByRecursion (IsForm ring_body IsRingEntry) ring_forms
 ring_kinds_take = (
-  form_of_field post_field ring_body IsRingEntry (codes "PO ") (λ p. ring.Post p.0 p.1) (λ p fits. refl) (λ p fits. ((fits.0, fits.1.0), fits.1.1)),
+  form_of_field post_field ring_body IsRingEntry (codes "PO ") (λ p. ring.Post p.0 p.1)
+      (λ p fits. refl) (λ p fits. ((fits.0, fits.1.0), fits.1.1)),
   (
-    form_of_field send_field ring_body IsRingEntry (codes "SE ") (λ p. ring.Send p.0 p.1) (λ p fits. refl) (λ p fits. (fits.0, tt)),
+    form_of_field send_field ring_body IsRingEntry (codes "SE ") (λ p. ring.Send p.0 p.1)
+        (λ p fits. refl) (λ p fits. (fits.0, tt)),
     (
-      form_of_field take_field ring_body IsRingEntry (codes "TA ") (λ p. taken p.0 p.1) (λ p fits. refl) (λ p fits. taken_fits p.0 p.1 fits.0 fits.1),
+      form_of_field take_field ring_body IsRingEntry (codes "TA ") (λ p. taken p.0 p.1)
+          (λ p fits. refl) (λ p fits. taken_fits p.0 p.1 fits.0 fits.1),
       (
-        form_of_field local_field ring_body IsRingEntry (codes "LO ") (λ p. ring.Local p.0 p.1.0 p.1.1.0 p.1.1.1) (λ p fits. refl)
+        form_of_field local_field ring_body IsRingEntry (codes "LO ")
+            (λ p. ring.Local p.0 p.1.0 p.1.1.0 p.1.1.1) (λ p fits. refl)
             (λ p fits. ((fits.0, fits.1.0, fits.1.1.0, fits.1.1.1), tt)),
         (
-          form_of_field give_up_field ring_body IsRingEntry (codes "GU ") (λ p. ring.GiveUp p.0 p.1) (λ p fits. refl) (λ p fits. (fits, tt)),
+          form_of_field give_up_field ring_body IsRingEntry (codes "GU ") (λ p. ring.GiveUp p.0 p.1)
+              (λ p fits. refl) (λ p fits. (fits, tt)),
           (
-            form_of_field pass_field ring_body IsRingEntry (codes "PA ") (λ p. ring.Pass p.0 p.1.0 p.1.1) (λ p fits. refl) (λ p fits. ((fits.0, fits.1.1), tt)),
-            (form_of_field leave_field ring_body IsRingEntry (codes "LE ") (λ p. ring.Leave p.0 p.1) (λ p fits. refl) (λ p fits. (fits.0, tt)), tt),
+            form_of_field pass_field ring_body IsRingEntry (codes "PA ") (λ p.
+                ring.Pass p.0 p.1.0 p.1.1) (λ p fits. refl) (λ p fits. ((fits.0, fits.1.1), tt)),
+            (
+              form_of_field leave_field ring_body IsRingEntry (codes "LE ")
+                  (λ p. ring.Leave p.0 p.1) (λ p fits. refl) (λ p fits. (fits.0, tt)),
+              tt,
+            ),
           ),
         ),
       ),
@@ -302,36 +363,46 @@ ring_kinds_take = (
 )
 
 -- what was taken has its target
-target_is : (kind : FrameKind) (node to : ℕ) (id : CallId) (pdu : List ℕ) → IsPlainGot node kind (framed kind to id pdu) → target_of kind node id ≡ to
+target_is : (kind : FrameKind) (node to : ℕ) (id : CallId) (pdu : List ℕ)
+    → IsPlainGot node kind (framed kind to id pdu) → target_of kind node id ≡ to
 target_is Request node to id pdu plain = sym plain
 target_is Reply node to id pdu plain = sym plain
 
-ring_again : (entry : RingEntry) → IsRingEntry entry → read_ring_entry (ring_body entry) ≡ Some entry
+ring_again : (entry : RingEntry) → IsRingEntry entry
+    → read_ring_entry (ring_body entry) ≡ Some entry
 unfolding read_ring_entry behind
-ring_again (ring.Post node frame) is = rw (post_field.again (node, frame) (is.0.0, (is.0.1, is.1))) refl
+ring_again (ring.Post node frame) is =
+    rw (post_field.again (node, frame) (is.0.0, (is.0.1, is.1))) refl
 ring_again (ring.Send node heard) is = rw (send_field.again (node, heard) (is.0, tt)) refl
 ring_again (ring.Take node frame) is =
-    let target : target_of frame.kind node frame.id ≡ frame.to = target_is frame.kind node frame.to frame.id frame.pdu is.1 in
+    let target : target_of frame.kind node frame.id ≡ frame.to =
+    target_is frame.kind node frame.to frame.id frame.pdu is.1 in
     rw (take_field.again (node, (frame.kind, (frame.id, frame.pdu))) (is.0.0, (is.0.1.1, is.0.1.2)))
     (ap (λ (to : ℕ). Some (ring.Take node (framed frame.kind to frame.id frame.pdu))) target)
-ring_again (ring.Local node id op result) is = rw (local_field.again (node, (id, (op, result))) (is.0.0, (is.0.1, (is.0.2, is.0.3)))) refl
+ring_again (ring.Local node id op result) is =
+    rw (local_field.again (node, (id, (op, result))) (is.0.0, (is.0.1, (is.0.2, is.0.3)))) refl
 ring_again (ring.GiveUp id word) is = rw (give_up_field.again (id, word) is.0) refl
-ring_again (ring.Pass node done words) is = rw (pass_field.again (node, (done, words)) (is.0.0, (tt, is.0.1))) refl
+ring_again (ring.Pass node done words) is =
+    rw (pass_field.again (node, (done, words)) (is.0.0, (tt, is.0.1))) refl
 ring_again (ring.Leave node cause) is = rw (leave_field.again (node, cause) (is.0, tt)) refl
 
 ring_lie : (entry : RingEntry) → IsRingEntry entry → all_lie 32 102 (ring_body entry) ≡ true
 ring_lie (ring.Post node frame) is = post_field.lie (node, frame) (is.0.0, (is.0.1, is.1))
 ring_lie (ring.Send node heard) is = send_field.lie (node, heard) (is.0, tt)
-ring_lie (ring.Take node frame) is = take_field.lie (node, (frame.kind, (frame.id, frame.pdu))) (is.0.0, (is.0.1.1, is.0.1.2))
-ring_lie (ring.Local node id op result) is = local_field.lie (node, (id, (op, result))) (is.0.0, (is.0.1, (is.0.2, is.0.3)))
+ring_lie (ring.Take node frame) is =
+    take_field.lie (node, (frame.kind, (frame.id, frame.pdu))) (is.0.0, (is.0.1.1, is.0.1.2))
+ring_lie (ring.Local node id op result) is =
+    local_field.lie (node, (id, (op, result))) (is.0.0, (is.0.1, (is.0.2, is.0.3)))
 ring_lie (ring.GiveUp id word) is = give_up_field.lie (id, word) is.0
-ring_lie (ring.Pass node done words) is = pass_field.lie (node, (done, words)) (is.0.0, (tt, is.0.1))
+ring_lie (ring.Pass node done words) is =
+    pass_field.lie (node, (done, words)) (is.0.0, (tt, is.0.1))
 ring_lie (ring.Leave node cause) is = leave_field.lie (node, cause) (is.0, tt)
 
 pub ring_field : IsField read_ring_entry ring_body IsRingEntry 32 102
 unfolding read_ring_entry
 ring_field = record {
-  takes = λ line entry e. first_takes ring_body IsRingEntry ring_forms None line entry ring_kinds_take (none_some ((line ≡ ring_body entry) × IsRingEntry entry) entry) e;
+  takes = λ line entry e. first_takes ring_body IsRingEntry ring_forms None line entry
+      ring_kinds_take (none_some ((line ≡ ring_body entry) × IsRingEntry entry) entry) e;
   again = ring_again;
   lie = ring_lie;
 }

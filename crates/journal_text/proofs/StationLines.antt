@@ -34,7 +34,8 @@ use Rattle.journal_text.proofs.Calls.{calls_field, served_field, asked_field}
 
 -- the line of an entry without its line feed
 abbrev peer_body : CallId → List ℕ → List ℕ → List ℕ
-peer_body id request reply = codes "P " ++ (id_text id ++ 32 ∷ (hex_bytes request ++ 32 ∷ hex_bytes reply))
+peer_body id request reply =
+    codes "P " ++ (id_text id ++ 32 ∷ (hex_bytes request ++ 32 ∷ hex_bytes reply))
 
 abbrev pub entry_body : Entry → List ℕ
 entry_body entries.Begin = codes "B"
@@ -60,18 +61,24 @@ entry_ended (entries.Peer id request reply) = simp append_assoc
 entry_ended (entries.Finish id result) = simp append_assoc
 
 -- the kinds of a controller's lines
-output_field : IsField (read_pair read_word read_block 32) (λ p. decimal p.0 ++ 32 ∷ hex_words p.1) (λ p. IsWord p.0 × AreBlockWords p.1) 32 102
+output_field : IsField (read_pair read_word read_block 32) (λ p. decimal p.0 ++ 32 ∷ hex_words p.1)
+    (λ p. IsWord p.0 × AreBlockWords p.1) 32 102
 output_field = two_fields 32 32 102 word_number_field block_field refl refl refl refl
 
-finish_field : IsField (read_pair read_id read_result 32) (λ p. id_text p.0 ++ 32 ∷ call_result_text p.1) (λ p. IsId p.0 × FitsResult p.1) 32 102
+finish_field : IsField (read_pair read_id read_result 32)
+    (λ p. id_text p.0 ++ 32 ∷ call_result_text p.1) (λ p. IsId p.0 × FitsResult p.1) 32 102
 finish_field = two_fields 32 32 102 id_field result_field refl refl refl refl
 
-calls_front : (calls : List Call) → AreCalls calls → codes "L " ++ calls_body calls ≡ entry_body (entries.Collect calls)
+calls_front : (calls : List Call) → AreCalls calls
+    → codes "L " ++ calls_body calls ≡ entry_body (entries.Collect calls)
 calls_front [] are = absurd (are.0 refl)
 calls_front (call ∷ calls) are = ap (λ (t : List ℕ). 76 ∷ t) (sym (next_is call calls))
 
 calls_fit : (calls : List Call) → AreCalls calls → IsEntry (entries.Collect calls)
-calls_fit calls are = (All-weaker IsCall FitsCall (λ c is. is.0) calls are.1, (are.0, All-weaker IsCall IsPlainCall (λ c is. is.1) calls are.1))
+calls_fit calls are = (
+  All-weaker IsCall FitsCall (λ c is. is.0) calls are.1,
+  (are.0, All-weaker IsCall IsPlainCall (λ c is. is.1) calls are.1),
+)
 
 both_calls : (calls : List Call) → All FitsCall calls → All IsPlainCall calls → All IsCall calls
 both_calls calls fits plain k d within = (fits k d within, plain k d within)
@@ -81,38 +88,53 @@ calls_of_entry calls is = (is.1.0, both_calls calls is.0 is.1.1)
 
 entry_kinds_take : AllByRecursion (IsForm entry_body IsEntry) entry_forms
 entry_kinds_take = (
-  form_of_field word_number_field entry_body IsEntry (codes "I ") (λ row. entries.Input row) (λ row fits. refl) (λ row fits. (fits, tt)),
+  form_of_field word_number_field entry_body IsEntry (codes "I ") (λ row. entries.Input row)
+      (λ row fits. refl) (λ row fits. (fits, tt)),
   (
-    form_of_field word_number_field entry_body IsEntry (codes "S ") (λ row. entries.Solve row) (λ row fits. refl) (λ row fits. (fits, tt)),
+    form_of_field word_number_field entry_body IsEntry (codes "S ") (λ row. entries.Solve row)
+        (λ row fits. refl) (λ row fits. (fits, tt)),
     (
-      form_of_field output_field entry_body IsEntry (codes "O ") (λ p. entries.Output p.0 p.1) (λ p fits. refl) (λ p fits. (fits, tt)),
+      form_of_field output_field entry_body IsEntry (codes "O ") (λ p. entries.Output p.0 p.1)
+          (λ p fits. refl) (λ p fits. (fits, tt)),
       (
-        form_of_field calls_field entry_body IsEntry (codes "L ") (λ calls. entries.Collect calls) calls_front calls_fit,
+        form_of_field calls_field entry_body IsEntry (codes "L ")
+            (λ calls. entries.Collect calls) calls_front calls_fit,
         (
-          form_of_field served_field entry_body IsEntry (codes "P ") (λ p. entries.Peer p.0 p.1.0 p.1.1) (λ p fits. refl) (λ p fits. ((fits.0, fits.1.0, fits.1.1), tt)),
-          (form_of_field finish_field entry_body IsEntry (codes "F ") (λ p. entries.Finish p.0 p.1) (λ p fits. refl) (λ p fits. (fits, tt)), tt),
+          form_of_field served_field entry_body IsEntry (codes "P ") (λ p. entries.Peer p.0 p.1.0
+              p.1.1) (λ p fits. refl) (λ p fits. ((fits.0, fits.1.0, fits.1.1), tt)),
+          (
+            form_of_field finish_field entry_body IsEntry (codes "F ") (λ p. entries.Finish p.0 p.1)
+                (λ p fits. refl) (λ p fits. (fits, tt)),
+            tt,
+          ),
         ),
       ),
     ),
   ),
 )
 
-bare_entry_takes : (line : List ℕ) (entry : Entry) → read_bare_entry line ≡ Some entry → (line ≡ entry_body entry) × IsEntry entry
+bare_entry_takes : (line : List ℕ) (entry : Entry) → read_bare_entry line ≡ Some entry
+    → (line ≡ entry_body entry) × IsEntry entry
 bare_entry_takes line entry e =
-    elim (chosen (bytes_eq line (codes "B")) (Some entries.Begin) (cond (bytes_eq line (codes "E")) (Some entries.End) None) (Some entry) e) [
+    elim (chosen (bytes_eq line (codes "B")) (Some entries.Begin)
+    (cond (bytes_eq line (codes "E")) (Some entries.End) None) (Some entry) e) [
       | inl begin ↦
-          subst (λ (x : Entry). (line ≡ entry_body x) × IsEntry x) (some_is entries.Begin entry begin.1) (text_is line (codes "B") begin.0, (tt, tt))
+          subst (λ (x : Entry). (line ≡ entry_body x) × IsEntry x)
+          (some_is entries.Begin entry begin.1) (text_is line (codes "B") begin.0, (tt, tt))
       | inr more ↦
           elim (chosen (bytes_eq line (codes "E")) (Some entries.End) None (Some entry) more.1) [
             | inl last ↦
-                subst (λ (x : Entry). (line ≡ entry_body x) × IsEntry x) (some_is entries.End entry last.1) (text_is line (codes "E") last.0, (tt, tt))
+                subst (λ (x : Entry). (line ≡ entry_body x) × IsEntry x)
+                (some_is entries.End entry last.1) (text_is line (codes "E") last.0, (tt, tt))
             | inr none ↦ none_some ((line ≡ entry_body entry) × IsEntry entry) entry none.1
           ]
     ]
 
-collect_again : (calls : List Call) → AreCalls calls → read_entry (entry_body (entries.Collect calls)) ≡ Some (entries.Collect calls)
+collect_again : (calls : List Call) → AreCalls calls
+    → read_entry (entry_body (entries.Collect calls)) ≡ Some (entries.Collect calls)
 unfolding read_entry behind
-collect_again calls are = ap read_entry (sym (calls_front calls are)) ∙ rw (calls_field.again calls are) refl
+collect_again calls are = ap read_entry (sym (calls_front calls are))
+    ∙ rw (calls_field.again calls are) refl
 
 entry_again : (entry : Entry) → IsEntry entry → read_entry (entry_body entry) ≡ Some entry
 unfolding read_entry behind
@@ -122,7 +144,8 @@ entry_again (entries.Solve row) is = rw (word_number_field.again row is.0) refl
 entry_again (entries.Output row words) is = rw (output_field.again (row, words) is.0) refl
 entry_again entries.End is = refl
 entry_again (entries.Collect calls) is = collect_again calls (calls_of_entry calls is)
-entry_again (entries.Peer id request reply) is = rw (served_field.again (id, (request, reply)) (is.0.0, (is.0.1, is.0.2))) refl
+entry_again (entries.Peer id request reply) is =
+    rw (served_field.again (id, (request, reply)) (is.0.0, (is.0.1, is.0.2))) refl
 entry_again (entries.Finish id result) is = rw (finish_field.again (id, result) is.0) refl
 
 entry_lie : (entry : Entry) → IsEntry entry → all_lie 32 102 (entry_body entry) ≡ true
@@ -133,14 +156,17 @@ entry_lie (entries.Output row words) is = output_field.lie (row, words) is.0
 entry_lie entries.End is = refl
 entry_lie (entries.Collect calls) is =
     let are = calls_of_entry calls is in
-    subst (λ (t : List ℕ). all_lie 32 102 t ≡ true) (calls_front calls are) (calls_field.lie calls are)
-entry_lie (entries.Peer id request reply) is = served_field.lie (id, (request, reply)) (is.0.0, (is.0.1, is.0.2))
+    subst (λ (t : List ℕ). all_lie 32 102 t ≡ true) (calls_front calls are)
+    (calls_field.lie calls are)
+entry_lie (entries.Peer id request reply) is =
+    served_field.lie (id, (request, reply)) (is.0.0, (is.0.1, is.0.2))
 entry_lie (entries.Finish id result) is = finish_field.lie (id, result) is.0
 
 pub entry_field : IsField read_entry entry_body IsEntry 32 102
 unfolding read_entry
 entry_field = record {
-  takes = λ line entry e. first_takes entry_body IsEntry entry_forms (read_bare_entry line) line entry entry_kinds_take (bare_entry_takes line entry) e;
+  takes = λ line entry e. first_takes entry_body IsEntry entry_forms
+      (read_bare_entry line) line entry entry_kinds_take (bare_entry_takes line entry) e;
   again = entry_again;
   lie = entry_lie;
 }
@@ -148,8 +174,13 @@ entry_field = record {
 -- what came of a host's request
 outcome_kinds_take : AllByRecursion (IsForm answer_text FitsAnswer) outcome_forms
 outcome_kinds_take = (
-  form_of_field pdu_field answer_text FitsAnswer (codes "R ") (λ pdu. host_results.Reply pdu) (λ pdu fits. refl) (λ pdu fits. fits),
-  (form_of_field word_field answer_text FitsAnswer (codes "B ") (λ word. host_results.Bad word) (λ word fits. refl) (λ word fits. fits), tt),
+  form_of_field pdu_field answer_text FitsAnswer (codes "R ") (λ pdu. host_results.Reply pdu)
+      (λ pdu fits. refl) (λ pdu fits. fits),
+  (
+    form_of_field word_field answer_text FitsAnswer (codes "B ") (λ word. host_results.Bad word)
+        (λ word fits. refl) (λ word fits. fits),
+    tt,
+  ),
 )
 
 outcome_again : (r : HostResult) → FitsAnswer r → read_outcome (answer_text r) ≡ Some r
@@ -164,14 +195,16 @@ outcome_lie (host_results.Bad word) is = lie_in word_field 32 102 refl word is
 outcome_field : IsField read_outcome answer_text FitsAnswer 32 102
 unfolding read_outcome
 outcome_field = record {
-  takes = λ text r e. first_takes answer_text FitsAnswer outcome_forms None text r outcome_kinds_take (none_some ((text ≡ answer_text r) × FitsAnswer r) r) e;
+  takes = λ text r e. first_takes answer_text FitsAnswer outcome_forms None text r
+      outcome_kinds_take (none_some ((text ≡ answer_text r) × FitsAnswer r) r) e;
   again = outcome_again;
   lie = outcome_lie;
 }
 
 -- the kinds of a host's lines
 abbrev pub host_body : HostEntry → List ℕ
-host_body (host_entries.Ask id to pdu) = codes "Q " ++ (id_text id ++ 32 ∷ (decimal to ++ 32 ∷ hex_bytes pdu))
+host_body (host_entries.Ask id to pdu) =
+    codes "Q " ++ (id_text id ++ 32 ∷ (decimal to ++ 32 ∷ hex_bytes pdu))
 host_body (host_entries.Answer id result) = codes "A " ++ (id_text id ++ 32 ∷ answer_text result)
 host_body (host_entries.Served id request reply) = peer_body id request reply
 
@@ -180,33 +213,45 @@ host_ended (host_entries.Ask id to pdu) = simp append_assoc
 host_ended (host_entries.Answer id result) = simp append_assoc
 host_ended (host_entries.Served id request reply) = simp append_assoc
 
-answer_field : IsField (read_pair read_id read_outcome 32) (λ p. id_text p.0 ++ 32 ∷ answer_text p.1) (λ p. IsId p.0 × FitsAnswer p.1) 32 102
+answer_field : IsField (read_pair read_id read_outcome 32)
+    (λ p. id_text p.0 ++ 32 ∷ answer_text p.1) (λ p. IsId p.0 × FitsAnswer p.1) 32 102
 answer_field = two_fields 32 32 102 id_field outcome_field refl refl refl refl
 
 host_kinds_take : AllByRecursion (IsForm host_body FitsHostEntry) host_forms
 host_kinds_take = (
-  form_of_field asked_field host_body FitsHostEntry (codes "Q ") (λ p. host_entries.Ask p.0 p.1.0 p.1.1) (λ p fits. refl) (λ p fits. (fits.0, fits.1.0, fits.1.1)),
+  form_of_field asked_field host_body FitsHostEntry (codes "Q ") (λ p.
+      host_entries.Ask p.0 p.1.0 p.1.1) (λ p fits. refl) (λ p fits. (fits.0, fits.1.0, fits.1.1)),
   (
-    form_of_field answer_field host_body FitsHostEntry (codes "A ") (λ p. host_entries.Answer p.0 p.1) (λ p fits. refl) (λ p fits. fits),
-    (form_of_field served_field host_body FitsHostEntry (codes "P ") (λ p. host_entries.Served p.0 p.1.0 p.1.1) (λ p fits. refl) (λ p fits. (fits.0, fits.1.0, fits.1.1)), tt),
+    form_of_field answer_field host_body FitsHostEntry (codes "A ")
+        (λ p. host_entries.Answer p.0 p.1) (λ p fits. refl) (λ p fits. fits),
+    (
+      form_of_field served_field host_body FitsHostEntry (codes "P ") (λ p. host_entries.Served p.0
+          p.1.0 p.1.1) (λ p fits. refl) (λ p fits. (fits.0, fits.1.0, fits.1.1)),
+      tt,
+    ),
   ),
 )
 
-host_again : (entry : HostEntry) → FitsHostEntry entry → read_host_entry (host_body entry) ≡ Some entry
+host_again : (entry : HostEntry) → FitsHostEntry entry
+    → read_host_entry (host_body entry) ≡ Some entry
 unfolding read_host_entry behind
-host_again (host_entries.Ask id to pdu) is = rw (asked_field.again (id, (to, pdu)) (is.0, (is.1, is.2))) refl
+host_again (host_entries.Ask id to pdu) is =
+    rw (asked_field.again (id, (to, pdu)) (is.0, (is.1, is.2))) refl
 host_again (host_entries.Answer id result) is = rw (answer_field.again (id, result) is) refl
-host_again (host_entries.Served id request reply) is = rw (served_field.again (id, (request, reply)) (is.0, (is.1, is.2))) refl
+host_again (host_entries.Served id request reply) is =
+    rw (served_field.again (id, (request, reply)) (is.0, (is.1, is.2))) refl
 
 host_lie : (entry : HostEntry) → FitsHostEntry entry → all_lie 32 102 (host_body entry) ≡ true
 host_lie (host_entries.Ask id to pdu) is = asked_field.lie (id, (to, pdu)) (is.0, (is.1, is.2))
 host_lie (host_entries.Answer id result) is = answer_field.lie (id, result) is
-host_lie (host_entries.Served id request reply) is = served_field.lie (id, (request, reply)) (is.0, (is.1, is.2))
+host_lie (host_entries.Served id request reply) is =
+    served_field.lie (id, (request, reply)) (is.0, (is.1, is.2))
 
 pub host_field : IsField read_host_entry host_body FitsHostEntry 32 102
 unfolding read_host_entry
 host_field = record {
-  takes = λ line entry e. first_takes host_body FitsHostEntry host_forms None line entry host_kinds_take (none_some ((line ≡ host_body entry) × FitsHostEntry entry) entry) e;
+  takes = λ line entry e. first_takes host_body FitsHostEntry host_forms None line entry
+      host_kinds_take (none_some ((line ≡ host_body entry) × FitsHostEntry entry) entry) e;
   again = host_again;
   lie = host_lie;
 }

@@ -55,15 +55,22 @@ FitsHead heads.Ring = Unit {0}
 
 head_kinds_take : AllByRecursion (IsForm head_body FitsHead) head_forms
 head_kinds_take = (
-  form_of_field small_field head_body FitsHead (codes "C ") (λ node. heads.Controller node) (λ node fits. refl) (λ node fits. fits),
-  (form_of_field small_field head_body FitsHead (codes "H ") (λ node. heads.Host node) (λ node fits. refl) (λ node fits. fits), tt),
+  form_of_field small_field head_body FitsHead (codes "C ") (λ node. heads.Controller node)
+      (λ node fits. refl) (λ node fits. fits),
+  (
+    form_of_field small_field head_body FitsHead (codes "H ") (λ node. heads.Host node)
+        (λ node fits. refl) (λ node fits. fits),
+    tt,
+  ),
 )
 
-bare_head : (line : List ℕ) (head : Head) → cond (bytes_eq line (codes "R")) (Some heads.Ring) None ≡ Some head → (line ≡ head_body head) × FitsHead head
+bare_head : (line : List ℕ) (head : Head) → cond (bytes_eq line (codes "R")) (Some heads.Ring) None
+    ≡ Some head → (line ≡ head_body head) × FitsHead head
 bare_head line head e =
     elim (chosen (bytes_eq line (codes "R")) (Some heads.Ring) None (Some head) e) [
       | inl passed ↦
-          subst (λ (h : Head). (line ≡ head_body h) × FitsHead h) (some_is heads.Ring head passed.1) (text_is line (codes "R") passed.0, tt)
+          subst (λ (h : Head). (line ≡ head_body h) × FitsHead h) (some_is heads.Ring head passed.1)
+          (text_is line (codes "R") passed.0, tt)
       | inr apart ↦ none_some ((line ≡ head_body head) × FitsHead head) head apart.1
     ]
 
@@ -81,44 +88,59 @@ head_lie heads.Ring is = refl
 pub head_field : IsField read_head head_body FitsHead 32 102
 unfolding read_head
 head_field = record {
-  takes = λ line head e. first_takes head_body FitsHead head_forms (cond (bytes_eq line (codes "R")) (Some heads.Ring) None) line head head_kinds_take (bare_head line head) e;
+  takes = λ line head e. first_takes head_body FitsHead head_forms (cond (bytes_eq line (codes "R"))
+      (Some heads.Ring) None) line head head_kinds_take (bare_head line head) e;
   again = head_again;
   lie = head_lie;
 }
 
 -- texts of sections and of lists that grow
-push : {X : Type 0} (f : X → List ℕ) (xs : List X) (x : X) → flat_map f (xs ++ x ∷ []) ≡ flat_map f xs ++ f x
+push : {X : Type 0} (f : X → List ℕ) (xs : List X) (x : X)
+    → flat_map f (xs ++ x ∷ []) ≡ flat_map f xs ++ f x
 push f xs x = sym (flat_map_more f [] xs x)
 
-section_more : (log : ControllerLog) (entry : Entry) → controller_section (log_with_entry log entry) ≡ controller_section log ++ controller_line entry
+section_more : (log : ControllerLog) (entry : Entry) → controller_section (log_with_entry log entry)
+    ≡ controller_section log ++ controller_line entry
 section_more log entry =
-    ap (λ (t : List ℕ). codes "C " ++ decimal log.node ++ codes "\n" ++ t) (push controller_line log.entries entry)
-    ∙ sym (append_assoc (codes "C " ++ decimal log.node ++ codes "\n") (flat_map controller_line log.entries) (controller_line entry))
+    ap (λ (t : List ℕ). codes "C " ++ decimal log.node ++ codes "\n" ++ t)
+    (push controller_line log.entries entry)
+    ∙ sym (append_assoc (codes "C " ++ decimal log.node ++ codes "\n")
+    (flat_map controller_line log.entries) (controller_line entry))
 
-host_section_more : (log : HostLog) (entry : HostEntry) → host_section (host_log_with_entry log entry) ≡ host_section log ++ host_line entry
+host_section_more : (log : HostLog) (entry : HostEntry)
+    → host_section (host_log_with_entry log entry) ≡ host_section log ++ host_line entry
 host_section_more log entry =
-    ap (λ (t : List ℕ). codes "H " ++ decimal log.node ++ codes "\n" ++ t) (push host_line log.entries entry)
-    ∙ sym (append_assoc (codes "H " ++ decimal log.node ++ codes "\n") (flat_map host_line log.entries) (host_line entry))
+    ap (λ (t : List ℕ). codes "H " ++ decimal log.node ++ codes "\n" ++ t)
+    (push host_line log.entries entry)
+    ∙ sym (append_assoc (codes "H " ++ decimal log.node ++ codes "\n")
+    (flat_map host_line log.entries) (host_line entry))
 
 sections_more : (done : List ControllerLog) (log : ControllerLog) (entry : Entry)
-    → flat_map controller_section (done ++ log_with_entry log entry ∷ []) ≡ flat_map controller_section (done ++ log ∷ []) ++ controller_line entry
+    → flat_map controller_section (done ++ log_with_entry log entry ∷ [])
+    ≡ flat_map controller_section (done ++ log ∷ []) ++ controller_line entry
 sections_more done log entry =
-    push controller_section done (log_with_entry log entry) ∙ ap (λ (t : List ℕ). flat_map controller_section done ++ t) (section_more log entry)
-    ∙ sym (append_assoc (flat_map controller_section done) (controller_section log) (controller_line entry))
+    push controller_section done (log_with_entry log entry)
+    ∙ ap (λ (t : List ℕ). flat_map controller_section done ++ t) (section_more log entry)
+    ∙ sym (append_assoc (flat_map controller_section done) (controller_section log)
+    (controller_line entry))
     ∙ ap (λ (t : List ℕ). t ++ controller_line entry) (sym (push controller_section done log))
 
 host_sections_more : (done : List HostLog) (log : HostLog) (entry : HostEntry)
-    → flat_map host_section (done ++ host_log_with_entry log entry ∷ []) ≡ flat_map host_section (done ++ log ∷ []) ++ host_line entry
+    → flat_map host_section (done ++ host_log_with_entry log entry ∷ [])
+    ≡ flat_map host_section (done ++ log ∷ []) ++ host_line entry
 host_sections_more done log entry =
-    push host_section done (host_log_with_entry log entry) ∙ ap (λ (t : List ℕ). flat_map host_section done ++ t) (host_section_more log entry)
+    push host_section done (host_log_with_entry log entry)
+    ∙ ap (λ (t : List ℕ). flat_map host_section done ++ t) (host_section_more log entry)
     ∙ sym (append_assoc (flat_map host_section done) (host_section log) (host_line entry))
     ∙ ap (λ (t : List ℕ). t ++ host_line entry) (sym (push host_section done log))
 
 -- a section of nothing is its head
-new_section : (node : ℕ) → controller_section (new_log node) ≡ with_feed (head_body (heads.Controller node))
+new_section : (node : ℕ)
+    → controller_section (new_log node) ≡ with_feed (head_body (heads.Controller node))
 new_section node = append-nil (codes "C " ++ decimal node ++ codes "\n")
 
-new_host_section : (node : ℕ) → host_section (new_host_log node) ≡ with_feed (head_body (heads.Host node))
+new_host_section : (node : ℕ)
+    → host_section (new_host_log node) ≡ with_feed (head_body (heads.Host node))
 new_host_section node = append-nil (codes "H " ++ decimal node ++ codes "\n")
 
 -- a line was added, and what is read can be told
@@ -137,10 +159,12 @@ one_log node less = record {
 one_host : (node : ℕ) → IsSmall node → AreHosts (new_host_log node ∷ [])
 one_host node less = record {
   rise = tt;
-  fit = All-cons FitsHostLog (new_host_log node) [] (less, All-nil FitsHostEntry) (All-nil FitsHostLog);
+  fit = All-cons FitsHostLog (new_host_log node) [] (less, All-nil FitsHostEntry)
+      (All-nil FitsHostLog);
 }
 
-more_logs : (done : List ControllerLog) (log : ControllerLog) (node : ℕ) → AreControllers (done ++ log ∷ []) → log.node < node → IsSmall node
+more_logs : (done : List ControllerLog) (log : ControllerLog) (node : ℕ)
+    → AreControllers (done ++ log ∷ []) → log.node < node → IsSmall node
     → AreControllers ((done ++ log ∷ []) ++ new_log node ∷ [])
 more_logs done log node are above less = record {
   rise = rises_more controller_node done log (new_log node) are.rise above;
@@ -148,31 +172,40 @@ more_logs done log node are above less = record {
   plain = All-push PlainLog (done ++ log ∷ []) (new_log node) are.plain (All-nil IsPlainEntry);
 }
 
-more_hosts : (done : List HostLog) (log : HostLog) (node : ℕ) → AreHosts (done ++ log ∷ []) → log.node < node → IsSmall node
+more_hosts : (done : List HostLog) (log : HostLog) (node : ℕ) → AreHosts (done ++ log ∷ [])
+    → log.node < node → IsSmall node
     → AreHosts ((done ++ log ∷ []) ++ new_host_log node ∷ [])
 more_hosts done log node are above less = record {
   rise = rises_more host_node done log (new_host_log node) are.rise above;
-  fit = All-push FitsHostLog (done ++ log ∷ []) (new_host_log node) are.fit (less, All-nil FitsHostEntry);
+  fit = All-push FitsHostLog (done ++ log ∷ []) (new_host_log node) are.fit
+      (less, All-nil FitsHostEntry);
 }
 
-more_entries : (done : List ControllerLog) (log : ControllerLog) (entry : Entry) → AreControllers (done ++ log ∷ []) → IsEntry entry
+more_entries : (done : List ControllerLog) (log : ControllerLog) (entry : Entry)
+    → AreControllers (done ++ log ∷ []) → IsEntry entry
     → AreControllers (done ++ log_with_entry log entry ∷ [])
 more_entries done log entry are is =
     let fit = All-head FitsLog log [] (all_back FitsLog done (log ∷ []) are.fit) in
     let plain = All-head PlainLog log [] (all_back PlainLog done (log ∷ []) are.plain) in
     record {
-      rise = subst Rises (same_last controller_node done log (log_with_entry log entry) refl) are.rise;
-      fit = All-push FitsLog done (log_with_entry log entry) (all_front FitsLog done (log ∷ []) are.fit) (fit.0, All-push FitsEntry log.entries entry fit.1 is.0);
-      plain = All-push PlainLog done (log_with_entry log entry) (all_front PlainLog done (log ∷ []) are.plain) (All-push IsPlainEntry log.entries entry plain is.1);
+      rise = subst Rises
+          (same_last controller_node done log (log_with_entry log entry) refl) are.rise;
+      fit = All-push FitsLog done (log_with_entry log entry) (all_front FitsLog done
+          (log ∷ []) are.fit) (fit.0, All-push FitsEntry log.entries entry fit.1 is.0);
+      plain = All-push PlainLog done (log_with_entry log entry) (all_front PlainLog done
+          (log ∷ []) are.plain) (All-push IsPlainEntry log.entries entry plain is.1);
     }
 
-more_host_entries : (done : List HostLog) (log : HostLog) (entry : HostEntry) → AreHosts (done ++ log ∷ []) → FitsHostEntry entry
+more_host_entries : (done : List HostLog) (log : HostLog) (entry : HostEntry)
+    → AreHosts (done ++ log ∷ []) → FitsHostEntry entry
     → AreHosts (done ++ host_log_with_entry log entry ∷ [])
 more_host_entries done log entry are is =
     let fit = All-head FitsHostLog log [] (all_back FitsHostLog done (log ∷ []) are.fit) in
     record {
-      rise = subst Rises (same_last host_node done log (host_log_with_entry log entry) refl) are.rise;
-      fit = All-push FitsHostLog done (host_log_with_entry log entry) (all_front FitsHostLog done (log ∷ []) are.fit)
+      rise = subst Rises
+          (same_last host_node done log (host_log_with_entry log entry) refl) are.rise;
+      fit = All-push FitsHostLog done (host_log_with_entry log entry)
+          (all_front FitsHostLog done (log ∷ []) are.fit)
           (fit.0, All-push FitsHostEntry log.entries entry fit.1 is);
     }
 
@@ -183,24 +216,35 @@ start_adds line new e =
     elim (chosen (bytes_eq line (codes "%JOURNAL")) (Some drafts.Open) None (Some new) e) [
       | inl passed ↦
           subst (λ (d : Draft). Adds drafts.Start d line) (some_is drafts.Open new passed.1)
-          (record { text = ap with_feed (sym (text_is line (codes "%JOURNAL") passed.0)); good = tt })
+          (record {
+            text = ap with_feed (sym (text_is line (codes "%JOURNAL") passed.0));
+            good = tt;
+          })
       | inr apart ↦ none_some (Adds drafts.Start new line) new apart.1
     ]
 
-first_adds : (head : Head) (line : List ℕ) (new : Draft) → line ≡ head_body head → FitsHead head → first_section head ≡ Some new → Adds drafts.Open new line
+first_adds : (head : Head) (line : List ℕ) (new : Draft) → line ≡ head_body head → FitsHead head
+    → first_section head ≡ Some new → Adds drafts.Open new line
 unfolding first_section
 first_adds (heads.Controller node) line new is fits e =
-    subst (λ (d : Draft). Adds drafts.Open d line) (some_is (drafts.Controller [] (new_log node)) new e) (record {
-      text = ap (λ (t : List ℕ). codes "%JOURNAL\n" ++ t) (flat_map-cons controller_section (new_log node) [] ∙ append-nil (controller_section (new_log node)) ∙ new_section node ∙ ap with_feed (sym is));
+    subst (λ (d : Draft). Adds drafts.Open d line)
+    (some_is (drafts.Controller [] (new_log node)) new e) (record {
+      text = ap (λ (t : List ℕ). codes "%JOURNAL\n" ++ t)
+          (flat_map-cons controller_section (new_log node) [] ∙ append-nil
+          (controller_section (new_log node)) ∙ new_section node ∙ ap with_feed (sym is));
       good = one_log node fits;
     })
 first_adds (heads.Host node) line new is fits e =
-    subst (λ (d : Draft). Adds drafts.Open d line) (some_is (drafts.Host [] [] (new_host_log node)) new e) (record {
-      text = ap (λ (t : List ℕ). codes "%JOURNAL\n" ++ t) (flat_map-cons host_section (new_host_log node) [] ∙ append-nil (host_section (new_host_log node)) ∙ new_host_section node ∙ ap with_feed (sym is));
+    subst (λ (d : Draft). Adds drafts.Open d line)
+    (some_is (drafts.Host [] [] (new_host_log node)) new e) (record {
+      text = ap (λ (t : List ℕ). codes "%JOURNAL\n" ++ t)
+          (flat_map-cons host_section (new_host_log node) [] ∙ append-nil
+          (host_section (new_host_log node)) ∙ new_host_section node ∙ ap with_feed (sym is));
       good = (no_logs, one_host node fits);
     })
 first_adds heads.Ring line new is fits e =
-    subst (λ (d : Draft). Adds drafts.Open d line) (some_is (drafts.Ring (ring_from [] [])) new e) (record {
+    subst (λ (d : Draft). Adds drafts.Open d line)
+    (some_is (drafts.Ring (ring_from [] [])) new e) (record {
       text = ap (λ (t : List ℕ). codes "%JOURNAL\n" ++ t) (ap with_feed (sym is));
       good = record { controllers = no_logs; hosts = no_hosts; ring = no_ring };
     })
@@ -213,7 +257,8 @@ open_adds line new e =
     first_adds p.0 line new h.0 h.1 p.2
 
 -- a head, or an entry
-headed_some : {V : Type 0} (o : Option Head) (turn : Head → Option V) (other : Option V) (v : V) → headed o turn other ≡ Some v
+headed_some : {V : Type 0} (o : Option Head) (turn : Head → Option V) (other : Option V) (v : V)
+    → headed o turn other ≡ Some v
     → ((head : Head) × (o ≡ Some head) × (turn head ≡ Some v)) ⊎ (other ≡ Some v)
 headed_some (Some head) turn other v e = inl (head, refl, e)
 headed_some None turn other v e = inr e
@@ -222,90 +267,126 @@ above_of : (a b : ℕ) → nat_lt a b ≡ true → a < b
 above_of a b e = grind (arith, nat_tests)
 
 -- behind a controller's section
-turn_adds : (done : List ControllerLog) (log : ControllerLog) (head : Head) (line : List ℕ) (new : Draft) → AreControllers (done ++ log ∷ []) → line ≡ head_body head → FitsHead head
+turn_adds : (done : List ControllerLog) (log : ControllerLog) (head : Head) (line : List ℕ)
+    (new : Draft) → AreControllers (done ++ log ∷ []) → line ≡ head_body head → FitsHead head
     → after_controller done log head ≡ Some new → Adds (drafts.Controller done log) new line
 unfolding after_controller
 turn_adds done log (heads.Controller node) line new are is fits e =
-    elim (chosen (nat_lt log.node node) (Some (drafts.Controller (done ++ log ∷ []) (new_log node))) None (Some new) e) [
+    elim (chosen (nat_lt log.node node) (Some (drafts.Controller (done ++ log ∷ []) (new_log node)))
+    None (Some new) e) [
       | inl passed ↦
-          subst (λ (d : Draft). Adds (drafts.Controller done log) d line) (some_is (drafts.Controller (done ++ log ∷ []) (new_log node)) new passed.1) (record {
+          subst (λ (d : Draft). Adds (drafts.Controller done log) d line)
+          (some_is (drafts.Controller (done ++ log ∷ []) (new_log node)) new passed.1) (record {
             text = ap (λ (t : List ℕ). codes "%JOURNAL\n" ++ t)
-                (push controller_section (done ++ log ∷ []) (new_log node) ∙ ap (λ (t : List ℕ). flat_map controller_section (done ++ log ∷ []) ++ t) (new_section node ∙ ap with_feed (sym is)));
+                (push controller_section (done ++ log ∷ []) (new_log node)
+                ∙ ap (λ (t : List ℕ). flat_map controller_section (done ++ log ∷ []) ++ t)
+                (new_section node ∙ ap with_feed (sym is)));
             good = more_logs done log node are (above_of log.node node passed.0) fits;
           })
       | inr apart ↦ none_some (Adds (drafts.Controller done log) new line) new apart.1
     ]
 turn_adds done log (heads.Host node) line new are is fits e =
-    subst (λ (d : Draft). Adds (drafts.Controller done log) d line) (some_is (drafts.Host (done ++ log ∷ []) [] (new_host_log node)) new e) (record {
-      text = ap (λ (t : List ℕ). codes "%JOURNAL\n" ++ (flat_map controller_section (done ++ log ∷ []) ++ t))
-          (flat_map-cons host_section (new_host_log node) [] ∙ append-nil (host_section (new_host_log node)) ∙ new_host_section node ∙ ap with_feed (sym is));
+    subst (λ (d : Draft). Adds (drafts.Controller done log) d line)
+    (some_is (drafts.Host (done ++ log ∷ []) [] (new_host_log node)) new e) (record {
+      text = ap (λ (t : List ℕ).
+          codes "%JOURNAL\n" ++ (flat_map controller_section (done ++ log ∷ []) ++ t))
+          (flat_map-cons host_section (new_host_log node) [] ∙ append-nil
+          (host_section (new_host_log node)) ∙ new_host_section node ∙ ap with_feed (sym is));
       good = (are, one_host node fits);
     })
 turn_adds done log heads.Ring line new are is fits e =
-    subst (λ (d : Draft). Adds (drafts.Controller done log) d line) (some_is (drafts.Ring (ring_from (done ++ log ∷ []) [])) new e) (record {
-      text = ap (λ (t : List ℕ). codes "%JOURNAL\n" ++ (flat_map controller_section (done ++ log ∷ []) ++ t)) (ap with_feed (sym is));
+    subst (λ (d : Draft). Adds (drafts.Controller done log) d line)
+    (some_is (drafts.Ring (ring_from (done ++ log ∷ []) [])) new e) (record {
+      text = ap (λ (t : List ℕ). codes "%JOURNAL\n"
+          ++ (flat_map controller_section (done ++ log ∷ []) ++ t)) (ap with_feed (sym is));
       good = record { controllers = are; hosts = no_hosts; ring = no_ring };
     })
 
-controller_adds : (done : List ControllerLog) (log : ControllerLog) (line : List ℕ) (new : Draft) → AreControllers (done ++ log ∷ [])
+controller_adds : (done : List ControllerLog) (log : ControllerLog) (line : List ℕ) (new : Draft)
+    → AreControllers (done ++ log ∷ [])
     → controller_step done log line ≡ Some new → Adds (drafts.Controller done log) new line
 unfolding controller_step log_line
 controller_adds done log line new are e =
-    elim (headed_some (read_head line) (after_controller done log) (read_entry line >>= λ entry. Some (drafts.Controller done (log_with_entry log entry))) new e) [
+    elim (headed_some (read_head line) (after_controller done log)
+    (read_entry line >>= λ entry. Some (drafts.Controller done (log_with_entry log entry))) new e) [
       | inl found ↦
           let h = head_field.takes line found.0 found.1 in
           turn_adds done log found.0 line new are h.0 h.1 found.2
       | inr other ↦
-          let p = bind_some (read_entry line) (λ entry. Some (drafts.Controller done (log_with_entry log entry))) new other in
+          let p = bind_some (read_entry line)
+          (λ entry. Some (drafts.Controller done (log_with_entry log entry))) new other in
           let t = entry_field.takes line p.0 p.1 in
-          subst (λ (d : Draft). Adds (drafts.Controller done log) d line) (some_is (drafts.Controller done (log_with_entry log p.0)) new p.2) (record {
+          subst (λ (d : Draft). Adds (drafts.Controller done log) d line)
+          (some_is (drafts.Controller done (log_with_entry log p.0)) new p.2) (record {
             text = ap (λ (t : List ℕ). codes "%JOURNAL\n" ++ t)
-                (sections_more done log p.0 ∙ ap (λ (t : List ℕ). flat_map controller_section (done ++ log ∷ []) ++ t) (entry_ended p.0 ∙ ap with_feed (sym t.0)));
+                (sections_more done log p.0
+                ∙ ap (λ (t : List ℕ). flat_map controller_section (done ++ log ∷ []) ++ t)
+                (entry_ended p.0 ∙ ap with_feed (sym t.0)));
             good = more_entries done log p.0 are t.1;
           })
     ]
 
 -- behind a host's section
-host_turn_adds : (controllers : List ControllerLog) (done : List HostLog) (log : HostLog) (head : Head) (line : List ℕ) (new : Draft) → AreControllers controllers
-    → AreHosts (done ++ log ∷ []) → line ≡ head_body head → FitsHead head → after_host controllers done log head ≡ Some new → Adds (drafts.Host controllers done log) new line
+host_turn_adds : (controllers : List ControllerLog) (done : List HostLog) (log : HostLog)
+    (head : Head) (line : List ℕ) (new : Draft) → AreControllers controllers
+    → AreHosts (done ++ log ∷ []) → line ≡ head_body head → FitsHead head
+    → after_host controllers done log head ≡ Some new
+    → Adds (drafts.Host controllers done log) new line
 unfolding after_host
-host_turn_adds controllers done log (heads.Controller node) line new are hosts is fits e = none_some (Adds (drafts.Host controllers done log) new line) new e
+host_turn_adds controllers done log (heads.Controller node) line new are hosts is fits e =
+    none_some (Adds (drafts.Host controllers done log) new line) new e
 host_turn_adds controllers done log (heads.Host node) line new are hosts is fits e =
-    elim (chosen (nat_lt log.node node) (Some (drafts.Host controllers (done ++ log ∷ []) (new_host_log node))) None (Some new) e) [
+    elim (chosen (nat_lt log.node node)
+    (Some (drafts.Host controllers (done ++ log ∷ []) (new_host_log node))) None (Some new) e) [
       | inl passed ↦
-          subst (λ (d : Draft). Adds (drafts.Host controllers done log) d line) (some_is (drafts.Host controllers (done ++ log ∷ []) (new_host_log node)) new passed.1) (record {
+          subst (λ (d : Draft). Adds (drafts.Host controllers done log) d line) (some_is
+          (drafts.Host controllers (done ++ log ∷ []) (new_host_log node)) new passed.1) (record {
             text = ap (λ (t : List ℕ). codes "%JOURNAL\n" ++ t)
                 (ap (λ (t : List ℕ). flat_map controller_section controllers ++ t)
-                (push host_section (done ++ log ∷ []) (new_host_log node) ∙ ap (λ (t : List ℕ). flat_map host_section (done ++ log ∷ []) ++ t) (new_host_section node ∙ ap with_feed (sym is)))
-                ∙ sym (append_assoc (flat_map controller_section controllers) (flat_map host_section (done ++ log ∷ [])) (with_feed line)));
+                (push host_section (done ++ log ∷ []) (new_host_log node)
+                ∙ ap (λ (t : List ℕ). flat_map host_section (done ++ log ∷ []) ++ t)
+                (new_host_section node ∙ ap with_feed (sym is)))
+                ∙ sym (append_assoc (flat_map controller_section controllers)
+                (flat_map host_section (done ++ log ∷ [])) (with_feed line)));
             good = (are, more_hosts done log node hosts (above_of log.node node passed.0) fits);
           })
       | inr apart ↦ none_some (Adds (drafts.Host controllers done log) new line) new apart.1
     ]
 host_turn_adds controllers done log heads.Ring line new are hosts is fits e =
-    subst (λ (d : Draft). Adds (drafts.Host controllers done log) d line) (some_is (drafts.Ring (ring_from controllers (done ++ log ∷ []))) new e) (record {
+    subst (λ (d : Draft). Adds (drafts.Host controllers done log) d line)
+    (some_is (drafts.Ring (ring_from controllers (done ++ log ∷ []))) new e) (record {
       text = ap (λ (t : List ℕ). codes "%JOURNAL\n" ++ t)
-          (ap (λ (t : List ℕ). flat_map controller_section controllers ++ (flat_map host_section (done ++ log ∷ []) ++ t)) (ap with_feed (sym is))
-          ∙ sym (append_assoc (flat_map controller_section controllers) (flat_map host_section (done ++ log ∷ [])) (with_feed line)));
+          (ap (λ (t : List ℕ). flat_map controller_section controllers
+          ++ (flat_map host_section (done ++ log ∷ []) ++ t)) (ap with_feed (sym is))
+          ∙ sym (append_assoc (flat_map controller_section controllers)
+          (flat_map host_section (done ++ log ∷ [])) (with_feed line)));
       good = record { controllers = are; hosts = hosts; ring = no_ring };
     })
 
-host_adds : (controllers : List ControllerLog) (done : List HostLog) (log : HostLog) (line : List ℕ) (new : Draft) → AreControllers controllers → AreHosts (done ++ log ∷ [])
-    → host_step controllers done log line ≡ Some new → Adds (drafts.Host controllers done log) new line
+host_adds : (controllers : List ControllerLog) (done : List HostLog) (log : HostLog) (line : List ℕ)
+    (new : Draft) → AreControllers controllers → AreHosts (done ++ log ∷ [])
+    → host_step controllers done log line ≡ Some new
+    → Adds (drafts.Host controllers done log) new line
 unfolding host_step host_log_line
 host_adds controllers done log line new are hosts e =
-    elim (headed_some (read_head line) (after_host controllers done log) (read_host_entry line >>= λ entry. Some (drafts.Host controllers done (host_log_with_entry log entry))) new e) [
+    elim (headed_some (read_head line) (after_host controllers done log) (read_host_entry line
+    >>= λ entry. Some (drafts.Host controllers done (host_log_with_entry log entry))) new e) [
       | inl found ↦
           let h = head_field.takes line found.0 found.1 in
           host_turn_adds controllers done log found.0 line new are hosts h.0 h.1 found.2
       | inr other ↦
-          let p = bind_some (read_host_entry line) (λ entry. Some (drafts.Host controllers done (host_log_with_entry log entry))) new other in
+          let p = bind_some (read_host_entry line) (λ entry.
+          Some (drafts.Host controllers done (host_log_with_entry log entry))) new other in
           let t = host_field.takes line p.0 p.1 in
-          subst (λ (d : Draft). Adds (drafts.Host controllers done log) d line) (some_is (drafts.Host controllers done (host_log_with_entry log p.0)) new p.2) (record {
+          subst (λ (d : Draft). Adds (drafts.Host controllers done log) d line)
+          (some_is (drafts.Host controllers done (host_log_with_entry log p.0)) new p.2) (record {
             text = ap (λ (t : List ℕ). codes "%JOURNAL\n" ++ t)
                 (ap (λ (t : List ℕ). flat_map controller_section controllers ++ t)
-                (host_sections_more done log p.0 ∙ ap (λ (t : List ℕ). flat_map host_section (done ++ log ∷ []) ++ t) (host_ended p.0 ∙ ap with_feed (sym t.0)))
-                ∙ sym (append_assoc (flat_map controller_section controllers) (flat_map host_section (done ++ log ∷ [])) (with_feed line)));
+                (host_sections_more done log p.0
+                ∙ ap (λ (t : List ℕ). flat_map host_section (done ++ log ∷ []) ++ t)
+                (host_ended p.0 ∙ ap with_feed (sym t.0)))
+                ∙ sym (append_assoc (flat_map controller_section controllers)
+                (flat_map host_section (done ++ log ∷ [])) (with_feed line)));
             good = (are, more_host_entries done log p.0 hosts t.1);
           })
     ]
@@ -313,41 +394,57 @@ host_adds controllers done log line new are hosts e =
 -- in the ring's section
 four : (a b c d : List ℕ) → a ++ (b ++ (82 ∷ 10 ∷ (c ++ d))) ≡ (a ++ (b ++ (82 ∷ 10 ∷ c))) ++ d
 four a b c d =
-    ap (λ (t : List ℕ). a ++ t) (sym (append_assoc b (82 ∷ 10 ∷ c) d)) ∙ sym (append_assoc a (b ++ (82 ∷ 10 ∷ c)) d)
+    ap (λ (t : List ℕ). a ++ t) (sym (append_assoc b (82 ∷ 10 ∷ c) d))
+    ∙ sym (append_assoc a (b ++ (82 ∷ 10 ∷ c)) d)
 
-ring_adds : (joint : Joint) (line : List ℕ) (new : Draft) → IsHistory joint → ring_step joint line ≡ Some new → Adds (drafts.Ring joint) new line
+ring_adds : (joint : Joint) (line : List ℕ) (new : Draft) → IsHistory joint
+    → ring_step joint line ≡ Some new → Adds (drafts.Ring joint) new line
 unfolding ring_step ring_log_line
 ring_adds joint line new is e =
-    elim (chosen (bytes_eq line (codes "%END")) (Some (drafts.End joint)) (read_ring_entry line >>= λ entry. Some (drafts.Ring (joint_with_entry joint entry))) (Some new) e) [
+    elim (chosen (bytes_eq line (codes "%END")) (Some (drafts.End joint)) (read_ring_entry line
+    >>= λ entry. Some (drafts.Ring (joint_with_entry joint entry))) (Some new) e) [
       | inl last ↦
-          subst (λ (d : Draft). Adds (drafts.Ring joint) d line) (some_is (drafts.End joint) new last.1) (record {
+          subst (λ (d : Draft). Adds (drafts.Ring joint) d line)
+          (some_is (drafts.End joint) new last.1) (record {
             text = journal_parts joint ∙ ap (λ (t : List ℕ). codes "%JOURNAL\n" ++ t)
-                (ap (λ (t : List ℕ). flat_map controller_section joint.controllers ++ (flat_map host_section joint.hosts ++ (82 ∷ 10 ∷ (flat_map ring_line joint.ring ++ t))))
+                (ap (λ (t : List ℕ). flat_map controller_section joint.controllers ++ (flat_map
+                host_section joint.hosts ++ (82 ∷ 10 ∷ (flat_map ring_line joint.ring ++ t))))
                 (ap with_feed (sym (text_is line (codes "%END") last.0)))
-                ∙ four (flat_map controller_section joint.controllers) (flat_map host_section joint.hosts) (flat_map ring_line joint.ring) (with_feed line));
+                ∙ four (flat_map controller_section joint.controllers) (flat_map host_section
+                joint.hosts) (flat_map ring_line joint.ring) (with_feed line));
             good = is;
           })
       | inr other ↦
-          let p = bind_some (read_ring_entry line) (λ entry. Some (drafts.Ring (joint_with_entry joint entry))) new other.1 in
+          let p = bind_some (read_ring_entry line)
+          (λ entry. Some (drafts.Ring (joint_with_entry joint entry))) new other.1 in
           let t = ring_field.takes line p.0 p.1 in
-          subst (λ (d : Draft). Adds (drafts.Ring joint) d line) (some_is (drafts.Ring (joint_with_entry joint p.0)) new p.2) (record {
+          subst (λ (d : Draft). Adds (drafts.Ring joint) d line)
+          (some_is (drafts.Ring (joint_with_entry joint p.0)) new p.2) (record {
             text = ap (λ (t : List ℕ). codes "%JOURNAL\n" ++ t)
-                (ap (λ (t : List ℕ). flat_map controller_section joint.controllers ++ (flat_map host_section joint.hosts ++ (82 ∷ 10 ∷ t)))
-                (push ring_line joint.ring p.0 ∙ ap (λ (t : List ℕ). flat_map ring_line joint.ring ++ t) (ring_ended p.0 ∙ ap with_feed (sym t.0)))
-                ∙ four (flat_map controller_section joint.controllers) (flat_map host_section joint.hosts) (flat_map ring_line joint.ring) (with_feed line));
+                (ap (λ (t : List ℕ). flat_map controller_section joint.controllers
+                ++ (flat_map host_section joint.hosts ++ (82 ∷ 10 ∷ t)))
+                (push ring_line joint.ring p.0 ∙ ap (λ (t : List ℕ).
+                flat_map ring_line joint.ring ++ t) (ring_ended p.0 ∙ ap with_feed (sym t.0)))
+                ∙ four (flat_map controller_section joint.controllers) (flat_map host_section
+                joint.hosts) (flat_map ring_line joint.ring) (with_feed line));
             good = record {
               controllers = is.controllers;
               hosts = is.hosts;
-              ring = record { fit = All-push FitsRingEntry joint.ring p.0 is.ring.fit t.1.0; plain = All-push IsPlainRing joint.ring p.0 is.ring.plain t.1.1 };
+              ring = record {
+                fit = All-push FitsRingEntry joint.ring p.0 is.ring.fit t.1.0;
+                plain = All-push IsPlainRing joint.ring p.0 is.ring.plain t.1.1;
+              };
             };
           })
     ]
 
-pub step_adds : (old new : Draft) (line : List ℕ) → IsGood old → step old line ≡ Some new → Adds old new line
+pub step_adds : (old new : Draft) (line : List ℕ) → IsGood old → step old line ≡ Some new
+    → Adds old new line
 unfolding step
 step_adds drafts.Start new line good e = start_adds line new e
 step_adds drafts.Open new line good e = open_adds line new e
 step_adds (drafts.Controller done log) new line good e = controller_adds done log line new good e
-step_adds (drafts.Host controllers done log) new line good e = host_adds controllers done log line new good.0 good.1 e
+step_adds (drafts.Host controllers done log) new line good e =
+    host_adds controllers done log line new good.0 good.1 e
 step_adds (drafts.Ring joint) new line good e = ring_adds joint line new good e
 step_adds (drafts.End joint) new line good e = none_some (Adds (drafts.End joint) new line) new e

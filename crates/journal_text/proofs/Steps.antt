@@ -36,8 +36,11 @@ Rises (x ∷ y ∷ xs) = (x < y) × Rises (y ∷ xs)
 pub rises_by : (xs : List ℕ) → IsStrictlyIncreasing xs → Rises xs
 rises_by [] rise = tt
 rises_by (x ∷ []) rise = tt
-rises_by (x ∷ y ∷ xs) rise =
-    (rise 0 (omega arith), rises_by (y ∷ xs) (λ k less. let next : suc k + 1 ≡ suc (k + 1) = omega arith in rw next at (rise (suc k) (omega arith))))
+rises_by (x ∷ y ∷ xs) rise = (
+  rise 0 (omega arith),
+  rises_by (y ∷ xs) (λ k less. let next : suc k + 1 ≡ suc (k + 1) = omega arith in rw next at
+      (rise (suc k) (omega arith))),
+)
 
 pub rises_at : (xs : List ℕ) → Rises xs → IsStrictlyIncreasing xs
 rises_at [] rise k less = absurd (omega arith)
@@ -49,7 +52,8 @@ rises_at (x ∷ y ∷ xs) rise (suc k) less =
 
 module _ {X : Type 0} (f : X → ℕ) where
   -- one more, above the last; and the last again with more in it
-  pub rises_more : (xs : List X) (x y : X) → Rises (map f (xs ++ x ∷ [])) → f x < f y → Rises (map f ((xs ++ x ∷ []) ++ y ∷ []))
+  pub rises_more : (xs : List X) (x y : X) → Rises (map f (xs ++ x ∷ [])) → f x < f y
+      → Rises (map f ((xs ++ x ∷ []) ++ y ∷ []))
   rises_more [] x y rise less = (less, tt)
   rises_more (a ∷ []) x y rise less = (rise.0, (less, tt))
   rises_more (a ∷ b ∷ xs) x y rise less = (rise.0, rises_more (b ∷ xs) x y rise.1 less)
@@ -58,7 +62,8 @@ module _ {X : Type 0} (f : X → ℕ) where
   same_last [] x y same = ap (λ (n : ℕ). n ∷ []) same
   same_last (a ∷ xs) x y same = ap (λ (ns : List ℕ). f a ∷ ns) (same_last xs x y same)
 
-  pub rises_next : (xs : List X) (a b : X) (ys : List X) → Rises (map f (xs ++ a ∷ b ∷ ys)) → f a < f b
+  pub rises_next : (xs : List X) (a b : X) (ys : List X)
+      → Rises (map f (xs ++ a ∷ b ∷ ys)) → f a < f b
   rises_next [] a b ys rise = rise.0
   rises_next (c ∷ []) a b ys rise = rise.1.0
   rises_next (c ∷ d ∷ xs) a b ys rise = rises_next (d ∷ xs) a b ys rise.1
@@ -67,7 +72,8 @@ module _ {X : Type 0} (f : X → ℕ) where
 module _ {X : Type 0} (P : X → Type 0) where
   pub all_front : (xs ys : List X) → All P (xs ++ ys) → All P xs
   all_front [] ys all = All-nil P
-  all_front (x ∷ xs) ys all = All-cons P x xs (All-head P x (xs ++ ys) all) (all_front xs ys (All-tail P x (xs ++ ys) all))
+  all_front (x ∷ xs) ys all = All-cons P x xs (All-head P x (xs ++ ys) all)
+      (all_front xs ys (All-tail P x (xs ++ ys) all))
 
   pub all_back : (xs ys : List X) → All P (xs ++ ys) → All P ys
   all_back [] ys all = all
@@ -97,12 +103,18 @@ pub record IsHistory (joint : Joint) : Type 0 where
 
 pub history_of : (joint : Joint) (bytes : List ℕ) → IsJournalOf joint bytes → IsHistory joint
 history_of joint bytes is = record {
-  controllers = record { rise = rises_by (map controller_node joint.controllers) is.plain.controllers; fit = is.fits.controllers; plain = is.plain.entries };
-  hosts = record { rise = rises_by (map host_node joint.hosts) is.plain.hosts; fit = is.fits.hosts };
+  controllers = record {
+    rise = rises_by (map controller_node joint.controllers) is.plain.controllers;
+    fit = is.fits.controllers;
+    plain = is.plain.entries;
+  };
+  hosts =
+      record { rise = rises_by (map host_node joint.hosts) is.plain.hosts; fit = is.fits.hosts };
   ring = record { fit = is.fits.ring; plain = is.plain.ring };
 }
 
-pub journal_of : (joint : Joint) (bytes : List ℕ) → IsHistory joint → bytes ≡ journal joint → IsJournalOf joint bytes
+pub journal_of : (joint : Joint) (bytes : List ℕ) → IsHistory joint → bytes ≡ journal joint
+    → IsJournalOf joint bytes
 journal_of joint bytes is text = record {
   plain = record {
     controllers = rises_at (map controller_node joint.controllers) is.controllers.rise;
@@ -118,9 +130,11 @@ journal_of joint bytes is text = record {
 abbrev pub text_of : Draft → List ℕ
 text_of drafts.Start = []
 text_of drafts.Open = codes "%JOURNAL\n"
-text_of (drafts.Controller done log) = codes "%JOURNAL\n" ++ flat_map controller_section (done ++ log ∷ [])
+text_of (drafts.Controller done log) =
+    codes "%JOURNAL\n" ++ flat_map controller_section (done ++ log ∷ [])
 text_of (drafts.Host controllers done log) =
-    codes "%JOURNAL\n" ++ (flat_map controller_section controllers ++ flat_map host_section (done ++ log ∷ []))
+    codes "%JOURNAL\n"
+    ++ (flat_map controller_section controllers ++ flat_map host_section (done ++ log ∷ []))
 text_of (drafts.Ring joint) =
     codes "%JOURNAL\n" ++ (flat_map controller_section joint.controllers
     ++ (flat_map host_section joint.hosts ++ (codes "R\n" ++ flat_map ring_line joint.ring)))
@@ -136,7 +150,8 @@ IsGood (drafts.End joint) = IsHistory joint
 
 -- the joint history of these logs and entries, and its text in parts
 abbrev pub joint_from : List ControllerLog → List HostLog → List RingEntry → Joint
-joint_from controllers hosts entries = record { controllers = controllers; hosts = hosts; ring = entries }
+joint_from controllers hosts entries =
+    record { controllers = controllers; hosts = hosts; ring = entries }
 
 abbrev pub ring_part : List RingEntry → List ℕ
 ring_part entries = codes "R\n" ++ (flat_map ring_line entries ++ codes "%END\n")
@@ -145,7 +160,8 @@ abbrev pub host_part : List HostLog → List RingEntry → List ℕ
 host_part hosts entries = flat_map host_section hosts ++ ring_part entries
 
 pub journal_parts : (joint : Joint)
-    → journal joint ≡ codes "%JOURNAL\n" ++ (flat_map controller_section joint.controllers ++ host_part joint.hosts joint.ring)
+    → journal joint ≡ codes "%JOURNAL\n"
+    ++ (flat_map controller_section joint.controllers ++ host_part joint.hosts joint.ring)
 journal_parts joint = simp append_assoc
 
 pub no_logs : AreControllers []
@@ -157,30 +173,40 @@ no_hosts = record { rise = tt; fit = All-nil FitsHostLog }
 pub no_ring : AreRing []
 no_ring = record { fit = All-nil FitsRingEntry; plain = All-nil IsPlainRing }
 
-begun : (bytes rest : List ℕ) (joint : Joint) → IsHistory joint → bytes ++ rest ≡ journal joint → IsFront bytes
+begun : (bytes rest : List ℕ) (joint : Joint) → IsHistory joint → bytes ++ rest ≡ journal joint
+    → IsFront bytes
 begun bytes rest joint is text = (rest, (joint, journal_of joint (bytes ++ rest) is text))
 
 ring_text : (a b c : List ℕ)
-    → (codes "%JOURNAL\n" ++ (a ++ (b ++ (codes "R\n" ++ c)))) ++ codes "%END\n" ≡ codes "%JOURNAL\n" ++ (a ++ (b ++ (codes "R\n" ++ (c ++ codes "%END\n"))))
+    → (codes "%JOURNAL\n" ++ (a ++ (b ++ (codes "R\n" ++ c)))) ++ codes "%END\n"
+    ≡ codes "%JOURNAL\n" ++ (a ++ (b ++ (codes "R\n" ++ (c ++ codes "%END\n"))))
 ring_text a b c = simp append_assoc
 
 -- what is read begins a journal
 pub good_front : (draft : Draft) → IsGood draft → IsFront (text_of draft)
-good_front drafts.Start good = begun [] (journal (joint_from [] [] [])) (joint_from [] [] []) (record { controllers = no_logs; hosts = no_hosts; ring = no_ring }) refl
+good_front drafts.Start good = begun [] (journal (joint_from [] [] [])) (joint_from [] [] [])
+    (record { controllers = no_logs; hosts = no_hosts; ring = no_ring }) refl
 good_front drafts.Open good =
-    begun (codes "%JOURNAL\n") (codes "R\n%END\n") (joint_from [] [] []) (record { controllers = no_logs; hosts = no_hosts; ring = no_ring }) refl
+    begun (codes "%JOURNAL\n") (codes "R\n%END\n") (joint_from [] [] [])
+    (record { controllers = no_logs; hosts = no_hosts; ring = no_ring }) refl
 good_front (drafts.Controller done log) good =
-    begun (text_of (drafts.Controller done log)) (codes "R\n%END\n") (joint_from (done ++ log ∷ []) [] [])
-    (record { controllers = good; hosts = no_hosts; ring = no_ring }) (sym (journal_parts (joint_from (done ++ log ∷ []) [] [])))
+    begun (text_of (drafts.Controller done log)) (codes "R\n%END\n")
+    (joint_from (done ++ log ∷ []) [] [])
+    (record { controllers = good; hosts = no_hosts; ring = no_ring })
+    (sym (journal_parts (joint_from (done ++ log ∷ []) [] [])))
 good_front (drafts.Host controllers done log) good =
-    begun (text_of (drafts.Host controllers done log)) (codes "R\n%END\n") (joint_from controllers (done ++ log ∷ []) [])
+    begun (text_of (drafts.Host controllers done log)) (codes "R\n%END\n")
+    (joint_from controllers (done ++ log ∷ []) [])
     (record { controllers = good.0; hosts = good.1; ring = no_ring })
-    (ap (λ (t : List ℕ). codes "%JOURNAL\n" ++ t) (append_assoc (flat_map controller_section controllers) (flat_map host_section (done ++ log ∷ [])) (codes "R\n%END\n"))
+    (ap (λ (t : List ℕ). codes "%JOURNAL\n" ++ t) (append_assoc (flat_map controller_section
+    controllers) (flat_map host_section (done ++ log ∷ [])) (codes "R\n%END\n"))
     ∙ sym (journal_parts (joint_from controllers (done ++ log ∷ []) [])))
 good_front (drafts.Ring joint) good =
     begun (text_of (drafts.Ring joint)) (codes "%END\n") joint good
-    (ring_text (flat_map controller_section joint.controllers) (flat_map host_section joint.hosts) (flat_map ring_line joint.ring) ∙ sym (journal_parts joint))
-good_front (drafts.End joint) good = begun (journal joint) [] joint good (append-nil (journal joint))
+    (ring_text (flat_map controller_section joint.controllers) (flat_map host_section joint.hosts)
+    (flat_map ring_line joint.ring) ∙ sym (journal_parts joint))
+good_front (drafts.End joint) good =
+    begun (journal joint) [] joint good (append-nil (journal joint))
 
 -- how a joint history goes on from what is read, and its text from there
 abbrev pub with_more : ControllerLog → List Entry → ControllerLog
@@ -190,15 +216,19 @@ abbrev pub host_with_more : HostLog → List HostEntry → HostLog
 host_with_more log more = record { node = log.node; entries = log.entries ++ more }
 
 pub record OpenGoes (joint : Joint) (rest : List ℕ) : Type 0 where
-  pub text : rest ≡ flat_map controller_section joint.controllers ++ host_part joint.hosts joint.ring
+  pub text : rest
+      ≡ flat_map controller_section joint.controllers ++ host_part joint.hosts joint.ring
 
-pub record ControllerGoes (done : List ControllerLog) (log : ControllerLog) (joint : Joint) (rest : List ℕ) : Type 0 where
+pub record ControllerGoes (done : List ControllerLog) (log : ControllerLog) (joint : Joint)
+    (rest : List ℕ) : Type 0 where
   pub more : List Entry
   pub logs : List ControllerLog
   pub controllers : joint.controllers ≡ done ++ with_more log more ∷ logs
-  pub text : rest ≡ flat_map controller_line more ++ (flat_map controller_section logs ++ host_part joint.hosts joint.ring)
+  pub text : rest ≡ flat_map controller_line more
+      ++ (flat_map controller_section logs ++ host_part joint.hosts joint.ring)
 
-pub record HostGoes (controllers : List ControllerLog) (done : List HostLog) (log : HostLog) (joint : Joint) (rest : List ℕ) : Type 0 where
+pub record HostGoes (controllers : List ControllerLog) (done : List HostLog) (log : HostLog)
+    (joint : Joint) (rest : List ℕ) : Type 0 where
   pub more : List HostEntry
   pub logs : List HostLog
   pub before : joint.controllers ≡ controllers

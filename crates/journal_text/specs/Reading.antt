@@ -101,10 +101,11 @@ read_pdu text = do
   pdu_of bytes
 
 -- The words that bytes are, two of them each.
-abbrev pub joined : List ℕ → Option (List ℕ)
-joined [] = Some []
-joined (high ∷ []) = None
-joined (high ∷ low ∷ bytes) = joined bytes >>= λ words. Some ((high * 256 + low) ∷ words)
+abbrev pub words_joined : List ℕ → Option (List ℕ)
+words_joined [] = Some []
+words_joined (high ∷ []) = None
+words_joined (high ∷ low ∷ bytes) =
+    words_joined bytes >>= λ words. Some ((high * 256 + low) ∷ words)
 
 abbrev pub one_word : List ℕ → Option ℕ
 one_word (word ∷ []) = Some word
@@ -118,7 +119,7 @@ some_words words = Some words
 unfoldable pub read_joined : List ℕ → Option (List ℕ)
 read_joined text = do
   bytes ← read_hex_bytes text
-  words ← joined bytes
+  words ← words_joined bytes
   some_words words
 
 unfoldable pub read_hex_words : List ℕ → Option (List ℕ)

@@ -2,7 +2,8 @@
 ghost use Rattle.std.specs.Prelude.{◌≡◌, ◌*◌, ◌≤◌, ◌==◌, not, length, Some};
 ghost use Rattle.std.specs.List.{list_all};
 ghost use Rattle.std.specs.Str.{bytes_eq};
-ghost use Rattle.journal_text.specs.Reading.{Reads, read_block, read_hex_bytes, is_capital, joined};
+ghost use Rattle.journal_text.specs.Reading.{Reads, read_block, read_hex_bytes, is_capital};
+ghost use Rattle.journal_text.specs.Reading.{words_joined};
 ghost use Rattle.journal_text.specs.Reading.{read_joined, read_pdu, read_hex_word, read_hex_words};
 
 use crate::cutting::{LineFault, is_text};
@@ -44,14 +45,14 @@ pub(crate) fn read_pdu(alloc: Global, text: &[u8]) -> Result<Pdu, LineFault>
 
 fn fill_words(bytes: &[u8], words: &mut [u16])
     requires { length bytes.now ≡ 2 * length words.old }
-    ensures { joined bytes.now ≡ Some words.new }
+    ensures { words_joined bytes.now ≡ Some words.new }
 {
     BigEndian::read_u16_into(bytes, words);
 }
 
 /// The words that bytes are, two of them each.
 fn joined(alloc: Global, bytes: &[u8]) -> Result<Vec<u16>, LineFault>
-    ensures { Reads (λ words. words.items) result (joined bytes.now) }
+    ensures { Reads (λ words. words.items) result (words_joined bytes.now) }
 {
     let count = bytes.len() / 2;
     if bytes.len() != 2 * count {

@@ -9,7 +9,7 @@ use Rattle.grid_compile.proofs.MaskLemmas.{row_on-past}
 use Rattle.plant_types.specs.declared.network.Short.{Short}
 use Rattle.plant_types.specs.declared.power.NodePower.{NodePower}
 use Rattle.plant_types.specs.Network.{is_row}
-use Rattle.ladder_solver.specs.State.{State}
+use Rattle.ladder_solver.specs.State.{SolveState}
 use Rattle.ladder_solver.specs.declared.flow.Solved.{Solved}
 use Rattle.ladder_solver.specs.Flow.{Flow, Setting, Left, solved_element}
 use Rattle.ladder_solver.specs.Network.{Power, Place, Site, is_live, is_fed, inputs_at, place_in}
@@ -41,23 +41,29 @@ last_row row false h = absurd (Rattle.std.proofs.Common.true≢false (sym h))
 -- an output is live at the right border of its own column, in the rows that it reaches
 live_place : (shorts : List Short) (on : List Place) (column row r : ℕ) (b : Bool) → 1 ≤ row
     → (b ≡ true → row ≤ 7) → 1 ≤ r → r ≤ 7
-    → is_live shorts (if b then record { column = column; row = row } ∷ on else on) column r ≡ (b && are_linked (marks_of shorts column) row r)
+    → is_live shorts (if b then record { column = column; row = row } ∷ on else on) column r
+    ≡ (b && are_linked (marks_of shorts column) row r)
     || is_live shorts on column r
 live_place shorts on column row r false low high from to = refl
-live_place shorts on column row r true low high from to = rw (same_column column, are_linked-joined shorts column row r low (high refl) from to) refl
+live_place shorts on column row r true low high from to =
+    rw (same_column column, are_linked-joined shorts column row r low (high refl) from to) refl
 
 -- the same of an output that counts in the seven rows alone
 live_output : (shorts : List Short) (on : List Place) (column row r : ℕ) (output : Bool) → 1 ≤ row
     → 1 ≤ r → r ≤ 7
-    → is_live shorts (with_output output column row on) column r ≡ output_reaches output (marks_of shorts column) row r || is_live shorts on column r
-live_output shorts on column row r output low from to = live_place shorts on column row r (output && is_row row) low (last_row row output) from to
+    → is_live shorts (with_output output column row on) column r
+    ≡ output_reaches output (marks_of shorts column) row r || is_live shorts on column r
+live_output shorts on column row r output low from to =
+    live_place shorts on column row r (output && is_row row) low (last_row row output) from to
 
 -- the same of three outputs
-live_outputs : (shorts : List Short) (on : List Place) (column row r : ℕ) (outputs : NodePower) → 1 ≤ row
+live_outputs : (shorts : List Short) (on : List Place) (column row r : ℕ) (outputs : NodePower)
+    → 1 ≤ row
     → 1 ≤ r → r ≤ 7
     → is_live shorts (with_outputs outputs column row on) column r
     ≡ output_reaches outputs.bottom (marks_of shorts column) (row + 2) r
-    || (output_reaches outputs.middle (marks_of shorts column) (row + 1) r || (output_reaches outputs.top (marks_of shorts column)
+    || (output_reaches outputs.middle (marks_of shorts column) (row + 1) r
+    || (output_reaches outputs.top (marks_of shorts column)
     row r || is_live shorts on column r))
 live_outputs shorts on column row r outputs low from to =
     let top = with_output outputs.top column row on in
@@ -65,12 +71,14 @@ live_outputs shorts on column row r outputs low from to =
     live_output shorts middle column (row + 2) r outputs.bottom (omega arith) from to
     ∙ ap (λ b. output_reaches outputs.bottom (marks_of shorts column) (row + 2) r || b)
     (live_output shorts top column (row + 1) r outputs.middle (omega arith) from to
-    ∙ ap (λ b. output_reaches outputs.middle (marks_of shorts column) (row + 1) r || b) (live_output shorts on column row r outputs.top low from to))
+    ∙ ap (λ b. output_reaches outputs.middle (marks_of shorts column) (row + 1) r || b)
+    (live_output shorts on column row r outputs.top low from to))
 
 -- and nowhere else
 elsewhere_place : (shorts : List Short) (on : List Place) (c column row r : ℕ) (b : Bool)
     → (column == c) ≡ false
-    → is_live shorts (if b then record { column = column; row = row } ∷ on else on) c r ≡ is_live shorts on c r
+    → is_live shorts (if b then record { column = column; row = row } ∷ on else on) c r
+    ≡ is_live shorts on c r
 elsewhere_place shorts on c column row r false apart = refl
 elsewhere_place shorts on c column row r true apart = rw apart refl
 
@@ -91,7 +99,10 @@ rows_or r = grind arith
 
 -- by the test of a row
 in_rows : (r : ℕ) → 1 ≤ r → ((r ≤ 7) × (is_row r ≡ true)) ⊎ ((7 < r) × (is_row r ≡ false))
-in_rows r h = elim (rows_or r) [ inl low ↦ inl (low, grind (arith, nat_tests)) | inr past ↦ inr (past, grind (arith, nat_tests)) ]
+in_rows r h = elim (rows_or r) [
+  | inl low ↦ inl (low, grind (arith, nat_tests))
+  | inr past ↦ inr (past, grind (arith, nat_tests))
+]
 
 -- a row is fed as its flag says, none below the seventh
 fed_row : (r : ℕ) (x : Bool) (mask : ℕ) → mask < 128 → 1 ≤ r → (r ≤ 7 → x ≡ flag_of mask r)
@@ -126,39 +137,49 @@ same_or_other a b = elim (three_ways a b) [
     three_ways k n = grind arith
 
 -- the outputs of a block
-AgreesPower-outputs : (shorts : List Short) (column row : ℕ) (live : List ℕ) (next : ℕ) (p : Power) (outputs : NodePower) (s : State) (flow : Flow)
+AgreesPower-outputs : (shorts : List Short) (column row : ℕ) (live : List ℕ) (next : ℕ) (p : Power)
+    (outputs : NodePower) (s : SolveState) (flow : Flow)
     → 1 ≤ column → column < length live → 1 ≤ row → next < 128
-    → AgreesPower shorts live p → FeedsAll outputs (marks_of shorts column) row (get_or live column 0) next
-    → AgreesPower shorts (set live column next) (record { state = s; on = with_outputs outputs column row p.on; flow = flow })
-AgreesPower-outputs shorts column row live next p outputs s flow first within low small h feeds = record {
-  start = get_or-set_other live column 0 next 0 (λ e. omega arith) ∙ h.start;
-  small = λ c. elim (same_or_other c column) [
-    | inl e ↦ subst (λ n. n < 128) (sym (ap (λ k. get_or (set live column next) k 0) e ∙ get_or-set_same live column next 0 within)) small
-    | inr other ↦ subst (λ n. n < 128) (sym (get_or-set_other live column c next 0 other.0)) (h.small c)
-  ];
-  live = λ c r one from to. elim (same_or_other c column) [
-    | inl e ↦
-        ap (λ k. is_live shorts (with_outputs outputs column row p.on) k r) e
-        ∙ live_outputs shorts p.on column row r outputs low from to
-        ∙ ap (λ x. output_reaches outputs.bottom (marks_of shorts column) (row + 2) r
-        || (output_reaches outputs.middle (marks_of shorts column) (row + 1) r || (output_reaches outputs.top (marks_of shorts column) row r || x)))
-        (h.live column r first from to)
-        ∙ sym (feeds r from to)
-        ∙ ap (λ n. flag_of n r) (sym (ap (λ k. get_or (set live column next) k 0) e ∙ get_or-set_same live column next 0 within))
-    | inr other ↦
-        elsewhere shorts p.on c column row r outputs other.1 ∙ h.live c r one from to
-        ∙ ap (λ n. flag_of n r) (sym (get_or-set_other live column c next 0 other.0))
-  ];
-}
+    → AgreesPower shorts live p
+    → FeedsAll outputs (marks_of shorts column) row (get_or live column 0) next
+    → AgreesPower shorts (set live column next)
+    (record { state = s; on = with_outputs outputs column row p.on; flow = flow })
+AgreesPower-outputs shorts column row live next p outputs s flow first within low small h feeds =
+    record {
+      start = get_or-set_other live column 0 next 0 (λ e. omega arith) ∙ h.start;
+      small = λ c. elim (same_or_other c column) [
+        | inl e ↦ subst (λ n. n < 128) (sym (ap (λ k. get_or (set live column next) k 0) e
+            ∙ get_or-set_same live column next 0 within)) small
+        | inr other ↦
+            subst (λ n. n < 128) (sym (get_or-set_other live column c next 0 other.0)) (h.small c)
+      ];
+      live = λ c r one from to. elim (same_or_other c column) [
+        | inl e ↦
+            ap (λ k. is_live shorts (with_outputs outputs column row p.on) k r) e
+            ∙ live_outputs shorts p.on column row r outputs low from to
+            ∙ ap (λ x. output_reaches outputs.bottom (marks_of shorts column) (row + 2) r
+            || (output_reaches outputs.middle (marks_of shorts column) (row + 1) r
+            || (output_reaches outputs.top (marks_of shorts column) row r || x)))
+            (h.live column r first from to)
+            ∙ sym (feeds r from to)
+            ∙ ap (λ n. flag_of n r) (sym (ap (λ k. get_or (set live column next) k 0) e
+            ∙ get_or-set_same live column next 0 within))
+        | inr other ↦
+            elsewhere shorts p.on c column row r outputs other.1 ∙ h.live c r one from to
+            ∙ ap (λ n. flag_of n r) (sym (get_or-set_other live column c next 0 other.0))
+      ];
+    }
 
 -- at the left border of column 1 each row is live, at any other border as the mask says
-fed_at : (shorts : List Short) (column r : ℕ) (live : List ℕ) (p : Power) → 1 ≤ column → 1 ≤ r → r ≤ 7 → AgreesPower shorts live p
+fed_at : (shorts : List Short) (column r : ℕ) (live : List ℕ) (p : Power) → 1 ≤ column → 1 ≤ r
+    → r ≤ 7 → AgreesPower shorts live p
     → (column == 1) || is_live shorts p.on (column - 1) r ≡ flag_of (get_or live (column - 1) 0) r
 fed_at shorts column r live p first low high h = elim (same_or_other column 1) [
   | inl e ↦
       let yes : (column == 1) ≡ true = grind (arith, nat_tests) in
       let back : column - 1 ≡ 0 = omega arith in
-      rw yes (all_on r low high ∙ ap (λ n. flag_of n r) (sym (ap (λ k. get_or live k 0) back ∙ h.start)))
+      rw yes (all_on r low high
+      ∙ ap (λ n. flag_of n r) (sym (ap (λ k. get_or live k 0) back ∙ h.start)))
   | inr other ↦
       let no : (column == 1) ≡ false = grind (arith, nat_tests, other.0) in
       let more : 1 ≤ column - 1 = one_less column first other.0 in
@@ -171,41 +192,61 @@ fed_at shorts column r live p first low high h = elim (same_or_other column 1) [
     one_less (suc (suc n)) low other = omega arith
 
 -- the inputs of a block are the flags of its rows
-inputs_at-flags : (shorts : List Short) (column row : ℕ) (live : List ℕ) (p : Power) → 1 ≤ column → 1 ≤ row
-    → AgreesPower shorts live p → inputs_at shorts p.on column row ≡ flags_at (get_or live (column - 1) 0) row
+inputs_at-flags : (shorts : List Short) (column row : ℕ) (live : List ℕ) (p : Power)
+    → 1 ≤ column → 1 ≤ row
+    → AgreesPower shorts live p
+    → inputs_at shorts p.on column row ≡ flags_at (get_or live (column - 1) 0) row
 inputs_at-flags shorts column row live p first low h =
-    let fed : (r : ℕ) → 1 ≤ r → is_fed shorts p.on column r ≡ flag_of (get_or live (column - 1) 0) r =
-    λ r a. fed_row r _ (get_or live (column - 1) 0) (h.small (column - 1)) a (λ b. fed_at shorts column r live p first a b h) in
-    λ i. record { top = fed row low i; middle = fed (row + 1) (omega arith) i; bottom = fed (row + 2) (omega arith) i }
+    let fed : (r : ℕ) → 1 ≤ r
+    → is_fed shorts p.on column r ≡ flag_of (get_or live (column - 1) 0) r =
+    λ r a. fed_row r _ (get_or live (column - 1) 0) (h.small (column - 1)) a
+    (λ b. fed_at shorts column r live p first a b h) in
+    λ i. record {
+      top = fed row low i;
+      middle = fed (row + 1) (omega arith) i;
+      bottom = fed (row + 2) (omega arith) i;
+    }
 
 -- a whole cell
-pub spot-done : (setting : Setting) (spot : Spot) (site : Site) (live : List ℕ) (next : ℕ) (s after : State) (solved : Solved)
+pub spot-done : (setting : Setting) (spot : Spot) (site : Site) (live : List ℕ) (next : ℕ)
+    (s after : SolveState) (solved : Solved)
     → 1 ≤ spot.column → spot.column < length live → 1 ≤ spot.row → spot.row ≤ 7
-    → solved_element setting spot.element (place_in site spot.column spot.row) (flags_at (get_or live (spot.column - 1) 0) spot.row) s
+    → solved_element setting spot.element (place_in site spot.column spot.row)
+    (flags_at (get_or live (spot.column - 1) 0) spot.row) s
     ≡ ((solved.outputs, after), solved.flow)
     → next ≡ bit_or (get_or live spot.column 0) (fed_rows solved.outputs spot.reaches)
-    → (shorts : List Short) (p : Power) → spot.reaches ≡ three_from (reaches_of (marks_of shorts spot.column)) spot.row
+    → (shorts : List Short) (p : Power)
+    → spot.reaches ≡ three_from (reaches_of (marks_of shorts spot.column)) spot.row
     → AgreesPower shorts live p → p.state ≡ s
-    → AgreesSolved shorts (set live spot.column next) after solved.flow (element_at setting shorts site spot.column spot.row spot.element p)
-spot-done setting spot site live next s after solved first within low high does fed shorts p same power state =
+    → AgreesSolved shorts (set live spot.column next) after solved.flow
+    (element_at setting shorts site spot.column spot.row spot.element p)
+spot-done setting spot site live next s after solved first within low high does fed shorts p
+    same power state =
     let column = spot.column in
     let row = spot.row in
     let outputs = solved.outputs in
     let marks = marks_of shorts column in
     let was = get_or live column 0 in
     let place = place_in site column row in
-    let is : next ≡ bit_or was (fed_rows outputs (three_from (reaches_of marks) row)) = fed ∙ ap (λ xs. bit_or was (fed_rows outputs xs)) same in
-    let small : next < 128 = subst (λ n. n < 128) (sym is) (fed_rows-small outputs marks row was low high (power.small column)) in
-    let feeds : FeedsAll outputs marks row was next = subst (λ n. FeedsAll outputs marks row was n) (sym is)
+    let is : next ≡ bit_or was (fed_rows outputs (three_from (reaches_of marks) row)) = fed
+    ∙ ap (λ xs. bit_or was (fed_rows outputs xs)) same in
+    let small : next < 128 = subst (λ n. n < 128) (sym is)
+    (fed_rows-small outputs marks row was low high (power.small column)) in
+    let feeds : FeedsAll outputs marks row was next =
+    subst (λ n. FeedsAll outputs marks row was n) (sym is)
     (fed_rows-feeds outputs marks row was low high) in
-    let done : solved_element setting spot.element place (inputs_at shorts p.on column row) p.state ≡ ((outputs, after), solved.flow) =
-    (λ i. solved_element setting spot.element place (inputs_at-flags shorts column row live p first low power i) (state i)) ∙ does in
+    let done : solved_element setting spot.element place (inputs_at shorts p.on column row) p.state
+    ≡ ((outputs, after), solved.flow) =
+    (λ i. solved_element setting spot.element place
+    (inputs_at-flags shorts column row live p first low power i) (state i)) ∙ does in
     let e : element_at setting shorts site column row spot.element p
     ≡ record { state = after; on = with_outputs outputs column row p.on; flow = solved.flow } =
-    ap (λ (d : Left). record { state = d.0.1; on = with_outputs d.0.0 column row p.on; flow = d.1 }) done in
+    ap (λ (d : Left). record { state = d.0.1; on = with_outputs d.0.0 column row p.on; flow = d.1 })
+    done in
     record {
       power = subst (λ q. AgreesPower shorts (set live column next) q) (sym e)
-          (AgreesPower-outputs shorts column row live next p outputs after solved.flow first within low small power feeds);
+          (AgreesPower-outputs shorts column row live next p outputs after solved.flow first within
+          low small power feeds);
       state = ap (λ (q : Power). q.state) e;
       flow = ap (λ (q : Power). q.flow) e;
     }

@@ -22,7 +22,7 @@ use Rattle.mstr_block.specs.declared.state.Running.{Running}
 use Rattle.mstr_block.specs.Table.{BlockTable}
 use Rattle.mstr_block.specs.Solve.{block_solved}
 use Rattle.mstr_block.specs.Laws.{KeepsCalls, GivesNewNumbers}
-use Rattle.ladder_solver.specs.State.{BlockPlace, State}
+use Rattle.ladder_solver.specs.State.{BlockPlace, SolveState}
 use Rattle.ladder_solver.specs.Flow.{Flow, GoesOn, Skips, Returns, Stopped, Setting, called}
 use Rattle.ladder_solver.specs.Flow.{call_left, solved_element}
 use Rattle.ladder_solver.specs.Network.{Power, Site, element_at, while_going, solved_at, rows_after}
@@ -36,18 +36,23 @@ use Rattle.ladder_solver.specs.Subroutine.{Subroutine, subroutine_of}
 -- a relation of the tables before and behind a solve that is kept by each block's solve
 module _ (Such : BlockTable → BlockTable → Type 0) (same : (t : BlockTable) → Such t t)
     (onward : (a b c : BlockTable) → Such a b → Such b c → Such a c)
-    (block : (table : BlockTable) (number : ℕ) (control area : Ref) (room : ℕ) (inputs : NodePower) (m : Contents)
-    → Such table (block_solved table number (record { control = control; area = area; room = room }) inputs m).table) where
-  module _ (setting : Setting) (calls : (number : ℕ) (s after : State) → setting.calls number s ≡ Some after → Such s.table after.table) where
-    called-keeps : (number : ℕ) (s : State) (behind : Option State) → setting.calls number s ≡ behind → Such s.table (called behind s).0.1.table
+    (block : (table : BlockTable) (number : ℕ) (control area : Ref) (room : ℕ) (inputs : NodePower)
+    (m : Contents)
+    → Such table (block_solved table number (record { control = control; area = area; room = room })
+    inputs m).table) where
+  module _ (setting : Setting) (calls : (number : ℕ) (s after : SolveState)
+      → setting.calls number s ≡ Some after → Such s.table after.table) where
+    called-keeps : (number : ℕ) (s : SolveState) (behind : Option SolveState)
+        → setting.calls number s ≡ behind → Such s.table (called behind s).0.1.table
     called-keeps number s None is = same s.table
     called-keeps number s (Some after) is = calls number s after is
 
-    call-keeps : (power : Bool) (number : ℕ) (s : State) → Such s.table (call_left power (setting.calls number s) s).0.1.table
+    call-keeps : (power : Bool) (number : ℕ) (s : SolveState)
+        → Such s.table (call_left power (setting.calls number s) s).0.1.table
     call-keeps true number s = called-keeps number s (setting.calls number s) refl
     call-keeps false number s = same s.table
 
-    element-keeps : (element : Element) (place : BlockPlace) (inputs : NodePower) (s : State)
+    element-keeps : (element : Element) (place : BlockPlace) (inputs : NodePower) (s : SolveState)
         → Such s.table (solved_element setting element place inputs s).0.1.table
     element-keeps (Open at) place inputs s = same s.table
     element-keeps (Closed at) place inputs s = same s.table
@@ -63,29 +68,36 @@ module _ (Such : BlockTable → BlockTable → Type 0) (same : (t : BlockTable) 
     element-keeps (Matrix op top mid length) place inputs s = same s.table
     element-keeps (Skip count) place inputs s = same s.table
     element-keeps (Label number) place inputs s = same s.table
-    element-keeps (Call number) place inputs s = call-keeps inputs.top (operand_number s.map number) s
+    element-keeps (Call number) place inputs s = call-keeps inputs.top
+        (operand_number s.map number) s
     element-keeps Return place inputs s = same s.table
-    element-keeps (Mstr control area length) place inputs s = block s.table (setting.numbers place) control area length inputs s.map
+    element-keeps (Mstr control area length) place inputs s = block s.table
+        (setting.numbers place) control area length inputs s.map
 
-    going-keeps : (flow : Flow) (next p : Power) → Such p.state.table next.state.table → Such p.state.table (while_going flow next p).state.table
+    going-keeps : (flow : Flow) (next p : Power) → Such p.state.table next.state.table
+        → Such p.state.table (while_going flow next p).state.table
     going-keeps GoesOn next p h = h
     going-keeps (Skips count) next p h = same p.state.table
     going-keeps Returns next p h = same p.state.table
     going-keeps Stopped next p h = same p.state.table
 
-    cell-keeps : (shorts : List Short) (site : Site) (column row : ℕ) (found : Option Cell) (p : Power)
+    cell-keeps : (shorts : List Short) (site : Site) (column row : ℕ)
+        (found : Option Cell) (p : Power)
         → Such p.state.table (solved_at setting shorts site column row found p).state.table
     cell-keeps shorts site column row None p = same p.state.table
     cell-keeps shorts site column row (Some cell) p =
-        going-keeps p.flow (element_at setting shorts site column row cell.element p) p (element-keeps cell.element _ _ p.state)
+        going-keeps p.flow (element_at setting shorts site column row cell.element p) p
+        (element-keeps cell.element _ _ p.state)
 
     rows-keep : (network : Network) (site : Site) (column row count : ℕ) (p : Power)
         → Such p.state.table (rows_after setting network site column row count p).state.table
     unfolding rows_after
     rows-keep network site column row zero p = same p.state.table
     rows-keep network site column row (suc count) p =
-        let q = solved_at setting network.shorts site column row (cell_at network.cells column row) p in
-        onward p.state.table q.state.table _ (cell-keeps network.shorts site column row (cell_at network.cells column row) p)
+        let q = solved_at setting network.shorts site column row
+        (cell_at network.cells column row) p in
+        onward p.state.table q.state.table _
+        (cell-keeps network.shorts site column row (cell_at network.cells column row) p)
         (rows-keep network site column (row + 1) count q)
 
     columns-keep : (network : Network) (site : Site) (column count : ℕ) (p : Power)
@@ -94,9 +106,11 @@ module _ (Such : BlockTable → BlockTable → Type 0) (same : (t : BlockTable) 
     columns-keep network site column zero p = same p.state.table
     columns-keep network site column (suc count) p =
         let q = rows_after setting network site column 1 7 p in
-        onward p.state.table q.state.table _ (rows-keep network site column 1 7 p) (columns-keep network site (column + 1) count q)
+        onward p.state.table q.state.table _ (rows-keep network site column 1 7 p)
+        (columns-keep network site (column + 1) count q)
 
-    rest-keeps : (flow : Flow) (rest : ℕ → State → State) (s : State) → ((skipped : ℕ) (s : State) → Such s.table (rest skipped s).table)
+    rest-keeps : (flow : Flow) (rest : ℕ → SolveState → SolveState) (s : SolveState)
+        → ((skipped : ℕ) (s : SolveState) → Such s.table (rest skipped s).table)
         → Such s.table (rest_behind flow rest s).table
     rest-keeps GoesOn rest s keeps = keeps 0 s
     rest-keeps (Skips zero) rest s keeps = same s.table
@@ -104,47 +118,60 @@ module _ (Such : BlockTable → BlockTable → Type 0) (same : (t : BlockTable) 
     rest-keeps Returns rest s keeps = same s.table
     rest-keeps Stopped rest s keeps = same s.table
 
-    begun-keeps : (b : Bool) (t : BlockTable) (begun after : State) → Such t begun.table → Such t after.table → Such t (if b then begun else after).table
+    begun-keeps : (b : Bool) (t : BlockTable) (begun after : SolveState) → Such t begun.table
+        → Such t after.table → Such t (if b then begun else after).table
     begun-keeps true t begun after one other = one
     begun-keeps false t begun after one other = other
 
-    turn-keeps : (network : Network) (site : Site) (rest : ℕ → State → State) (s : State)
-        → ((skipped : ℕ) (s : State) → Such s.table (rest skipped s).table) → Such s.table (network_turn setting network site rest s).table
+    turn-keeps : (network : Network) (site : Site) (rest : ℕ → SolveState
+        → SolveState) (s : SolveState)
+        → ((skipped : ℕ) (s : SolveState) → Such s.table (rest skipped s).table)
+        → Such s.table (network_turn setting network site rest s).table
     turn-keeps network site rest s keeps =
         let begun = record s { left = s.left - 1 } in
         let done = network_after setting network site begun in
         begun-keeps (begun.left == 0) s.table begun (rest_behind done.1 rest done.0) (same s.table)
-        (onward s.table done.0.table _ (columns-keep network site 1 11 (record { state = begun; on = []; flow = GoesOn }))
+        (onward s.table done.0.table _
+        (columns-keep network site 1 11 (record { state = begun; on = []; flow = GoesOn }))
         (rest-keeps done.1 rest done.0 keeps))
 
-    networks-keep : (segment number : ℕ) (networks : List Network) (skipped : ℕ) (s : State)
+    networks-keep : (segment number : ℕ) (networks : List Network) (skipped : ℕ) (s : SolveState)
         → Such s.table (networks_after setting segment number networks skipped s).table
     unfolding networks_after
     networks-keep segment number [] skipped s = same s.table
-    networks-keep segment number (network ∷ networks) (suc skipped) s = networks-keep segment (number + 1) networks skipped s
+    networks-keep segment number (network ∷ networks) (suc skipped) s = networks-keep segment
+        (number + 1) networks skipped s
     networks-keep segment number (network ∷ networks) zero s =
-        turn-keeps network (record { segment = segment; network = number }) (networks_after setting segment (number + 1) networks) s
+        turn-keeps network (record { segment = segment; network = number })
+        (networks_after setting segment (number + 1) networks) s
         (λ skipped s. networks-keep segment (number + 1) networks skipped s)
 
-  some-keeps : (setting : Setting) (segment : ℕ) (found : Option Subroutine) (s after : State)
-      → ((number : ℕ) (s after : State) → setting.calls number s ≡ Some after → Such s.table after.table)
-      → option_map (λ (called : Subroutine). networks_after setting segment called.first called.networks 0 s) found ≡ Some after → Such s.table after.table
+  some-keeps : (setting : Setting) (segment : ℕ) (found : Option Subroutine) (s after : SolveState)
+      → ((number : ℕ) (s after : SolveState) → setting.calls number s ≡ Some after
+      → Such s.table after.table)
+      → option_map (λ (called : Subroutine). networks_after setting segment called.first
+      called.networks 0 s) found ≡ Some after → Such s.table after.table
   some-keeps setting segment None s after calls is = absurd (cc)
   some-keeps setting segment (Some called) s after calls is =
       let e : networks_after setting segment called.first called.networks 0 s ≡ after = cc in
-      subst (λ (q : State). Such s.table q.table) e (networks-keep setting calls segment called.first called.networks 0 s)
+      subst (λ (q : SolveState). Such s.table q.table) e
+      (networks-keep setting calls segment called.first called.networks 0 s)
 
-  calls-keep : (depth : ℕ) (segments : List Segment) (number : ℕ) (s after : State) → calls_within depth segments number s ≡ Some after
+  calls-keep : (depth : ℕ) (segments : List Segment) (number : ℕ) (s after : SolveState)
+      → calls_within depth segments number s ≡ Some after
       → Such s.table after.table
   unfolding calls_within
   calls-keep zero segments number s after is = absurd (cc)
   calls-keep (suc depth) segments number s after is =
-      some-keeps (setting_of segments (calls_within depth segments)) (length segments) (subroutine_of (last_networks segments) number) s after
+      some-keeps (setting_of segments (calls_within depth segments)) (length segments)
+      (subroutine_of (last_networks segments) number) s after
       (calls-keep depth segments) is
 
-  pub segment-keeps : (segments : List Segment) (number : ℕ) (s : State) → Such s.table (segment_after segments number s).table
+  pub segment-keeps : (segments : List Segment) (number : ℕ) (s : SolveState)
+      → Such s.table (segment_after segments number s).table
   segment-keeps segments number s =
-      networks-keep (setting_within call_depth segments) (calls-keep call_depth segments) number 1 (networks_of segments number) 0 s
+      networks-keep (setting_within call_depth segments) (calls-keep call_depth segments) number 1
+      (networks_of segments number) 0 s
 
 pub calls-same : (t : BlockTable) → KeepsCalls t t
 calls-same t = record { node = refl; count = refl; started = λ h. h; out = λ id h. h }
@@ -161,12 +188,14 @@ pub numbers-same : (t : BlockTable) → GivesNewNumbers t t
 numbers-same t = record { rises = λ path. omega arith; new = λ place running h. inl h }
 
 -- a number above all of the table between is above all of the first
-number_above : (a b : BlockTable) (running : Running) → get_or a.numbers running.id.path 0 ≤ get_or b.numbers running.id.path 0
+number_above : (a b : BlockTable) (running : Running)
+    → get_or a.numbers running.id.path 0 ≤ get_or b.numbers running.id.path 0
     → (get_or b.numbers running.id.path 0 < running.id.seq) × (is_some running.ask ≡ true)
     → (get_or a.numbers running.id.path 0 < running.id.seq) × (is_some running.ask ≡ true)
 number_above a b running rises h = (omega (arith, rises, h.0), h.1)
 
-pub numbers-then : (a b c : BlockTable) → GivesNewNumbers a b → GivesNewNumbers b c → GivesNewNumbers a c
+pub numbers-then : (a b c : BlockTable) → GivesNewNumbers a b → GivesNewNumbers b c
+    → GivesNewNumbers a c
 numbers-then a b c one other = record {
   rises = λ path. omega (arith, one.rises path, other.rises path);
   new = λ place running h. elim (other.new place running h) [

@@ -16,7 +16,7 @@ use Rattle.std.specs.FinSet.{contains}
 use Rattle.relay_ops.specs.declared.ContactKind.TheVariants as contacts
 use Rattle.mstr_block.specs.Solve.{block_solved}
 use Rattle.plant_types.specs.Power.{no_output, top_output, middle_output}
-use Rattle.ladder_solver.specs.State.{BlockPlace, State}
+use Rattle.ladder_solver.specs.State.{BlockPlace, SolveState}
 use Rattle.ladder_solver.specs.Element.{one_node, contact_after, coil_after, block_after}
 use Rattle.ladder_solver.specs.Element.{counter_after, mstr_after, timing_effect, counting_effect}
 use Rattle.ladder_solver.specs.Element.{math_effect, move_effect, matrix_effect}
@@ -29,7 +29,7 @@ is_going flow = false
 -- What a call of a number makes of a state: the state behind the subroutine, or nothing where
 -- there is no such subroutine, or calls are as deep as they can be. This project's own.
 abbrev pub Calls : Type 0
-Calls = ℕ → State → Option State
+Calls = ℕ → SolveState → Option SolveState
 
 -- What the networks of a controller share while they are solved: what calls make of a state, and
 -- the numbers of the MSTR blocks by their places. This project's own.
@@ -40,38 +40,38 @@ pub record Setting : Type 0 where
 -- What an element leaves: the power at its output nodes, the state, and where the solve goes on.
 -- This project's own.
 abbrev pub Left : Type 0
-Left = (NodePower × State) × Flow
+Left = (NodePower × SolveState) × Flow
 
 -- SKP and RET act where they have power; they give none. Modicon Ladder Logic Block Library User
 -- Guide.
-abbrev pub directed : Bool → Flow → State → Left
+abbrev pub directed : Bool → Flow → SolveState → Left
 directed power flow s = ((no_output, s), (if power then flow else GoesOn))
 
 -- Behind a subroutine its caller goes on, unless no network is left: a skip or a return in the
 -- subroutine ends with it. Modicon Ladder Logic Block Library User Guide; the watchdog is this
 -- project's own.
-abbrev pub flow_behind : State → Flow
+abbrev pub flow_behind : SolveState → Flow
 flow_behind s = if s.left == 0 then Stopped else GoesOn
 
 -- A call that found its subroutine gives its upper output, one that did not its lower one.
 -- Modicon Ladder Logic Block Library User Guide; the lower output is this project's own.
-abbrev pub called : Option State → State → Left
+abbrev pub called : Option SolveState → SolveState → Left
 called None s = ((middle_output, s), GoesOn)
 called (Some behind) s = ((top_output, behind), flow_behind behind)
 
 -- JSR calls where it has power. Modicon Ladder Logic Block Library User Guide.
-abbrev pub call_left : Bool → Option State → State → Left
+abbrev pub call_left : Bool → Option SolveState → SolveState → Left
 call_left power behind s = if power then called behind s else ((no_output, s), GoesOn)
 
 -- The solve goes on behind each element that doesn't direct it. This project's own.
-abbrev pub goes_on : NodePower × State → Left
+abbrev pub goes_on : NodePower × SolveState → Left
 goes_on done = (done, GoesOn)
 
 -- What an element leaves, from its place and its inputs; all that it reads it reads before it
 -- stores. SKP, RET and JSR direct the solve, LAB only names its network, and an MSTR block goes by
 -- the number of its place. Modicon Ladder Logic Block Library User Guide; the exact inputs and
 -- outputs are this project's own.
-abbrev pub solved_element : Setting → Element → BlockPlace → NodePower → State → Left
+abbrev pub solved_element : Setting → Element → BlockPlace → NodePower → SolveState → Left
 solved_element setting (Open at) place inputs s =
     goes_on (contact_after contacts.Open at inputs s)
 solved_element setting (Closed at) place inputs s =

@@ -1,5 +1,6 @@
 -- Where each subroutine stands among the grids of a segment.
-use Rattle.std.specs.Prelude.{◌≡◌, ℕ, suc, ◌+◌, ◌-◌, ◌≤◌, ◌<◌, List, [], ◌∷◌, Option, Some, None}
+use Rattle.std.specs.Prelude.{◌≡◌, ℕ, suc, ◌+◌, ◌-◌, ◌≤◌, ◌<◌, List, [], ◌∷◌, ◌++◌}
+use Rattle.std.specs.Prelude.{Option, Some, None}
 use Rattle.std.specs.Prelude.{is_none, length, map, replicate, slice_set, slice_index_or, IfSome}
 use Rattle.std.specs.List.{prefix_len, slice_range, AllByRecursion}
 use Rattle.std.specs.Option.{option_map}
@@ -59,19 +60,24 @@ last_grids segments = grids_at segments (length segments)
 abbrev pub spots_at : List (List Grid) → ℕ → List (List Spot)
 spots_at segments number = slice_index_or (spots_of segments) (number - 1) []
 
--- No subroutine stands under any number. This project's own.
-abbrev pub no_spans : List (Option Span)
-no_spans = replicate (most_labels + 1) None
+-- Spans by number, with a place for each number below one. This project's own.
+abbrev pub with_room : ℕ → List (Option Span) → List (Option Span)
+with_room count spans = spans ++ replicate (count - length spans) None
+
+-- A span is put under a number. This project's own.
+abbrev pub put_span : ℕ → Span → List (Option Span) → List (Option Span)
+put_span number span spans = slice_set (with_room (number + 1) spans) number (Some span)
 
 -- A span stands under the number of a LAB. This project's own.
 abbrev pub with_span : Option ℕ → Span → List (Option Span) → List (Option Span)
 with_span None span spans = spans
-with_span (Some number) span spans = slice_set spans number (Some span)
+with_span (Some number) span spans = put_span number span spans
 
 -- The spans of networks that have these LABs or none, and count from a number on: each ends where
--- the next LAB stands, or with the networks. This project's own.
+-- the next LAB stands, or with the networks. There are as many as the largest number of a LAB
+-- asks. This project's own.
 unfoldable pub spans_from : ℕ → List (Option ℕ) → List (Option Span)
-spans_from first [] = no_spans
+spans_from first [] = []
 spans_from first (label ∷ labels) =
     with_span label (record { first = first; end = suc first + prefix_len is_none labels })
     (spans_from (suc first) labels)
@@ -107,4 +113,4 @@ pub record IsProgram (p : Inside) : Type 0 where
   pub can_lay : CanLay p.grids
   pub networks : p.networks ≡ spots_of p.grids
   pub blocks : p.blocks ≡ mstr_count p.grids
-  pub spans : p.spans ≡ spans_of (last_grids p.grids)
+  pub spans : p.spans.items ≡ spans_of (last_grids p.grids)

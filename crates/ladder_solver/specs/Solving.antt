@@ -13,7 +13,7 @@ use Rattle.ladder_solver.specs.State.{LadderState, solve_state}
 -- A segment can be solved: the ladder has it, the store and the discretes as the last scan ended
 -- have what each cell asks, each MSTR block has its place in the table, and networks are left to
 -- the watchdog. This project's own.
-pub record IsSolvable (ladder : LadderState) (segment : ℕ) (store before : Contents)
+pub record IsSolvableSegment (ladder : LadderState) (segment : ℕ) (store before : Contents)
     (bank : BlockTable) (watch : Watch) : Type 0 where
   pub first : 0 < segment
   pub last : segment ≤ length ladder.grids

@@ -26,12 +26,12 @@ network_label network = label_of_cell (cell_at network.cells 1 1)
 abbrev pub is_labelled : Network → Bool
 is_labelled network = is_some (network_label network)
 
-abbrev pub is_label : ℕ → Option ℕ → Bool
-is_label number None = false
-is_label number (Some other) = other == number
+abbrev pub is_label_number : ℕ → Option ℕ → Bool
+is_label_number number None = false
+is_label_number number (Some other) = other == number
 
 abbrev pub has_label_number : ℕ → Network → Bool
-has_label_number number network = is_label number (network_label network)
+has_label_number number network = is_label_number number (network_label network)
 
 -- A subroutine: the number of its first network in the segment, counted from 1, and its networks.
 -- This project's own.

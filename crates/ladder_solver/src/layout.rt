@@ -8,7 +8,7 @@ ghost use Rattle.ladder_solver.specs.Numbers.{mstrs_in, ops_elements, column_ele
 ghost use Rattle.ladder_solver.specs.Numbers.{grid_elements, grids_elements, program_elements};
 ghost use Rattle.ladder_solver.specs.Numbers.{mstr_count};
 ghost use Rattle.ladder_solver.specs.Layout.{spot_of, ops_spots, column_spots, spots_in};
-ghost use Rattle.ladder_solver.specs.Layout.{segment_spots, spots_of, HasRoom, Behind};
+ghost use Rattle.ladder_solver.specs.Layout.{segment_spots, spots_of, HasBlockRoom, Behind};
 
 use crate::rows::Reaches;
 use grid_compile::{Column, Grid, Op, column_join};
@@ -77,7 +77,7 @@ fn add_spots(
     spots: &mut List<Spot>,
 ) -> Result<(), AllocError>
     requires rows { AllByRecursion IsWithin ops.now }
-    requires few { HasRoom block.old (ops_elements ops.now) }
+    requires few { HasBlockRoom block.old (ops_elements ops.now) }
     ensures spots { OnOk result (spots.new ≡
         spots.old ++ ops_spots reaches.now column block.old ops.now) }
     ensures block { OnOk result (Behind block.old (ops_elements ops.now) block.new) }
@@ -96,7 +96,7 @@ fn add_column(
     spots: &mut List<Spot>,
 ) -> Result<(), AllocError>
     requires laid { IsColumn laid.now }
-    requires few { HasRoom block.old (column_elements laid.now) }
+    requires few { HasBlockRoom block.old (column_elements laid.now) }
     ensures spots { OnOk result (spots.new ≡
         spots.old ++ column_spots block.old column laid.now) }
     ensures block { OnOk result (Behind block.old (column_elements laid.now) block.new) }
@@ -108,7 +108,7 @@ fn add_column(
 /// The cells of a grid, column by column, each from the top.
 fn spots_in(alloc: Global, grid: &Grid, block: &mut u16) -> Result<List<Spot>, AllocError>
     requires grid { IsGrid grid.now }
-    requires few { HasRoom block.old (grid_elements grid.now) }
+    requires few { HasBlockRoom block.old (grid_elements grid.now) }
     ensures spots { IfOk result (λ spots. spots ≡ spots_in block.old grid.now) }
     ensures block { OnOk result (Behind block.old (grid_elements grid.now) block.new) }
 {
@@ -127,7 +127,7 @@ fn segment_spots(
     block: &mut u16,
 ) -> Result<List<List<Spot>>, AllocError>
     requires grids { AllByRecursion IsGrid grids.now }
-    requires few { HasRoom block.old (grids_elements grids.now) }
+    requires few { HasBlockRoom block.old (grids_elements grids.now) }
     ensures spots { IfOk result (λ networks. networks ≡ segment_spots block.old grids.now) }
     ensures block { OnOk result (Behind block.old (grids_elements grids.now) block.new) }
 {

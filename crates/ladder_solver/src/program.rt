@@ -1,20 +1,18 @@
 //! Networks as solving walks them, and where each subroutine stands among them.
-ghost use Rattle.std.specs.Prelude.{◌≡◌, ◌<◌, ◌≤◌, length, slice_set, IfOk, IfSome};
+ghost use Rattle.std.specs.Prelude.{◌≡◌, ◌<◌, ◌≤◌, length, IfOk, IfSome, OnOk};
 ghost use Rattle.std.specs.Option.{option_copied};
 ghost use Rattle.grid_compile.specs.Lists.{op_at};
 ghost use Rattle.ladder_solver.specs.Numbers.{mstr_count};
 ghost use Rattle.ladder_solver.specs.Subroutine.{label_number};
 ghost use Rattle.ladder_solver.specs.Program.{label_in, CanLay, last_grids, spots_at};
-ghost use Rattle.ladder_solver.specs.Program.{no_spans, spans_of, IsSpanOf, IsWithinNetworks};
+ghost use Rattle.ladder_solver.specs.Program.{with_room, put_span, spans_of};
+ghost use Rattle.ladder_solver.specs.Program.{IsSpanOf, IsWithinNetworks};
 
 use crate::layout::{Spot, spots_of};
 use grid_compile::{Column, Grid, Op};
 use plant_types::{Element, List};
 use std::alloc::{AllocError, Global};
 use std::marker::Model;
-
-/// The largest number of a LAB.
-const MOST_LABELS: usize = 255;
 
 /// The networks of a subroutine in the last segment, counted from 0.
 #[derive(Clone, Copy)]
@@ -24,8 +22,8 @@ pub(crate) struct Span {
     pub end: usize,
 }
 
-/// Where the subroutine of each number stands.
-type Spans = [Option<Span>; MOST_LABELS + 1];
+/// Where the subroutine of each number stands, up to the largest that a LAB has.
+type Spans = Vec<Option<Span>>;
 
 fn label_number(element: Element) -> Option<u16>
     ensures { result ≡ label_number element }
@@ -51,42 +49,48 @@ fn label_in(grid: &Grid) -> Option<u16>
     label_number(op.element)
 }
 
-fn no_spans() -> Spans
-    ensures { result ≡ no_spans }
+/// Sees that there is a place for each number below `count`.
+fn make_room(spans: &mut Spans, count: usize) -> Result<(), AllocError>
+    ensures { OnOk result (spans.new.items ≡ with_room count spans.old.items) }
 {
-    [None; MOST_LABELS + 1]
+    let missing = count.saturating_sub(spans.len());
+    for _ in 0..missing {
+        spans.push(None)?;
+    }
+    Ok(())
 }
 
-fn put_span(spans: &mut Spans, number: u16, span: Span)
-    ensures { spans.new ≡ slice_set spans.old number (Some span) }
+fn put_span(spans: &mut Spans, number: u16, span: Span) -> Result<(), AllocError>
+    ensures { OnOk result (spans.new.items ≡ put_span number span spans.old.items) }
 {
-    if usize::from(number) <= MOST_LABELS {
-        spans[usize::from(number)] = Some(span);
-    }
+    let number = usize::from(number);
+    make_room(spans, number + 1)?;
+    spans[number] = Some(span);
+    Ok(())
 }
 
 /// Where the subroutines of these networks stand: each goes on up to the next LAB.
-fn spans_of(grids: &[Grid]) -> Spans
-    ensures { result ≡ spans_of grids.now }
+fn spans_of(alloc: Global, grids: &[Grid]) -> Result<Spans, AllocError>
+    ensures { IfOk result (λ spans. spans.items ≡ spans_of grids.now) }
 {
-    let mut spans = no_spans();
+    let mut spans = Vec::new(alloc);
     let mut end = grids.len();
     for first in (0..grids.len()).rev() {
         if let Some(number) = label_in(&grids[first]) {
-            put_span(&mut spans, number, Span { first, end });
+            put_span(&mut spans, number, Span { first, end })?;
             end = first;
         }
     }
-    spans
+    Ok(spans)
 }
 
-fn last_spans(segments: &[List<Grid>]) -> Spans
-    ensures { result ≡ spans_of (last_grids segments.now) }
+fn last_spans(alloc: Global, segments: &[List<Grid>]) -> Result<Spans, AllocError>
+    ensures { IfOk result (λ spans. spans.items ≡ spans_of (last_grids segments.now)) }
 {
     if segments.is_empty() {
-        return no_spans();
+        return Ok(Vec::new(alloc));
     }
-    spans_of(segments[segments.len() - 1].as_slice())
+    spans_of(alloc, segments[segments.len() - 1].as_slice())
 }
 
 /// The grids of all segments, their cells as solving walks them, how many MSTR blocks they have,
@@ -123,8 +127,8 @@ impl Program {
         ensures { IfOk result (λ program. program ≡ grids) }
     {
         let mut block = 1;
+        let spans = last_spans(alloc, grids.as_slice())?;
         let networks = spots_of(alloc, grids.as_slice(), &mut block)?;
-        let spans = last_spans(grids.as_slice());
         Ok(Program {
             grids,
             networks,
@@ -168,11 +172,10 @@ impl Program {
         ensures span { IsSpanOf self.now label result }
         ensures within { IfSome result (IsWithinNetworks (length (last_grids self.now))) }
     {
-        let spans = &self.spans;
         let number = usize::from(label);
-        if number > MOST_LABELS {
+        if number >= self.spans.len() {
             return None;
         }
-        spans[number]
+        self.spans[number]
     }
 }

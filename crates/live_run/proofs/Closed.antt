@@ -5,13 +5,13 @@ use Rattle.std.proofs.Common.{length, map, sym, ap, subst, ◌∙◌, arith}
 use Rattle.std.proofs.lemmas.List.Elements.{All-contains, Contains-append_cases}
 use Rattle.std.proofs.lemmas.List.Sorted.{Contains-permutation, IsPermutation-sym}
 use Rattle.std.specs.List.{AllZip}
-use Rattle.turn_gate.specs.Known.{Owns, PassFacts, StartsWith, own as made_by}
+use Rattle.turn_gate.specs.Known.{Owns, PassFacts, StartsWith, made_by}
 use Rattle.plant_types.specs.declared.net.HostPlan.{HostPlan}
 use Rattle.plant_types.specs.declared.plan.ControllerPlan.{ControllerPlan}
 use Rattle.plant_types.specs.declared.plan.Plant.{Plant}
 use Rattle.plant_types.specs.Plans.{IsPlant, controller_nodes, host_nodes}
 use Rattle.ring_core.specs.declared.entry.RingEntry.{RingEntry}
-use Rattle.ring_core.specs.Legal.{IsLegal as IsLegalRing}
+use Rattle.ring_core.specs.Legal.{IsLegalRing}
 use Rattle.ring_core.specs.Words.{maker}
 use Rattle.joint_history.specs.declared.joint.ControllerLog.{ControllerLog}
 use Rattle.joint_history.specs.declared.joint.HostLog.{HostLog}
@@ -36,29 +36,34 @@ use Rattle.live_run.proofs.Closing.{rest-others}
 use Rattle.live_run.proofs.Ran.{all-cons}
 
 -- a controller came to its end on this ring
-pub record EndedOn (plant : Plant) (scans : ℕ) (h : List RingEntry) (plan : ControllerPlan) (log : ControllerLog) : Type 0 where
+pub record EndedOn (plant : Plant) (scans : ℕ) (h : List RingEntry) (plan : ControllerPlan)
+    (log : ControllerLog) : Type 0 where
   pub node : log.node ≡ plan.node
   pub finished : HasFinished plant scans h plan log
   pub unspent : NoneSpent (own plan.node h)
 
 -- and so did a host
-pub record HostEndedOn (plant : Plant) (h : List RingEntry) (plan : HostPlan) (log : HostLog) : Type 0 where
+pub record HostEndedOn (plant : Plant) (h : List RingEntry) (plan : HostPlan)
+    (log : HostLog) : Type 0 where
   pub finished : HostHasFinished plant h plan log
   pub unspent : NoneSpent (own plan.node h)
 
 -- what a node had seen, and what others added later
-seen-of : (p : PassFacts RingEntry) (h : List RingEntry) (node : ℕ) (C : List RingEntry → Type 0) → p.gate.opening ≡ [] → Owns maker p h
+seen-of : (p : PassFacts RingEntry) (h : List RingEntry) (node : ℕ) (C : List RingEntry → Type 0)
+    → p.gate.opening ≡ [] → Owns maker p h
     → All (StartsWith h) p.heard → IsBrought p.joined p.heard node C
     → (seen rest : List RingEntry) × C seen × (h ≡ seen ++ rest) × (own node rest ≡ [])
 seen-of p h node C unopened owns heard b =
     let begins = All-contains (StartsWith h) p.heard b.seen heard b.heard_is in
     let made : owns.made ≡ h = sym (owns.all_is ∙ ap (λ l. l ++ owns.made) unopened) in
     let same : made_by maker node b.seen ≡ made_by maker node h =
-    All-contains (λ (q : ℕ × List RingEntry). q.1 ≡ made_by maker q.0 owns.made) p.joined (node, made_by maker node b.seen) owns.joined_are b.own_is
+    All-contains (λ (q : ℕ × List RingEntry). q.1 ≡ made_by maker q.0 owns.made) p.joined
+    (node, made_by maker node b.seen) owns.joined_are b.own_is
     ∙ ap (made_by maker node) made in
     (b.seen, begins.0, b.holds, begins.1, rest-others maker node h b.seen begins.0 begins.1 same)
 
-ended : (plant : Plant) (scans : ℕ) (plan : ControllerPlan) (log : ControllerLog) (h seen rest : List RingEntry) → IsLegalRing plant.net h → h ≡ seen ++ rest
+ended : (plant : Plant) (scans : ℕ) (plan : ControllerPlan) (log : ControllerLog)
+    (h seen rest : List RingEntry) → IsLegalRing plant.net h → h ≡ seen ++ rest
     → own plan.node rest ≡ [] → CameToEnd plant scans plan log seen → EndedOn plant scans h plan log
 ended plant scans plan log h seen rest legal is none c =
     subst (λ l. EndedOn plant scans l plan log) (sym is) (
@@ -68,15 +73,18 @@ ended plant scans plan log h seen rest legal is none c =
     record {
       node = c.node;
       finished = record {
-        stands = stands-others f plant.net log.node log.entries seen rest good mine c.finished.stands;
-        keeps = others f plant.net log.node log.entries seen rest Rattle.std.specs.Prelude.true mine c.finished.keeps;
+        stands = stands-others f plant.net log.node log.entries seen rest good mine
+            c.finished.stands;
+        keeps = others f plant.net log.node log.entries seen rest Rattle.std.specs.Prelude.true mine
+            c.finished.keeps;
         ended = c.finished.ended;
         collected = c.finished.collected;
       };
       unspent = subst NoneSpent (sym (own-found plan.node seen rest none)) c.unspent;
     })
 
-host-ended : (plant : Plant) (plan : HostPlan) (log : HostLog) (h seen rest : List RingEntry) → IsLegalRing plant.net h → h ≡ seen ++ rest
+host-ended : (plant : Plant) (plan : HostPlan) (log : HostLog) (h seen rest : List RingEntry)
+    → IsLegalRing plant.net h → h ≡ seen ++ rest
     → own plan.node rest ≡ [] → HostCameToEnd plant plan log seen → HostEndedOn plant h plan log
 host-ended plant plan log h seen rest legal is none c =
     subst (λ l. HostEndedOn plant l plan log) (sym is) (
@@ -84,30 +92,38 @@ host-ended plant plan log h seen rest legal is none c =
     record {
       finished = record {
         node = c.finished.node;
-        stands = host-stands-others plan plant.net log.entries seen rest good none c.finished.stands;
-        keeps = host-others plan plant.net log.entries seen rest Rattle.std.specs.Prelude.true none c.finished.keeps;
+        stands = host-stands-others plan plant.net log.entries seen rest good none
+            c.finished.stands;
+        keeps = host-others plan plant.net log.entries seen rest Rattle.std.specs.Prelude.true none
+            c.finished.keeps;
       };
       unspent = subst NoneSpent (sym (own-found plan.node seen rest none)) c.unspent;
     })
 
-zip-each : {A B : Type 0} (P Q : A → B → Type 0) → ((a : A) (b : B) → P a b → Q a b) → (xs : List A) (ys : List B) → AllZip P xs ys → AllZip Q xs ys
+zip-each : {A B : Type 0} (P Q : A → B → Type 0) → ((a : A) (b : B) → P a b → Q a b)
+    → (xs : List A) (ys : List B) → AllZip P xs ys → AllZip Q xs ys
 zip-each P Q f [] [] all = all
 zip-each P Q f [] (y ∷ ys) all = absurd all
 zip-each P Q f (x ∷ xs) [] all = absurd all
 zip-each P Q f (x ∷ xs) (y ∷ ys) all = (f x y all.0, zip-each P Q f xs ys all.1)
 
-zip-second : {A B : Type 0} (P : A → B → Type 0) (Q : B → Type 0) → ((a : A) (b : B) → P a b → Q b) → (xs : List A) (ys : List B) → AllZip P xs ys → All Q ys
+zip-second : {A B : Type 0} (P : A → B → Type 0) (Q : B → Type 0) → ((a : A) (b : B) → P a b → Q b)
+    → (xs : List A) (ys : List B) → AllZip P xs ys → All Q ys
 zip-second P Q f [] [] all = λ k d low. absurd (omega (arith, low))
 zip-second P Q f [] (y ∷ ys) all = absurd all
 zip-second P Q f (x ∷ xs) [] all = absurd all
-zip-second P Q f (x ∷ xs) (y ∷ ys) all = all-cons Q y ys (f x y all.0) (zip-second P Q f xs ys all.1)
+zip-second P Q f (x ∷ xs) (y ∷ ys) all =
+    all-cons Q y ys (f x y all.0) (zip-second P Q f xs ys all.1)
 
-at-node : {A B : Type 0} (node_of : A → ℕ) (C : ℕ → Type 0) (P : A → B → Type 0) → ((a : A) (b : B) → P a b → C (node_of a)) → (xs : List A) (ys : List B)
-    → AllZip P xs ys → (k n : ℕ) → k < length (map node_of xs) → get_or (map node_of xs) k n ≡ n → C n
+at-node : {A B : Type 0} (node_of : A → ℕ) (C : ℕ → Type 0) (P : A → B → Type 0)
+    → ((a : A) (b : B) → P a b → C (node_of a)) → (xs : List A) (ys : List B)
+    → AllZip P xs ys → (k n : ℕ) → k < length (map node_of xs)
+    → get_or (map node_of xs) k n ≡ n → C n
 at-node node_of C P f [] ys all k n low is = absurd (omega (arith, low))
 at-node node_of C P f (x ∷ xs) [] all k n low is = absurd all
 at-node node_of C P f (x ∷ xs) (y ∷ ys) all zero n low is = subst C is (f x y all.0)
-at-node node_of C P f (x ∷ xs) (y ∷ ys) all (suc k) n low is = at-node node_of C P f xs ys all.1 k n (omega (arith, low)) is
+at-node node_of C P f (x ∷ xs) (y ∷ ys) all (suc k) n low is =
+    at-node node_of C P f xs ys all.1 k n (omega (arith, low)) is
 
 -- all that the closed lists are
 pub record Closes (plant : Plant) (scans : ℕ) (joint : Joint) : Type 0 where
@@ -118,30 +134,42 @@ pub record Closes (plant : Plant) (scans : ℕ) (joint : Joint) : Type 0 where
   pub hosts : AllZip (HostHasFinished plant joint.ring) plant.hosts joint.hosts
   pub unspent : NoneSpent joint.ring
 
-pub closes : (plant : Plant) (scans : ℕ) (joint : Joint) (p : PassFacts RingEntry) → IsPlant plant → p.gate.opening ≡ [] → Owns maker p joint.ring
+pub closes : (plant : Plant) (scans : ℕ) (joint : Joint) (p : PassFacts RingEntry) → IsPlant plant
+    → p.gate.opening ≡ [] → Owns maker p joint.ring
     → All (StartsWith joint.ring) p.heard → IsLegalRing plant.net joint.ring
-    → AreBrought p.joined p.heard (λ plan. plan.node) (CameToEnd plant scans) plant.controllers joint.controllers
-    → AreBrought p.joined p.heard (λ plan. plan.node) (HostCameToEnd plant) plant.hosts joint.hosts → Closes plant scans joint
+    → AreBrought p.joined p.heard (λ plan. plan.node) (CameToEnd plant scans) plant.controllers
+    joint.controllers
+    → AreBrought p.joined p.heard (λ plan. plan.node) (HostCameToEnd plant) plant.hosts joint.hosts
+    → Closes plant scans joint
 closes plant scans joint p sound unopened owns heard legal one two = record {
   legal = record {
-    controllers = zip-each (EndedOn plant scans h) (IsLegalLog plant scans) (λ a b e. (e.node, e.finished.stands.legal)) plant.controllers joint.controllers ran;
-    hosts = zip-each (HostEndedOn plant h) IsLegalHostLog (λ a b e. (e.finished.node, e.finished.stands.legal)) plant.hosts joint.hosts served;
+    controllers = zip-each (EndedOn plant scans h) (IsLegalLog plant scans)
+        (λ a b e. (e.node, e.finished.stands.legal)) plant.controllers joint.controllers ran;
+    hosts = zip-each (HostEndedOn plant h) IsLegalHostLog
+        (λ a b e. (e.finished.node, e.finished.stands.legal)) plant.hosts joint.hosts served;
     ring = legal;
   };
   ties = record {
-    controllers = zip-second (EndedOn plant scans h) (IsTiedController h) (λ a b e. e.finished.stands.tied) plant.controllers joint.controllers ran;
+    controllers = zip-second (EndedOn plant scans h) (IsTiedController h)
+        (λ a b e. e.finished.stands.tied) plant.controllers joint.controllers ran;
     hosts = zip-second (HostEndedOn plant h) (IsTiedHost h)
-        (λ a b e. subst (λ n. Tied AHost (host_items_of b.entries) (own n h)) (sym e.finished.node) e.finished.stands.tied) plant.hosts joint.hosts served;
+        (λ a b e. subst (λ n. Tied AHost (host_items_of b.entries) (own n h))
+        (sym e.finished.node) e.finished.stands.tied) plant.hosts joint.hosts served;
   };
   timely = record {
-    controllers = zip-second (EndedOn plant scans h) (IsControllerInTime h) (λ a b e. e.finished.keeps.timely.timely) plant.controllers joint.controllers ran;
+    controllers = zip-second (EndedOn plant scans h) (IsControllerInTime h)
+        (λ a b e. e.finished.keeps.timely.timely) plant.controllers joint.controllers ran;
     hosts = zip-second (HostEndedOn plant h) (IsHostInTime h)
-        (λ a b e. subst (λ n. HostInTime b.entries (own n h)) (sym e.finished.node) e.finished.keeps.timely.timely) plant.hosts joint.hosts served;
+        (λ a b e. subst (λ n. HostInTime b.entries (own n h))
+        (sym e.finished.node) e.finished.keeps.timely.timely) plant.hosts joint.hosts served;
   };
-  controllers = zip-each (EndedOn plant scans h) (HasFinished plant scans h) (λ a b e. e.finished) plant.controllers joint.controllers ran;
-  hosts = zip-each (HostEndedOn plant h) (HostHasFinished plant h) (λ a b e. e.finished) plant.hosts joint.hosts served;
+  controllers = zip-each (EndedOn plant scans h) (HasFinished plant scans h)
+      (λ a b e. e.finished) plant.controllers joint.controllers ran;
+  hosts = zip-each (HostEndedOn plant h) (HostHasFinished plant h) (λ a b e. e.finished) plant.hosts
+      joint.hosts served;
   unspent = nobody-spends plant.net h legal (λ n member. unspent n
-      (Contains-permutation plant.net.members (controller_nodes plant ++ host_nodes plant) n (IsPermutation-sym (controller_nodes plant ++ host_nodes plant)
+      (Contains-permutation plant.net.members (controller_nodes plant ++ host_nodes plant) n
+      (IsPermutation-sym (controller_nodes plant ++ host_nodes plant)
       plant.net.members sound.members) member));
 }
   where
@@ -149,19 +177,27 @@ closes plant scans joint p sound unopened owns heard legal one two = record {
     h = joint.ring
 
     ran : AllZip (EndedOn plant scans h) plant.controllers joint.controllers
-    ran = zip-each (λ plan log. IsBrought p.joined p.heard plan.node (CameToEnd plant scans plan log)) (EndedOn plant scans h)
-        (λ plan log b. let s = seen-of p h plan.node (CameToEnd plant scans plan log) unopened owns heard b in
-        ended plant scans plan log h s.0 s.1 legal s.3 s.4 s.2) plant.controllers joint.controllers one
+    ran = zip-each (λ plan log. IsBrought p.joined p.heard plan.node
+        (CameToEnd plant scans plan log)) (EndedOn plant scans h)
+        (λ plan log b.
+        let s = seen-of p h plan.node (CameToEnd plant scans plan log) unopened owns heard b in
+        ended plant scans plan log h s.0 s.1 legal s.3 s.4 s.2) plant.controllers
+        joint.controllers one
 
     served : AllZip (HostEndedOn plant h) plant.hosts joint.hosts
-    served = zip-each (λ plan log. IsBrought p.joined p.heard plan.node (HostCameToEnd plant plan log)) (HostEndedOn plant h)
-        (λ plan log b. let s = seen-of p h plan.node (HostCameToEnd plant plan log) unopened owns heard b in
+    served = zip-each (λ plan log. IsBrought p.joined p.heard plan.node
+        (HostCameToEnd plant plan log)) (HostEndedOn plant h)
+        (λ plan log b.
+        let s = seen-of p h plan.node (HostCameToEnd plant plan log) unopened owns heard b in
         host-ended plant plan log h s.0 s.1 legal s.3 s.4 s.2) plant.hosts joint.hosts two
 
-    unspent : (n : ℕ) → Contains (controller_nodes plant ++ host_nodes plant) n → NoneSpent (own n h)
+    unspent : (n : ℕ) → Contains (controller_nodes plant ++ host_nodes plant) n
+        → NoneSpent (own n h)
     unspent n there = ⊎_elim
-        (λ (c : Contains (controller_nodes plant) n). at-node (λ plan. plan.node) (λ n. NoneSpent (own n h)) (EndedOn plant scans h) (λ a b e. e.unspent)
+        (λ (c : Contains (controller_nodes plant) n). at-node (λ plan. plan.node)
+        (λ n. NoneSpent (own n h)) (EndedOn plant scans h) (λ a b e. e.unspent)
         plant.controllers joint.controllers ran c.0 n c.1 c.2)
-        (λ (c : Contains (host_nodes plant) n). at-node (λ plan. plan.node) (λ n. NoneSpent (own n h)) (HostEndedOn plant h) (λ a b e. e.unspent)
+        (λ (c : Contains (host_nodes plant) n). at-node (λ plan. plan.node)
+        (λ n. NoneSpent (own n h)) (HostEndedOn plant h) (λ a b e. e.unspent)
         plant.hosts joint.hosts served c.0 n c.1 c.2)
         (Contains-append_cases (controller_nodes plant) (host_nodes plant) n there)

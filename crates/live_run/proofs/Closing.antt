@@ -3,7 +3,7 @@ use Rattle.std.proofs.Common.{◌≡◌, ℕ, Bool, true, false, List, [], ◌�
 use Rattle.std.proofs.Common.{sym, ap, subst, ◌∙◌, arith, append-nil}
 use Rattle.std.specs.List.{All}
 use Rattle.std.proofs.lemmas.List.Elements.{filter-append}
-use Rattle.turn_gate.specs.Known.{GateFacts, Owns, PassFacts, StartsWith, own as made_by}
+use Rattle.turn_gate.specs.Known.{GateFacts, Owns, PassFacts, StartsWith, made_by}
 use Rattle.plant_types.specs.declared.net.HostPlan.{HostPlan}
 use Rattle.plant_types.specs.declared.plan.ControllerPlan.{ControllerPlan}
 use Rattle.plant_types.specs.declared.plan.Plant.{Plant}
@@ -33,29 +33,42 @@ use Rattle.live_run.specs.Talking.{AttendsOn, TalksOn}
 use Rattle.live_run.proofs.Stays.{none-ours}
 
 -- what a pass brought back is all of its number, so the list went on by others alone
-pub rest-others : {E : Type 0} (maker : E → ℕ) (n : ℕ) (all seen rest : List E) → all ≡ seen ++ rest → made_by maker n seen ≡ made_by maker n all
+pub rest-others : {E : Type 0} (maker : E → ℕ) (n : ℕ) (all seen rest : List E) → all ≡ seen ++ rest
+    → made_by maker n seen ≡ made_by maker n all
     → made_by maker n rest ≡ []
 rest-others maker n all seen rest is same =
     cancel-none (made_by maker n seen) (made_by maker n rest)
-    (same ∙ ap (made_by maker n) is ∙ filter-append (λ e. Rattle.std.specs.Prelude.nat_eq (maker e) n) seen rest)
+    (same ∙ ap (made_by maker n) is
+    ∙ filter-append (λ e. Rattle.std.specs.Prelude.nat_eq (maker e) n) seen rest)
 
 -- a controller's closed history is what its communication saw last
-pub came-to-end : {Q : Type 0} (plant : Plant) (scans : ℕ) (plan : ControllerPlan) (gate : GateFacts Entry Fixed) (w : WorkerIs) (side : RingSideIs Q)
-    (ring : List RingEntry) (p : PassFacts Entry) (h : List Entry) (log : ControllerLog) → gate.name.opening ≡ [] → gate.fixed ≡ fixed_of plant scans plan
-    → w.node ≡ plan.node → side.net ≡ plant.net → IsBack gate w side ring p true → All (StartsWith h) p.heard → Owns maker_number p h
-    → IsLegal (fixed_of plant scans plan) h → log ≡ record { node = plan.node; entries = h } → CameToEnd plant scans plan log ring
-came-to-end {Q} plant scans plan gate w side ring p h log unopened fixed node net b heard owns legal log_is =
+pub came-to-end : {Q : Type 0} (plant : Plant) (scans : ℕ) (plan : ControllerPlan)
+    (gate : GateFacts Entry Fixed) (w : WorkerIs) (side : RingSideIs Q)
+    (ring : List RingEntry) (p : PassFacts Entry) (h : List Entry) (log : ControllerLog)
+    → gate.name.opening ≡ [] → gate.fixed ≡ fixed_of plant scans plan
+    → w.node ≡ plan.node → side.net ≡ plant.net → IsBack gate w side ring p true
+    → All (StartsWith h) p.heard → Owns maker_number p h
+    → IsLegal (fixed_of plant scans plan) h → log ≡ record { node = plan.node; entries = h }
+    → CameToEnd plant scans plan log ring
+came-to-end {Q} plant scans plan gate w side ring p h log unopened fixed node net b heard owns
+    legal log_is =
     subst (λ l. CameToEnd plant scans plan l ring) (sym log_is) (record {
       node = refl;
       finished = record {
-        stands = subst (λ x. StandsTied f x plan.node h ring) net (subst (λ x. StandsTied f side.net x h ring) node
-            (subst (λ x. StandsTied x side.net w.node h ring) fixed (subst (λ l. StandsTied gate.fixed side.net w.node l ring) (sym same) s.stands)));
-        keeps = subst (λ x. KeepsOn f x plan.node h ring true) net (subst (λ x. KeepsOn f side.net x h ring true) node
-            (subst (λ x. KeepsOn x side.net w.node h ring true) fixed (subst (λ l. KeepsOn gate.fixed side.net w.node l ring true) (sym same) s.keeps)));
+        stands = subst (λ x. StandsTied f x plan.node h ring) net
+            (subst (λ x. StandsTied f side.net x h ring) node
+            (subst (λ x. StandsTied x side.net w.node h ring) fixed
+            (subst (λ l. StandsTied gate.fixed side.net w.node l ring) (sym same) s.stands)));
+        keeps = subst (λ x. KeepsOn f x plan.node h ring true) net
+            (subst (λ x. KeepsOn f side.net x h ring true) node
+            (subst (λ x. KeepsOn x side.net w.node h ring true) fixed
+            (subst (λ l. KeepsOn gate.fixed side.net w.node l ring true) (sym same) s.keeps)));
         ended = subst (λ x. Rattle.joint_history.specs.Reading.has_ended_at x h ≡ true) fixed
-            (subst (λ l. Rattle.joint_history.specs.Reading.has_ended_at gate.fixed l ≡ true) (sym same) (s.ended refl));
+            (subst (λ l. Rattle.joint_history.specs.Reading.has_ended_at gate.fixed l ≡ true)
+            (sym same) (s.ended refl));
         collected = subst (λ x. Rattle.joint_history.specs.Reading.has_started_at x h ≡ false) fixed
-            (subst (λ l. Rattle.joint_history.specs.Reading.has_started_at gate.fixed l ≡ false) (sym same) (s.collected refl));
+            (subst (λ l. Rattle.joint_history.specs.Reading.has_started_at gate.fixed l ≡ false)
+            (sym same) (s.collected refl));
       };
       unspent = subst (λ n. NoneSpent (own n ring)) node t.unspent;
     })
@@ -75,7 +88,8 @@ came-to-end {Q} plant scans plan gate w side ring p h log unopened fixed node ne
     mine : made_by maker_number 2 b.talked ≡ made_by maker_number 2 h
     mine =
         sym (b.owns unopened)
-        ∙ (subst (All (λ q. q.1 ≡ made_by maker_number q.0 owns.made)) b.joined_is owns.joined_are) 1 (0, []) (omega arith)
+        ∙ (subst (All (λ q. q.1 ≡ made_by maker_number q.0 owns.made)) b.joined_is owns.joined_are)
+        1 (0, []) (omega arith)
         ∙ ap (made_by maker_number 2) (sym made_is)
 
     none : filter is_ours begins.0 ≡ []
@@ -85,38 +99,52 @@ came-to-end {Q} plant scans plan gate w side ring p h log unopened fixed node ne
     legal_gate = subst (λ x. IsLegal x h) (sym fixed) legal
 
     s : Rattle.live_run.specs.Talking.SoFar w (ram_side gate) b.talked side ring true
-    s = t.so_far (front_legal gate.fixed b.talked begins.0 (subst (IsLegal gate.fixed) begins.1 legal_gate))
+    s = t.so_far (front_legal gate.fixed b.talked begins.0
+        (subst (IsLegal gate.fixed) begins.1 legal_gate))
 
     same : h ≡ b.talked
-    same = begins.1 ∙ ap (λ l. b.talked ++ l) (ended-alone gate.fixed b.talked begins.0 (s.ended refl) (subst (IsLegal gate.fixed) begins.1 legal_gate) none)
+    same = begins.1 ∙ ap (λ l. b.talked ++ l) (ended-alone gate.fixed b.talked begins.0
+        (s.ended refl) (subst (IsLegal gate.fixed) begins.1 legal_gate) none)
         ∙ append-nil b.talked
 
-pub host-came-to-end : {Q : Type 0} (plant : Plant) (plan : HostPlan) (w : HostWorkerIs) (host : HostIs) (side : RingSideIs Q) (ring : List RingEntry)
-    (log : HostLog) → host.plan ≡ plan → side.net ≡ plant.net → AttendsOn w host side ring true → log ≡ record { node = plan.node; entries = host.history }
+pub host-came-to-end : {Q : Type 0} (plant : Plant) (plan : HostPlan) (w : HostWorkerIs)
+    (host : HostIs) (side : RingSideIs Q) (ring : List RingEntry)
+    (log : HostLog) → host.plan ≡ plan → side.net ≡ plant.net → AttendsOn w host side ring true
+    → log ≡ record { node = plan.node; entries = host.history }
     → HostCameToEnd plant plan log ring
 host-came-to-end {Q} plant plan w host side ring log plan_is net a log_is =
     let stands = host-stands-of w.node host side ring a.ties in
     subst (λ l. HostCameToEnd plant plan l ring) (sym log_is) (record {
       finished = record {
         node = refl;
-        stands = subst (λ x. Rattle.turn_laws.specs.KeepsOn.HostStandsTied plan x host.history ring) net
-            (subst (λ x. Rattle.turn_laws.specs.KeepsOn.HostStandsTied x side.net host.history ring) plan_is stands);
+        stands =
+            subst (λ x. Rattle.turn_laws.specs.KeepsOn.HostStandsTied plan x host.history ring) net
+            (subst (λ x. Rattle.turn_laws.specs.KeepsOn.HostStandsTied x side.net host.history ring)
+            plan_is stands);
         keeps = subst (λ x. HostKeepsOn plan x host.history ring true) net
             (subst (λ x. HostKeepsOn x side.net host.history ring true) plan_is a.keeps);
       };
-      unspent = subst (λ n. NoneSpent (own n ring)) (sym a.node ∙ ap (λ x. x.node) plan_is) a.unspent;
+      unspent = subst (λ n. NoneSpent (own n ring))
+          (sym a.node ∙ ap (λ x. x.node) plan_is) a.unspent;
     })
 
 -- pass 0 of a controller's gate, once both passes are back
-pub back : {Q : Type 0} (gate : GateFacts Entry Fixed) (w : WorkerIs) (side : RingSideIs Q) (ring : List RingEntry) (zero-p first second one-back two-back : PassFacts Entry)
-    (one two : PassFacts Entry) (ram_gate : GateFacts Entry Fixed) (talked : List Entry) (scanned' talked' : Bool)
-    → zero-p ≡ Rattle.turn_gate.specs.Known.first_pass gate.name → first ≡ record zero-p { given = 1 ∷ zero-p.given } → second ≡ record first { given = 2 ∷ first.given }
-    → Rattle.turn_gate.specs.Known.IsReady maker_number 1 gate.name one → ram_gate ≡ gate → Rattle.turn_gate.specs.Known.IsReady maker_number 2 ram_gate.name two
-    → two.seen ≡ talked → one-back ≡ Rattle.turn_gate.specs.Known.taken_in second one → two-back ≡ Rattle.turn_gate.specs.Known.taken_in one-back two
+pub back : {Q : Type 0} (gate : GateFacts Entry Fixed) (w : WorkerIs) (side : RingSideIs Q)
+    (ring : List RingEntry) (zero-p first second one-back two-back : PassFacts Entry)
+    (one two : PassFacts Entry) (ram_gate : GateFacts Entry Fixed) (talked : List Entry)
+    (scanned' talked' : Bool)
+    → zero-p ≡ Rattle.turn_gate.specs.Known.first_pass gate.name → first
+    ≡ record zero-p { given = 1 ∷ zero-p.given } → second ≡ record first { given = 2 ∷ first.given }
+    → Rattle.turn_gate.specs.Known.IsPassReady maker_number 1 gate.name one → ram_gate ≡ gate
+    → Rattle.turn_gate.specs.Known.IsPassReady maker_number 2 ram_gate.name two
+    → two.seen ≡ talked → one-back ≡ Rattle.turn_gate.specs.Known.with_pass second one
+    → two-back ≡ Rattle.turn_gate.specs.Known.with_pass one-back two
     → (talked' ≡ true → TalksOn w (ram_side ram_gate) talked side ring true)
     → IsBack gate w side ring two-back (Rattle.std.specs.Prelude.◌&&◌ scanned' talked')
-back {Q} gate w side ring zero-p first second one-back two-back one two ram_gate talked scanned' talked' z f s one-ready same two-ready seen j k t =
-    subst (λ p. IsBack gate w side ring p (Rattle.std.specs.Prelude.◌&&◌ scanned' talked')) (sym whole) (record {
+back {Q} gate w side ring zero-p first second one-back two-back one two ram_gate talked scanned'
+    talked' z f s one-ready same two-ready seen j k t =
+    subst (λ p. IsBack gate w side ring p (Rattle.std.specs.Prelude.◌&&◌ scanned' talked'))
+    (sym whole) (record {
       scanned = one;
       talked = talked;
       mine = two.mine;
@@ -124,9 +152,11 @@ back {Q} gate w side ring zero-p first second one-back two-back one two ram_gate
       outside = refl;
       is_zero = refl;
       given_is = refl;
-      joined_is = λ i. (one-ready.number_is i, one.mine) ∷ (joined-one i ++ ((two-ready.number_is i, two.mine) ∷ two-ready.unjoined i));
+      joined_is = λ i. (one-ready.number_is i, one.mine)
+          ∷ (joined-one i ++ ((two-ready.number_is i, two.mine) ∷ two-ready.unjoined i));
       heard_is = λ i. one.seen ∷ (one-ready.unheard i ++ (seen i ∷ two-ready.unheard i));
-      talks = λ is. subst (λ g. TalksOn w (ram_side g) talked side ring true) same (t (second-true scanned' talked' is));
+      talks = λ is. subst (λ g. TalksOn w (ram_side g) talked side ring true) same
+          (t (second-true scanned' talked' is));
       owns = λ unopened. mine unopened;
     })
   where
@@ -136,9 +166,12 @@ back {Q} gate w side ring zero-p first second one-back two-back one two ram_gate
     base : PassFacts Entry
     base = Rattle.turn_gate.specs.Known.first_pass gate.name
 
-    whole : two-back ≡ Rattle.turn_gate.specs.Known.taken_in (Rattle.turn_gate.specs.Known.taken_in (record base { given = 2 ∷ 1 ∷ [] }) one) two
-    whole = k ∙ ap (λ p. Rattle.turn_gate.specs.Known.taken_in p two) (j ∙ ap (λ p. Rattle.turn_gate.specs.Known.taken_in p one)
-        (s ∙ ap (λ (p : PassFacts Entry). record p { given = 2 ∷ p.given }) (f ∙ ap (λ (p : PassFacts Entry). record p { given = 1 ∷ p.given }) z)))
+    whole : two-back ≡ Rattle.turn_gate.specs.Known.with_pass
+        (Rattle.turn_gate.specs.Known.with_pass (record base { given = 2 ∷ 1 ∷ [] }) one) two
+    whole = k ∙ ap (λ p. Rattle.turn_gate.specs.Known.with_pass p two)
+        (j ∙ ap (λ p. Rattle.turn_gate.specs.Known.with_pass p one)
+        (s ∙ ap (λ (p : PassFacts Entry). record p { given = 2 ∷ p.given })
+        (f ∙ ap (λ (p : PassFacts Entry). record p { given = 1 ∷ p.given }) z)))
 
     second-true : (x y : Bool) → Rattle.std.specs.Prelude.◌&&◌ x y ≡ true → y ≡ true
     second-true true y is = is

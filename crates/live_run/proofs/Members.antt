@@ -25,5 +25,7 @@ no-leave : (n : ℕ) (es : List RingEntry) → NoneBy n es → NoLeave n es
 no-leave n [] none = tt
 no-leave n (e ∷ es) none = (not-leave n e none.0, no-leave n es none.1)
 
-pub here-others : (net : NetPlan) (n : ℕ) (ring more : List RingEntry) → own n more ≡ [] → IsHere net ring n → IsHere net (ring ++ more) n
-here-others net n ring more none here = member-stays net ring more n here (no-leave n more (none-by n more none))
+pub here-others : (net : NetPlan) (n : ℕ) (ring more : List RingEntry) → own n more ≡ []
+    → IsHere net ring n → IsHere net (ring ++ more) n
+here-others net n ring more none here =
+    member-stays net ring more n here (no-leave n more (none-by n more none))

@@ -12,19 +12,28 @@ use Rattle.live_run.specs.Runs.{AreBrought, log_part, notes_part}
 use Rattle.live_run.specs.Stations.{CameNoted, CameToEnd}
 
 -- what holds of each value of a kind holds of one that was answered
-pub if-ok : {T X : Type 0} (r : Result T X) (P Q : T → Type 0) → IfOk r P → ((t : T) → P t → Q t) → IfOk r Q
+pub if-ok : {T X : Type 0} (r : Result T X) (P Q : T → Type 0) → IfOk r P
+    → ((t : T) → P t → Q t) → IfOk r Q
 if-ok (Ok t) P Q p f = f t p
 if-ok (Err x) P Q p f = tt
 
-module _ (plant : Plant) (scans : ℕ) (joined : List (ℕ × List RingEntry)) (heard : List (List RingEntry)) where
+module _ (plant : Plant) (scans : ℕ) (joined : List (ℕ × List RingEntry))
+    (heard : List (List RingEntry)) where
   -- controllers that came to their ends with notes came to their ends
-  pub logs-brought : (plans : List ControllerPlan) (logs : List NotedLog) → AreBrought joined heard (λ plan. plan.node) (CameNoted plant scans) plans logs
-      → AreBrought joined heard (λ plan. plan.node) (CameToEnd plant scans) plans (map log_part logs)
+  pub logs-brought : (plans : List ControllerPlan) (logs : List NotedLog)
+      → AreBrought joined heard (λ plan. plan.node) (CameNoted plant scans) plans logs
+      → AreBrought joined heard (λ plan. plan.node) (CameToEnd plant scans) plans
+      (map log_part logs)
   logs-brought [] [] all = tt
   logs-brought [] (l ∷ logs) all = absurd all
   logs-brought (p ∷ plans) [] all = absurd all
   logs-brought (p ∷ plans) (l ∷ logs) all = (
-    record { seen = all.0.seen; holds = all.0.holds.came; own_is = all.0.own_is; heard_is = all.0.heard_is },
+    record {
+      seen = all.0.seen;
+      holds = all.0.holds.came;
+      own_is = all.0.own_is;
+      heard_is = all.0.heard_is;
+    },
     logs-brought plans logs all.1,
   )
 

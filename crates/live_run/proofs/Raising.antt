@@ -3,7 +3,7 @@ use Rattle.std.proofs.Common.{◌≡◌, ℕ, [], ◌∷◌, set, slice_index, r
 use mathlib.Core.Option.{none, some-ne-none}
 use Rattle.atomic_table.specs.Table.{State, Me, keeps, step, opening, Allows, Enters}
 use Rattle.atomic_table.proofs.Lists.{at_set, at_snoc}
-use Rattle.live_run.specs.Flags.{NeverLowered, Looked, Raised}
+use Rattle.live_run.specs.Flags.{NeverLowered, WatchLooked, Raised}
 
 module _ (s : State ℕ ℕ) (r : NeverLowered s) where
   -- what is read is the word
@@ -16,11 +16,13 @@ begins = record {
   word = 0;
   words_are = refl;
   low = omega arith;
-  seen = λ j v at. ⊎_elim (λ none_there. absurd (some-ne-none v (sym none_there))) (λ is. omega (arith, is)) (at_snoc [] 0 v j at);
+  seen = λ j v at. ⊎_elim (λ none_there. absurd (some-ne-none v (sym none_there)))
+      (λ is. omega (arith, is)) (at_snoc [] 0 v j at);
 }
 
 -- a look leaves the word and sees it
-pub looks : (slots id : ℕ) (m : Me ℕ ℕ) → Allows NeverLowered slots id m 0 (λ n. n) (Looked (step slots 0 0 0 none) m)
+pub looks : (slots id : ℕ) (m : Me ℕ ℕ)
+    → Allows NeverLowered slots id m 0 (λ n. n) (WatchLooked (step slots 0 0 0 none) m)
 looks slots id m s r homes at small =
     let n : ℕ = slice_index s.words 0 in
     let is : n ≡ r.word = found s r in (
@@ -40,7 +42,8 @@ looks slots id m s r homes at small =
     )
 
 -- a new watch sees the word
-pub enters : (slots : ℕ) → Enters NeverLowered slots 0 (λ n w. Looked (step slots 0 0 0 none) (0, []) n (w, []))
+pub enters : (slots : ℕ)
+    → Enters NeverLowered slots 0 (λ n w. WatchLooked (step slots 0 0 0 none) (0, []) n (w, []))
 enters slots s r homes small =
     let n : ℕ = slice_index s.words 0 in
     let is : n ≡ r.word = found s r in (
@@ -58,7 +61,8 @@ enters slots s r homes small =
     )
 
 -- a flag that is raised is not below what anybody saw
-pub raises : (slots id : ℕ) (m : Me ℕ ℕ) → Allows NeverLowered slots id m 0 (λ _. 1) (λ _. Raised (step slots 0 1 0 none) m 1)
+pub raises : (slots id : ℕ) (m : Me ℕ ℕ)
+    → Allows NeverLowered slots id m 0 (λ _. 1) (λ _. Raised (step slots 0 1 0 none) m 1)
 raises slots id m s r homes at small = (
   1,
   keeps,

@@ -12,7 +12,7 @@ use Rattle.ring_core.specs.Machine.{addresses, path_places}
 use Rattle.std.proofs.lemmas.List.Elements.{All-contains}
 use Rattle.controller_core.specs.declared.entry.Entry.{Entry}
 use Rattle.host_port.specs.Host.{HostIs}
-use Rattle.host_port.specs.Legal.{IsHostHistory, questions_of}
+use Rattle.host_port.specs.Legal.{questions_of}
 use Rattle.tied_lists.specs.Waits.{IsOnRing}
 use Rattle.comm_port.specs.HostTurns.{HostWorkerIs}
 use Rattle.comm_port.specs.Sides.{RamSideIs, RingSideIs, MayWrite}
@@ -30,7 +30,8 @@ low-members : (net : NetPlan) → IsNetPlan net → All (λ m. m < addresses) ne
 low-members net s k d within = let high = (s.members k d within).to in omega (arith, high)
 
 low-member : (net : NetPlan) (n : ℕ) → IsNetPlan net → IsMember net n → n < addresses
-low-member net n s member = All-contains (λ m. m < addresses) net.members n (low-members net s) member
+low-member net n s member =
+    All-contains (λ m. m < addresses) net.members n (low-members net s) member
 
 on-start : (net : NetPlan) (n : ℕ) → IsNetPlan net → IsMember net n → IsOnRing net [] n
 on-start net n s member = record { members = low-members net s; legal = tt; member = member }
@@ -38,8 +39,10 @@ on-start net n s member = record { members = low-members net s; legal = tt; memb
 serves-as : (writer : Option ℕ) (n : ℕ) → writer ≡ Some n → MayWrite writer n
 serves-as writer n is = subst (λ w. MayWrite w n) (sym is) refl
 
-host-talks : {Q : Type 0} (plan : HostPlan) (net : NetPlan) (side : RingSideIs Q) → IsNetPlan net → IsMember net plan.node → side.net ≡ net → side.writer ≡ Some plan.node
-    → AttendsOn (record { node = plan.node; budget = false; passes = 0 }) (record { plan = plan; history = [] }) side [] false
+host-talks : {Q : Type 0} (plan : HostPlan) (net : NetPlan) (side : RingSideIs Q) → IsNetPlan net
+    → IsMember net plan.node → side.net ≡ net → side.writer ≡ Some plan.node
+    → AttendsOn (record { node = plan.node; budget = false; passes = 0 })
+    (record { plan = plan; history = [] }) side [] false
 host-talks plan net side sound member same writer =
     let n = plan.node in
     record {
@@ -47,45 +50,61 @@ host-talks plan net side sound member same writer =
       budget = refl;
       ties = record {
         node = refl;
-        legal = record { order = (questions_of plan, refl); each = λ before after entry is. none before after entry is };
+        legal = record {
+          order = (questions_of plan, refl);
+          each = λ before after entry is. none before after entry is;
+        };
         serves = serves-as side.writer n writer;
         on = subst (λ m. IsOnRing m [] n) (sym same) (on-start net n sound member);
+        answer = subst (λ (m : NetPlan). 0 < m.answer) (sym same)
+            (let from = sound.answer.from in omega (arith, from));
         tied = record { asks = refl; peers = refl; port = refl; replies = refl; ends = refl };
         paths = record { waits = λ p. refl; numbers = λ p. refl };
       };
       counts = refl;
-      here = λ is. subst (λ m. Rattle.comm_port.specs.Leaving.IsHere m [] n) (sym same) (member-there net n (low-member net n sound member) member);
+      here = λ is. subst (λ m. Rattle.comm_port.specs.Leaving.IsHere m [] n) (sym same)
+          (member-there net n (low-member net n sound member) member);
       unspent = λ k d within. absurd (omega (arith, within));
       keeps = host-starts plan side.net [] refl;
     }
   where
-    none : (before after : List Rattle.host_port.specs.declared.entry.HostEntry.HostEntry) (entry : Rattle.host_port.specs.declared.entry.HostEntry.HostEntry)
+    none : (before after : List Rattle.host_port.specs.declared.entry.HostEntry.HostEntry)
+        (entry : Rattle.host_port.specs.declared.entry.HostEntry.HostEntry)
         → [] ≡ before ++ entry ∷ after → Rattle.host_port.specs.Legal.FitsHost plan before entry
     none [] after entry is = nil-cons is
     none (x ∷ before) after entry is = nil-cons is
 
-pub attends-start : {Q : Type 0} (plant : Plant) (plan : HostPlan) (w : HostWorkerIs) (host : HostIs) (side : RingSideIs Q) (ring : List RingEntry)
-    → IsUnused plant plan.node side ring → host ≡ record { plan = plan; history = [] } → w ≡ record { node = plan.node; budget = false; passes = 0 }
+pub attends-start : {Q : Type 0} (plant : Plant) (plan : HostPlan) (w : HostWorkerIs)
+    (host : HostIs) (side : RingSideIs Q) (ring : List RingEntry)
+    → IsUnused plant plan.node side ring → host ≡ record { plan = plan; history = [] }
+    → w ≡ record { node = plan.node; budget = false; passes = 0 }
     → AttendsOn w host side ring false
 attends-start plant plan w host side ring u host_is worker_is =
-    subst (λ l. AttendsOn w host side l false) (sym u.nothing) (subst (λ h. AttendsOn w h side [] false) (sym host_is)
+    subst (λ l. AttendsOn w host side l false) (sym u.nothing)
+    (subst (λ h. AttendsOn w h side [] false) (sym host_is)
     (subst (λ v. AttendsOn v (record { plan = plan; history = [] }) side [] false) (sym worker_is)
     (host-talks plan plant.net side u.sound u.member u.net u.writer)))
 
-controller-talks : {P Q : Type 0} (n : ℕ) (net : NetPlan) (ram : RamSideIs P) (side : RingSideIs Q) → ram.fixed.plan.node ≡ n → IsNetPlan net → IsMember net n
+controller-talks : {P Q : Type 0} (n : ℕ) (net : NetPlan) (ram : RamSideIs P) (side : RingSideIs Q)
+    → ram.fixed.plan.node ≡ n → IsNetPlan net → IsMember net n
     → side.net ≡ net → side.writer ≡ Some n
-    → TalksOn (record { node = n; net = net; budget = false; waiting = replicate path_places None }) ram [] side [] false
+    → TalksOn (record { node = n; net = net; budget = false; waiting = replicate path_places None })
+    ram [] side [] false
 controller-talks n net ram side node sound member same writer =
-    let on : IsOnRing side.net [] n = subst (λ m. IsOnRing m [] n) (sym same) (on-start net n sound member) in
+    let on : IsOnRing side.net [] n = subst (λ m. IsOnRing m [] n) (sym same)
+    (on-start net n sound member) in
     record {
       member = record {
         members = on.members;
         member = on.member;
-        answer = subst (λ m. 0 < m.answer) (sym same) (let low = sound.answer.from in omega (arith, low));
+        answer = subst (λ m. 0 < m.answer) (sym same)
+            (let low = sound.answer.from in omega (arith, low));
       };
       budget = refl;
-      standing = standing-new n net false ram [] side node same (serves-as side.writer n writer) refl;
-      here = λ is. subst (λ m. Rattle.comm_port.specs.Leaving.IsHere m [] n) (sym same) (member-there net n (low-member net n sound member) member);
+      standing = standing-new n net false ram [] side node same
+          (serves-as side.writer n writer) refl;
+      here = λ is. subst (λ m. Rattle.comm_port.specs.Leaving.IsHere m [] n) (sym same)
+          (member-there net n (low-member net n sound member) member);
       unspent = λ k d within. absurd (omega (arith, within));
       so_far = λ legal. record {
         stands = stands-start ram.fixed side.net n [] node on refl;
@@ -95,9 +114,13 @@ controller-talks n net ram side node sound member same writer =
       };
     }
 
-pub talks-start : {P Q : Type 0} (plant : Plant) (n : ℕ) (w : WorkerIs) (ram : RamSideIs P) (known : List Entry) (side : RingSideIs Q) (ring : List RingEntry)
+pub talks-start : {P Q : Type 0} (plant : Plant) (n : ℕ) (w : WorkerIs) (ram : RamSideIs P)
+    (known : List Entry) (side : RingSideIs Q) (ring : List RingEntry)
     → ram.fixed.plan.node ≡ n → known ≡ [] → IsUnused plant n side ring
-    → w ≡ record { node = n; net = plant.net; budget = false; waiting = replicate path_places None } → TalksOn w ram known side ring false
+    → w ≡ record { node = n; net = plant.net; budget = false; waiting = replicate path_places None }
+    → TalksOn w ram known side ring false
 talks-start plant n w ram known side ring node none u worker_is =
-    subst (λ l. TalksOn w ram known side l false) (sym u.nothing) (subst (λ l. TalksOn w ram l side [] false) (sym none)
-    (subst (λ v. TalksOn v ram [] side [] false) (sym worker_is) (controller-talks n plant.net ram side node u.sound u.member u.net u.writer)))
+    subst (λ l. TalksOn w ram known side l false) (sym u.nothing)
+    (subst (λ l. TalksOn w ram l side [] false) (sym none)
+    (subst (λ v. TalksOn v ram [] side [] false) (sym worker_is)
+    (controller-talks n plant.net ram side node u.sound u.member u.net u.writer)))

@@ -13,12 +13,12 @@ use Rattle.ring_core.specs.Scratch.{words_put}
 use Rattle.comm_port.specs.Sides.{taken_entries}
 use Rattle.comm_port.proofs.TurnEnds.{words-as}
 use Rattle.ring_core.specs.Machine.{addresses, ring_after, ring_node, path_of, path_places}
-use Rattle.ring_core.specs.Legal.{IsLegal as IsLegalRing, IsFrom, IsMember, IsPath, IsNextNumber}
+use Rattle.ring_core.specs.Legal.{IsLegalRing, IsFrom, IsMember, IsPath, IsNextNumber}
 use Rattle.ring_core.specs.Words.{maker}
 use Rattle.controller_core.specs.declared.entry.Entry.{Entry}
 use Rattle.controller_core.specs.declared.entry.Entry.TheVariants.{Begin, Input, Solve, Output, End}
 use Rattle.controller_core.specs.declared.entry.Entry.TheVariants.{Collect, Peer, Finish}
-use Rattle.turn_gate.specs.Known.{PassFacts, Finds, Adds as GateAdds, own as gate_own}
+use Rattle.turn_gate.specs.Known.{PassFacts, PassFinds, PassAdds, made_by}
 use Rattle.tied_lists.specs.Own.{is_of, own, added_if, WentOn}
 use Rattle.tied_lists.specs.Waits.{IsOnRing, last_number}
 use Rattle.tied_lists.proofs.Turns.{legal-parts, own-found}
@@ -49,7 +49,7 @@ module _ {E : Type 0} (maker : E → ℕ) where
 
   -- what a pass inside leaves: the entries that it found, and then its own
   pub adds : (q : PassFacts E) (n : ℕ) (found added left : List E) → q.number ≡ n → q.seen ≡ found
-      → left ≡ found ++ added → All (λ e. maker e ≡ n) added → GateAdds maker q left
+      → left ≡ found ++ added → All (λ e. maker e ≡ n) added → PassAdds maker q left
   adds q n found added left number seen is all = record {
     added = added;
     grown = is ∙ ap (λ l. l ++ added) (sym seen);
@@ -57,7 +57,8 @@ module _ {E : Type 0} (maker : E → ℕ) where
   }
 
 -- a call went on from what was found behind the gate, and so from what was known before
-pub went-through : {E : Type 0} (ours : E → Bool) (known found added left : List E) (between : List E)
+pub went-through : {E : Type 0} (ours : E → Bool) (known found added left : List E)
+    (between : List E)
     → found ≡ known ++ between → filter ours between ≡ [] → WentOn true ours found added left
     → WentOn false ours known added left
 went-through ours known found added left between begins others w = record {
@@ -79,31 +80,43 @@ ours-is (Collect calls) = refl
 ours-is (Peer id request reply) = refl
 ours-is (Finish id result) = refl
 
-ours-filter : (es : List Entry) → filter is_ours es ≡ gate_own maker_number 2 es
+ours-filter : (es : List Entry) → filter is_ours es ≡ made_by maker_number 2 es
 ours-filter [] = refl
-ours-filter (e ∷ es) = ap (λ (b : Bool). cond b (e ∷ filter is_ours es) (filter is_ours es)) (ours-is e)
+ours-filter (e ∷ es) =
+    ap (λ (b : Bool). cond b (e ∷ filter is_ours es) (filter is_ours es)) (ours-is e)
     ∙ ap (λ l. cond (maker_number e == 2) (e ∷ l) l) (ours-filter es)
 
 -- what others did behind a controller's gate is none of its communication's
-pub others-scan : (p : PassFacts Entry) (found : List Entry) (f : Finds maker_number p found) → p.number ≡ 2
+pub others-scan : (p : PassFacts Entry) (found : List Entry) (f : PassFinds maker_number p found)
+    → p.number ≡ 2
     → filter is_ours f.between ≡ []
-others-scan p found f number = ours-filter f.between ∙ subst (λ n. gate_own maker_number n f.between ≡ []) number f.not_mine
+others-scan p found f number =
+    ours-filter f.between ∙ subst (λ n. made_by maker_number n f.between ≡ []) number f.not_mine
 
 -- a path's last number is not changed by others
-posted-as : (net : NetPlan) (n p : ℕ) (known between : List RingEntry) → All (λ m. m < addresses) net.members
+posted-as : (net : NetPlan) (n p : ℕ) (known between : List RingEntry)
+    → All (λ m. m < addresses) net.members
     → IsMember net n → IsLegalRing net (known ++ between) → own n between ≡ [] → p < path_places
     → (path_of (ring_node (ring_after net (known ++ between)) n) p).posted
     ≡ (path_of (ring_node (ring_after net known) n) p).posted
 posted-as net n p known between members member legal none low =
-    let now : IsOnRing net (known ++ between) n = record { members = members; legal = legal; member = member } in
-    let then' : IsOnRing net known n = record { members = members; legal = (legal-parts net known between legal).0; member = member } in
+    let now : IsOnRing net (known ++ between) n =
+    record { members = members; legal = legal; member = member } in
+    let then' : IsOnRing net known n = record {
+      members = members;
+      legal = (legal-parts net known between legal).0;
+      member = member;
+    } in
     (legal-follows net (known ++ between) n now).node.part.numbers p low
     ∙ (ap (last_number p) (own-found n known between none)
     ∙ sym ((legal-follows net known n then').node.part.numbers p low))
 
-next-as : (net : NetPlan) (n : ℕ) (kind : FrameKind) (id : CallId) (known between : List RingEntry) → All (λ m. m < addresses) net.members
-    → IsMember net n → IsLegalRing net (known ++ between) → own n between ≡ [] → (kind ≡ Request → IsPath id.path)
-    → IsNextNumber (ring_node (ring_after net known) n) kind id → IsNextNumber (ring_node (ring_after net (known ++ between)) n) kind id
+next-as : (net : NetPlan) (n : ℕ) (kind : FrameKind) (id : CallId) (known between : List RingEntry)
+    → All (λ m. m < addresses) net.members
+    → IsMember net n → IsLegalRing net (known ++ between) → own n between ≡ []
+    → (kind ≡ Request → IsPath id.path)
+    → IsNextNumber (ring_node (ring_after net known) n) kind id
+    → IsNextNumber (ring_node (ring_after net (known ++ between)) n) kind id
 next-as net n Request id known between members member legal none path next =
     let q = path refl in
     let same = posted-as net n id.path known between members member legal none (omega (arith, q)) in
@@ -111,12 +124,16 @@ next-as net n Request id known between members member legal none path next =
 next-as net n Reply id known between members member legal none path next = tt
 
 -- a number that was the next one still is
-pub next-found : (net : NetPlan) (n : ℕ) (f : Frame) (known found between : List RingEntry) → All (λ m. m < addresses) net.members
-    → IsMember net n → IsLegalRing net found → found ≡ known ++ between → own n between ≡ [] → IsFrom n f.kind f
-    → IsNextNumber (ring_node (ring_after net known) n) f.kind f.id → IsNextNumber (ring_node (ring_after net found) n) f.kind f.id
+pub next-found : (net : NetPlan) (n : ℕ) (f : Frame) (known found between : List RingEntry)
+    → All (λ m. m < addresses) net.members
+    → IsMember net n → IsLegalRing net found → found ≡ known ++ between → own n between ≡ []
+    → IsFrom n f.kind f
+    → IsNextNumber (ring_node (ring_after net known) n) f.kind f.id
+    → IsNextNumber (ring_node (ring_after net found) n) f.kind f.id
 next-found net n f known found between members member legal begins none from next =
     subst (λ l. IsNextNumber (ring_node (ring_after net l) n) f.kind f.id) (sym begins)
-    (next-as net n f.kind f.id known between members member (subst (IsLegalRing net) begins legal) none (path-from f.kind from) next)
+    (next-as net n f.kind f.id known between members member (subst (IsLegalRing net) begins legal)
+    none (path-from f.kind from) next)
   where
     path-from : (kind : FrameKind) → IsFrom n kind f → kind ≡ Request → IsPath f.id.path
     path-from Request from is = from.2
@@ -124,35 +141,43 @@ next-found net n f known found between members member legal begins none from nex
 
 module _ {E : Type 0} (maker : E → ℕ) (ours : E → Bool) where
   -- a call behind the gate leaves what the pass found, and then its own
-  pub stay-adds : (q : PassFacts E) (n : ℕ) (entered found added left : List E) → q.number ≡ n → q.seen ≡ entered → found ≡ entered
-      → WentOn true ours found added left → All (λ e. maker e ≡ n) added → GateAdds maker q left
+  pub stay-adds : (q : PassFacts E) (n : ℕ) (entered found added left : List E) → q.number ≡ n
+      → q.seen ≡ entered → found ≡ entered
+      → WentOn true ours found added left → All (λ e. maker e ≡ n) added → PassAdds maker q left
   stay-adds q n entered found added left number seen same w all =
       adds maker q n found added left number (seen ∙ sym same)
-      (w.after_is ∙ ap (λ l. l ++ added) (ap (λ l. found ++ l) (w.none_alone refl) ∙ append-nil found)) all
+      (w.after_is
+      ∙ ap (λ l. l ++ added) (ap (λ l. found ++ l) (w.none_alone refl) ∙ append-nil found)) all
 
   -- what the pass knew went on by it, and by entries of others before
-  pub stay-went : (n : ℕ) → ((es : List E) → gate_own maker n es ≡ [] → filter ours es ≡ []) → (p : PassFacts E) (known entered found added left seen : List E)
-      → p.number ≡ n → Finds maker p entered → p.seen ≡ known → found ≡ entered → WentOn true ours found added left → seen ≡ left
+  pub stay-went : (n : ℕ) → ((es : List E) → made_by maker n es ≡ [] → filter ours es ≡ [])
+      → (p : PassFacts E) (known entered found added left seen : List E)
+      → p.number ≡ n → PassFinds maker p entered → p.seen ≡ known → found ≡ entered
+      → WentOn true ours found added left → seen ≡ left
       → WentOn false ours known added seen
   stay-went n others p known entered found added left seen number f was same w now =
       subst (WentOn false ours known added) (sym now)
-      (went-through ours known found added left f.between (same ∙ (f.begins ∙ ap (λ l. l ++ f.between) was)) (others f.between (subst (λ m. gate_own maker m f.between ≡ []) number f.not_mine)) w)
+      (went-through ours known found added left f.between
+      (same ∙ (f.begins ∙ ap (λ l. l ++ f.between) was))
+      (others f.between (subst (λ m. made_by maker m f.between ≡ []) number f.not_mine)) w)
 
 -- none under the communication's number is none of its own
-pub none-ours : (es : List Entry) → gate_own maker_number 2 es ≡ [] → filter is_ours es ≡ []
+pub none-ours : (es : List Entry) → made_by maker_number 2 es ≡ [] → filter is_ours es ≡ []
 none-ours es none = ours-filter es ∙ none
 
-pub none-own : (n : ℕ) (es : List RingEntry) → gate_own maker n es ≡ [] → filter (is_of n) es ≡ []
+pub none-own : (n : ℕ) (es : List RingEntry) → made_by maker n es ≡ [] → filter (is_of n) es ≡ []
 none-own n es none = none
 
 -- a pass of the communication finds what it knew, and then events of the scan
-pub found-went : (p : PassFacts Entry) (known entered found : List Entry) → p.number ≡ 2 → Finds maker_number p entered → p.seen ≡ known → found ≡ entered
+pub found-went : (p : PassFacts Entry) (known entered found : List Entry) → p.number ≡ 2
+    → PassFinds maker_number p entered → p.seen ≡ known → found ≡ entered
     → WentOn false is_ours known [] found
 found-went p known entered found number f was same = record {
   between = f.between;
   others = others-scan p entered f number;
   none_alone = λ no. absurd (cc);
-  after_is = same ∙ (f.begins ∙ (ap (λ l. l ++ f.between) was ∙ sym (append-nil (known ++ f.between))));
+  after_is = same
+      ∙ (f.begins ∙ (ap (λ l. l ++ f.between) was ∙ sym (append-nil (known ++ f.between))));
 }
 
 of-scan : (es : List Entry) → filter is_ours es ≡ [] → AreOf Scan es
@@ -167,50 +192,68 @@ of-scan (Peer id request reply ∷ es) none = absurd (cc)
 of-scan (Finish id result ∷ es) none = absurd (cc)
 
 -- a call that was started is still there
-pub started-found : ConditionsStay → (fixed fixed' : Fixed) (known found : List Entry) → fixed' ≡ fixed → WentOn false is_ours known [] found
+pub started-found : ConditionsStay → (fixed fixed' : Fixed) (known found : List Entry)
+    → fixed' ≡ fixed → WentOn false is_ours known [] found
     → has_started_at fixed known ≡ true → has_started_at fixed' found ≡ true
 started-found stay fixed fixed' known found same w started =
     subst (λ f. has_started_at f found ≡ true) (sym same)
     (subst (λ l. has_started_at fixed l ≡ true) (sym (w.after_is ∙ append-nil (known ++ w.between)))
-    ((stay.scans (controller_at fixed known) w.between false (of-scan w.between w.others)).started started))
+    ((stay.scans (controller_at fixed known) w.between false (of-scan w.between w.others)).started
+    started))
 
 -- what is new and what is out is so for both lists
-pub fresh-as : {X : Type 0} (r : Result (List Call) X) (f g : Fixed) (known found : List Entry) → f ≡ g → WentOn false is_ours known [] found
-    → IfOk r (λ calls. AreNewCalls f.plan.node (items_of found).calls (items_of found).ends (map called_of calls))
-    → IfOk r (λ calls. AreNewCalls g.plan.node (items_of known).calls (items_of known).ends (map called_of calls))
+pub fresh-as : {X : Type 0} (r : Result (List Call) X) (f g : Fixed) (known found : List Entry)
+    → f ≡ g → WentOn false is_ours known [] found
+    → IfOk r (λ calls. AreNewCalls f.plan.node (items_of found).calls (items_of found).ends
+    (map called_of calls))
+    → IfOk r (λ calls. AreNewCalls g.plan.node (items_of known).calls (items_of known).ends
+    (map called_of calls))
 fresh-as (Ok calls) f g known found same w new =
-    subst (λ (x : Fixed). AreNewCalls x.plan.node (items_of known).calls (items_of known).ends (map called_of calls)) same
-    (subst (λ (a : Items). AreNewCalls f.plan.node a.calls a.ends (map called_of calls)) (items-same false known found w) new)
+    subst (λ (x : Fixed). AreNewCalls x.plan.node (items_of known).calls (items_of known).ends
+    (map called_of calls)) same
+    (subst (λ (a : Items). AreNewCalls f.plan.node a.calls a.ends (map called_of calls))
+    (items-same false known found w) new)
 fresh-as (Err why) f g known found same w new = tt
 
-pub out-as : (id : CallId) (known found : List Entry) → WentOn false is_ours known [] found → IsOut (items_of known) id → IsOut (items_of found) id
-out-as id known found w out = subst (λ (a : Items). IsOut a id) (sym (items-same false known found w)) out
+pub out-as : (id : CallId) (known found : List Entry) → WentOn false is_ours known [] found
+    → IsOut (items_of known) id → IsOut (items_of found) id
+out-as id known found w out =
+    subst (λ (a : Items). IsOut a id) (sym (items-same false known found w)) out
 
 -- a Take added at most one entry of its node
-pub all_taken : {X : Type 0} (n : ℕ) (r : Result (Option Frame) X) → All (λ e. maker e ≡ n) (added_if r (taken_entries n))
+pub all_taken : {X : Type 0} (n : ℕ) (r : Result (Option Frame) X)
+    → All (λ e. maker e ≡ n) (added_if r (taken_entries n))
 all_taken n (Ok None) k d low = absurd (omega arith)
 all_taken n (Ok (Some f)) zero d low = refl
 all_taken n (Ok (Some f)) (suc k) d low = absurd (omega arith)
 all_taken n (Err why) k d low = absurd (omega arith)
 
 -- what others did on the ring is none of the node's
-others-own : (n : ℕ) (p : PassFacts RingEntry) (known entered found : List RingEntry) → p.number ≡ n → (f : Finds maker p entered)
+others-own : (n : ℕ) (p : PassFacts RingEntry) (known entered found : List RingEntry) → p.number ≡ n
+    → (f : PassFinds maker p entered)
     → p.seen ≡ known → found ≡ entered → (own n f.between ≡ []) × (found ≡ known ++ f.between)
-others-own n p known entered found number f was same =
-    (subst (λ m. gate_own maker m f.between ≡ []) number f.not_mine, same ∙ (f.begins ∙ ap (λ l. l ++ f.between) was))
+others-own n p known entered found number f was same = (
+  subst (λ m. made_by maker m f.between ≡ []) number f.not_mine,
+  same ∙ (f.begins ∙ ap (λ l. l ++ f.between) was),
+)
 
 -- the next number of a path is so behind the gate too
-pub next-in : (net net' : NetPlan) (n : ℕ) (f : Frame) (p : PassFacts RingEntry) (known entered found : List RingEntry)
-    → All (λ m. m < addresses) net.members → IsMember net n → net' ≡ net → IsLegalRing net' found → p.number ≡ n → Finds maker p entered
+pub next-in : (net net' : NetPlan) (n : ℕ) (f : Frame) (p : PassFacts RingEntry)
+    (known entered found : List RingEntry)
+    → All (λ m. m < addresses) net.members → IsMember net n → net' ≡ net → IsLegalRing net' found
+    → p.number ≡ n → PassFinds maker p entered
     → p.seen ≡ known → found ≡ entered → IsFrom n f.kind f
-    → IsNextNumber (ring_node (ring_after net known) n) f.kind f.id → IsNextNumber (ring_node (ring_after net' found) n) f.kind f.id
+    → IsNextNumber (ring_node (ring_after net known) n) f.kind f.id
+    → IsNextNumber (ring_node (ring_after net' found) n) f.kind f.id
 next-in net net' n f p known entered found members member same legal number finds was is from next =
     let o = others-own n p known entered found number finds was is in
     subst (λ (x : NetPlan). IsNextNumber (ring_node (ring_after x found) n) f.kind f.id) (sym same)
-    (next-found net n f known found finds.between members member (subst (λ x. IsLegalRing x found) same legal) o.1 o.0 from next)
+    (next-found net n f known found finds.between members member
+    (subst (λ x. IsLegalRing x found) same legal) o.1 o.0 from next)
 
 -- and so are the words that a node has put
-pub words-in : (n : ℕ) (p : PassFacts RingEntry) (known entered found : List RingEntry) → p.number ≡ n → Finds maker p entered
+pub words-in : (n : ℕ) (p : PassFacts RingEntry) (known entered found : List RingEntry)
+    → p.number ≡ n → PassFinds maker p entered
     → p.seen ≡ known → found ≡ entered → words_put n found ≡ words_put n known
 words-in n p known entered found number finds was is =
     let o = others-own n p known entered found number finds was is in

@@ -1,6 +1,6 @@
 -- The ring's gate while its passes are dealt and gathered. This project's own.
 use Rattle.std.specs.Prelude.{◌≡◌, ◌≢◌, ℕ, false, List, [], ◌∷◌, ◌++◌, Option, Some, None, map}
-use Rattle.turn_gate.specs.Known.{GateFacts, PassFacts, is_among, own as made_by}
+use Rattle.turn_gate.specs.Known.{GateFacts, PassFacts, is_among, made_by}
 use Rattle.plant_types.specs.declared.net.NetPlan.{NetPlan}
 use Rattle.ring_core.specs.declared.entry.RingEntry.{RingEntry}
 use Rattle.ring_core.specs.Words.{maker}
@@ -24,7 +24,7 @@ fresh_station gate node = record {
 }
 
 -- A station is at this gate, in the name of a node.
-pub record IsAt {L : Type 0} (gate : GateFacts RingEntry NetPlan) (seat : Seat L) : Type 0 where
+pub record IsAtGate {L : Type 0} (gate : GateFacts RingEntry NetPlan) (seat : Seat L) : Type 0 where
   pub gate_is : seat.ring.gate ≡ gate
   pub number : seat.ring.number ≢ 0
 

@@ -12,8 +12,8 @@ pub record NeverLowered (s : State ℕ ℕ) : Type 0 where
   pub seen : (j v : ℕ) → get_elem? s.views j ≡ some v → v ≤ word
 
 -- A watch sees the word, which is at least what it saw before.
-abbrev pub Looked : Step ℕ → Me ℕ ℕ → ℕ → Me ℕ ℕ → Type 0
-Looked st m r m' = (m.0 ≤ r) × (m'.0 ≡ r)
+abbrev pub WatchLooked : Step ℕ → Me ℕ ℕ → ℕ → Me ℕ ℕ → Type 0
+WatchLooked st m r m' = (m.0 ≤ r) × (m'.0 ≡ r)
 
 -- A watch knows that the flag is raised.
 abbrev pub Raised : Step ℕ → Me ℕ ℕ → ℕ → Me ℕ ℕ → Type 0

@@ -1,6 +1,6 @@
 -- A controller's gate after its two workers. This project's own.
 use Rattle.std.specs.Prelude.{◌≡◌, Bool, true, List, [], ◌∷◌}
-use Rattle.turn_gate.specs.Known.{GateFacts, IsOutside, PassFacts, own as made_by}
+use Rattle.turn_gate.specs.Known.{GateFacts, IsOutside, PassFacts, made_by}
 use Rattle.ring_core.specs.declared.entry.RingEntry.{RingEntry}
 use Rattle.controller_core.specs.declared.entry.Entry.{Entry}
 use Rattle.controller_core.specs.declared.fixed.Fixed.{Fixed}

@@ -1,7 +1,7 @@
 -- A run whose passes of the ring are all back. This project's own.
 use Rattle.std.specs.Prelude.{◌≡◌, ℕ, Bool, true, List, map}
 use Rattle.std.specs.List.{AllZip, Contains}
-use Rattle.turn_gate.specs.Known.{GateFacts, HasAllBack, IsOutside, PassFacts, own as made_by}
+use Rattle.turn_gate.specs.Known.{GateFacts, HasAllBack, IsOutside, PassFacts, made_by}
 use Rattle.plant_types.specs.declared.net.NetPlan.{NetPlan}
 use Rattle.plant_types.specs.declared.plan.Plant.{Plant}
 use Rattle.ring_core.specs.declared.entry.RingEntry.{RingEntry}

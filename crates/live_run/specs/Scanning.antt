@@ -4,7 +4,7 @@ use Rattle.controller_core.specs.declared.entry.StepEnd.{StepEnd}
 use Rattle.controller_core.specs.declared.entry.StepEnd.TheVariants.{Did, Ended, Stopped}
 
 -- Nothing was due any more.
-abbrev pub IsOver : StepEnd → Type 0
-IsOver (Did step) = ⊥
-IsOver Ended = ⊤
-IsOver (Stopped code) = ⊤
+abbrev pub IsScanOver : StepEnd → Type 0
+IsScanOver (Did step) = ⊥
+IsScanOver Ended = ⊤
+IsScanOver (Stopped code) = ⊤

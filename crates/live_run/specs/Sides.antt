@@ -1,6 +1,6 @@
 -- What contracts see of sides over gates. This project's own.
 use Rattle.std.specs.Prelude.{ℕ, ◌<◌, List, All}
-use Rattle.turn_gate.specs.Known.{GateFacts, PassFacts, IsReady}
+use Rattle.turn_gate.specs.Known.{GateFacts, PassFacts, IsPassReady}
 use Rattle.plant_types.specs.declared.net.NetPlan.{NetPlan}
 use Rattle.controller_core.specs.declared.entry.Entry.{Entry}
 use Rattle.controller_core.specs.declared.fixed.Fixed.{Fixed}
@@ -24,5 +24,5 @@ pub record GatedRingIs : Type 0 where
 -- have addresses.
 pub record IsAtRing (number : ℕ) (gate : GateFacts RingEntry NetPlan) (p : PassFacts RingEntry)
     : Type 0 where
-  pub ready : IsReady maker number gate.name p
+  pub ready : IsPassReady maker number gate.name p
   pub members : All (λ m. m < addresses) gate.fixed.members

@@ -23,9 +23,9 @@ impl TableRule<u64, u64, u64> for OnlyRises {
 struct Look;
 
 impl Play<u64, u64> for Look {
-    ghost use Rattle.live_run.specs.Flags.{Looked};
+    ghost use Rattle.live_run.specs.Flags.{WatchLooked};
 
-    ghost then = { Looked };
+    ghost then = { WatchLooked };
 }
 
 /// Writes 1.

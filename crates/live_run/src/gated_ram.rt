@@ -1,6 +1,6 @@
 //! A controller behind a gate, as its communication goes through it.
 ghost use Rattle.std.specs.Prelude.{◌≡◌};
-ghost use Rattle.turn_gate.specs.Known.{IsReady};
+ghost use Rattle.turn_gate.specs.Known.{IsPassReady};
 ghost use Rattle.live_run.specs.Cells.{maker_number};
 
 use crate::cells::RamCell;
@@ -22,20 +22,20 @@ pub struct GatedRam<'a, R: Wait> {
 
 impl<'a, R: Wait> Model for GatedRam<'a, R> {
     ghost use Rattle.live_run.specs.Cells.{maker_number};
-    ghost use Rattle.turn_gate.specs.Known.{IsReady};
+    ghost use Rattle.turn_gate.specs.Known.{IsPassReady};
     ghost use Rattle.live_run.specs.Sides.{GatedRamIs};
 
     ghost Value = { GatedRamIs };
 
     ghost view = { λ s. record { gate = s.gate.now; seen = s.pass.seen } };
 
-    ghost invariant = { λ s. IsReady maker_number 2 s.gate.now.name s.pass };
+    ghost invariant = { λ s. IsPassReady maker_number 2 s.gate.now.name s.pass };
 }
 
 impl<'a, R: Wait> GatedRam<'a, R> {
     /// A side with the pass of a controller's communication, which has the number 2.
     pub fn new(rt: &'a R, gate: &'a Gate<RamCell>, pass: Pass<RamCell>) -> GatedRam<'a, R>
-        requires ready { IsReady maker_number 2 gate.now.name pass }
+        requires ready { IsPassReady maker_number 2 gate.now.name pass }
         ensures { result ≡ record { gate = gate.now; seen = pass.seen } }
     {
         GatedRam { rt, gate, pass }
@@ -43,7 +43,7 @@ impl<'a, R: Wait> GatedRam<'a, R> {
 
     /// Its pass, with all that it has seen.
     pub fn into_pass(self) -> Pass<RamCell>
-        ensures ready { IsReady maker_number 2 self.entry.gate.name result }
+        ensures ready { IsPassReady maker_number 2 self.entry.gate.name result }
         ensures seen { result.seen ≡ self.entry.seen }
     {
         let GatedRam {

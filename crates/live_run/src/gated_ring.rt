@@ -2,7 +2,7 @@
 ghost use Rattle.std.specs.Prelude.{◌≡◌, ◌<◌, All};
 ghost use Rattle.ring_core.specs.Words.{maker};
 ghost use Rattle.ring_core.specs.Machine.{addresses};
-ghost use Rattle.turn_gate.specs.Known.{IsReady};
+ghost use Rattle.turn_gate.specs.Known.{IsPassReady};
 
 use crate::cells::RingCell;
 use crate::meets::Meet;
@@ -44,7 +44,7 @@ impl<'a, M: Meet, R: Wait> GatedRing<'a, M, R> {
         gate: &'a Gate<RingCell>,
         pass: Pass<RingCell>,
     ) -> GatedRing<'a, M, R>
-        requires ready { IsReady maker pass.number gate.now.name pass }
+        requires ready { IsPassReady maker pass.number gate.now.name pass }
         requires members { All (λ m. m < addresses) gate.now.fixed.members }
         ensures { result ≡ record { gate = gate.now; number = pass.number; seen = pass.seen } }
     {
@@ -58,7 +58,7 @@ impl<'a, M: Meet, R: Wait> GatedRing<'a, M, R> {
 
     /// Its pass, with all that it has seen.
     pub fn into_pass(self) -> Pass<RingCell>
-        ensures ready { IsReady maker self.entry.number self.entry.gate.name result }
+        ensures ready { IsPassReady maker self.entry.number self.entry.gate.name result }
         ensures seen { result.seen ≡ self.entry.seen }
     {
         let GatedRing {

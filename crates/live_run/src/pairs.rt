@@ -1,7 +1,7 @@
 //! The two workers of one controller, and its closed history.
 ghost use Rattle.std.specs.Prelude.{◌≡◌, true, false, IfOk};
 ghost use Rattle.std.specs.Thread.{IsSync};
-ghost use Rattle.turn_gate.specs.Known.{IsReady, first_pass};
+ghost use Rattle.turn_gate.specs.Known.{IsPassReady, first_pass};
 ghost use Rattle.controller_core.specs.Machine.{IsRunnable};
 ghost use Rattle.joint_history.specs.JointLaws.{fixed_of};
 ghost use Rattle.live_run.specs.Cells.{maker_number};
@@ -38,11 +38,11 @@ fn run_pair<'a, G: RingSide + Outside + Send, M: Meet + Sync, R: Threads + Wait 
     ring: &mut G,
     node: u8,
 ) -> (bool, bool)
-    requires ready { IsReady maker_number 1 gate.now.name one.old }
+    requires ready { IsPassReady maker_number 1 gate.now.name one.old }
     requires gate { ram.old.gate ≡ gate.now }
     requires node { worker.old.node ≡ node }
     requires talks { TalksAt worker.old ram.old (G.side ring.old) (G.known ring.old) false }
-    ensures ready { IsReady maker_number 1 gate.now.name one.new }
+    ensures ready { IsPassReady maker_number 1 gate.now.name one.new }
     ensures gate { ram.new.gate ≡ gate.now }
     ensures node { worker.new.node ≡ node }
     ensures talks { result.1 ≡ true
@@ -63,8 +63,8 @@ fn run_pair<'a, G: RingSide + Outside + Send, M: Meet + Sync, R: Threads + Wait 
         { talk(run.rt, run.crew, node, worker, ram, ring) },
         &mut || -> bool
             requires sync { IsSync R.row × IsSync M.row }
-            requires ready { IsReady maker_number 1 gate.now.name one.now }
-            ensures { IsReady maker_number 1 gate.entry.now.name one.exit.now }
+            requires ready { IsPassReady maker_number 1 gate.now.name one.now }
+            ensures { IsPassReady maker_number 1 gate.entry.now.name one.exit.now }
         { scan_all(run.rt, run.crew, run.meet, gate, one, own) },
     );
     (scanned, talked)

@@ -4,9 +4,10 @@ ghost use Rattle.std.specs.Prelude.{vec_len, vec_capacity};
 ghost use Rattle.std.specs.List.{AllZip};
 ghost use Rattle.turn_gate.specs.Known.{first_pass, IsOutside};
 ghost use Rattle.ring_core.specs.Machine.{addresses};
-ghost use Rattle.live_run.specs.Dealing.{AreNew, fresh_station, IsAt, IsLogged, HasLog};
+ghost use Rattle.live_run.specs.Dealing.{AreNew, fresh_station, IsAtGate, IsLogged, HasLog};
 ghost use Rattle.live_run.specs.Dealing.{GatheredInto};
 ghost use Rattle.std.specs.Prelude.{◌≤◌, IfOk};
+ghost use Rattle.plant_types.specs.Limits.{most_scans};
 ghost use Rattle.plant_types.specs.Plans.{IsPlant};
 ghost use Rattle.joint_history.specs.Complete.{IsComplete};
 ghost use Rattle.joint_history.specs.JointLaws.{IsJoint, IsLegalJoint};
@@ -112,7 +113,7 @@ fn gather<'a, L: Drop, M: Meet, R: Wait>(
 ) -> (Pass<RingCell>, Vec<L>, bool)
     requires opening { gate.now.name.opening ≡ [] }
     requires pass { (pass.gate ≡ gate.now.name) × IsOutside pass }
-    requires at { All (IsAt gate.now) stations.items }
+    requires at { All (IsAtGate gate.now) stations.items }
     ensures pass { GatheredInto stations.entry.items pass result.0 }
     ensures logs { result.2 ≡ true → AllZip HasLog stations.entry.items result.1.items }
 {
@@ -203,7 +204,7 @@ pub fn live_noted<M: Meet + Sync, R: Threads + Wait + Clock + Sync>(
     meet: &M,
 ) -> Result<Noted, AllocError>
     requires plant { CanRunPlant plant.now }
-    requires scans { scans ≤ 2000 }
+    requires scans { scans ≤ most_scans }
     ensures legal { IfOk result (λ noted. IsLegalJoint plant.now scans noted.joint) }
     ensures joint { IfOk result (λ noted. IsJoint noted.joint) }
     ensures complete { IfOk result (λ noted. IsComplete plant.now scans noted.joint) }
@@ -242,7 +243,7 @@ pub fn live<M: Meet + Sync, R: Threads + Wait + Clock + Sync>(
     meet: &M,
 ) -> Result<Joint, AllocError>
     requires plant { CanRunPlant plant.now }
-    requires scans { scans ≤ 2000 }
+    requires scans { scans ≤ most_scans }
     ensures legal { IfOk result (IsLegalJoint plant.now scans) }
     ensures joint { IfOk result IsJoint }
     ensures complete { IfOk result (IsComplete plant.now scans) }

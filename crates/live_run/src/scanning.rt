@@ -1,10 +1,10 @@
 //! The scan worker of a controller.
 ghost use Rattle.std.specs.Prelude.{◌≡◌, ◌≤◌, ◌+◌, true, length, IfOk, OnErr};
-ghost use Rattle.turn_gate.specs.Known.{IsReady};
-ghost use Rattle.controller_core.specs.Controller.{WentOn, has_ended, step_entries};
+ghost use Rattle.turn_gate.specs.Known.{IsPassReady};
+ghost use Rattle.controller_core.specs.Controller.{ControllerWentOn, has_ended, step_entries};
 ghost use Rattle.joint_history.specs.Reading.{has_ended_at};
 ghost use Rattle.live_run.specs.Cells.{maker_number};
-ghost use Rattle.live_run.specs.Scanning.{IsOver};
+ghost use Rattle.live_run.specs.Scanning.{IsScanOver};
 
 use crate::cells::RamCell;
 use crate::crews::Crew;
@@ -20,8 +20,9 @@ use turn_gate::{Gate, Pass};
 /// Makes the next event of the scan, for which it reserves memory where a scan begins.
 fn step_reserved(controller: &mut Controller) -> Result<StepEnd, AllocError>
     ensures went { IfOk result (λ end.
-        WentOn Maker.Scan (step_entries controller.old end) controller.old controller.new) }
-    ensures over { IfOk result (λ end. IsOver end → has_ended controller.new ≡ true) }
+        ControllerWentOn Maker.Scan (step_entries controller.old end) controller.old
+        controller.new) }
+    ensures over { IfOk result (λ end. IsScanOver end → has_ended controller.new ≡ true) }
     ensures err { OnErr result (controller.new ≡ controller.old) }
 {
     if !controller.is_reserved() {
@@ -38,10 +39,10 @@ fn step_in<M: Meet, R: Wait>(
     pass: &mut Pass<RamCell>,
     node: u8,
 ) -> Result<StepEnd, AllocError>
-    requires ready { IsReady maker_number 1 gate.now.name pass.old }
-    ensures ready { IsReady maker_number 1 gate.now.name pass.new }
+    requires ready { IsPassReady maker_number 1 gate.now.name pass.old }
+    ensures ready { IsPassReady maker_number 1 gate.now.name pass.new }
     ensures one { length pass.new.mine ≤ length pass.old.mine + 1 }
-    ensures over { IfOk result (λ end. IsOver end
+    ensures over { IfOk result (λ end. IsScanOver end
         → has_ended_at gate.now.fixed pass.new.seen ≡ true) }
 {
     let mut held = gate.enter(rt, pass);
@@ -62,8 +63,8 @@ pub(crate) fn scan_all<M: Meet, R: Wait + Clock>(
     pass: &mut Pass<RamCell>,
     node: u8,
 ) -> bool
-    requires ready { IsReady maker_number 1 gate.now.name pass.old }
-    ensures ready { IsReady maker_number 1 gate.now.name pass.new }
+    requires ready { IsPassReady maker_number 1 gate.now.name pass.old }
+    ensures ready { IsPassReady maker_number 1 gate.now.name pass.new }
     ensures ended { result ≡ true → has_ended_at gate.now.fixed pass.new.seen ≡ true }
 {
     let mut watch = crew.begin();

@@ -22,7 +22,8 @@ use Rattle.modbus_exec.specs.declared.end.ExecEnd.{ExecEnd}
 use Rattle.modbus_exec.specs.declared.end.ExecEnd.TheVariants.{Exception, NoMemory}
 use Rattle.plant_types.specs.Discretes.{bit_words}
 use Rattle.modbus_exec.specs.Runs.{reference_at}
-use Rattle.modbus_exec.specs.Answer.{Execution, execution_of, has_named_references, reply_by, stored_by}
+use Rattle.modbus_exec.specs.Answer.{Execution, execution_of, has_named_references, reply_by}
+use Rattle.modbus_exec.specs.Answer.{stored_by}
 use Rattle.modbus_exec.specs.Answer.{masked, IsOneOf, Writes}
 use Rattle.modbus_exec.specs.Executing.{Executes}
 use Rattle.plant_types.proofs.DiscretesLemmas.{length-bits_from, length-bit_words}
@@ -39,7 +40,8 @@ of_test true outcome found e = (refl, cc)
 of_test false outcome found e = absurd cc
 
 -- Where there is an outcome, the map has the references, and the outcome is what is due.
-came : (request : Request) (m : Contents) (outcome : Execution) → execution_of request m ≡ Ok outcome
+came : (request : Request) (m : Contents) (outcome : Execution)
+    → execution_of request m ≡ Ok outcome
     → (has_named_references m request ≡ true) × (due request m ≡ outcome)
 came (Stats clear) m outcome e = absurd cc
 came request m outcome e = of_test (has_named_references m request) (due request m) outcome e
@@ -82,7 +84,8 @@ reply_fits (ReadWrite read quantity write words) m outcome range e =
 reply_fits _ m outcome range e = record { range = tt; to = refl }
 
 -- The reply of every answer fits the request.
-pub answer_fits : (request : Request) (m : Contents) (outcome : Execution) → IsRequestInRange request
+pub answer_fits : (request : Request) (m : Contents) (outcome : Execution)
+    → IsRequestInRange request
     → execution_of request m ≡ Ok outcome → Fits request outcome.reply
 answer_fits request m outcome range e =
     let is = ap (λ (o : Execution). o.reply) (came request m outcome e).1 in
@@ -97,7 +100,8 @@ apart kind address count at other i lt e =
     other (sym same, omega arith, omega arith)
 
 -- The same of one reference.
-apart_one : (kind : RefKind) (address : ℕ) (at : Ref) → ¬ IsOneOf kind address 1 at → reference_at kind address ≢ at
+apart_one : (kind : RefKind) (address : ℕ) (at : Ref) → ¬ IsOneOf kind address 1 at
+    → reference_at kind address ≢ at
 apart_one kind address at other e =
     let same : kind ≡ at.kind = ap (λ (r : Ref). r.kind) e in
     let number : address + 1 ≡ at.number = ap (λ (r : Ref). r.number) e in
@@ -131,7 +135,8 @@ stored_others _ m at other = refl
 
 -- No reference of the map is lost.
 stored_keeps : (request : Request) (m : Contents) → Keeps m (stored_by request m)
-stored_keeps (WriteCoil address on) m = Keeps-insert m (reference_at kinds.Coil address) (cond on 1 0)
+stored_keeps (WriteCoil address on) m =
+    Keeps-insert m (reference_at kinds.Coil address) (cond on 1 0)
 stored_keeps (WriteRegister address value) m =
     Keeps-insert m (reference_at kinds.Register address) value
 stored_keeps (WriteCoils address bits) m =
@@ -165,19 +170,25 @@ same_kept m at h = h
 -- A reply is one that fits.
 pub executed_fits : (request : Request) (old new : Contents) (result : Result Reply ExecEnd)
     → IsRequestInRange request → Executes request old result new → IfOk result (Fits request)
-executed_fits request old new (Ok reply) range h = answer_fits request old (record { reply = reply; stored = new }) range h
+executed_fits request old new (Ok reply) range h =
+    answer_fits request old (record { reply = reply; stored = new }) range h
 executed_fits request old new (Err end) range h = tt
 
 -- Whatever comes, the references that a request does not write stay.
 pub executed_others : (request : Request) (old new : Contents) (result : Result Reply ExecEnd)
     → Executes request old result new → (at : Ref) → ¬ Writes request at
     → get new at ≡ get old at
-executed_others request old new (Ok reply) h at other = answer_others request old at (record { reply = reply; stored = new }) other h
-executed_others request old new (Err (Exception code)) h at other = ap (λ (m : Contents). get m at) h.1
+executed_others request old new (Ok reply) h at other =
+    answer_others request old at (record { reply = reply; stored = new }) other h
+executed_others request old new (Err (Exception code)) h at other =
+    ap (λ (m : Contents). get m at) h.1
 executed_others request old new (Err NoMemory) h at other = ap (λ (m : Contents). get m at) h.1
 
 -- Whatever comes, no reference is lost.
-pub executed_keeps : (request : Request) (old new : Contents) (result : Result Reply ExecEnd) → Executes request old result new → Keeps old new
-executed_keeps request old new (Ok reply) h = answer_keeps request old (record { reply = reply; stored = new }) h
-executed_keeps request old new (Err (Exception code)) h = subst (Keeps old) (sym h.1) (same_kept old)
+pub executed_keeps : (request : Request) (old new : Contents) (result : Result Reply ExecEnd)
+    → Executes request old result new → Keeps old new
+executed_keeps request old new (Ok reply) h =
+    answer_keeps request old (record { reply = reply; stored = new }) h
+executed_keeps request old new (Err (Exception code)) h =
+    subst (Keeps old) (sym h.1) (same_kept old)
 executed_keeps request old new (Err NoMemory) h = subst (Keeps old) (sym h.1) (same_kept old)

@@ -57,7 +57,8 @@ pub answer_by_function : (bytes : List ℕ) (m : Contents) (request : Request) �
     → answer_of bytes m ≡ answer_with (function_of request) (execution_of request m) m
 answer_by_function bytes m request s =
     spelled_answer bytes m request s
-    ∙ ap (λ (function : ℕ). answer_with function (execution_of request m) m) (code_first bytes request s)
+    ∙ ap (λ (function : ℕ). answer_with function (execution_of request m) m)
+    (code_first bytes request s)
 
 -- An exception reply in place of a request.
 pub refused_answer : (bytes : List ℕ) (m : Contents) (pdu : List ℕ) (code : ℕ)

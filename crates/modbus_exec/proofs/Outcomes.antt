@@ -13,7 +13,8 @@ abbrev pub chosen : Bool → Execution → Result Execution ℕ
 chosen b outcome = cond b (Ok outcome) (Err 2)
 
 -- There is an outcome where the references are in the map.
-pub is_there : (b : Bool) (outcome : Execution) → true ≡ b → (found : Execution) × (chosen b outcome ≡ Ok found)
+pub is_there : (b : Bool) (outcome : Execution) → true ≡ b
+    → (found : Execution) × (chosen b outcome ≡ Ok found)
 is_there true outcome e = (outcome, refl)
 is_there false outcome e = absurd cc
 
@@ -21,7 +22,8 @@ is_there false outcome e = absurd cc
 pub word_written : (m : Contents) (to : Ref) (words : List ℕ) (at : Ref) (i : ℕ)
     → i < length words → at ≡ ref_from to i
     → word_at (with_words m to words) at ≡ get_or words i 0
-word_written m to words at i lt e = ap (word_at (with_words m to words)) e ∙ ap (λ o. unwrap_or o 0) (get-with_words_at m to words i 0 lt)
+word_written m to words at i lt e = ap (word_at (with_words m to words)) e
+    ∙ ap (λ o. unwrap_or o 0) (get-with_words_at m to words i 0 lt)
 
 -- A register that was not keeps its own.
 pub word_kept : (m : Contents) (to : Ref) (words : List ℕ) (at : Ref)

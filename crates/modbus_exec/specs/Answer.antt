@@ -12,7 +12,7 @@ use Rattle.modbus_pdu.specs.declared.request.Request.TheVariants as requests
 use Rattle.modbus_pdu.specs.declared.reply.Reply.{Reply}
 use Rattle.modbus_pdu.specs.declared.reply.Reply.TheVariants as replies
 use Rattle.modbus_pdu.specs.Exceptions.{illegal_function, illegal_address, illegal_value}
-use Rattle.modbus_pdu.specs.Reading.{request_of}
+use Rattle.modbus_pdu.specs.Reading.{spelled_request}
 use Rattle.modbus_pdu.specs.Spelling.{is_listed, reply_bytes}
 use Rattle.plant_types.specs.Discretes.{bits_from, with_bits}
 use Rattle.modbus_exec.specs.Runs.{reference_at, is_in_map, are_in_map}
@@ -127,7 +127,7 @@ abbrev pub answer_of : List ℕ → Contents → Answer
 answer_of bytes m =
     let function = slice_index bytes 0 in
     if is_listed function
-    then answer_to function (request_of bytes) m
+    then answer_to function (spelled_request bytes) m
     else refusal function illegal_function m
 
 -- A reference is one of so many from an address on. This project's own.

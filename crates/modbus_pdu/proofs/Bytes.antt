@@ -24,8 +24,10 @@ words_read (high ∷ low ∷ rest) (w ∷ words) fits long read =
     let first : w / 256 ≡ high = omega arith in
     let second : w % 256 ≡ low = omega arith in
     let later : IsRead big_number 2 rest words =
-    λ k lt. let twice : 2 * suc k ≡ suc (suc (2 * k)) = omega arith in rw twice at (read (suc k) (omega arith)) in
-    let rest-is : words_bytes words ≡ rest = words_read rest words (λ i. fits (suc (suc i))) (omega arith) later in
+    λ k lt. let twice : 2 * suc k ≡ suc (suc (2 * k)) = omega arith in rw twice at
+    (read (suc k) (omega arith)) in
+    let rest-is : words_bytes words ≡ rest = words_read rest words (λ i. fits (suc (suc i)))
+    (omega arith) later in
     rw (flat_map-cons word_bytes w words, first, second, rest-is) refl
 
 -- Two spellings that begin with a number begin with the same one.
@@ -38,7 +40,8 @@ word_is a b x y e =
 -- Words take two bytes each.
 pub length-words_bytes : (words : List ℕ) → length (words_bytes words) ≡ 2 * length words
 length-words_bytes [] = refl
-length-words_bytes (w ∷ words) = let rest = length-words_bytes words in ap length (flat_map-cons word_bytes w words) ∙ omega (arith, rest)
+length-words_bytes (w ∷ words) = let rest = length-words_bytes words in ap length
+    (flat_map-cons word_bytes w words) ∙ omega (arith, rest)
 
 -- Different words are spelled differently.
 pub words_is : (xs ys : List ℕ) → words_bytes xs ≡ words_bytes ys → xs ≡ ys
@@ -61,7 +64,8 @@ words_in-words_bytes (w ∷ words) =
     ap words_in (flat_map-cons word_bytes w words) ∙ (λ i. first i ∷ words_in-words_bytes words i)
 
 -- Bytes in pairs are words.
-pub words_again : (bytes : List ℕ) (count : ℕ) → IsBytes bytes → length bytes ≡ 2 * count → words_bytes (words_in bytes) ≡ bytes
+pub words_again : (bytes : List ℕ) (count : ℕ) → IsBytes bytes → length bytes ≡ 2 * count
+    → words_bytes (words_in bytes) ≡ bytes
 words_again [] count fits e = refl
 words_again (high ∷ []) count fits e = absurd (omega arith)
 words_again (high ∷ low ∷ rest) zero fits e = absurd (omega arith)
@@ -70,10 +74,13 @@ words_again (high ∷ low ∷ rest) (suc count) fits e =
     let l : low < 256 = fits 1 in
     let first : (256 * high + low) / 256 ≡ high = omega arith in
     let second : (256 * high + low) % 256 ≡ low = omega arith in
-    let rest-is : words_bytes (words_in rest) ≡ rest = words_again rest count (λ i. fits (suc (suc i))) (omega arith) in
+    let rest-is : words_bytes (words_in rest) ≡ rest =
+    words_again rest count (λ i. fits (suc (suc i))) (omega arith) in
     rw (flat_map-cons word_bytes (256 * high + low) (words_in rest), first, second, rest-is) refl
 
 -- What is counted in bytes is bytes.
-pub counted_fits : (fields : List ℕ) (a q : ℕ) (x : List ℕ) → IsBytes fields → Counts fields a q x → IsBytes x
+pub counted_fits : (fields : List ℕ) (a q : ℕ) (x : List ℕ) → IsBytes fields
+    → Counts fields a q x → IsBytes x
 counted_fits fields a q x fits e i =
-    subst (λ (bytes : List ℕ). get_or bytes (suc (suc (suc (suc (suc i))))) 0 < 2 ^ 8) e (fits (suc (suc (suc (suc (suc i))))))
+    subst (λ (bytes : List ℕ). get_or bytes (suc (suc (suc (suc (suc i))))) 0 < 2 ^ 8) e
+    (fits (suc (suc (suc (suc (suc i))))))

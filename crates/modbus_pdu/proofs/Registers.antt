@@ -18,7 +18,8 @@ pub no_registers : (fields : List ℕ)
     → (request : Request) → ¬ SpellsFields 16 fields request
 no_registers fields none (WriteRegisters address words) s =
     none address (length words) (words_bytes words)
-    (s.form ∙ ap (λ (rest : List ℕ). word_bytes address ++ word_bytes (length words) ++ rest) (counted_is words))
+    (s.form ∙ ap (λ (rest : List ℕ). word_bytes address ++ word_bytes (length words) ++ rest)
+    (counted_is words))
 no_registers fields none _ s = absurd (omega arith)
 
 -- Registers that were read from the bytes are the request.
@@ -27,7 +28,8 @@ pub registers_read : (fields : List ℕ) (a q : ℕ) (x words : List ℕ) → Co
     → SpellsFields 16 fields (WriteRegisters a words)
 registers_read fields a q x words e range count is =
     let long : length words ≡ q = omega (arith, length-words_bytes words, ap length is) in
-    let same : counted_words words ≡ length x ∷ x = counted_is words ∙ ap (λ (rest : List ℕ). length rest ∷ rest) is in
+    let same : counted_words words ≡ length x ∷ x = counted_is words
+    ∙ ap (λ (rest : List ℕ). length rest ∷ rest) is in
     record {
       code = refl;
       range = ((omega arith, omega arith), tt);
@@ -39,4 +41,5 @@ pub registers_there : (fields : List ℕ) (a q : ℕ) (x : List ℕ) → IsBytes
     → Counts fields a q x → IsUpTo most_registers_written q → length x ≡ 2 * q
     → SpellsFields 16 fields (WriteRegisters a (words_in x))
 registers_there fields a q x fits e range count =
-    registers_read fields a q x (words_in x) e range count (words_again x q (counted_fits fields a q x fits e) count)
+    registers_read fields a q x (words_in x) e range count
+    (words_again x q (counted_fits fields a q x fits e) count)

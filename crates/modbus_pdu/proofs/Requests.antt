@@ -26,7 +26,8 @@ pub reading_there : (kind : RefKind) (fields : List ℕ) (a q : ℕ) → IsUpTo 
 reading_there Coil fields a q range e = record { code = refl; range = (range, tt); form = e }
 reading_there Input fields a q range e = record { code = refl; range = (range, tt); form = e }
 reading_there Register fields a q range e = record { code = refl; range = (range, tt); form = e }
-reading_there InputRegister fields a q range e = record { code = refl; range = (range, tt); form = e }
+reading_there InputRegister fields a q range e =
+    record { code = refl; range = (range, tt); form = e }
 
 -- Other bytes are none.
 pub no_reading : (kind : RefKind) (fields : List ℕ)

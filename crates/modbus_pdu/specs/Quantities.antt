@@ -1,5 +1,6 @@
 -- How many references requests and replies may tell. This project's own bounds.
-use Rattle.std.specs.Prelude.{◌≤◌, ℕ, Bool, true, ◌&&◌, nat_le, List, [], ◌∷◌, ⊤}
+use Rattle.std.specs.Prelude.{◌≤◌, ℕ, Bool, true, ◌&&◌, List, [], ◌∷◌, ⊤}
+pub use Rattle.plant_types.specs.Limits.{is_up_to}
 
 -- Coils or inputs in one read.
 abbrev pub most_discretes_read : ℕ
@@ -24,10 +25,6 @@ most_registers_exchanged = 121
 -- From one up to a number.
 abbrev pub IsUpTo : ℕ → ℕ → Type 0
 IsUpTo most count = (1 ≤ count) × (count ≤ most)
-
--- Whether a number is one of these.
-abbrev pub is_up_to : ℕ → ℕ → Bool
-is_up_to most count = nat_le 1 count && nat_le count most
 
 -- A quantity and its bound.
 pub record Quantity : Type 0 where

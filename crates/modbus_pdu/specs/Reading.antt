@@ -43,5 +43,5 @@ is_spelled bytes request =
     && bytes_eq bytes (request_bytes (spare_in bytes request) request)
 
 -- The request that the bytes spell, or none. This project's own.
-abbrev pub request_of : List ℕ → Option Request
-request_of bytes = find (is_spelled bytes) (forms_of bytes)
+abbrev pub spelled_request : List ℕ → Option Request
+spelled_request bytes = find (is_spelled bytes) (forms_of bytes)

@@ -1,6 +1,6 @@
 //! What holds of all spellings.
 ghost use Rattle.std.specs.Prelude.{◌≡◌, ◌↔◌, ℕ, List, Some};
-ghost use Rattle.modbus_pdu.specs.Reading.{request_of};
+ghost use Rattle.modbus_pdu.specs.Reading.{spelled_request};
 ghost use Rattle.modbus_pdu.specs.Decoding.{HasOneSpelling};
 ghost use Rattle.modbus_pdu.specs.Spelling.{Spells};
 ghost use Rattle.modbus_pdu.specs.declared.request.Request.{Request as AnyRequest};
@@ -15,7 +15,7 @@ pub fn one_request()
 /// The request that the function of the bytes gives is the one that they spell.
 pub fn request_is_spelled()
     ensures { (bytes : List ℕ) (request : AnyRequest) →
-        (request_of bytes ≡ Some request) ↔ Spells bytes request }
+        (spelled_request bytes ≡ Some request) ↔ Spells bytes request }
 {}
 
 /// A reply has one spelling at most.

@@ -17,7 +17,10 @@ pub use decoding::decode;
 pub use encoding::{encode_reply, encode_request};
 pub use end::{BadReply, DecodeEnd};
 pub use laws::{one_reply_spelling, one_request, request_is_spelled};
-pub use limits::{ILLEGAL_ADDRESS, ILLEGAL_FUNCTION, ILLEGAL_VALUE};
+pub use limits::{
+    COILS_WRITTEN, DISCRETES_READ, ILLEGAL_ADDRESS, ILLEGAL_FUNCTION, ILLEGAL_VALUE,
+    REGISTERS_EXCHANGED, REGISTERS_READ, REGISTERS_WRITTEN,
+};
 pub use reply::Reply;
 pub use reply_decoding::decode_reply;
 pub use request::Request;

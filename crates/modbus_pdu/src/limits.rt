@@ -1,19 +1,19 @@
 //! How many references requests and replies may tell, and the codes of exceptions.
 
 /// Coils or inputs in one read.
-pub(crate) const DISCRETES_READ: u16 = 2000;
+pub const DISCRETES_READ: u16 = 2000;
 
 /// Registers in one read.
-pub(crate) const REGISTERS_READ: u16 = 125;
+pub const REGISTERS_READ: u16 = 125;
 
 /// Coils in one write.
-pub(crate) const COILS_WRITTEN: u16 = 1968;
+pub const COILS_WRITTEN: u16 = 1968;
 
 /// Registers in one write.
-pub(crate) const REGISTERS_WRITTEN: u16 = 123;
+pub const REGISTERS_WRITTEN: u16 = 123;
 
 /// Registers that function 23 writes.
-pub(crate) const REGISTERS_EXCHANGED: u16 = 121;
+pub const REGISTERS_EXCHANGED: u16 = 121;
 
 /// The function is not served.
 pub const ILLEGAL_FUNCTION: u8 = 1;

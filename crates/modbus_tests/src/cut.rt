@@ -1,22 +1,22 @@
 //! Requests that are cut short.
-use super::requests::code_of;
+use crate::digits::{bytes_of, code, code_of};
 use std::alloc::Global;
-use std::test::*;
+use std::test::Fail;
 
 /// Requests, and what decoding answers to the whole: the code of an exception, 0 for a request.
-const REQUESTS: [(&[u8], u8); 11] = [
-    (&[3, 0, 0, 0, 0x7d], 0),
-    (&[3, 0, 0, 0, 0x7e], 3),
-    (&[3, 0, 0, 0, 0], 3),
-    (&[3, 0, 0, 0], 3),
-    (&[7], 1),
-    (&[5, 0, 0, 0x12, 0x34], 3),
-    (&[5, 0, 0, 0xff, 0], 0),
-    (&[0x16, 0, 0, 0, 0xf2, 0, 0x25], 0),
-    (&[0x17, 0, 0, 0, 1, 0, 0, 0, 1, 2, 0, 7], 0),
-    (&[8, 0, 0, 0xa5, 0x37], 0),
-    (&[8, 0, 1, 0, 0], 3),
-];
+const REQUESTS: &str = "\
+030000007d => 0
+030000007e => 3
+0300000000 => 3
+03000000 => 3
+07 => 1
+0500001234 => 3
+050000ff00 => 0
+16000000f20025 => 0
+170000000100000001020007 => 0
+080000a537 => 0
+0800010000 => 3
+";
 
 /// How many of its fronts, itself among them, are decoded otherwise than as due: a front that ends
 /// too soon has a function that is listed, and spells no request.
@@ -32,8 +32,11 @@ fn misread(alloc: Global, request: &[u8], whole: u8) -> u32 {
 }
 
 #[test]
-fn each_front_of_a_request_is_answered(rt: HostRuntime) {
-    for (request, whole) in REQUESTS {
-        assert_eq!(rt; misread(rt.alloc(), request, whole), 0, "{request:?}");
+fn each_front_of_a_request_is_answered(rt: HostRuntime) -> Result<(), Fail> {
+    for row in REQUESTS.lines() {
+        let (request, whole) = row.split_once(" => ").ok_or("a code")?;
+        let bytes = bytes_of(rt.alloc(), request)?;
+        assert_eq!(rt; misread(rt.alloc(), &bytes, code(whole)), 0, "{request}");
     }
+    Ok(())
 }

@@ -6,4 +6,6 @@ mod answers;
 #[cfg(test)]
 mod cut;
 #[cfg(test)]
+mod digits;
+#[cfg(test)]
 mod requests;

@@ -7,15 +7,15 @@ use Rattle.std.proofs.lemmas.Bool.{and_parts, or_parts, not-false, leb-true, ltb
 use Rattle.mstr_block.specs.declared.control.Control.{Control}
 use Rattle.mstr_block.specs.declared.operation.Operation.{Operation}
 use Rattle.mstr_block.specs.declared.operation.Operation.TheVariants as op
-use Rattle.plant_types.specs.Operands.{is_length}
+use Rattle.plant_types.specs.Limits.{is_up_to, most_address}
 use Rattle.plant_types.specs.Reference.{most_references}
 use Rattle.plant_types.specs.Words.{statistics_words}
 use Rattle.mstr_block.specs.Operations.{operation_of}
 use Rattle.mstr_block.specs.Control.{has_bad_length, has_bad_start, has_bad_end, has_small_area}
-use Rattle.mstr_block.specs.Control.{has_bad_route, asks_itself, most_address, first_failing}
+use Rattle.mstr_block.specs.Control.{has_bad_route, asks_itself, first_failing}
 use Rattle.mstr_block.specs.Control.{tests_of, tests_passed, checked, start_of, ask_of}
 use Rattle.mstr_block.specs.Solve.{kept_of}
-use Rattle.mstr_block.specs.Running.{IsOther, AreRegisters, AreStatistics, AreGlobal, IsAsk}
+use Rattle.mstr_block.specs.Running.{IsOther, AreRegisters, AreStatistics, AreGlobal, MayBeAsked}
 use Rattle.mstr_block.specs.Running.{CanMove, AsksFor}
 
 -- all tests of a start passed
@@ -30,7 +30,8 @@ not_bad : {X : Type 0} (word : ℕ) (operation : Operation) → Err word ≡ Ok 
 not_bad word operation e = absurd (cc)
 
 -- one test
-pass : (asked operation : Operation) (fails : Bool) (word : ℕ) (rest : Option ℕ) → tests_passed asked (if fails then Some word else rest) ≡ Ok operation
+pass : (asked operation : Operation) (fails : Bool) (word : ℕ) (rest : Option ℕ)
+    → tests_passed asked (if fails then Some word else rest) ≡ Ok operation
     → (fails ≡ false) × (tests_passed asked rest ≡ Ok operation)
 pass asked operation true word rest e = not_bad word operation e
 pass asked operation false word rest e = (refl, e)
@@ -39,7 +40,8 @@ same : (asked operation : Operation) → tests_passed asked None ≡ Ok operatio
 same asked operation e = cc
 
 pass_all : (own room : ℕ) (control : Control) (asked operation : Operation)
-    → tests_passed asked (first_failing (tests_of own room asked control)) ≡ Ok operation → Passes own operation control
+    → tests_passed asked (first_failing (tests_of own room asked control)) ≡ Ok operation
+    → Passes own operation control
 pass_all own room control asked operation e =
     let one = pass asked operation (has_bad_length asked control) _ _ e in
     let two = pass asked operation (has_bad_start asked control) _ _ one.1 in
@@ -55,16 +57,19 @@ pass_all own room control asked operation e =
       self = six.0;
     })
 
-pass_known : (own room : ℕ) (control : Control) (o : Option Operation) (operation : Operation) → checked own room control o ≡ Ok
+pass_known : (own room : ℕ) (control : Control) (o : Option Operation) (operation : Operation)
+    → checked own room control o ≡ Ok
     operation → Passes own operation control
 pass_known own room control None operation e = not_bad _ operation e
 pass_known own room control (Some asked) operation e = pass_all own room control asked operation e
 
-pub passes : (own room : ℕ) (control : Control) (operation : Operation) → start_of own room control ≡ Ok operation → Passes own operation control
-passes own room control operation e = pass_known own room control (operation_of control.code) operation e
+pub passes : (own room : ℕ) (control : Control) (operation : Operation)
+    → start_of own room control ≡ Ok operation → Passes own operation control
+passes own room control operation e =
+    pass_known own room control (operation_of control.code) operation e
 
 -- a length within its limits
-within : (most n : ℕ) → not (is_length most n) ≡ false → (1 ≤ n) × (n ≤ most)
+within : (most n : ℕ) → not (is_up_to most n) ≡ false → (1 ≤ n) × (n ≤ most)
 within most n e =
     let parts = and_parts (nat_le 1 n) (nat_le n most) (not-false _ e) in
     (leb-true 1 n parts.0, leb-true n most parts.1)
@@ -72,18 +77,22 @@ within most n e =
 not_zero : (n : ℕ) → (n == 0) ≡ false → 1 ≤ n
 not_zero n e = let apart = eqb-false n 0 e in omega arith
 
-registers : (start count : ℕ) → not (is_length 100 count) ≡ false → ((start == 0) || false) ≡ false
+registers : (start count : ℕ) → not (is_up_to 100 count) ≡ false → ((start == 0) || false) ≡ false
     → (nat_lt most_references (start + count - 1) || false) ≡ false → AreRegisters start count
 registers start count long first last =
     let few = within 100 count long in
     let some = not_zero start (or_parts (start == 0) false first).0 in
-    let end = ltb-false most_references (start + count - 1) (or_parts (nat_lt most_references (start + count - 1)) false last).0 in
+    let end = ltb-false most_references (start + count - 1)
+    (or_parts (nat_lt most_references (start + count - 1)) false last).0 in
     (some, few.0, few.1, omega arith)
 
-statistics : (start count : ℕ) → not (is_length 20 count) ≡ false → nat_lt statistics_words (start + count) ≡ false → AreStatistics start count
-statistics start count long last = ((within 20 count long).0, ltb-false statistics_words (start + count) last)
+statistics : (start count : ℕ) → not (is_up_to 20 count) ≡ false
+    → nat_lt statistics_words (start + count) ≡ false → AreStatistics start count
+statistics start count long last =
+    ((within 20 count long).0, ltb-false statistics_words (start + count) last)
 
-pub can_move : (own : ℕ) (operation : Operation) (control : Control) → Passes own operation control → CanMove operation control.start control.length
+pub can_move : (own : ℕ) (operation : Operation) (control : Control) → Passes own operation control
+    → CanMove operation control.start control.length
 can_move own op.WriteData control p = registers control.start control.length p.long p.start p.last
 can_move own op.ReadData control p = registers control.start control.length p.long p.start p.last
 can_move own op.LocalStatistics control p = statistics control.start control.length p.long p.last
@@ -94,30 +103,39 @@ can_move own op.RemoteStatistics control p = statistics control.start control.le
 can_move own op.ClearRemote control p = tt
 
 -- the node of a route
-node_of : (control : Control) (rest : Bool) → (not (is_length most_address control.node) || rest) ≡ false → (1 ≤ control.node) × (control.node ≤ most_address)
-node_of control rest e = within most_address control.node (or_parts (not (is_length most_address control.node)) rest e).0
+node_of : (control : Control) (rest : Bool) → (not (is_up_to most_address control.node) || rest)
+    ≡ false → (1 ≤ control.node) × (control.node ≤ most_address)
+node_of control rest e =
+    within most_address control.node (or_parts (not (is_up_to most_address control.node)) rest e).0
 
-other : (own : ℕ) (control : Control) → (not (is_length most_address control.node) || not (list_all (λ hop. hop == 0) control.hops)) ≡ false
+other : (own : ℕ) (control : Control) → (not (is_up_to most_address control.node)
+    || not (list_all (λ hop. hop == 0) control.hops)) ≡ false
     → (control.node == own) ≡ false → IsOther own control.node
 other own control route apart =
     let there = node_of control _ route in
     (there.0, there.1, λ e. eqb-false control.node own apart e)
 
-pub is_ask : (own : ℕ) (operation : Operation) (control : Control) (words : List ℕ) → Passes own operation control → length words ≡ control.length
-    → IsAsk own (ask_of operation control words)
-is_ask own op.WriteData control words p long =
-    (other own control p.route p.self, subst (λ (n : ℕ). AreRegisters control.start n) (sym long) (can_move own op.WriteData control p))
-is_ask own op.ReadData control words p long = (other own control p.route p.self, can_move own op.ReadData control p)
+pub is_ask : (own : ℕ) (operation : Operation) (control : Control) (words : List ℕ)
+    → Passes own operation control → length words ≡ control.length
+    → MayBeAsked own (ask_of operation control words)
+is_ask own op.WriteData control words p long = (
+  other own control p.route p.self,
+  subst (λ (n : ℕ). AreRegisters control.start n) (sym long) (can_move own op.WriteData control p),
+)
+is_ask own op.ReadData control words p long =
+    (other own control p.route p.self, can_move own op.ReadData control p)
 is_ask own op.LocalStatistics control words p long = tt
 is_ask own op.ClearLocal control words p long = tt
-is_ask own op.WriteGlobal control words p long = subst AreGlobal (sym long) (can_move own op.WriteGlobal control p)
+is_ask own op.WriteGlobal control words p long =
+    subst AreGlobal (sym long) (can_move own op.WriteGlobal control p)
 is_ask own op.ReadGlobal control words p long =
     let there = node_of control _ p.route in
     (there.0, there.1, can_move own op.ReadGlobal control p)
 is_ask own op.RemoteStatistics control words p long = other own control p.route p.self
 is_ask own op.ClearRemote control words p long = other own control p.route p.self
 
-pub asks_for : (operation : Operation) (control : Control) (words : List ℕ) → length words ≡ control.length
+pub asks_for : (operation : Operation) (control : Control) (words : List ℕ)
+    → length words ≡ control.length
     → AsksFor (kept_of operation control) (ask_of operation control words)
 asks_for op.WriteData control words long = (refl, refl, sym long)
 asks_for op.ReadData control words long = (refl, refl, refl)

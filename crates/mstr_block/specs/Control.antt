@@ -7,7 +7,7 @@ use Rattle.std.specs.Prelude.{Err}
 use Rattle.std.specs.List.{list_all}
 use Rattle.plant_types.specs.declared.reference.Ref.{Ref}
 use Rattle.plant_types.specs.Reference.{ref_from, most_references}
-use Rattle.plant_types.specs.Operands.{is_length}
+use Rattle.plant_types.specs.Limits.{is_up_to, most_address}
 use Rattle.plant_types.specs.Store.{Contents, word_at, words_from}
 use Rattle.mstr_block.specs.declared.call.MstrAsk.{MstrAsk}
 use Rattle.mstr_block.specs.declared.call.MstrAsk.TheVariants.{Write, Read, LocalStats, ClearLocal}
@@ -78,14 +78,10 @@ invalid_route = 0x2008
 abbrev pub own_address : ℕ
 own_address = 0x2009
 
--- The greatest address of a node.
-abbrev pub most_address : ℕ
-most_address = 64
-
 -- The length is not from 1 to the greatest.
 abbrev pub is_out_of : Option ℕ → ℕ → Bool
 is_out_of None length = false
-is_out_of (Some most) length = not (is_length most length)
+is_out_of (Some most) length = not (is_up_to most length)
 
 abbrev pub has_bad_length : Operation → Control → Bool
 has_bad_length operation control = is_out_of (most_words operation) control.length
@@ -110,7 +106,7 @@ has_small_area room operation control =
 -- The node is no address, or the route does not end there.
 abbrev pub has_bad_route : Operation → Control → Bool
 has_bad_route operation control =
-    names_node operation && not (is_length most_address control.node)
+    names_node operation && not (is_up_to most_address control.node)
     || uses_network operation && not (list_all (λ hop. hop == 0) control.hops)
 
 -- The network leads back to the own station.

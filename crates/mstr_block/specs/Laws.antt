@@ -9,7 +9,7 @@ use Rattle.mstr_block.specs.declared.call.MstrResult.{MstrResult}
 use Rattle.mstr_block.specs.declared.site.Site.{Site}
 use Rattle.mstr_block.specs.declared.state.Running.{Running}
 use Rattle.mstr_block.specs.Call.{is_same_call}
-use Rattle.mstr_block.specs.Table.{BlockTable, idle_table, call_taken, is_out, has_started}
+use Rattle.mstr_block.specs.Table.{BlockTable, idle_table, call_taken, is_taken_out, has_untaken}
 use Rattle.mstr_block.specs.Table.{started_calls, first_taken, finished}
 use Rattle.mstr_block.specs.Running.{RunsAt, IsTable}
 use Rattle.mstr_block.specs.Solve.{block_solved}
@@ -19,8 +19,8 @@ use Rattle.mstr_block.specs.Solve.{block_solved}
 pub record KeepsCalls (before after : BlockTable) : Type 0 where
   pub node : after.node ≡ before.node
   pub count : length after.blocks ≡ length before.blocks
-  pub started : has_started before ≡ true → has_started after ≡ true
-  pub out : (id : CallId) → is_out before id ≡ true → is_out after id ≡ true
+  pub started : has_untaken before ≡ true → has_untaken after ≡ true
+  pub out : (id : CallId) → is_taken_out before id ≡ true → is_taken_out after id ≡ true
 
 -- A solve keeps these.
 abbrev pub SolvesKeepCalls : Type 0
@@ -29,10 +29,10 @@ SolvesKeepCalls = (table : BlockTable) (block : ℕ) (site : Site) (inputs : Nod
 
 -- A call that ends is out no more; every other call is still out, and so is what was not taken.
 pub record EndsOneCall (before after : BlockTable) (id : CallId) : Type 0 where
-  pub started : has_started after ≡ has_started before
-  pub gone : is_out after id ≡ false
-  pub out : (other : CallId) → is_same_call other id ≡ false → is_out after other ≡ is_out before
-      other
+  pub started : has_untaken after ≡ has_untaken before
+  pub gone : is_taken_out after id ≡ false
+  pub out : (other : CallId) → is_same_call other id ≡ false
+      → is_taken_out after other ≡ is_taken_out before other
 
 abbrev pub FinishesEndOneCall : Type 0
 FinishesEndOneCall = (table : BlockTable) (id : CallId) (result : MstrResult)
@@ -44,12 +44,12 @@ collected table = record table { blocks = map call_taken table.blocks }
 
 -- The started calls are taken in block order, until all are; then they are out too.
 pub record TakesInOrder (table : BlockTable) : Type 0 where
-  pub any : has_started table ≡ is_some (slice_get (started_calls table) 0)
+  pub any : has_untaken table ≡ is_some (slice_get (started_calls table) 0)
   pub rest : started_calls (first_taken table) ≡ drop 1 (started_calls table)
   pub same : collected (first_taken table) ≡ collected table
   pub all : started_calls table ≡ [] → collected table ≡ table
-  pub out : (id : CallId) → is_out (collected table) id
-      ≡ (is_out table id || list_any (λ call. is_same_call call.id id) (started_calls table))
+  pub out : (id : CallId) → is_taken_out (collected table) id
+      ≡ (is_taken_out table id || list_any (λ call. is_same_call call.id id) (started_calls table))
 
 abbrev pub CallsAreTakenInOrder : Type 0
 CallsAreTakenInOrder = (table : BlockTable) → TakesInOrder table

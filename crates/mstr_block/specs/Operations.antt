@@ -2,7 +2,7 @@
 -- lengths are this project's own.
 use Rattle.std.specs.Prelude.{ℕ, Bool, true, false, ◌==◌, ◌||◌, List, [], ◌∷◌, Option, Some, None}
 use Rattle.std.specs.List.{find}
-use Rattle.plant_types.specs.Words.{statistics_words, global_limit}
+use Rattle.plant_types.specs.Words.{most_block_words, statistics_words, global_limit}
 use Rattle.mstr_block.specs.declared.operation.Operation.{Operation}
 use Rattle.mstr_block.specs.declared.operation.Operation.TheVariants.{WriteData, ReadData}
 use Rattle.mstr_block.specs.declared.operation.Operation.TheVariants.{LocalStatistics, ClearLocal}
@@ -58,14 +58,11 @@ reads_global _ = false
 abbrev pub names_node : Operation → Bool
 names_node operation = uses_network operation || reads_global operation
 
--- The most registers that are read or written in one call.
-abbrev pub data_limit : ℕ
-data_limit = 100
-
--- The greatest length of an operation; none where it moves no words.
+-- The greatest length of an operation, where a read and a write move the words of a block; none
+-- where it moves no words.
 abbrev pub most_words : Operation → Option ℕ
-most_words WriteData = Some data_limit
-most_words ReadData = Some data_limit
+most_words WriteData = Some most_block_words
+most_words ReadData = Some most_block_words
 most_words LocalStatistics = Some statistics_words
 most_words ClearLocal = None
 most_words WriteGlobal = Some global_limit

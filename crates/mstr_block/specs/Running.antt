@@ -16,10 +16,10 @@ use Rattle.mstr_block.specs.declared.state.BlockState.{BlockState}
 use Rattle.mstr_block.specs.declared.state.BlockState.TheVariants.{Idle, Waiting, Active, Aborted}
 use Rattle.mstr_block.specs.declared.state.BlockState.TheVariants.{Ready}
 use Rattle.plant_types.specs.Reference.{most_references}
-use Rattle.mstr_block.specs.Control.{most_address}
-use Rattle.plant_types.specs.Words.{statistics_words, global_limit}
-use Rattle.mstr_block.specs.Operations.{uses_network, data_limit}
-use Rattle.mstr_block.specs.Table.{BlockTable, running_in, own_path, path_count, last_call_number}
+use Rattle.plant_types.specs.Limits.{most_address, path_places}
+use Rattle.plant_types.specs.Words.{most_block_words, statistics_words, global_limit}
+use Rattle.mstr_block.specs.Operations.{uses_network}
+use Rattle.mstr_block.specs.Table.{BlockTable, running_in, own_path, last_call_number}
 
 -- Another node of the network.
 abbrev pub IsOther : ℕ → ℕ → Type 0
@@ -28,7 +28,7 @@ IsOther own node = (1 ≤ node) × (node ≤ most_address) × (node ≢ own)
 -- So many holding registers from one on that a node can have and one call can move.
 abbrev pub AreRegisters : ℕ → ℕ → Type 0
 AreRegisters start count =
-    (1 ≤ start) × (1 ≤ count) × (count ≤ data_limit) × (start + count ≤ most_references + 1)
+    (1 ≤ start) × (1 ≤ count) × (count ≤ most_block_words) × (start + count ≤ most_references + 1)
 
 -- So many words of the twenty of the statistics, from one on.
 abbrev pub AreStatistics : ℕ → ℕ → Type 0
@@ -39,15 +39,15 @@ abbrev pub AreGlobal : ℕ → Type 0
 AreGlobal count = (1 ≤ count) × (count ≤ global_limit)
 
 -- What may be asked by the station of an address.
-abbrev pub IsAsk : ℕ → MstrAsk → Type 0
-IsAsk own (Write to start words) = IsOther own to × AreRegisters start (length words)
-IsAsk own (Read to start count) = IsOther own to × AreRegisters start count
-IsAsk own LocalStats = Unit {0}
-IsAsk own ClearLocal = Unit {0}
-IsAsk own (PutGlobal words) = AreGlobal (length words)
-IsAsk own (GetGlobal node count) = (1 ≤ node) × (node ≤ most_address) × AreGlobal count
-IsAsk own (RemoteStats to) = IsOther own to
-IsAsk own (ClearRemote to) = IsOther own to
+abbrev pub MayBeAsked : ℕ → MstrAsk → Type 0
+MayBeAsked own (Write to start words) = IsOther own to × AreRegisters start (length words)
+MayBeAsked own (Read to start count) = IsOther own to × AreRegisters start count
+MayBeAsked own LocalStats = Unit {0}
+MayBeAsked own ClearLocal = Unit {0}
+MayBeAsked own (PutGlobal words) = AreGlobal (length words)
+MayBeAsked own (GetGlobal node count) = (1 ≤ node) × (node ≤ most_address) × AreGlobal count
+MayBeAsked own (RemoteStats to) = IsOther own to
+MayBeAsked own (ClearRemote to) = IsOther own to
 
 -- Another node is asked, by one of the four paths.
 abbrev pub asks_network : MstrAsk → Bool
@@ -61,10 +61,10 @@ asks_network _ = false
 -- exactly where another node is asked.
 pub record IsCall (own : ℕ) (call : MstrCall) : Type 0 where
   pub node : call.id.node ≡ own
-  pub path : call.id.path < path_count
+  pub path : call.id.path < path_places
   pub network : asks_network call.ask ≡ not (call.id.path == own_path)
   pub first : 1 ≤ call.id.seq
-  pub ask : IsAsk own call.ask
+  pub ask : MayBeAsked own call.ask
 
 -- The words that an operation moves, by the first and their number.
 abbrev pub CanMove : Operation → ℕ → ℕ → Type 0
@@ -99,7 +99,7 @@ AsksFor kept (ClearRemote to) = kept.operation ≡ op.ClearRemote
 -- A call is named by the own address, a path, and a number that this path has given.
 pub record IsCallName (own : ℕ) (numbers : List ℕ) (id : CallId) : Type 0 where
   pub node : id.node ≡ own
-  pub path : id.path < path_count
+  pub path : id.path < path_places
   pub first : 1 ≤ id.seq
   pub given : id.seq ≤ get_or numbers id.path 0
 
@@ -109,7 +109,7 @@ pub record IsRunning (own : ℕ) (numbers : List ℕ) (running : Running) : Type
   pub named : IsCallName own numbers running.id
   pub network : uses_network running.kept.operation ≡ not (running.id.path == own_path)
   pub kept : KeepsRange running.kept
-  pub ask : (ask : MstrAsk) → running.ask ≡ Some ask → IsAsk own ask × AsksFor running.kept ask
+  pub ask : (ask : MstrAsk) → running.ask ≡ Some ask → MayBeAsked own ask × AsksFor running.kept ask
 
 -- A state that a block may be in.
 abbrev pub IsStateOf : ℕ → List ℕ → BlockState → Type 0
@@ -126,7 +126,7 @@ RunsAt table place running = running_in (get_or table.blocks place Idle) ≡ Som
 -- A table of blocks: five paths, none past its last number; each block in a state that it may be
 -- in; no two calls of one name, and at most one call that runs on a path by the network.
 pub record IsTable (table : BlockTable) : Type 0 where
-  pub paths : length table.numbers ≡ path_count
+  pub paths : length table.numbers ≡ path_places
   pub numbers : (path : ℕ) → get_or table.numbers path 0 ≤ last_call_number
   pub states : (place : ℕ) → IsStateOf table.node table.numbers (get_or table.blocks place Idle)
   pub apart : (one other : ℕ) (first second : Running) → one ≢ other → RunsAt table one first

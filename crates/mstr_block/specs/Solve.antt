@@ -118,8 +118,8 @@ area_words kept room words =
 
 -- The contents after an answer: the status first, then the number of words available, then the
 -- area; a register that no word is for keeps its number.
-abbrev pub with_answer : Kept → List ℕ → Site → Contents → Contents
-with_answer kept words site m =
+abbrev pub after_answer : Kept → List ℕ → Site → Contents → Contents
+after_answer kept words site m =
     let cleared = insert m (status_register site.control) 0 in
     let told =
     with_words cleared (start_register site.control) (available kept.operation words) in
@@ -127,7 +127,7 @@ with_answer kept words site m =
 
 -- What a result leaves in the registers, and the outputs as the block ends by it.
 abbrev pub with_outcome : Kept → MstrResult → Site → Contents → Contents
-with_outcome kept (Good words) site m = with_answer kept words site m
+with_outcome kept (Good words) site m = after_answer kept words site m
 with_outcome kept (Bad word) site m = insert m (status_register site.control) word
 
 abbrev pub power_of : MstrResult → NodePower

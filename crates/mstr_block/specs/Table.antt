@@ -5,6 +5,7 @@ use Rattle.std.specs.Prelude.{if◌then◌else◌, List, [], ◌∷◌, length, 
 use Rattle.std.specs.Prelude.{Option, Some, None, is_some, option_map, option_and_then}
 use Rattle.std.specs.Option.{is_none}
 use Rattle.std.specs.List.{list_any, filter_map, find, position}
+use Rattle.plant_types.specs.Limits.{path_places}
 use Rattle.mstr_block.specs.declared.call.CallId.{CallId}
 use Rattle.mstr_block.specs.declared.call.MstrCall.{MstrCall}
 use Rattle.mstr_block.specs.declared.call.MstrResult.{MstrResult}
@@ -30,9 +31,6 @@ network_paths = 1 ∷ 2 ∷ 3 ∷ 4 ∷ []
 abbrev pub own_path : ℕ
 own_path = 0
 
-abbrev pub path_count : ℕ
-path_count = 5
-
 -- The last number of a path.
 abbrev pub last_call_number : ℕ
 last_call_number = 4294967295
@@ -44,7 +42,7 @@ resting_table node count numbers =
 
 -- At first all blocks are idle, and no path has given a number.
 abbrev pub idle_table : ℕ → ℕ → BlockTable
-idle_table node count = resting_table node count (replicate path_count 0)
+idle_table node count = resting_table node count (replicate path_places 0)
 
 -- The state of a block, which is found by its number, from 1 on.
 abbrev pub block_state : BlockTable → ℕ → BlockState
@@ -69,11 +67,11 @@ runs_such test (Ready kept result) = false
 
 -- The call that a block started and that was not taken yet; whether the block awaits it does not
 -- count.
-abbrev pub call_of : Running → Option MstrCall
-call_of running = option_map (λ ask. record { id = running.id; ask = ask }) running.ask
+abbrev pub untaken_call : Running → Option MstrCall
+untaken_call running = option_map (λ ask. record { id = running.id; ask = ask }) running.ask
 
 abbrev pub untaken : BlockState → Option MstrCall
-untaken state = option_and_then call_of (running_in state)
+untaken state = option_and_then untaken_call (running_in state)
 
 abbrev pub is_untaken : BlockState → Bool
 is_untaken state = is_some (untaken state)
@@ -82,16 +80,16 @@ is_untaken state = is_some (untaken state)
 abbrev pub started_calls : BlockTable → List MstrCall
 started_calls table = filter_map untaken table.blocks
 
-abbrev pub has_started : BlockTable → Bool
-has_started table = list_any is_untaken table.blocks
+abbrev pub has_untaken : BlockTable → Bool
+has_untaken table = list_any is_untaken table.blocks
 
 -- The call of this name was taken and has no result.
 abbrev pub is_awaited : CallId → BlockState → Bool
 is_awaited id state =
     runs_such (λ running. is_none running.ask && is_same_call running.id id) state
 
-abbrev pub is_out : BlockTable → CallId → Bool
-is_out table id = list_any (is_awaited id) table.blocks
+abbrev pub is_taken_out : BlockTable → CallId → Bool
+is_taken_out table id = list_any (is_awaited id) table.blocks
 
 -- A block whose call is taken.
 abbrev pub call_taken : BlockState → BlockState
@@ -151,7 +149,7 @@ next_call table path =
 
 -- The path has a number left.
 pub record CanGive (table : BlockTable) (at : ℕ) : Type 0 where
-  pub path : at < path_count
+  pub path : at < path_places
   pub number : get_or table.numbers at 0 < last_call_number
 
 -- Blocks are numbered from 1 on.

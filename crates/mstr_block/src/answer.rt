@@ -3,7 +3,7 @@ ghost use Rattle.std.specs.Prelude.{◌≡◌, ◌≤◌, length, drop};
 ghost use Rattle.plant_types.specs.Power.{bits_of};
 ghost use Rattle.plant_types.specs.Slots.{control_block};
 ghost use Rattle.plant_types.specs.Store.{HasRegisters, Keeps};
-ghost use Rattle.mstr_block.specs.Solve.{words_answered, available, area_words, with_answer};
+ghost use Rattle.mstr_block.specs.Solve.{words_answered, available, area_words, after_answer};
 ghost use Rattle.mstr_block.specs.Solve.{power_of, with_outcome};
 
 use crate::call::MstrResult;
@@ -71,7 +71,7 @@ impl Kept {
         requires control { HasRegisters (R.contents ram.old) site.control control_block }
         requires area { HasRegisters (R.contents ram.old) site.area site.room }
         ensures stored { R.contents ram.new ≡
-            with_answer self words.now site (R.contents ram.old) }
+            after_answer self words.now site (R.contents ram.old) }
         ensures keeps { Keeps (R.contents ram.old) (R.contents ram.new) }
     {
         ram.set_word(status_register(site.control), 0);

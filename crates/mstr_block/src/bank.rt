@@ -6,8 +6,8 @@ ghost use Rattle.plant_types.specs.Slots.{control_block};
 ghost use Rattle.plant_types.specs.Store.{HasRegisters};
 ghost use Rattle.mstr_block.specs.Running.{IsCall, IsTable};
 ghost use Rattle.mstr_block.specs.Solve.{SolvesBlock, block_solved};
-ghost use Rattle.mstr_block.specs.Table.{IsBlock, idle_table, started_calls, has_started};
-ghost use Rattle.mstr_block.specs.Table.{first_taken, is_out, finished};
+ghost use Rattle.mstr_block.specs.Table.{IsBlock, idle_table, started_calls, has_untaken};
+ghost use Rattle.mstr_block.specs.Table.{first_taken, is_taken_out, finished};
 
 use crate::blocks::Blocks;
 use crate::call::{CallId, MstrCall, MstrResult};
@@ -93,14 +93,14 @@ impl MstrBank {
 
     /// Whether there is a started call that was not taken yet.
     pub fn has_started(&self) -> bool
-        ensures { result ≡ has_started self.now }
+        ensures { result ≡ has_untaken self.now }
     {
         self.blocks.has_started()
     }
 
     /// Whether the call of this name was taken and has no result.
     pub fn is_out(&self, id: CallId) -> bool
-        ensures { result ≡ is_out self.now id }
+        ensures { result ≡ is_taken_out self.now id }
     {
         self.blocks.is_out(id)
     }
@@ -108,7 +108,7 @@ impl MstrBank {
     /// Ends a call that was taken: its block is ready with the result, or idle where it gave the
     /// call up. Takes no memory.
     pub fn finish(&mut self, id: CallId, outcome: MstrResult)
-        requires { is_out self.old id ≡ true }
+        requires { is_taken_out self.old id ≡ true }
         ensures { self.new ≡ finished id outcome self.old }
     {
         self.blocks.finish(id, outcome);

@@ -7,10 +7,12 @@ ghost use Rattle.plant_types.specs.Store.{HasRegisters};
 ghost use Rattle.mstr_block.specs.Control.{FitsStart};
 ghost use Rattle.mstr_block.specs.Solve.{launched_at, StartsBlock, EndsBlock, AbortsBlock};
 ghost use Rattle.mstr_block.specs.Solve.{SolvesWith};
-ghost use Rattle.mstr_block.specs.Table.{path_count, network_paths, runs_on, is_spent, is_free};
+ghost use Rattle.plant_types.specs.Limits.{path_places};
+ghost use Rattle.mstr_block.specs.Table.{network_paths, runs_on, is_spent, is_free};
 ghost use Rattle.mstr_block.specs.Table.{path_for, next_call, with_state};
 ghost use Rattle.mstr_block.specs.Table.{CanGive, IsBlock, resting_table, started_calls};
-ghost use Rattle.mstr_block.specs.Table.{has_started, is_untaken, first_taken, is_out, finished};
+ghost use Rattle.mstr_block.specs.Table.{has_untaken, is_untaken, first_taken, is_taken_out};
+ghost use Rattle.mstr_block.specs.Table.{finished};
 
 use crate::answer::{ACTIVE, ERROR, SILENT};
 use crate::call::{CallId, MstrCall, MstrResult};
@@ -115,21 +117,21 @@ impl Blocks {
 
     /// Whether there is a started call that was not taken yet.
     pub fn has_started(&self) -> bool
-        ensures { result ≡ has_started self.now }
+        ensures { result ≡ has_untaken self.now }
     {
         self.blocks.iter().any(|block| block.is_untaken())
     }
 
     /// Whether the call of this name was taken and has no result.
     pub fn is_out(&self, id: CallId) -> bool
-        ensures { result ≡ is_out self.now id }
+        ensures { result ≡ is_taken_out self.now id }
     {
         self.blocks.iter().any(|block| block.is_awaited(id))
     }
 
     /// Ends a call that was taken.
     pub fn finish(&mut self, id: CallId, outcome: MstrResult)
-        requires { is_out self.old id ≡ true }
+        requires { is_taken_out self.old id ≡ true }
         ensures { self.new ≡ finished id outcome self.old }
     {
         for block in self.blocks.iter_mut() {
@@ -138,7 +140,7 @@ impl Blocks {
     }
 
     fn is_spent(&self, path: u8) -> bool
-        requires { path < path_count }
+        requires { path < path_places }
         ensures { result ≡ is_spent self.now path }
     {
         self.numbers[usize::from(path)] == u32::MAX
@@ -152,7 +154,7 @@ impl Blocks {
     }
 
     fn is_free(&self, path: u8) -> bool
-        requires { path < path_count }
+        requires { path < path_places }
         ensures { result ≡ is_free self.now path }
     {
         !self.is_spent(path) && !self.is_used(path)

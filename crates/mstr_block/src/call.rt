@@ -1,6 +1,6 @@
 //! Calls, their names and their results.
 ghost use Rattle.std.specs.Prelude.{◌≡◌};
-ghost use Rattle.mstr_block.specs.Call.{is_same_call};
+ghost use Rattle.mstr_block.specs.Call.{is_same_call, words_told};
 
 use plant_types::{Block, Copied};
 use std::alloc::{AllocError, Global};
@@ -59,6 +59,18 @@ impl CallId {
         ensures { result ≡ is_same_call self other }
     {
         self.node == other.node && (self.path == other.path && self.seq == other.seq)
+    }
+}
+
+impl MstrResult {
+    /// Its words, or none of them where it is an error word.
+    pub fn words_told(&self) -> &[u16]
+        ensures { result.now ≡ words_told self.now }
+    {
+        match self {
+            MstrResult::Good(words) => words.words(),
+            MstrResult::Bad(_) => &[],
+        }
     }
 }
 

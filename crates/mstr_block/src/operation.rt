@@ -3,7 +3,7 @@ ghost use Rattle.std.specs.Prelude.{◌≡◌};
 ghost use Rattle.mstr_block.specs.Operations.{operation_of, uses_network, moves_registers};
 ghost use Rattle.mstr_block.specs.Operations.{reads_statistics, names_node, most_words};
 
-use plant_types::{GLOBAL_LIMIT, STATISTICS_WORDS};
+use plant_types::{BLOCK_LIMIT, GLOBAL_LIMIT, STATISTICS_WORDS};
 
 /// What the first register of a control block asks for.
 #[derive(Clone, Copy, Drop)]
@@ -18,8 +18,8 @@ pub(crate) enum Operation {
     ClearRemote,
 }
 
-/// The most registers of a read or a write.
-const DATA_LIMIT: u16 = 100;
+/// The most registers of a read or a write: they go as one block.
+const DATA_LIMIT: u16 = BLOCK_LIMIT as u16;
 
 impl Operation {
     /// None exactly where the code is not 1 to 8.

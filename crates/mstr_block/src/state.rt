@@ -1,6 +1,6 @@
 //! What an MSTR block is in the middle of.
 ghost use Rattle.std.specs.Prelude.{◌≡◌, option_copied, None};
-ghost use Rattle.mstr_block.specs.Table.{running_in, call_of, runs_on, is_awaited, untaken};
+ghost use Rattle.mstr_block.specs.Table.{running_in, untaken_call, runs_on, is_awaited, untaken};
 ghost use Rattle.mstr_block.specs.Table.{is_untaken, call_taken, given_up, call_ended, with_result};
 
 use crate::call::{CallId, MstrAsk, MstrCall, MstrResult};
@@ -40,7 +40,7 @@ pub(crate) enum BlockState {
 
 impl Running {
     fn untaken(&self) -> Option<MstrCall>
-        ensures { result ≡ call_of self.now }
+        ensures { result ≡ untaken_call self.now }
     {
         match &self.ask {
             Some(ask) => Some(MstrCall {
@@ -52,7 +52,7 @@ impl Running {
     }
 
     fn take(&mut self) -> Option<MstrCall>
-        ensures call { result ≡ call_of self.old }
+        ensures call { result ≡ untaken_call self.old }
         ensures taken { self.new ≡ record self.old { ask = None } }
     {
         let ask = self.ask.take()?;

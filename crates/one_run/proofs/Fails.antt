@@ -29,36 +29,42 @@ use Rattle.ring_core.specs.Machine.{with_members, ring_after, addresses}
 use Rattle.tied_lists.proofs.Histories.{arrived-part}
 use Rattle.tied_lists.proofs.Turns.{next-ring}
 use Rattle.comm_port.specs.Giving.{part_at}
-use Rattle.comm_port.specs.HostTurns.{IsFailed}
+use Rattle.comm_port.specs.SendsAll.{HasFailed}
 
 -- an item of a list in which one place was written
-pub at-set : {X : Type 0} (P : ℕ → X → Type 0) (xs : List X) (d : X) (m : ℕ) (x : X) → ((k : ℕ) → P k (get_or xs k d)) → P m x
+pub at-set : {X : Type 0} (P : ℕ → X → Type 0) (xs : List X) (d : X) (m : ℕ) (x : X)
+    → ((k : ℕ) → P k (get_or xs k d)) → P m x
     → (k : ℕ) → P k (get_or (set xs m x) k d)
 at-set P [] d m x all it k = all k
 at-set P (y ∷ ys) d zero x all it zero = it
 at-set P (y ∷ ys) d zero x all it (suc k) = all (suc k)
 at-set P (y ∷ ys) d (suc m) x all it zero = all zero
-at-set P (y ∷ ys) d (suc m) x all it (suc k) = at-set (λ j. P (suc j)) ys d m x (λ j. all (suc j)) it k
+at-set P (y ∷ ys) d (suc m) x all it (suc k) =
+    at-set (λ j. P (suc j)) ys d m x (λ j. all (suc j)) it k
 
 -- a path's call has failed
 abbrev pub HasFailedOn : NodeIs → ℕ → Type 0
-HasFailedOn c p = IsFailed (path_of c p).awaits
+HasFailedOn c p = HasFailed (path_of c p).awaits
 
 abbrev Fails : List Path → ℕ → Type 0
-Fails paths p = IsFailed (get_or paths p no_path).awaits
+Fails paths p = HasFailed (get_or paths p no_path).awaits
 
 -- one path that has not failed is written
-no-fail : (paths : List Path) (q : ℕ) (v : Path) → (IsFailed v.awaits → ⊥) → (p : ℕ) → Fails (set paths q v) p → Fails paths p
+no-fail : (paths : List Path) (q : ℕ) (v : Path) → (HasFailed v.awaits → ⊥) → (p : ℕ)
+    → Fails (set paths q v) p → Fails paths p
 no-fail paths q v none p =
-    at-set (λ k x. IsFailed x.awaits → Fails paths k) paths no_path q v (λ k f. f) (λ f. absurd (none f)) p
+    at-set (λ k x. HasFailed x.awaits → Fails paths k) paths no_path q v (λ k f. f)
+    (λ f. absurd (none f)) p
 
 -- any path is written
-some-fail : (paths : List Path) (q : ℕ) (v : Path) (p : ℕ) → Fails (set paths q v) p → Fails paths p ⊎ (p ≡ q)
+some-fail : (paths : List Path) (q : ℕ) (v : Path) (p : ℕ) → Fails (set paths q v) p
+    → Fails paths p ⊎ (p ≡ q)
 some-fail paths q v p =
-    at-set (λ k x. IsFailed x.awaits → Fails paths k ⊎ (k ≡ q)) paths no_path q v (λ k f. inl f) (λ f. inr refl) p
+    at-set (λ k x. HasFailed x.awaits → Fails paths k ⊎ (k ≡ q)) paths no_path q v (λ k f. inl f)
+    (λ f. inr refl) p
 
 -- a call that waited for a Pass more has not failed by it
-aged-fail : (a : Await) → IsFailed (aged_await a) → IsFailed a
+aged-fail : (a : Await) → HasFailed (aged_await a) → HasFailed a
 aged-fail Nothing f = absurd f
 aged-fail (Out seq to passes) f = absurd f
 aged-fail (Arrived seq) f = absurd f
@@ -72,46 +78,62 @@ aged-fails (x ∷ paths) (suc p) f = aged-fails paths p f
 -- ---- a node's part
 
 -- nor has a call that is posted
-asked-fails : (c : NodeIs) (kind : FrameKind) (id : CallId) (to p : ℕ) → Fails (asked c kind id to) p → HasFailedOn c p
-asked-fails c Request id to p f = no-fail c.paths id.path (record { awaits = Out id.seq to 0; posted = id.seq }) (λ x. x) p f
+asked-fails : (c : NodeIs) (kind : FrameKind) (id : CallId) (to p : ℕ)
+    → Fails (asked c kind id to) p → HasFailedOn c p
+asked-fails c Request id to p f =
+    no-fail c.paths id.path (record { awaits = Out id.seq to 0; posted = id.seq }) (λ x. x) p f
 asked-fails c Reply id to p f = f
 
 -- nor one whose Reply is taken
-taken-fails : (c : NodeIs) (kind : FrameKind) (path p : ℕ) → Fails (paths_after_take c kind path) p → HasFailedOn c p
+taken-fails : (c : NodeIs) (kind : FrameKind) (path p : ℕ) → Fails (paths_after_take c kind path) p
+    → HasFailedOn c p
 taken-fails c Request path p f = f
-taken-fails c Reply path p f = no-fail c.paths path (record { awaits = Nothing; posted = (path_of c path).posted }) (λ x. x) p f
+taken-fails c Reply path p f = no-fail c.paths path
+    (record { awaits = Nothing; posted = (path_of c path).posted }) (λ x. x) p f
 
 -- nor one that is given up
 given-fails : (c : NodeIs) (id : CallId) (p : ℕ) → HasFailedOn (gave_up c id) p → HasFailedOn c p
-given-fails c id p f = no-fail c.paths id.path (record { awaits = Nothing; posted = (path_of c id.path).posted }) (λ x. x) p f
+given-fails c id p f = no-fail c.paths id.path
+    (record { awaits = Nothing; posted = (path_of c id.path).posted }) (λ x. x) p f
 
 -- nor one of whoever a frame comes to
-come-fails : (c : NodeIs) (f : Frame) (kind : FrameKind) (p : ℕ) → HasFailedOn (with_frame c (fell c kind f.id) f) p → HasFailedOn c p
-come-fails c f Request p = cond_both (is_repeat c f.id) _ _ (λ x. HasFailedOn (with_frame c x f) p → HasFailedOn c p) (λ _ x. x)
-    (λ _. cond_both (is_full c) _ _ (λ x. HasFailedOn (with_frame c x f) p → HasFailedOn c p) (λ _ x. x) (λ _ x. x))
+come-fails : (c : NodeIs) (f : Frame) (kind : FrameKind) (p : ℕ)
+    → HasFailedOn (with_frame c (fell c kind f.id) f) p → HasFailedOn c p
+come-fails c f Request p = cond_both (is_repeat c f.id) _ _
+    (λ x. HasFailedOn (with_frame c x f) p → HasFailedOn c p) (λ _ x. x)
+    (λ _. cond_both (is_full c) _ _ (λ x. HasFailedOn (with_frame c x f) p → HasFailedOn c p)
+    (λ _ x. x) (λ _ x. x))
 come-fails c f Reply p =
-    cond_both (waits_for (path_of c f.id.path).awaits f.id.seq) _ _ (λ x. HasFailedOn (with_frame c x f) p → HasFailedOn c p)
-    (λ _ x. no-fail c.paths f.id.path (record { awaits = Arrived f.id.seq; posted = (path_of c f.id.path).posted }) (λ y. y) p x) (λ _ x. x)
+    cond_both (waits_for (path_of c f.id.path).awaits f.id.seq) _ _
+    (λ x. HasFailedOn (with_frame c x f) p → HasFailedOn c p)
+    (λ _ x. no-fail c.paths f.id.path
+    (record { awaits = Arrived f.id.seq; posted = (path_of c f.id.path).posted })
+    (λ y. y) p x) (λ _ x. x)
 
-arrived-fails : (nodes : List NodeIs) (f : Frame) (fate : Fate) (n p : ℕ) → HasFailedOn (part_of (arrived nodes f (arrival nodes fate f)) n) p
+arrived-fails : (nodes : List NodeIs) (f : Frame) (fate : Fate) (n p : ℕ)
+    → HasFailedOn (part_of (arrived nodes f (arrival nodes fate f)) n) p
     → HasFailedOn (part_of nodes n) p
 arrived-fails nodes f fate n p =
     arrived-part nodes f fate (λ k c. HasFailedOn c p → HasFailedOn (part_of nodes k) p) (λ k x. x)
     (λ here x. come-fails (part_of nodes f.to) f f.kind p x) n
 
 -- a Request that failed is that of its path
-failed-fails : (c : NodeIs) (kind : FrameKind) (id : CallId) (word p : ℕ) → Fails (failed c kind id word) p → HasFailedOn c p ⊎ (p ≡ id.path)
-failed-fails c Request id word p f = some-fail c.paths id.path (record { awaits = Failed id.seq word; posted = (path_of c id.path).posted }) p f
+failed-fails : (c : NodeIs) (kind : FrameKind) (id : CallId) (word p : ℕ)
+    → Fails (failed c kind id word) p → HasFailedOn c p ⊎ (p ≡ id.path)
+failed-fails c Request id word p f = some-fail c.paths id.path
+    (record { awaits = Failed id.seq word; posted = (path_of c id.path).posted }) p f
 failed-fails c Reply id word p f = inl f
 
 -- whatever a sender is told, only the call that is sent fails
-heard-fails : (c : NodeIs) (kind : FrameKind) (id : CallId) (there : Bool) (heard : Heard) (p : ℕ) → HasFailedOn (heard_by c kind id there heard) p
+heard-fails : (c : NodeIs) (kind : FrameKind) (id : CallId) (there : Bool) (heard : Heard) (p : ℕ)
+    → HasFailedOn (heard_by c kind id there heard) p
     → HasFailedOn c p ⊎ (p ≡ id.path)
 heard-fails c kind id there Acked p f = inl f
 heard-fails c kind id there Busy p f = failed-fails c kind id busy_word p f
 heard-fails c kind id there Silent p f = at (nat_le 2 c.tries) f
   where
-    at : (b : Bool) → HasFailedOn (cond b (sent_off c (failed c kind id (silence_word there))) (record c { tries = c.tries + 1 })) p
+    at : (b : Bool) → HasFailedOn (cond b (sent_off c (failed c kind id (silence_word there)))
+        (record c { tries = c.tries + 1 })) p
         → HasFailedOn c p ⊎ (p ≡ id.path)
     at true f' = failed-fails c kind id (silence_word there) p f'
     at false f' = inl f'
@@ -128,10 +150,12 @@ SendsPath r (Send m heard) n p = (m ≡ n) × SendsOn (ring_node r m).outbox p
 SendsPath r _ n p = ⊥
 
 -- and so behind a Send
-sent-fails : (net : NetPlan) (r : RingIs) (m : ℕ) (box : List Frame) (n p : ℕ) → HasFailedOn (ring_node (sent_head net r m box) n) p
+sent-fails : (net : NetPlan) (r : RingIs) (m : ℕ) (box : List Frame) (n p : ℕ)
+    → HasFailedOn (ring_node (sent_head net r m box) n) p
     → HasFailedOn (ring_node r n) p ⊎ ((m ≡ n) × SendsOn box p)
 sent-fails net r m [] n p x = inl x
-sent-fails net r m (f ∷ fs) n p x = at-set P nodes (fresh false) m _ (λ k y. inl (came k y)) own' n x
+sent-fails net r m (f ∷ fs) n p x =
+    at-set P nodes (fresh false) m _ (λ k y. inl (came k y)) own' n x
   where
     fate : Fate
     fate = fate_at net.fates r.sent
@@ -145,31 +169,39 @@ sent-fails net r m (f ∷ fs) n p x = at-set P nodes (fresh false) m _ (λ k y. 
     came : (k : ℕ) → HasFailedOn (part_of nodes k) p → HasFailedOn (ring_node r k) p
     came k y = arrived-fails r.nodes f fate k p y
 
-    own' : P m (heard_by (part_of nodes m) f.kind f.id (ring_node r f.to).here (heard_of fate (arrival r.nodes fate f)))
-    own' y = elim (heard-fails (part_of nodes m) f.kind f.id (ring_node r f.to).here (heard_of fate (arrival r.nodes fate f)) p y) [
-      | inl before ↦ inl (came m before)
-      | inr path ↦ inr (refl, path)
-    ]
+    own' : P m (heard_by (part_of nodes m) f.kind f.id (ring_node r f.to).here
+        (heard_of fate (arrival r.nodes fate f)))
+    own' y = elim (heard-fails (part_of nodes m) f.kind f.id (ring_node r f.to).here
+        (heard_of fate (arrival r.nodes fate f)) p y) [
+          | inl before ↦ inl (came m before)
+          | inr path ↦ inr (refl, path)
+        ]
 
 -- a call that has failed behind an entry had before, or is sent by it
-pub after-fails : (net : NetPlan) (r : RingIs) (e : RingEntry) (n p : ℕ) → HasFailedOn (ring_node (after net r e) n) p
+pub after-fails : (net : NetPlan) (r : RingIs) (e : RingEntry) (n p : ℕ)
+    → HasFailedOn (ring_node (after net r e) n) p
     → HasFailedOn (ring_node r n) p ⊎ SendsPath r e n p
 after-fails net r (Post m f) n p =
-    at-set (λ k c. HasFailedOn c p → HasFailedOn (ring_node r k) p ⊎ ⊥) r.nodes (fresh false) m _ (λ k x. inl x)
+    at-set (λ k c. HasFailedOn c p → HasFailedOn (ring_node r k) p ⊎ ⊥) r.nodes (fresh false) m _
+    (λ k x. inl x)
     (λ x. inl (asked-fails (ring_node r m) f.kind f.id f.to p x)) n
 after-fails net r (Send m heard) n p = sent-fails net r m (ring_node r m).outbox n p
 after-fails net r (Take m f) n p =
-    at-set (λ k c. HasFailedOn c p → HasFailedOn (ring_node r k) p ⊎ ⊥) r.nodes (fresh false) m _ (λ k x. inl x)
+    at-set (λ k c. HasFailedOn c p → HasFailedOn (ring_node r k) p ⊎ ⊥) r.nodes (fresh false) m _
+    (λ k x. inl x)
     (λ x. inl (taken-fails (ring_node r m) f.kind f.id.path p x)) n
 after-fails net r (Local m id op result) n p = λ x. inl x
 after-fails net r (GiveUp id word) n p =
-    at-set (λ k c. HasFailedOn c p → HasFailedOn (ring_node r k) p ⊎ ⊥) r.nodes (fresh false) id.node _ (λ k x. inl x)
+    at-set (λ k c. HasFailedOn c p → HasFailedOn (ring_node r k) p ⊎ ⊥) r.nodes
+    (fresh false) id.node _ (λ k x. inl x)
     (λ x. inl (given-fails (ring_node r id.node) id p x)) n
 after-fails net r (Pass m done words) n p =
-    at-set (λ k c. HasFailedOn c p → HasFailedOn (ring_node r k) p ⊎ ⊥) r.nodes (fresh false) m _ (λ k x. inl x)
+    at-set (λ k c. HasFailedOn c p → HasFailedOn (ring_node r k) p ⊎ ⊥) r.nodes (fresh false) m _
+    (λ k x. inl x)
     (λ x. inl (aged-fails (ring_node r m).paths p x)) n
 after-fails net r (Leave m cause) n p =
-    at-set (λ k c. HasFailedOn c p → HasFailedOn (ring_node r k) p ⊎ ⊥) r.nodes (fresh false) m _ (λ k x. inl x) (λ x. inl x) n
+    at-set (λ k c. HasFailedOn c p → HasFailedOn (ring_node r k) p ⊎ ⊥) r.nodes (fresh false) m _
+    (λ k x. inl x) (λ x. inl x) n
 
 -- ---- many entries
 
@@ -189,15 +221,19 @@ no-send r (Pass m done words) n p none is = is
 no-send r (Leave m cause) n p none is = is
 
 -- the same of a list that goes on by an entry
-pub next-fails : (net : NetPlan) (past : List RingEntry) (e : RingEntry) (n p : ℕ) → HasFailedOn (part_at net n (past ++ e ∷ [])) p
+pub next-fails : (net : NetPlan) (past : List RingEntry) (e : RingEntry) (n p : ℕ)
+    → HasFailedOn (part_at net n (past ++ e ∷ [])) p
     → HasFailedOn (part_at net n past) p ⊎ SendsPath (ring_after net past) e n p
 next-fails net past e n p x =
-    after-fails net (ring_after net past) e n p (subst (λ (r : RingIs). HasFailedOn (ring_node r n) p) (next-ring net past e) x)
+    after-fails net (ring_after net past) e n p
+    (subst (λ (r : RingIs). HasFailedOn (ring_node r n) p) (next-ring net past e) x)
 
 -- behind entries that are no Sends of a node no more of its calls have failed
-pub no-more-fail : (net : NetPlan) (past more : List RingEntry) (n p : ℕ) → Each (IsNoSend n) more → HasFailedOn (part_at net n (past ++ more)) p
+pub no-more-fail : (net : NetPlan) (past more : List RingEntry) (n p : ℕ) → Each (IsNoSend n) more
+    → HasFailedOn (part_at net n (past ++ more)) p
     → HasFailedOn (part_at net n past) p
-no-more-fail net past [] n p none x = subst (λ l. HasFailedOn (part_at net n l) p) (append-nil past) x
+no-more-fail net past [] n p none x =
+    subst (λ l. HasFailedOn (part_at net n l) p) (append-nil past) x
 no-more-fail net past (e ∷ more) n p none x =
     elim (next-fails net past e n p (no-more-fail net (past ++ e ∷ []) more n p none.1
     (subst (λ l. HasFailedOn (part_at net n l) p) (sym (append_assoc past (e ∷ []) more)) x))) [
@@ -215,12 +251,14 @@ fresh-fails b (suc (suc (suc zero))) x = x
 fresh-fails b (suc (suc (suc (suc zero)))) x = x
 fresh-fails b (suc (suc (suc (suc (suc p))))) x = x
 
-members-fail : (nodes : List NodeIs) (members : List ℕ) (p : ℕ) → ((k : ℕ) → HasFailedOn (part_of nodes k) p → ⊥) → (n : ℕ)
+members-fail : (nodes : List NodeIs) (members : List ℕ) (p : ℕ)
+    → ((k : ℕ) → HasFailedOn (part_of nodes k) p → ⊥) → (n : ℕ)
     → HasFailedOn (part_of (with_members nodes members) n) p → ⊥
 members-fail nodes [] p none n x = none n x
 members-fail nodes (m ∷ ms) p none n x =
     members-fail (set nodes m (fresh true)) ms p
-    (at-set (λ k c. HasFailedOn c p → ⊥) nodes (fresh false) m (fresh true) none (λ y. fresh-fails true p y)) n x
+    (at-set (λ k c. HasFailedOn c p → ⊥) nodes (fresh false) m (fresh true) none
+    (λ y. fresh-fails true p y)) n x
 
 some-fresh : (many n : ℕ) → get_or (replicate many (fresh false)) n (fresh false) ≡ fresh false
 some-fresh zero n = refl
@@ -230,4 +268,5 @@ some-fresh (suc many) (suc n) = some-fresh many n
 pub none-at-first : (net : NetPlan) (n p : ℕ) → HasFailedOn (part_at net n []) p → ⊥
 none-at-first net n p x =
     members-fail (replicate addresses (fresh false)) net.members p
-    (λ k y. fresh-fails false p (subst (λ (c : NodeIs). HasFailedOn c p) (some-fresh addresses k) y)) n x
+    (λ k y. fresh-fails false p
+    (subst (λ (c : NodeIs). HasFailedOn c p) (some-fresh addresses k) y)) n x

@@ -1,5 +1,5 @@
 -- Turns one after another make one joint history.
-use Rattle.std.proofs.Common.{◌≡◌, ◌≢◌, ℕ, ◌<◌, ◌≤◌, ◌==◌, Bool, true, false, List}
+use Rattle.std.proofs.Common.{◌≡◌, ◌≢◌, ℕ, ◌≤◌, ◌==◌, Bool, true, false, List}
 use Rattle.std.proofs.Common.{[], ◌∷◌, ◌++◌, Option, Some, None, inl, inr, refl, sym, ap}
 use Rattle.std.proofs.Common.{subst, ◌∙◌, arith, append_assoc, append-nil}
 use Rattle.std.specs.List.{slice_get}
@@ -8,7 +8,7 @@ use Rattle.plant_types.specs.declared.net.HostPlan.{HostPlan}
 use Rattle.plant_types.specs.declared.plan.ControllerPlan.{ControllerPlan}
 use Rattle.plant_types.specs.declared.plan.Plant.{Plant}
 use Rattle.ring_core.specs.declared.entry.RingEntry.{RingEntry}
-use Rattle.ring_core.specs.Legal.{IsLegal as IsLegalRing}
+use Rattle.ring_core.specs.Legal.{IsLegalRing}
 use Rattle.ring_core.specs.Machine.{ring_after}
 use Rattle.scan_order.specs.declared.due.ScanStep.{ScanStep}
 use Rattle.scan_order.specs.declared.due.ScanStep.TheVariants as steps
@@ -16,7 +16,7 @@ use Rattle.controller_core.specs.declared.entry.Entry.{Entry}
 use Rattle.controller_core.specs.declared.fixed.Fixed.{Fixed}
 use Rattle.controller_core.specs.Controller.{IsLegal, due_step, made}
 use Rattle.controller_core.specs.Event.{entry_of}
-use Rattle.controller_core.specs.Replay.{State, replay}
+use Rattle.controller_core.specs.Replay.{ControllerState, replay}
 use Rattle.controller_core.proofs.NextEntry.{front_legal}
 use Rattle.tied_lists.specs.Own.{own}
 use Rattle.tied_lists.proofs.Turns.{legal-parts}
@@ -32,7 +32,7 @@ use Rattle.joint_history.specs.Reading.{controller_at}
 use Rattle.joint_history.proofs.Collected.{CallLaws}
 use Rattle.serial_run.specs.declared.order.Turn.{Turn}
 use Rattle.serial_run.specs.declared.order.Turn.TheVariants.{Step, Hold, Visit}
-use Rattle.serial_run.specs.Turns.{HoldsAt, HostHoldsAt, IsControllerAt, MakesHold}
+use Rattle.serial_run.specs.Turns.{MakesHoldTurnAt, HostHoldsAt, IsControllerAt, MakesHold}
 use Rattle.serial_run.specs.Turns.{MakesStep, MakesTurn, MakesTurns, MakesVisit, StepsAt, VisitsAt}
 use Rattle.serial_run.specs.Turns.{VisitsIfDue, VisitsWhere, place_of_controller, empty_log}
 use Rattle.serial_run.specs.Turns.{place_of_host}
@@ -59,7 +59,8 @@ module _ (plant : Plant) (scans : ℕ) where
     pub behind : Behind plan.node log.entries joint.ring
 
   abbrev pub Kept : Joint → Type 0
-  Kept joint = (at : ℕ) (plan : ControllerPlan) (log : ControllerLog) → IsControllerAt plant joint at plan log → KeptAt joint plan log
+  Kept joint = (at : ℕ) (plan : ControllerPlan) (log : ControllerLog)
+      → IsControllerAt plant joint at plan log → KeptAt joint plan log
 
   pub record FineAt (joint : Joint) (plan : ControllerPlan) (log : ControllerLog) : Type 0 where
     pub legal : IsLegal (fixed_of plant scans plan) log.entries
@@ -68,10 +69,12 @@ module _ (plant : Plant) (scans : ℕ) where
   -- each list of a controller is legal, and tells what the list of its node does, as far as both go
   pub record Fine (joint : Joint) : Type 0 where
     pub ring : IsLegalRing plant.net joint.ring
-    pub lists : (at : ℕ) (plan : ControllerPlan) (log : ControllerLog) → IsControllerAt plant joint at plan log → FineAt joint plan log
+    pub lists : (at : ℕ) (plan : ControllerPlan) (log : ControllerLog)
+        → IsControllerAt plant joint at plan log → FineAt joint plan log
 
   -- a joint history went on
-  pub record WentOnAt (joint : Joint) (at : ℕ) (plan : ControllerPlan) (log : ControllerLog) : Type 0 where
+  pub record WentOnAt (joint : Joint) (at : ℕ) (plan : ControllerPlan)
+      (log : ControllerLog) : Type 0 where
     pub new_log : ControllerLog
     pub is : IsControllerAt plant joint at plan new_log
     pub noted : List Entry
@@ -80,21 +83,24 @@ module _ (plant : Plant) (scans : ℕ) where
   pub record Grows (old new : Joint) : Type 0 where
     pub done : List RingEntry
     pub ring_is : new.ring ≡ old.ring ++ done
-    pub lists : (at : ℕ) (plan : ControllerPlan) (log : ControllerLog) → IsControllerAt plant old at plan log → WentOnAt new at plan log
+    pub lists : (at : ℕ) (plan : ControllerPlan) (log : ControllerLog)
+        → IsControllerAt plant old at plan log → WentOnAt new at plan log
 
   -- nothing more
   pub grows-none : (joint : Joint) → Grows joint joint
   grows-none joint = record {
     done = [];
     ring_is = sym (append-nil joint.ring);
-    lists = λ at plan log is. record { new_log = log; is = is; noted = []; entries_are = sym (append-nil log.entries) };
+    lists = λ at plan log is.
+        record { new_log = log; is = is; noted = []; entries_are = sym (append-nil log.entries) };
   }
 
   -- one after another
   pub grows-then : (a b c : Joint) → Grows a b → Grows b c → Grows a c
   grows-then a b c one two = record {
     done = one.done ++ two.done;
-    ring_is = two.ring_is ∙ ap (λ l. l ++ two.done) one.ring_is ∙ append_assoc a.ring one.done two.done;
+    ring_is = two.ring_is ∙ ap (λ l. l ++ two.done) one.ring_is
+        ∙ append_assoc a.ring one.done two.done;
     lists = λ at plan log is.
         let x = one.lists at plan log is in
         let y = two.lists at plan x.new_log x.is in
@@ -102,42 +108,51 @@ module _ (plant : Plant) (scans : ℕ) where
           new_log = y.new_log;
           is = y.is;
           noted = x.noted ++ y.noted;
-          entries_are = y.entries_are ∙ ap (λ l. l ++ y.noted) x.entries_are ∙ append_assoc log.entries x.noted y.noted;
+          entries_are = y.entries_are ∙ ap (λ l. l ++ y.noted) x.entries_are
+              ∙ append_assoc log.entries x.noted y.noted;
         };
   }
 
   -- what holds of the last joint history holds of each before
   pub fine-front : (old new : Joint) → Grows old new → Fine new → Fine old
   fine-front old new g f = record {
-    ring = (legal-parts plant.net old.ring g.done (subst (IsLegalRing plant.net) g.ring_is f.ring)).0;
+    ring = (legal-parts plant.net old.ring g.done
+        (subst (IsLegalRing plant.net) g.ring_is f.ring)).0;
     lists = λ at plan log is.
         let w = g.lists at plan log is in
         let k = f.lists at plan w.new_log w.is in
         record {
-          legal = front_legal (fixed_of plant scans plan) log.entries w.noted (subst (IsLegal (fixed_of plant scans plan)) w.entries_are k.legal);
+          legal = front_legal (fixed_of plant scans plan) log.entries w.noted
+              (subst (IsLegal (fixed_of plant scans plan)) w.entries_are k.legal);
           meets = meets-front plan.node log.entries w.noted old.ring g.done
-              (subst (λ l. Meets plan.node l (old.ring ++ g.done)) w.entries_are (subst (Meets plan.node w.new_log.entries) g.ring_is k.meets));
+              (subst (λ l. Meets plan.node l (old.ring ++ g.done)) w.entries_are
+              (subst (Meets plan.node w.new_log.entries) g.ring_is k.meets));
         };
   }
 
   -- the same of one controller
-  pub may-at : (joint : Joint) (at : ℕ) (plan : ControllerPlan) (log : ControllerLog) → Fine joint → IsControllerAt plant joint at plan log
+  pub may-at : (joint : Joint) (at : ℕ) (plan : ControllerPlan) (log : ControllerLog) → Fine joint
+      → IsControllerAt plant joint at plan log
       → May (fixed_of plant scans plan) plant.net plan.node log.entries joint.ring
   may-at joint at plan log f is =
-      let k = f.lists at plan log is in record { legal = k.legal; ring_legal = f.ring; meets = k.meets }
+      let k = f.lists at plan log is in
+      record { legal = k.legal; ring_legal = f.ring; meets = k.meets }
 
   -- ---- one list of a controller went on
 
-  plan-same : (joint : Joint) (at : ℕ) (p p' : ControllerPlan) (l l' : ControllerLog) → IsControllerAt plant joint at p l → IsControllerAt plant joint at p' l' → p ≡ p'
+  plan-same : (joint : Joint) (at : ℕ) (p p' : ControllerPlan) (l l' : ControllerLog)
+      → IsControllerAt plant joint at p l → IsControllerAt plant joint at p' l' → p ≡ p'
   plan-same joint at p p' l l' a b = some-same (sym a.plan_is ∙ b.plan_is)
 
-  log-same : (joint : Joint) (at : ℕ) (p p' : ControllerPlan) (l l' : ControllerLog) → IsControllerAt plant joint at p l → IsControllerAt plant joint at p' l' → l ≡ l'
+  log-same : (joint : Joint) (at : ℕ) (p p' : ControllerPlan) (l l' : ControllerLog)
+      → IsControllerAt plant joint at p l → IsControllerAt plant joint at p' l' → l ≡ l'
   log-same joint at p p' l l' a b = some-same (sym a.log_is ∙ b.log_is)
 
   abbrev pub made_by : ℕ → ControllerLog → List Entry → List RingEntry → Joint → Joint
   made_by at log entries ring old = record (with_list at log entries old) { ring = ring }
 
-  module _ (old : Joint) (at : ℕ) (plan : ControllerPlan) (log : ControllerLog) (is : IsControllerAt plant old at plan log) (entries : List Entry)
+  module _ (old : Joint) (at : ℕ) (plan : ControllerPlan) (log : ControllerLog)
+      (is : IsControllerAt plant old at plan log) (entries : List Entry)
       (ring : List RingEntry) (g : Goes plan.node log.entries entries old.ring ring) where
     abbrev grown : Joint
     grown = made_by at log entries ring old
@@ -147,7 +162,8 @@ module _ (plant : Plant) (scans : ℕ) where
 
     -- the controller is at its place
     pub there : IsControllerAt plant grown at plan new_log
-    there = record { plan_is = is.plan_is; log_is = set-get old.controllers at new_log log is.log_is }
+    there =
+        record { plan_is = is.plan_is; log_is = set-get old.controllers at new_log log is.log_is }
 
     -- the joint history went on
     pub list-grows : Grows old grown
@@ -160,13 +176,18 @@ module _ (plant : Plant) (scans : ℕ) where
             let plans = plan-same old at plan p log l is is-at in
             record {
               new_log = new_log;
-              is = subst (λ j. IsControllerAt plant grown j p new_log) (sym here) (subst (λ q. IsControllerAt plant grown at q new_log) plans there);
+              is = subst (λ j. IsControllerAt plant grown j p new_log) (sym here)
+                  (subst (λ q. IsControllerAt plant grown at q new_log) plans there);
               noted = g.noted;
-              entries_are = g.known_is ∙ ap (λ (x : ControllerLog). x.entries ++ g.noted) (log-same old at plan p log l is is-at);
+              entries_are = g.known_is ∙ ap (λ (x : ControllerLog). x.entries ++ g.noted)
+                  (log-same old at plan p log l is is-at);
             }
         | inr other ↦ record {
           new_log = l;
-          is = record { plan_is = is'.plan_is; log_is = set-other old.controllers at k new_log other ∙ is'.log_is };
+          is = record {
+            plan_is = is'.plan_is;
+            log_is = set-other old.controllers at k new_log other ∙ is'.log_is;
+          };
           noted = [];
           entries_are = sym (append-nil l.entries);
         }
@@ -174,30 +195,38 @@ module _ (plant : Plant) (scans : ℕ) where
     }
 
     -- and keeps what holds between turns
-    pub list-kept : Kept old → NoneFails plant.net plan.node ring → Behind plan.node entries ring → Kept grown
-    list-kept kept none behind k p l is' = elim (get-set old.controllers at k new_log l is'.log_is) [
-      | inl here ↦
-          let plans : plan ≡ p = some-same (sym is.plan_is ∙ ap (λ j. slice_get plant.controllers j) (sym here.0) ∙ is'.plan_is) in
-          subst (λ q. KeptAt grown q l) plans (subst (KeptAt grown plan) (sym here.1) (record { none = none; behind = behind }))
-      | inr was ↦
-          let before = kept k p l (record { plan_is = is'.plan_is; log_is = was }) in
-          record {
-            none = elim (cases_eq p.node plan.node) [
-              | inl same ↦ subst (λ m. NoneFails plant.net m ring) (sym same) none
-              | inr other ↦ none-behind plant.net p.node old.ring g.done ring g.ring_is (quiet-others p.node plan.node other g.done g.mine) before.none
-            ];
-            behind = still-behind p.node l.entries before.behind;
-          }
-    ]
+    pub list-kept : Kept old → NoneFails plant.net plan.node ring
+        → Behind plan.node entries ring → Kept grown
+    list-kept kept none behind k p l is' =
+        elim (get-set old.controllers at k new_log l is'.log_is) [
+          | inl here ↦
+              let plans : plan ≡ p = some-same (sym is.plan_is
+              ∙ ap (λ j. slice_get plant.controllers j) (sym here.0) ∙ is'.plan_is) in
+              subst (λ q. KeptAt grown q l) plans
+              (subst (KeptAt grown plan) (sym here.1) (record { none = none; behind = behind }))
+          | inr was ↦
+              let before = kept k p l (record { plan_is = is'.plan_is; log_is = was }) in
+              record {
+                none = elim (cases_eq p.node plan.node) [
+                  | inl same ↦ subst (λ m. NoneFails plant.net m ring) (sym same) none
+                  | inr other ↦ none-behind plant.net p.node old.ring g.done ring g.ring_is
+                      (quiet-others p.node plan.node other g.done g.mine) before.none
+                ];
+                behind = still-behind p.node l.entries before.behind;
+              }
+        ]
       where
         still-behind : (m : ℕ) (es : List Entry) → Behind m es old.ring → Behind m es ring
         still-behind m es old' =
-            subst (λ x. Behind m x ring) (append-nil es) (subst (Behind m (es ++ [])) (sym g.ring_is)
-            (behind-more m es [] old.ring g.done old' (let z : endings [] ≤ closings (own m g.done) = omega arith in z)))
+            subst (λ x. Behind m x ring) (append-nil es)
+            (subst (Behind m (es ++ [])) (sym g.ring_is)
+            (behind-more m es [] old.ring g.done old'
+            (let z : endings [] ≤ closings (own m g.done) = omega arith in z)))
 
   -- ---- a step
 
-  step-silent : (fixed : Fixed) (s : State) (step : ScanStep) → endings (entry_of fixed s step ∷ []) ≡ 0
+  step-silent : (fixed : Fixed) (s : ControllerState) (step : ScanStep)
+      → endings (entry_of fixed s step ∷ []) ≡ 0
   step-silent fixed s steps.Begin = omega arith
   step-silent fixed s (steps.In row) = omega arith
   step-silent fixed s (steps.Solve row) = omega arith
@@ -213,7 +242,8 @@ module _ (plant : Plant) (scans : ℕ) where
   stepped-so : (fixed : Fixed) (entries : List Entry) → Stepped entries (stepped_list fixed entries)
   stepped-so fixed entries = at (due_step (controller_at fixed entries))
     where
-      at : (due : Option ScanStep) → Stepped entries (made (controller_at fixed entries) due).history
+      at : (due : Option ScanStep)
+          → Stepped entries (made (controller_at fixed entries) due).history
       at None = record { noted = []; is = sym (append-nil entries); silent = refl }
       at (Some step) = record {
         noted = entry_of fixed (replay fixed entries) step ∷ [];
@@ -222,21 +252,27 @@ module _ (plant : Plant) (scans : ℕ) where
       }
 
   -- events of the scan alone
-  pub events-go : (n : ℕ) (entries noted new : List Entry) (ring : List RingEntry) → new ≡ entries ++ noted → Goes n entries new ring ring
-  events-go n entries noted new ring is = record { noted = noted; known_is = is; done = []; ring_is = sym (append-nil ring); mine = tt }
+  pub events-go : (n : ℕ) (entries noted new : List Entry) (ring : List RingEntry)
+      → new ≡ entries ++ noted → Goes n entries new ring ring
+  events-go n entries noted new ring is =
+      record { noted = noted; known_is = is; done = []; ring_is = sym (append-nil ring); mine = tt }
 
-  pub events-behind : (n : ℕ) (entries noted new : List Entry) (ring : List RingEntry) → new ≡ entries ++ noted → endings noted ≡ 0 → Behind n entries ring
+  pub events-behind : (n : ℕ) (entries noted new : List Entry) (ring : List RingEntry)
+      → new ≡ entries ++ noted → endings noted ≡ 0 → Behind n entries ring
       → Behind n new ring
   events-behind n entries noted new ring is silent behind =
-      subst (λ l. Behind n l ring) (sym is) (let join = endings-join entries noted in omega (arith, join, silent, behind))
+      subst (λ l. Behind n l ring) (sym is)
+      (let join = endings-join entries noted in omega (arith, join, silent, behind))
 
   -- ---- what a turn makes
 
-  record HeldAs (at : ℕ) (plan : ControllerPlan) (log : ControllerLog) (old new : Joint) : Type 0 where
+  record HeldAs (at : ℕ) (plan : ControllerPlan) (log : ControllerLog)
+      (old new : Joint) : Type 0 where
     entries : List Entry
     ring : List RingEntry
     left : Bool
-    turn : HoldsTurn true true (fixed_of plant scans plan) plant.net plan.node true log.entries entries old.ring ring left
+    turn : HoldsTurn true true
+        (fixed_of plant scans plan) plant.net plan.node true log.entries entries old.ring ring left
     is : new ≡ made_by at log entries ring old
 
   record HostHeldAs (at : ℕ) (plan : HostPlan) (log : HostLog) (old new : Joint) : Type 0 where
@@ -251,78 +287,109 @@ module _ (plant : Plant) (scans : ℕ) where
     pub is : new ≡ new'
     pub kept : Kept new
 
-  module _ (laws : CallLaws) (answer : 0 < plant.net.answer) where
+  module _ (laws : CallLaws) where
     -- a step
     -- a step makes one thing
-    step-one : (at : ℕ) (old new new' : Joint) → Kept old → StepsAt plant scans at old new → StepsAt plant scans at old new' → OneJoint new new'
+    step-one : (at : ℕ) (old new new' : Joint) → Kept old → StepsAt plant scans at old new
+        → StepsAt plant scans at old new' → OneJoint new new'
     step-one at old new new' kept s s' =
         let plans = plan-same old at s.plan s'.plan s.log s'.log s.is s'.is in
         let logs = log-same old at s.plan s'.plan s.log s'.log s.is s'.is in
         let f = stepped-so (fixed_of plant scans s.plan) s.log.entries in
-        let g = events-go s.plan.node s.log.entries f.noted (stepped_list (fixed_of plant scans s.plan) s.log.entries) old.ring f.is in
+        let g = events-go s.plan.node s.log.entries f.noted
+        (stepped_list (fixed_of plant scans s.plan) s.log.entries) old.ring f.is in
         let before = kept at s.plan s.log s.is in
         record {
-          is = s.made ∙ (λ i. with_list at (logs i) (stepped_list (fixed_of plant scans (plans i)) (logs i).entries) old) ∙ sym s'.made;
-          kept = subst Kept (sym s.made) (list-kept old at s.plan s.log s.is (stepped_list (fixed_of plant scans s.plan) s.log.entries) old.ring g kept before.none
-              (events-behind s.plan.node s.log.entries f.noted (stepped_list (fixed_of plant scans s.plan) s.log.entries) old.ring f.is f.silent before.behind));
+          is = s.made ∙ (λ i. with_list at (logs i)
+              (stepped_list (fixed_of plant scans (plans i)) (logs i).entries) old) ∙ sym s'.made;
+          kept = subst Kept (sym s.made) (list-kept old at s.plan s.log s.is
+              (stepped_list (fixed_of plant scans s.plan) s.log.entries) old.ring g kept before.none
+              (events-behind s.plan.node s.log.entries f.noted (stepped_list
+              (fixed_of plant scans s.plan) s.log.entries) old.ring f.is f.silent before.behind));
         }
 
     pub step-grows : (at : ℕ) (old new : Joint) → StepsAt plant scans at old new → Grows old new
     step-grows at old new s =
         let f = stepped-so (fixed_of plant scans s.plan) s.log.entries in
-        let g = events-go s.plan.node s.log.entries f.noted (stepped_list (fixed_of plant scans s.plan) s.log.entries) old.ring f.is in
-        subst (Grows old) (sym s.made) (list-grows old at s.plan s.log s.is (stepped_list (fixed_of plant scans s.plan) s.log.entries) old.ring g)
+        let g = events-go s.plan.node s.log.entries f.noted
+        (stepped_list (fixed_of plant scans s.plan) s.log.entries) old.ring f.is in
+        subst (Grows old) (sym s.made) (list-grows old at s.plan s.log s.is
+        (stepped_list (fixed_of plant scans s.plan) s.log.entries) old.ring g)
 
     -- a controller's hold
-    held-as : (at : ℕ) (old new : Joint) (h : HoldsAt plant scans at old new) → HeldAs at h.plan h.log old new
-    held-as at old new h = record { entries = h.entries; ring = h.ring; left = h.left; turn = h.turn; is = h.made }
+    held-as : (at : ℕ) (old new : Joint) (h : MakesHoldTurnAt plant scans at old new)
+        → HeldAs at h.plan h.log old new
+    held-as at old new h =
+        record { entries = h.entries; ring = h.ring; left = h.left; turn = h.turn; is = h.made }
 
-    held-goes : (at : ℕ) (old new : Joint) (h : HoldsAt plant scans at old new) → Goes h.plan.node h.log.entries h.entries old.ring h.ring
+    held-goes : (at : ℕ) (old new : Joint) (h : MakesHoldTurnAt plant scans at old new)
+        → Goes h.plan.node h.log.entries h.entries old.ring h.ring
     held-goes at old new h =
-        turn-goes laws (fixed_of plant scans h.plan) plant.net h.plan.node refl true h.left h.log.entries h.entries old.ring h.ring h.turn
+        turn-goes laws (fixed_of plant scans h.plan) plant.net h.plan.node refl true h.left
+        h.log.entries h.entries old.ring h.ring h.turn
 
-    pub held-grows : (at : ℕ) (old new : Joint) → HoldsAt plant scans at old new → Grows old new
+    pub held-grows : (at : ℕ) (old new : Joint) → MakesHoldTurnAt plant scans at old new
+        → Grows old new
     held-grows at old new h =
-        subst (Grows old) (sym h.made) (list-grows old at h.plan h.log h.is h.entries h.ring (held-goes at old new h))
+        subst (Grows old) (sym h.made)
+        (list-grows old at h.plan h.log h.is h.entries h.ring (held-goes at old new h))
 
     -- what the last joint history says of the lists that a turn leaves
-    may-made : (old new : Joint) (at : ℕ) (plan : ControllerPlan) (log : ControllerLog) (is : IsControllerAt plant old at plan log) (entries : List Entry)
-        (ring : List RingEntry) → Goes plan.node log.entries entries old.ring ring → new ≡ made_by at log entries ring old → Fine new
+    may-made : (old new : Joint) (at : ℕ) (plan : ControllerPlan) (log : ControllerLog)
+        (is : IsControllerAt plant old at plan log) (entries : List Entry)
+        (ring : List RingEntry) → Goes plan.node log.entries entries old.ring ring
+        → new ≡ made_by at log entries ring old → Fine new
         → May (fixed_of plant scans plan) plant.net plan.node entries ring
     may-made old new at plan log is entries ring g made' fine =
-        may-at (made_by at log entries ring old) at plan (record { node = log.node; entries = entries }) (subst Fine made' fine)
+        may-at (made_by at log entries ring old) at plan
+        (record { node = log.node; entries = entries }) (subst Fine made' fine)
         (there old at plan log is entries ring g)
 
     -- a hold of a controller makes one thing
-    held-one : (at : ℕ) (old new new' : Joint) → Kept old → Fine new → Fine new' → HoldsAt plant scans at old new → HoldsAt plant scans at old new' → OneJoint new new'
+    held-one : (at : ℕ) (old new new' : Joint) → Kept old → Fine new → Fine new'
+        → MakesHoldTurnAt plant scans at old new → MakesHoldTurnAt plant scans at old new'
+        → OneJoint new new'
     held-one at old new new' kept fine fine' h h' = record {
-      is = h.made ∙ (λ i. made_by at h.log (same.0.known_is i) (same.0.ring_is i) old) ∙ sym other.is;
-      kept = subst Kept (sym h.made) (list-kept old at h.plan h.log h.is h.entries h.ring (held-goes at old new h) kept
-          (turn-none laws (fixed_of plant scans h.plan) plant.net h.plan.node refl true h.left h.log.entries h.entries old.ring h.ring h.turn) same.0.behind);
+      is = h.made ∙ (λ i. made_by at h.log (same.0.known_is i) (same.0.ring_is i) old)
+          ∙ sym other.is;
+      kept = subst Kept (sym h.made)
+          (list-kept old at h.plan h.log h.is h.entries h.ring (held-goes at old new h) kept
+          (turn-none laws (fixed_of plant scans h.plan) plant.net h.plan.node refl true h.left
+          h.log.entries h.entries old.ring h.ring h.turn) same.0.behind);
     }
       where
         other : HeldAs at h.plan h.log old new'
-        other = subst (λ p. HeldAs at p h.log old new') (sym (plan-same old at h.plan h'.plan h.log h'.log h.is h'.is))
-            (subst (λ l. HeldAs at h'.plan l old new') (sym (log-same old at h.plan h'.plan h.log h'.log h.is h'.is)) (held-as at old new' h'))
+        other = subst (λ p. HeldAs at p h.log old new')
+            (sym (plan-same old at h.plan h'.plan h.log h'.log h.is h'.is))
+            (subst (λ l. HeldAs at h'.plan l old new')
+            (sym (log-same old at h.plan h'.plan h.log h'.log h.is h'.is)) (held-as at old new' h'))
 
         other-goes : Goes h.plan.node h.log.entries other.entries old.ring other.ring
-        other-goes = turn-goes laws (fixed_of plant scans h.plan) plant.net h.plan.node refl true other.left h.log.entries other.entries old.ring other.ring other.turn
+        other-goes = turn-goes laws (fixed_of plant scans h.plan) plant.net h.plan.node refl true
+            other.left h.log.entries other.entries old.ring other.ring other.turn
 
         before : KeptAt old h.plan h.log
         before = kept at h.plan h.log h.is
 
         same : Same h.plan.node h.entries other.entries h.ring other.ring × (h.left ≡ other.left)
-        same = turn-same laws (fixed_of plant scans h.plan) plant.net h.plan.node refl true h.left other.left h.log.entries h.entries other.entries
+        same = turn-same laws (fixed_of plant scans h.plan) plant.net h.plan.node refl true h.left
+            other.left h.log.entries h.entries other.entries
             old.ring h.ring other.ring before.behind before.none h.turn
-            (may-made old new at h.plan h.log h.is h.entries h.ring (held-goes at old new h) h.made fine)
-            other.turn (may-made old new' at h.plan h.log h.is other.entries other.ring other-goes other.is fine')
+            (may-made old new at h.plan h.log h.is h.entries h.ring
+            (held-goes at old new h) h.made fine)
+            other.turn (may-made old new' at h.plan h.log h.is other.entries other.ring other-goes
+            other.is fine')
 
     -- a host's hold
-    host-held-as : (at : ℕ) (old new : Joint) (h : HostHoldsAt plant at old new) → HostHeldAs at h.plan h.log old new
-    host-held-as at old new h = record { entries = h.entries; ring = h.ring; left = h.left; turn = h.turn; is = h.made }
+    host-held-as : (at : ℕ) (old new : Joint) (h : HostHoldsAt plant at old new)
+        → HostHeldAs at h.plan h.log old new
+    host-held-as at old new h =
+        record { entries = h.entries; ring = h.ring; left = h.left; turn = h.turn; is = h.made }
 
-    host-held-goes : (at : ℕ) (old new : Joint) (h : HostHoldsAt plant at old new) → Goes h.plan.node h.log.entries h.entries old.ring h.ring
-    host-held-goes at old new h = host-goes plant.net h.plan.node h.plan true h.left h.log.entries h.entries old.ring h.ring h.turn answer
+    host-held-goes : (at : ℕ) (old new : Joint) (h : HostHoldsAt plant at old new)
+        → Goes h.plan.node h.log.entries h.entries old.ring h.ring
+    host-held-goes at old new h = host-goes plant.net h.plan.node h.plan true h.left h.log.entries
+        h.entries old.ring h.ring h.turn
 
     pub host-held-grows : (at : ℕ) (old new : Joint) → HostHoldsAt plant at old new → Grows old new
     host-held-grows at old new h =
@@ -330,22 +397,32 @@ module _ (plant : Plant) (scans : ℕ) where
         subst (Grows old) (sym h.made) (record {
           done = g.done;
           ring_is = g.ring_is;
-          lists = λ k p l is. record { new_log = l; is = record { plan_is = is.plan_is; log_is = is.log_is }; noted = []; entries_are = sym (append-nil l.entries) };
+          lists = λ k p l is. record {
+            new_log = l;
+            is = record { plan_is = is.plan_is; log_is = is.log_is };
+            noted = [];
+            entries_are = sym (append-nil l.entries);
+          };
         })
 
     -- a hold of a host makes one thing
     host-held-one : (at : ℕ) (old new new' : Joint) → Kept old → Fine new → Fine new'
-        → ((k : ℕ) (p : ControllerPlan) (l : HostPlan) → slice_get plant.controllers k ≡ Some p → slice_get plant.hosts at ≡ Some l → p.node ≢ l.node)
+        → ((k : ℕ) (p : ControllerPlan) (l : HostPlan) → slice_get plant.controllers k ≡ Some p
+        → slice_get plant.hosts at ≡ Some l → p.node ≢ l.node)
         → HostHoldsAt plant at old new → HostHoldsAt plant at old new' → OneJoint new new'
     host-held-one at old new new' kept fine fine' apart h h' = record {
-      is = h.made ∙ (λ i. record (with_host_list at h.log (same.0 i) old) { ring = same.1 i }) ∙ sym other.is;
+      is = h.made ∙ (λ i. record (with_host_list at h.log (same.0 i) old) { ring = same.1 i })
+          ∙ sym other.is;
       kept = subst Kept (sym h.made) (λ k p l is.
           let before = kept k p l (record { plan_is = is.plan_is; log_is = is.log_is }) in
           record {
             none = none-behind plant.net p.node old.ring g.done h.ring g.ring_is
-                (quiet-others p.node h.plan.node (apart k p h.plan is.plan_is h.is.plan_is) g.done g.mine) before.none;
-            behind = subst (λ x. Behind p.node x h.ring) (append-nil l.entries) (subst (Behind p.node (l.entries ++ [])) (sym g.ring_is)
-                (behind-more p.node l.entries [] old.ring g.done before.behind (let z : endings [] ≤ closings (own p.node g.done) = omega arith in z)));
+                (quiet-others p.node h.plan.node (apart k p h.plan is.plan_is h.is.plan_is) g.done
+                g.mine) before.none;
+            behind = subst (λ x. Behind p.node x h.ring) (append-nil l.entries)
+                (subst (Behind p.node (l.entries ++ [])) (sym g.ring_is)
+                (behind-more p.node l.entries [] old.ring g.done before.behind
+                (let z : endings [] ≤ closings (own p.node g.done) = omega arith in z)));
           });
     }
       where
@@ -356,77 +433,104 @@ module _ (plant : Plant) (scans : ℕ) where
         logs = some-same (sym h.is.log_is ∙ h'.is.log_is)
 
         other : HostHeldAs at h.plan h.log old new'
-        other = subst (λ p. HostHeldAs at p h.log old new') (sym plans) (subst (λ l. HostHeldAs at h'.plan l old new') (sym logs) (host-held-as at old new' h'))
+        other = subst (λ p. HostHeldAs at p h.log old new') (sym plans)
+            (subst (λ l. HostHeldAs at h'.plan l old new') (sym logs) (host-held-as at old new' h'))
 
         g : Goes h.plan.node h.log.entries h.entries old.ring h.ring
         g = host-held-goes at old new h
 
         same : (h.entries ≡ other.entries) × (h.ring ≡ other.ring) × (h.left ≡ other.left)
-        same = host-same plant.net h.plan.node h.plan true answer h.left other.left h.log.entries h.entries other.entries old.ring h.ring other.ring h.turn
+        same = host-same plant.net h.plan.node h.plan true h.left other.left h.log.entries h.entries
+            other.entries old.ring h.ring other.ring h.turn
             (subst (λ (j : Joint). IsLegalRing plant.net j.ring) h.made fine.ring) other.turn
             (subst (λ (j : Joint). IsLegalRing plant.net j.ring) other.is fine'.ring)
 
     -- a hold of whoever has the token
-    hold-grows : (c h : Option ℕ) (old new : Joint) → MakesHold plant scans c h old new → Grows old new
+    hold-grows : (c h : Option ℕ) (old new : Joint) → MakesHold plant scans c h old new
+        → Grows old new
     hold-grows (Some at) h old new m = held-grows at old new m
     hold-grows None (Some at) old new m = host-held-grows at old new m
     hold-grows None None old new m = subst (Grows old) (sym m) (grows-none old)
 
     -- a hold makes one thing
-    hold-one : (holder : ℕ) (c h : Option ℕ) → place_of_controller plant holder ≡ c → place_of_host plant holder ≡ h → (old new new' : Joint) → Kept old → Fine new
-        → Fine new' → MakesHold plant scans c h old new → MakesHold plant scans c h old new' → OneJoint new new'
-    hold-one holder (Some at) h is is' old new new' kept fine fine' m m' = held-one at old new new' kept fine fine' m m'
+    hold-one : (holder : ℕ) (c h : Option ℕ) → place_of_controller plant holder ≡ c
+        → place_of_host plant holder ≡ h → (old new new' : Joint) → Kept old → Fine new
+        → Fine new' → MakesHold plant scans c h old new → MakesHold plant scans c h old new'
+        → OneJoint new new'
+    hold-one holder (Some at) h is is' old new new' kept fine fine' m m' =
+        held-one at old new new' kept fine fine' m m'
     hold-one holder None (Some at) is is' old new new' kept fine fine' m m' =
         host-held-one at old new new' kept fine fine'
         (λ k p l there' found same.
-        let not-it : (p.node == holder) ≡ false = position-none (λ (plan : ControllerPlan). plan.node == holder) plant.controllers k p is there' in
-        let it : (l.node == holder) ≡ true = position-passes (λ (plan : HostPlan). plan.node == holder) plant.hosts at l is' found in
-        let yes' : (p.node == holder) ≡ true = eq-eqb p.node holder (same ∙ eqb-true l.node holder it) in
+        let not-it : (p.node == holder) ≡ false = position-none
+        (λ (plan : ControllerPlan). plan.node == holder) plant.controllers k p is there' in
+        let it : (l.node == holder) ≡ true =
+        position-passes (λ (plan : HostPlan). plan.node == holder) plant.hosts at l is' found in
+        let yes' : (p.node == holder) ≡ true =
+        eq-eqb p.node holder (same ∙ eqb-true l.node holder it) in
         let no' : true ≡ false = sym yes' ∙ not-it in cc) m m'
-    hold-one holder None None is is' old new new' kept fine fine' m m' = record { is = m ∙ sym m'; kept = subst Kept (sym m) kept }
+    hold-one holder None None is is' old new new' kept fine fine' m m' =
+        record { is = m ∙ sym m'; kept = subst Kept (sym m) kept }
 
     -- a visit
-    visited-goes : (at : ℕ) (plan : ControllerPlan) (log : ControllerLog) (old new : Joint) (v : VisitsAt plant scans at plan log old new)
+    visited-goes : (at : ℕ) (plan : ControllerPlan) (log : ControllerLog) (old new : Joint)
+        (v : VisitsAt plant scans at plan log old new)
         → Goes plan.node log.entries v.entries old.ring v.ring
     visited-goes at plan log old new v =
-        visit-goes laws (fixed_of plant scans plan) plant.net plan.node refl true log.entries v.entries old.ring v.ring v.visit
+        visit-goes laws (fixed_of plant scans plan) plant.net plan.node refl true log.entries
+        v.entries old.ring v.ring v.visit
 
-    where-grows : (b : Bool) (at : ℕ) (plan : ControllerPlan) (log : ControllerLog) (old new : Joint) → IsControllerAt plant old at plan log
+    where-grows : (b : Bool) (at : ℕ) (plan : ControllerPlan) (log : ControllerLog)
+        (old new : Joint) → IsControllerAt plant old at plan log
         → VisitsWhere b plant scans at plan log old new → Grows old new
     where-grows true at plan log old new is v =
-        subst (Grows old) (sym v.made) (list-grows old at plan log is v.entries v.ring (visited-goes at plan log old new v))
+        subst (Grows old) (sym v.made)
+        (list-grows old at plan log is v.entries v.ring (visited-goes at plan log old new v))
     where-grows false at plan log old new is v = subst (Grows old) (sym v) (grows-none old)
 
-    where-one : (b : Bool) (at : ℕ) (plan : ControllerPlan) (log : ControllerLog) (old new new' : Joint) → IsControllerAt plant old at plan log → Kept old
-        → Fine new → Fine new' → VisitsWhere b plant scans at plan log old new → VisitsWhere b plant scans at plan log old new' → OneJoint new new'
-    where-one false at plan log old new new' is kept fine fine' v v' = record { is = v ∙ sym v'; kept = subst Kept (sym v) kept }
+    where-one : (b : Bool) (at : ℕ) (plan : ControllerPlan) (log : ControllerLog)
+        (old new new' : Joint) → IsControllerAt plant old at plan log → Kept old
+        → Fine new → Fine new' → VisitsWhere b plant scans at plan log old new
+        → VisitsWhere b plant scans at plan log old new' → OneJoint new new'
+    where-one false at plan log old new new' is kept fine fine' v v' =
+        record { is = v ∙ sym v'; kept = subst Kept (sym v) kept }
     where-one true at plan log old new new' is kept fine fine' v v' = record {
       is = v.made ∙ (λ i. made_by at log (same.known_is i) (same.ring_is i) old) ∙ sym v'.made;
-      kept = subst Kept (sym v.made) (list-kept old at plan log is v.entries v.ring (visited-goes at plan log old new v) kept
-          (visit-none laws (fixed_of plant scans plan) plant.net plan.node refl true log.entries v.entries old.ring v.ring v.visit before.none) same.behind);
+      kept = subst Kept (sym v.made)
+          (list-kept old at plan log is v.entries v.ring (visited-goes at plan log old new v) kept
+          (visit-none laws (fixed_of plant scans plan) plant.net plan.node refl true log.entries
+          v.entries old.ring v.ring v.visit before.none) same.behind);
     }
       where
         before : KeptAt old plan log
         before = kept at plan log is
 
         same : Same plan.node v.entries v'.entries v.ring v'.ring
-        same = visit-same laws (fixed_of plant scans plan) plant.net plan.node refl true log.entries v.entries v'.entries old.ring v.ring v'.ring before.behind
-            v.visit (may-made old new at plan log is v.entries v.ring (visited-goes at plan log old new v) v.made fine)
-            v'.visit (may-made old new' at plan log is v'.entries v'.ring (visited-goes at plan log old new' v') v'.made fine')
+        same = visit-same laws (fixed_of plant scans plan) plant.net plan.node refl true log.entries
+            v.entries v'.entries old.ring v.ring v'.ring before.behind
+            v.visit (may-made old new at plan log is v.entries v.ring
+            (visited-goes at plan log old new v) v.made fine)
+            v'.visit (may-made old new' at plan log is v'.entries v'.ring
+            (visited-goes at plan log old new' v') v'.made fine')
 
     -- a visit makes one thing
-    visit-one : (at : ℕ) (old new new' : Joint) → Kept old → Fine new → Fine new' → VisitsIfDue plant scans at old new → VisitsIfDue plant scans at old new'
+    visit-one : (at : ℕ) (old new new' : Joint) → Kept old → Fine new → Fine new'
+        → VisitsIfDue plant scans at old new → VisitsIfDue plant scans at old new'
         → OneJoint new new'
     visit-one at old new new' kept fine fine' v v' =
-        where-one (visit_is_due plant scans v.plan v.log.entries old.ring) at v.plan v.log old new new' v.is kept fine fine' v.visits
-        (subst (λ p. VisitsWhere (visit_is_due plant scans p v.log.entries old.ring) plant scans at p v.log old new')
+        where-one (visit_is_due plant scans v.plan v.log.entries old.ring) at v.plan v.log old new
+        new' v.is kept fine fine' v.visits
+        (subst (λ p. VisitsWhere (visit_is_due plant scans p v.log.entries old.ring) plant scans at
+        p v.log old new')
         (sym (plan-same old at v.plan v'.plan v.log v'.log v.is v'.is))
-        (subst (λ (l : ControllerLog). VisitsWhere (visit_is_due plant scans v'.plan l.entries old.ring) plant scans at v'.plan l old new')
+        (subst (λ (l : ControllerLog). VisitsWhere
+        (visit_is_due plant scans v'.plan l.entries old.ring) plant scans at v'.plan l old new')
         (sym (log-same old at v.plan v'.plan v.log v'.log v.is v'.is)) v'.visits))
 
     -- ---- a turn, and turns one after another
 
-    pub turn-grows : (turn : Turn) (old new : Joint) → MakesTurn plant scans turn old new → Grows old new
+    pub turn-grows : (turn : Turn) (old new : Joint) → MakesTurn plant scans turn old new
+        → Grows old new
     turn-grows (Step node) old new m = at (place_of_controller plant node) m
       where
         at : (c : Option ℕ) → MakesStep plant scans c old new → Grows old new
@@ -440,35 +544,47 @@ module _ (plant : Plant) (scans : ℕ) where
         at (Some k) m' = where-grows _ k m'.plan m'.log old new m'.is m'.visits
 
     -- a turn makes one thing
-    turn-one : (turn : Turn) (old new new' : Joint) → Kept old → Fine new → Fine new' → MakesTurn plant scans turn old new → MakesTurn plant scans turn old new'
+    turn-one : (turn : Turn) (old new new' : Joint) → Kept old → Fine new → Fine new'
+        → MakesTurn plant scans turn old new → MakesTurn plant scans turn old new'
         → OneJoint new new'
-    turn-one (Step node) old new new' kept fine fine' m m' = at (place_of_controller plant node) m m'
+    turn-one (Step node) old new new' kept fine fine' m m' =
+        at (place_of_controller plant node) m m'
       where
-        at : (c : Option ℕ) → MakesStep plant scans c old new → MakesStep plant scans c old new' → OneJoint new new'
+        at : (c : Option ℕ) → MakesStep plant scans c old new → MakesStep plant scans c old new'
+            → OneJoint new new'
         at None s s' = record { is = s ∙ sym s'; kept = subst Kept (sym s) kept }
         at (Some k) s s' = step-one k old new new' kept s s'
     turn-one Hold old new new' kept fine fine' m m' =
         let holder = (ring_after plant.net old.ring).holder in
-        hold-one holder (place_of_controller plant holder) (place_of_host plant holder) refl refl old new new' kept fine fine' m m'
-    turn-one (Visit node) old new new' kept fine fine' m m' = at (place_of_controller plant node) m m'
+        hold-one holder (place_of_controller plant holder) (place_of_host plant holder) refl refl
+        old new new' kept fine fine' m m'
+    turn-one (Visit node) old new new' kept fine fine' m m' =
+        at (place_of_controller plant node) m m'
       where
-        at : (c : Option ℕ) → MakesVisit plant scans c old new → MakesVisit plant scans c old new' → OneJoint new new'
+        at : (c : Option ℕ) → MakesVisit plant scans c old new → MakesVisit plant scans c old new'
+            → OneJoint new new'
         at None s s' = record { is = s ∙ sym s'; kept = subst Kept (sym s) kept }
         at (Some k) s s' = visit-one k old new new' kept fine fine' s s'
 
     -- turns only add
-    pub turns-grow : (turns : List Turn) (old new : Joint) → MakesTurns plant scans turns old new → Grows old new
+    pub turns-grow : (turns : List Turn) (old new : Joint) → MakesTurns plant scans turns old new
+        → Grows old new
     turns-grow [] old new m = subst (Grows old) (sym m) (grows-none old)
-    turns-grow (turn ∷ turns) old new m = grows-then old m.0 new (turn-grows turn old m.0 m.1) (turns-grow turns m.0 new m.2)
+    turns-grow (turn ∷ turns) old new m = grows-then old m.0 new (turn-grows turn old m.0 m.1)
+        (turns-grow turns m.0 new m.2)
 
     -- turns make one thing
-    pub turns-one : (turns : List Turn) (old new new' : Joint) → Kept old → Fine new → Fine new' → MakesTurns plant scans turns old new
+    pub turns-one : (turns : List Turn) (old new new' : Joint) → Kept old → Fine new → Fine new'
+        → MakesTurns plant scans turns old new
         → MakesTurns plant scans turns old new' → OneJoint new new'
-    turns-one [] old new new' kept fine fine' m m' = record { is = m ∙ sym m'; kept = subst Kept (sym m) kept }
+    turns-one [] old new new' kept fine fine' m m' =
+        record { is = m ∙ sym m'; kept = subst Kept (sym m) kept }
     turns-one (turn ∷ turns) old new new' kept fine fine' m m' =
-        let one = turn-one turn old m.0 m'.0 kept (fine-front m.0 new (turns-grow turns m.0 new m.2) fine)
+        let one = turn-one turn old m.0 m'.0 kept
+        (fine-front m.0 new (turns-grow turns m.0 new m.2) fine)
         (fine-front m'.0 new' (turns-grow turns m'.0 new' m'.2) fine') m.1 m'.1 in
-        turns-one turns m.0 new new' one.kept fine fine' m.2 (subst (λ j. MakesTurns plant scans turns j new') (sym one.is) m'.2)
+        turns-one turns m.0 new new' one.kept fine fine' m.2
+        (subst (λ j. MakesTurns plant scans turns j new') (sym one.is) m'.2)
 
   -- ---- the first joint history, and the last
 
@@ -477,16 +593,23 @@ module _ (plant : Plant) (scans : ℕ) where
       let from = map-at empty_log plant.controllers at log is.log_is in
       record {
         none = λ p f. none-at-first plant.net plan.node p f;
-        behind = subst (λ (l : ControllerLog). Behind plan.node l.entries []) (sym from.2) (let z : endings [] ≤ closings (own plan.node []) = omega arith in z);
+        behind = subst (λ (l : ControllerLog). Behind plan.node l.entries []) (sym from.2)
+            (let z : endings [] ≤ closings (own plan.node []) = omega arith in z);
       }
 
   pub fine-at-last : (joint : Joint) → IsLegalJoint plant scans joint → IsJoint joint → Fine joint
   fine-at-last joint legal tied = record {
     ring = legal.ring;
     lists = λ at plan log is.
-        let found = zip-at-first (IsLegalLog plant scans) plant.controllers joint.controllers at plan legal.controllers is.plan_is in
+        let found = zip-at-first (IsLegalLog plant scans) plant.controllers joint.controllers at
+        plan legal.controllers is.plan_is in
         let same : found.0 ≡ log = some-same (sym found.1 ∙ is.log_is) in
         let ok = subst (IsLegalLog plant scans plan) same found.2 in
-        let both = all-at (IsTiedController joint.ring) joint.controllers at log tied.controllers is.log_is in
-        record { legal = ok.1; meets = subst (λ n. Meets n log.entries joint.ring) ok.0 (meets-tied log.node log.entries joint.ring both) };
+        let both = all-at (IsTiedController joint.ring) joint.controllers at log
+        tied.controllers is.log_is in
+        record {
+          legal = ok.1;
+          meets = subst (λ n. Meets n log.entries joint.ring) ok.0
+              (meets-tied log.node log.entries joint.ring both);
+        };
   }

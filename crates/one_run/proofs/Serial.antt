@@ -1,5 +1,5 @@
 -- The serial run is one joint history: where each round and each repetition ends is decided.
-use Rattle.std.proofs.Common.{◌≡◌, ◌≢◌, ℕ, ◌+◌, ◌<◌, ◌==◌, Bool, true, false, List, []}
+use Rattle.std.proofs.Common.{◌≡◌, ◌≢◌, ℕ, ◌+◌, ◌==◌, Bool, true, false, List, []}
 use Rattle.std.proofs.Common.{◌∷◌, ◌++◌, length, replicate, refl, sym, ap, subst, ◌∙◌, arith}
 use Rattle.std.proofs.Common.{append-nil}
 use Rattle.std.specs.Prelude.{if◌then◌else◌}
@@ -11,7 +11,7 @@ use Rattle.scan_order.specs.declared.due.ScanStep.TheVariants as steps
 use Rattle.controller_core.specs.declared.entry.Entry.{Entry}
 use Rattle.controller_core.specs.declared.fixed.Fixed.{Fixed}
 use Rattle.controller_core.specs.Event.{entry_of}
-use Rattle.controller_core.specs.Replay.{State, apply, replay}
+use Rattle.controller_core.specs.Replay.{ControllerState, apply, replay}
 use Rattle.controller_core.specs.Run.{entries_from}
 use Rattle.joint_history.specs.declared.joint.ControllerLog.{ControllerLog}
 use Rattle.joint_history.specs.declared.joint.Joint.{Joint}
@@ -31,21 +31,26 @@ use Rattle.one_run.proofs.Runs.{grows-none, grows-then, kept-at-first, turns-gro
 -- ---- whole scans
 
 -- an event of the scan ends no call
-silent-entry : (fixed : Fixed) (s : State) (step : ScanStep) (more : List Entry) → endings (entry_of fixed s step ∷ more) ≡ endings more
+silent-entry : (fixed : Fixed) (s : ControllerState) (step : ScanStep) (more : List Entry)
+    → endings (entry_of fixed s step ∷ more) ≡ endings more
 silent-entry fixed s steps.Begin more = omega arith
 silent-entry fixed s (steps.In row) more = omega arith
 silent-entry fixed s (steps.Solve row) more = omega arith
 silent-entry fixed s (steps.Out row) more = omega arith
 silent-entry fixed s steps.End more = omega arith
 
-silent-scan : (fixed : Fixed) (s : State) (rest : List ScanStep) → endings (entries_from fixed s rest) ≡ 0
+silent-scan : (fixed : Fixed) (s : ControllerState) (rest : List ScanStep)
+    → endings (entries_from fixed s rest) ≡ 0
 unfolding entries_from
 silent-scan fixed s [] = refl
-silent-scan fixed s (step ∷ rest) = at (s.stop == 0) (silent-scan fixed (apply fixed s (entry_of fixed s step)) rest)
+silent-scan fixed s (step ∷ rest) =
+    at (s.stop == 0) (silent-scan fixed (apply fixed s (entry_of fixed s step)) rest)
   where
     at : (b : Bool) → endings (entries_from fixed (apply fixed s (entry_of fixed s step)) rest) ≡ 0
-        → endings (if b then entry_of fixed s step ∷ entries_from fixed (apply fixed s (entry_of fixed s step)) rest else []) ≡ 0
-    at true more = silent-entry fixed s step (entries_from fixed (apply fixed s (entry_of fixed s step)) rest) ∙ more
+        → endings (if b then entry_of fixed s step ∷ entries_from fixed
+        (apply fixed s (entry_of fixed s step)) rest else []) ≡ 0
+    at true more = silent-entry fixed s step
+        (entries_from fixed (apply fixed s (entry_of fixed s step)) rest) ∙ more
     at false more = refl
 
 record Scanned (entries new : List Entry) : Type 0 where
@@ -58,15 +63,18 @@ scanned-so : (fixed : Fixed) (entries : List Entry) → Scanned entries (with_sc
 scanned-so fixed entries = at (has_ended_at fixed entries)
   where
     at : (b : Bool)
-        → Scanned entries (if b then entries else entries ++ entries_from fixed (replay fixed entries) (due fixed.plan ((replay fixed entries).ended + 1)))
+        → Scanned entries (if b then entries else entries ++ entries_from fixed
+        (replay fixed entries) (due fixed.plan ((replay fixed entries).ended + 1)))
     at true = record { noted = []; is = sym (append-nil entries); silent = refl }
     at false = record {
-      noted = entries_from fixed (replay fixed entries) (due fixed.plan ((replay fixed entries).ended + 1));
+      noted = entries_from fixed (replay fixed entries)
+          (due fixed.plan ((replay fixed entries).ended + 1));
       is = refl;
-      silent = silent-scan fixed (replay fixed entries) (due fixed.plan ((replay fixed entries).ended + 1));
+      silent = silent-scan fixed (replay fixed entries)
+          (due fixed.plan ((replay fixed entries).ended + 1));
     }
 
-module _ (plant : Plant) (scans : ℕ) (laws : CallLaws) (answer : 0 < plant.net.answer) where
+module _ (plant : Plant) (scans : ℕ) (laws : CallLaws) where
   -- whole scans only add
   scan-grows : (joint : Joint) → Grows plant scans joint (scanned plant scans joint)
   scan-grows joint = record {
@@ -78,7 +86,8 @@ module _ (plant : Plant) (scans : ℕ) (laws : CallLaws) (answer : 0 < plant.net
           new_log = log_with_scan plant scans (plan, log);
           is = record {
             plan_is = is.plan_is;
-            log_is = at-map (log_with_scan plant scans) (logged plant joint) at (plan, log) (at-zip plant.controllers joint.controllers at plan log is.plan_is is.log_is);
+            log_is = at-map (log_with_scan plant scans) (logged plant joint) at (plan, log)
+                (at-zip plant.controllers joint.controllers at plan log is.plan_is is.log_is);
           };
           noted = s.noted;
           entries_are = s.is;
@@ -86,7 +95,8 @@ module _ (plant : Plant) (scans : ℕ) (laws : CallLaws) (answer : 0 < plant.net
   }
 
   -- and keep what holds between turns
-  scan-kept : (joint : Joint) → Kept plant scans joint → Kept plant scans (scanned plant scans joint)
+  scan-kept : (joint : Joint) → Kept plant scans joint
+      → Kept plant scans (scanned plant scans joint)
   scan-kept joint kept at plan log is =
       let from = map-at (log_with_scan plant scans) (logged plant joint) at log is.log_is in
       let both = zip-at plant.controllers joint.controllers at from.0 from.1 in
@@ -96,49 +106,69 @@ module _ (plant : Plant) (scans : ℕ) (laws : CallLaws) (answer : 0 < plant.net
       record {
         none = before.none;
         behind = subst (λ (l : ControllerLog). Behind plan.node l.entries joint.ring)
-            (ap (λ (p : ControllerPlan). log_with_scan plant scans (p, from.0.1)) (sym same) ∙ sym from.2)
-            (events-behind plant scans plan.node from.0.1.entries s.noted (with_scan (fixed_of plant scans plan) from.0.1.entries) joint.ring s.is s.silent before.behind);
+            (ap (λ (p : ControllerPlan). log_with_scan plant scans (p, from.0.1)) (sym same)
+            ∙ sym from.2)
+            (events-behind plant scans plan.node from.0.1.entries s.noted (with_scan
+            (fixed_of plant scans plan) from.0.1.entries) joint.ring s.is s.silent before.behind);
       }
 
   -- ---- a relation that makes one thing
 
   record MakesOne (Came : Joint → Joint → Type 0) : Type 0 where
     grows : (old new : Joint) → Came old new → Grows plant scans old new
-    one : (old new new' : Joint) → Kept plant scans old → Fine plant scans new → Fine plant scans new' → Came old new → Came old new'
+    one : (old new new' : Joint) → Kept plant scans old → Fine plant scans new
+        → Fine plant scans new' → Came old new → Came old new'
         → OneJoint plant scans new new'
 
   -- a chain of such only adds
-  chain-grows : (Came : Joint → Joint → Type 0) → MakesOne Came → (behind : List Joint) (old new : Joint) → IsChain Came old behind new → Grows plant scans old new
-  chain-grows Came m [] old new c = subst (Grows plant scans old) (sym c) (grows-none plant scans old)
+  chain-grows : (Came : Joint → Joint → Type 0) → MakesOne Came
+      → (behind : List Joint) (old new : Joint) → IsChain Came old behind new
+      → Grows plant scans old new
+  chain-grows Came m [] old new c = subst (Grows plant scans old) (sym c)
+      (grows-none plant scans old)
   chain-grows Came m (next ∷ behind) old new c =
-      grows-then plant scans old next new (m.grows old next c.0) (chain-grows Came m behind next new c.1)
+      grows-then plant scans old next new (m.grows old next c.0)
+      (chain-grows Came m behind next new c.1)
 
   -- of so many
-  many-one : (Came : Joint → Joint → Type 0) → MakesOne Came → (behind behind' : List Joint) (old new new' : Joint) → length behind ≡ length behind'
-      → Kept plant scans old → Fine plant scans new → Fine plant scans new' → IsChain Came old behind new → IsChain Came old behind' new'
+  many-one : (Came : Joint → Joint → Type 0) → MakesOne Came
+      → (behind behind' : List Joint) (old new new' : Joint) → length behind ≡ length behind'
+      → Kept plant scans old → Fine plant scans new → Fine plant scans new'
+      → IsChain Came old behind new → IsChain Came old behind' new'
       → OneJoint plant scans new new'
-  many-one Came m [] [] old new new' long kept fine fine' c c' = record { is = c ∙ sym c'; kept = subst (Kept plant scans) (sym c) kept }
-  many-one Came m [] (next ∷ behind) old new new' long kept fine fine' c c' = absurd (omega (arith, long))
-  many-one Came m (next ∷ behind) [] old new new' long kept fine fine' c c' = absurd (omega (arith, long))
+  many-one Came m [] [] old new new' long kept fine fine' c c' =
+      record { is = c ∙ sym c'; kept = subst (Kept plant scans) (sym c) kept }
+  many-one Came m [] (next ∷ behind) old new new' long kept fine fine' c c' =
+      absurd (omega (arith, long))
+  many-one Came m (next ∷ behind) [] old new new' long kept fine fine' c c' =
+      absurd (omega (arith, long))
   many-one Came m (next ∷ behind) (next' ∷ behind') old new new' long kept fine fine' c c' =
-      let one = m.one old next next' kept (fine-front plant scans next new (chain-grows Came m behind next new c.1) fine)
-      (fine-front plant scans next' new' (chain-grows Came m behind' next' new' c'.1) fine') c.0 c'.0 in
+      let one = m.one old next next' kept
+      (fine-front plant scans next new (chain-grows Came m behind next new c.1) fine)
+      (fine-front plant scans next' new' (chain-grows Came m behind' next' new' c'.1)
+      fine') c.0 c'.0 in
       many-one Came m behind behind' next new new' (omega (arith, long)) one.kept fine fine' c.1
       (subst (λ j. IsChain Came j behind' new') (sym one.is) c'.1)
 
   -- of as many as it takes
-  until-one : (Came : Joint → Joint → Type 0) (Going : Joint → Type 0) → MakesOne Came → ((old new : Joint) → Came old new → Going old)
+  until-one : (Came : Joint → Joint → Type 0) (Going : Joint → Type 0) → MakesOne Came
+      → ((old new : Joint) → Came old new → Going old)
       → (behind behind' : List Joint) (old new new' : Joint) → (Going new → ⊥) → (Going new' → ⊥)
-      → Kept plant scans old → Fine plant scans new → Fine plant scans new' → IsChain Came old behind new → IsChain Came old behind' new'
+      → Kept plant scans old → Fine plant scans new → Fine plant scans new'
+      → IsChain Came old behind new → IsChain Came old behind' new'
       → OneJoint plant scans new new'
-  until-one Came Going m goes [] [] old new new' over over' kept fine fine' c c' = record { is = c ∙ sym c'; kept = subst (Kept plant scans) (sym c) kept }
+  until-one Came Going m goes [] [] old new new' over over' kept fine fine' c c' =
+      record { is = c ∙ sym c'; kept = subst (Kept plant scans) (sym c) kept }
   until-one Came Going m goes [] (next ∷ behind) old new new' over over' kept fine fine' c c' =
       absurd (over (subst Going (sym c) (goes old next c'.0)))
   until-one Came Going m goes (next ∷ behind) [] old new new' over over' kept fine fine' c c' =
       absurd (over' (subst Going (sym c') (goes old next c.0)))
-  until-one Came Going m goes (next ∷ behind) (next' ∷ behind') old new new' over over' kept fine fine' c c' =
-      let one = m.one old next next' kept (fine-front plant scans next new (chain-grows Came m behind next new c.1) fine)
-      (fine-front plant scans next' new' (chain-grows Came m behind' next' new' c'.1) fine') c.0 c'.0 in
+  until-one Came Going m goes (next ∷ behind) (next' ∷ behind') old new new' over over' kept
+      fine fine' c c' =
+      let one = m.one old next next' kept
+      (fine-front plant scans next new (chain-grows Came m behind next new c.1) fine)
+      (fine-front plant scans next' new' (chain-grows Came m behind' next' new' c'.1)
+      fine') c.0 c'.0 in
       until-one Came Going m goes behind behind' next new new' over over' one.kept fine fine' c.1
       (subst (λ j. IsChain Came j behind' new') (sym one.is) c'.1)
 
@@ -146,34 +176,42 @@ module _ (plant : Plant) (scans : ℕ) (laws : CallLaws) (answer : 0 < plant.net
 
   round-one : MakesOne (MakesRound plant scans)
   round-one = record {
-    grows = λ old new m. turns-grow plant scans laws answer (replicate (members_left plant old.ring) Hold) old new m;
+    grows = λ old new m.
+        turns-grow plant scans laws (replicate (members_left plant old.ring) Hold) old new m;
     one = λ old new new' kept fine fine' m m'.
-        turns-one plant scans laws answer (replicate (members_left plant old.ring) Hold) old new new' kept fine fine' m m';
+        turns-one plant scans laws (replicate (members_left plant old.ring) Hold) old new new' kept
+        fine fine' m m';
   }
 
   rounds-one : (count : ℕ) → MakesOne (MakesRounds plant scans count)
   rounds-one count = record {
-    grows = λ old new m. chain-grows (MakesRound plant scans) round-one m.behind_each old new m.rounds;
+    grows = λ old new m.
+        chain-grows (MakesRound plant scans) round-one m.behind_each old new m.rounds;
     one = λ old new new' kept fine fine' m m'.
-        many-one (MakesRound plant scans) round-one m.behind_each m'.behind_each old new new' (m.many ∙ sym m'.many) kept fine fine' m.rounds m'.rounds;
+        many-one (MakesRound plant scans) round-one m.behind_each m'.behind_each old new new'
+        (m.many ∙ sym m'.many) kept fine fine' m.rounds m'.rounds;
   }
 
   -- a repetition only adds
-  repetition-grows : (old new : Joint) → IsRepetition plant scans old new → Grows plant scans old new
+  repetition-grows : (old new : Joint) → IsRepetition plant scans old new
+      → Grows plant scans old new
   repetition-grows old new m =
       grows-then plant scans old (scanned plant scans old) new (scan-grows old)
       (grows-then plant scans (scanned plant scans old) m.visited new
-      (turns-grow plant scans laws answer (visits_of plant) (scanned plant scans old) m.visited m.visits)
+      (turns-grow plant scans laws (visits_of plant) (scanned plant scans old) m.visited m.visits)
       ((rounds-one plant.net.rotations).grows m.visited new m.rounds))
 
   -- and makes one thing
-  repetition-same : (old new new' : Joint) → Kept plant scans old → Fine plant scans new → Fine plant scans new' → IsRepetition plant scans old new
+  repetition-same : (old new new' : Joint) → Kept plant scans old → Fine plant scans new
+      → Fine plant scans new' → IsRepetition plant scans old new
       → IsRepetition plant scans old new' → OneJoint plant scans new new'
   repetition-same old new new' kept fine fine' m m' =
       let rounds = rounds-one plant.net.rotations in
-      let visited = turns-one plant scans laws answer (visits_of plant) (scanned plant scans old) m.visited m'.visited (scan-kept old kept)
+      let visited = turns-one plant scans laws (visits_of plant) (scanned plant scans old) m.visited
+      m'.visited (scan-kept old kept)
       (fine-front plant scans m.visited new (rounds.grows m.visited new m.rounds) fine)
-      (fine-front plant scans m'.visited new' (rounds.grows m'.visited new' m'.rounds) fine') m.visits m'.visits in
+      (fine-front plant scans m'.visited new' (rounds.grows m'.visited new' m'.rounds) fine')
+      m.visits m'.visits in
       rounds.one m.visited new new' visited.kept fine fine' m.rounds
       (subst (λ j. MakesRounds plant scans plant.net.rotations j new') (sym visited.is) m'.rounds)
 
@@ -183,37 +221,49 @@ module _ (plant : Plant) (scans : ℕ) (laws : CallLaws) (answer : 0 < plant.net
   late-one : MakesOne (IsLateRound plant scans)
   late-one = record {
     grows = λ old new m. round-one.grows old new m.round;
-    one = λ old new new' kept fine fine' m m'. round-one.one old new new' kept fine fine' m.round m'.round;
+    one = λ old new new' kept fine fine' m m'.
+        round-one.one old new new' kept fine fine' m.round m'.round;
   }
 
   -- ---- the serial run
 
   -- repetitions until all controllers have ended make one thing
-  repeats-one : (old new new' : Joint) → Kept plant scans old → Fine plant scans new → Fine plant scans new' → Repeats plant scans old new
+  repeats-one : (old new new' : Joint) → Kept plant scans old → Fine plant scans new
+      → Fine plant scans new' → Repeats plant scans old new
       → Repeats plant scans old new' → OneJoint plant scans new new'
   repeats-one old new new' kept fine fine' m m' =
-      until-one (IsRepetition plant scans) (λ j. all_have_ended plant scans j ≡ false) repetition-one (λ before after c. c.goes_on)
-      m.behind_each m'.behind_each old new new' (clash m.ended) (clash m'.ended) kept fine fine' m.repetitions m'.repetitions
+      until-one (IsRepetition plant scans) (λ j. all_have_ended plant scans j ≡ false)
+      repetition-one (λ before after c. c.goes_on)
+      m.behind_each m'.behind_each old new new' (clash m.ended)
+      (clash m'.ended) kept fine fine' m.repetitions m'.repetitions
     where
       clash : {b : Bool} → b ≡ true → b ≡ false → ⊥
       clash yes' no' = let bad : true ≡ false = sym yes' ∙ no' in cc
 
   finishes-grow : (old new : Joint) → Finishes plant scans old new → Grows plant scans old new
-  finishes-grow old new m = chain-grows (IsLateRound plant scans) late-one m.behind_each old new m.rounds
+  finishes-grow old new m = chain-grows (IsLateRound plant scans) late-one m.behind_each
+      old new m.rounds
 
   -- rounds until every node has left make one thing
-  finishes-one : (old new new' : Joint) → Kept plant scans old → Fine plant scans new → Fine plant scans new' → Finishes plant scans old new
+  finishes-one : (old new new' : Joint) → Kept plant scans old → Fine plant scans new
+      → Fine plant scans new' → Finishes plant scans old new
       → Finishes plant scans old new' → OneJoint plant scans new new'
   finishes-one old new new' kept fine fine' m m' =
-      until-one (IsLateRound plant scans) (λ (j : Joint). members_left plant j.ring ≢ 0) late-one (λ before after c. c.goes_on)
-      m.behind_each m'.behind_each old new new' (λ some. some m.left) (λ some. some m'.left) kept fine fine' m.rounds m'.rounds
+      until-one (IsLateRound plant scans) (λ (j : Joint). members_left plant j.ring ≢ 0) late-one
+      (λ before after c. c.goes_on)
+      m.behind_each m'.behind_each old new new' (λ some. some m.left)
+      (λ some. some m'.left) kept fine fine' m.rounds m'.rounds
 
   -- and so does the serial run
-  pub serial-one : (joint joint' : Joint) → Fine plant scans joint → Fine plant scans joint' → IsSerial plant scans joint → IsSerial plant scans joint'
+  pub serial-one : (joint joint' : Joint) → Fine plant scans joint → Fine plant scans joint'
+      → IsSerial plant scans joint → IsSerial plant scans joint'
       → joint ≡ joint'
   serial-one joint joint' fine fine' m m' =
-      let ended = repeats-one (nothing_made plant) m.ended_joint m'.ended_joint (kept-at-first plant scans)
-      (fine-front plant scans m.ended_joint joint (finishes-grow m.ended_joint joint m.finishes) fine)
-      (fine-front plant scans m'.ended_joint joint' (finishes-grow m'.ended_joint joint' m'.finishes) fine') m.repeats m'.repeats in
+      let ended = repeats-one (nothing_made plant) m.ended_joint m'.ended_joint
+      (kept-at-first plant scans)
+      (fine-front plant scans m.ended_joint joint
+      (finishes-grow m.ended_joint joint m.finishes) fine)
+      (fine-front plant scans m'.ended_joint joint'
+      (finishes-grow m'.ended_joint joint' m'.finishes) fine') m.repeats m'.repeats in
       (finishes-one m.ended_joint joint joint' ended.kept fine fine' m.finishes
       (subst (λ j. Finishes plant scans j joint') (sym ended.is) m'.finishes)).is

@@ -24,23 +24,26 @@ use Rattle.ring_core.specs.Scratch.{words_put}
 use Rattle.ring_core.specs.Statistics.{is_stats}
 use Rattle.tied_lists.specs.Own.{is_of, own}
 use Rattle.comm_port.specs.Giving.{part_at}
-use Rattle.comm_port.specs.HoldTurn.{Collects, CollectsIf, EndedAs, Ends, HoldsTurn}
+use Rattle.comm_port.specs.HoldTurn.{Collects, CollectsIf, EndedAs, EndsHoldTurn, HoldsTurn}
 use Rattle.comm_port.specs.HoldTurn.{IsEnded, IsGivenUp, IsMade, IsServed, MadeAs}
 use Rattle.comm_port.specs.HoldTurn.{SendsAll, ServedAs, VisitsEnd, inbox_of, overdue}
 use Rattle.comm_port.specs.Leaving.{cause_due, last_entry}
 use Rattle.comm_port.specs.Parts.{InOrder, PartOf, calls_waiting}
+use Rattle.comm_port.proofs.Asked.{both-asked}
 use Rattle.joint_history.specs.Reading.{has_ended_at, has_started_at, is_ours}
 use Rattle.joint_history.proofs.Collected.{CallLaws}
 use Rattle.turn_laws.proofs.Passes.{each-join}
 use Rattle.one_run.proofs.Dues.{one-ended, one-given, one-made, one-served}
 use Rattle.one_run.proofs.Fails.{HasFailedOn, IsNoSend, no-more-fail}
 use Rattle.one_run.proofs.Meets.{Behind, IsMine, May, behind-more, closings, endings}
-use Rattle.one_run.proofs.Parts.{Goes, Same, collects-goes, collects-same, goes-then, grew-is}
-use Rattle.one_run.proofs.Parts.{grew-ours, may-goes, none-fails, order-same, part-goes, part-same}
+use Rattle.one_run.proofs.Meets.{grew-is, grew-ours}
+use Rattle.one_run.proofs.Parts.{Goes, Same, collects-goes, collects-same, goes-then}
+use Rattle.one_run.proofs.Parts.{may-goes, order-same, part-goes, part-same}
 use Rattle.one_run.proofs.Parts.{sends-goes, sent-same, went-is}
 
 -- a fact of two lists, at equal ones
-pub move : (P : List Entry → List RingEntry → Type 0) (k k' : List Entry) (r r' : List RingEntry) → k ≡ k' → r ≡ r' → P k r → P k' r'
+pub move : (P : List Entry → List RingEntry → Type 0) (k k' : List Entry) (r r' : List RingEntry)
+    → k ≡ k' → r ≡ r' → P k r → P k' r'
 move P k k' r r' p q it = subst (λ l. P l r') p (subst (λ l. P k l) q it)
 
 -- what holds of everything holds of each item
@@ -54,12 +57,14 @@ abbrev pub NoneFails : NetPlan → ℕ → List RingEntry → Type 0
 NoneFails net n ring = (p : ℕ) → HasFailedOn (part_at net n ring) p → ⊥
 
 -- where no call of a node has failed, none has behind entries that are no Sends of the node
-pub none-behind : (net : NetPlan) (n : ℕ) (x more y : List RingEntry) → y ≡ x ++ more → Each (IsNoSend n) more → NoneFails net n x → NoneFails net n y
+pub none-behind : (net : NetPlan) (n : ℕ) (x more y : List RingEntry) → y ≡ x ++ more
+    → Each (IsNoSend n) more → NoneFails net n x → NoneFails net n y
 none-behind net n x more y is quiet none p f =
     none p (no-more-fail net x more n p quiet (subst (λ l. HasFailedOn (part_at net n l) p) is f))
 
 -- entries of one node are no Sends of another
-pub quiet-others : (m n : ℕ) → m ≢ n → (es : List RingEntry) → Each (IsMine n) es → Each (IsNoSend m) es
+pub quiet-others : (m n : ℕ) → m ≢ n → (es : List RingEntry) → Each (IsMine n) es
+    → Each (IsNoSend m) es
 quiet-others m n other [] mine = tt
 quiet-others m n other (e ∷ es) mine = (at e mine.0, quiet-others m n other es mine.1)
   where
@@ -74,20 +79,24 @@ quiet-others m n other (e ∷ es) mine = (at e mine.0, quiet-others m n other es
 
 -- what is due has no Send of the node
 abbrev IsQuiet : {X : Type 0} → ℕ → (X → List Entry → List RingEntry → Type 0) → Type 0
-IsQuiet {X} n Due = (x : X) (noted : List Entry) (done : List RingEntry) → Due x noted done → Each (IsNoSend n) done
+IsQuiet {X} n Due = (x : X) (noted : List Entry) (done : List RingEntry) → Due x noted done
+    → Each (IsNoSend n) done
 
 -- nor has what is due one after another
-quiet-order : {X : Type 0} (n : ℕ) (Due : X → List Entry → List RingEntry → Type 0) → IsQuiet n Due → (xs : List X) (noted : List Entry) (done : List RingEntry)
+quiet-order : {X : Type 0} (n : ℕ) (Due : X → List Entry → List RingEntry → Type 0) → IsQuiet n Due
+    → (xs : List X) (noted : List Entry) (done : List RingEntry)
     → InOrder Due xs noted done → Each (IsNoSend n) done
 quiet-order n Due quiet [] noted done a = subst (Each (IsNoSend n)) (sym a.1) tt
 quiet-order n Due quiet (x ∷ xs) noted done a =
-    subst (Each (IsNoSend n)) (sym a.5) (each-join (IsNoSend n) a.2 a.3 (quiet x a.0 a.2 a.6) (quiet-order n Due quiet xs a.1 a.3 a.7))
+    subst (Each (IsNoSend n)) (sym a.5)
+    (each-join (IsNoSend n) a.2 a.3 (quiet x a.0 a.2 a.6) (quiet-order n Due quiet xs a.1 a.3 a.7))
 
 -- a frame that is served is no Send
 quiet-served : (n : ℕ) → IsQuiet n (IsServed n)
 quiet-served n f noted done u = at f.kind (is_stats f.pdu) u
   where
-    at : (kind : FrameKind) (stats : Bool) → ServedAs kind stats n f noted done → Each (IsNoSend n) done
+    at : (kind : FrameKind) (stats : Bool) → ServedAs kind stats n f noted done
+        → Each (IsNoSend n) done
     at Reply stats a = subst (Each (IsNoSend n)) (sym a.2) (tt, tt)
     at Request true a = subst (Each (IsNoSend n)) (sym a.4) (tt, (tt, (tt, tt)))
     at Request false a = subst (Each (IsNoSend n)) (sym a.2) (tt, (tt, tt))
@@ -113,13 +122,15 @@ quiet-given : (n : ℕ) → IsQuiet n IsGivenUp
 quiet-given n id noted done a = subst (Each (IsNoSend n)) (sym a.2) (tt, tt)
 
 -- nor are calls that are collected
-quiet-collects : (n : ℕ) (Due : Call → List Entry → List RingEntry → Type 0) → IsQuiet n Due → (b : Bool) (noted : List Entry) (done : List RingEntry)
+quiet-collects : (n : ℕ) (Due : Call → List Entry → List RingEntry → Type 0) → IsQuiet n Due
+    → (b : Bool) (noted : List Entry) (done : List RingEntry)
     → CollectsIf b Due noted done → Each (IsNoSend n) done
 quiet-collects n Due quiet false noted done a = subst (Each (IsNoSend n)) (sym a.1) tt
 quiet-collects n Due quiet true noted done a = quiet-order n Due quiet a.0 a.1 done a.3
 
 -- nor is the last entry of a turn
-quiet-last : (n : ℕ) (done : Bool) (words : List ℕ) (cause : Option LeaveCause) → IsNoSend n (last_entry n done words cause)
+quiet-last : (n : ℕ) (done : Bool) (words : List ℕ) (cause : Option LeaveCause)
+    → IsNoSend n (last_entry n done words cause)
 quiet-last n done words None = tt
 quiet-last n done words (Some why) = tt
 
@@ -133,34 +144,42 @@ same-if false false f g = refl
 
 module _ (fixed : Fixed) (net : NetPlan) (n : ℕ) (budget : Bool) where
   abbrev End : List Entry → List Entry → List RingEntry → List RingEntry → Bool → Type 0
-  End a b x y left = Ends true true fixed net n budget a b x y left
+  End a b x y left = EndsHoldTurn true true fixed net n budget a b x y left
 
   -- a question adds nothing
-  asked-is : (a b : List Entry) (x y : List RingEntry) (left : Bool) (e : End a b x y left) → e.asked.at_end ≡ a
-  asked-is a b x y left e = went-is is_ours a e.asked.at_end e.asked.first
+  asked-is : (a b : List Entry) (x y : List RingEntry) (left : Bool) (e : End a b x y left)
+      → (both-asked e.asked).at_end ≡ a
+  asked-is a b x y left e = went-is is_ours a (both-asked e.asked).at_end (both-asked e.asked).first
 
   -- nor do two
-  then-is : (a b : List Entry) (x y : List RingEntry) (left : Bool) (e : End a b x y left) → e.asked_known ≡ a
-  then-is a b x y left e = went-is is_ours e.asked.at_end e.asked_known e.asked.then_on ∙ asked-is a b x y left e
+  then-is : (a b : List Entry) (x y : List RingEntry) (left : Bool) (e : End a b x y left)
+      → e.asked_known ≡ a
+  then-is a b x y left e = went-is is_ours (both-asked e.asked).at_end e.asked_known
+      (both-asked e.asked).then_on ∙ asked-is a b x y left e
 
   -- a controller is done in one turn if it is in the other
-  done-if : (a b b' : List Entry) (x y y' : List RingEntry) (left left' : Bool) (e : End a b x y left) (e' : End a b' x y' left') → e.done ≡ true → e'.done ≡ true
+  done-if : (a b b' : List Entry) (x y y' : List RingEntry) (left left' : Bool)
+      (e : End a b x y left) (e' : End a b' x y' left') → e.done ≡ true → e'.done ≡ true
   done-if a b b' x y y' left left' e e' is =
-      e'.asked.all
-      (ap (has_ended_at fixed) (asked-is a b' x y' left' e' ∙ sym (asked-is a b x y left e)) ∙ e.asked.ended is)
-      (ap (has_started_at fixed) (then-is a b' x y' left' e' ∙ sym (then-is a b x y left e)) ∙ e.asked.collected is)
-      (e.asked.idle is)
+      (both-asked e'.asked).all
+      (ap (has_ended_at fixed) (asked-is a b' x y' left' e' ∙ sym (asked-is a b x y left e))
+      ∙ (both-asked e.asked).ended is)
+      (ap (has_started_at fixed) (then-is a b' x y' left' e' ∙ sym (then-is a b x y left e))
+      ∙ (both-asked e.asked).collected is)
+      ((both-asked e.asked).idle is)
 
   -- the last entry of a turn
   abbrev last : List RingEntry → Bool → RingEntry
   last x done = last_entry n done (words_put n x) (cause_due net (ring_after net x) n done budget)
 
   -- the ring goes on by it
-  handed-is : (a b : List Entry) (x y : List RingEntry) (left : Bool) (e : End a b x y left) → e.handed_ring ≡ x ++ last x e.done ∷ []
+  handed-is : (a b : List Entry) (x y : List RingEntry) (left : Bool) (e : End a b x y left)
+      → e.handed_ring ≡ x ++ last x e.done ∷ []
   handed-is a b x y left e = grew-is (is_of n) x (last x e.done ∷ []) e.handed_ring e.handed.grew
 
   -- the end of a turn adds to both lists
-  pub ends-goes : (a b : List Entry) (x y : List RingEntry) (left : Bool) → End a b x y left → Goes n a b x y
+  pub ends-goes : (a b : List Entry) (x y : List RingEntry) (left : Bool) → End a b x y left
+      → Goes n a b x y
   ends-goes a b x y left e = goes-then n a e.asked_known b x e.handed_ring y
       (record {
         noted = [];
@@ -172,22 +191,31 @@ module _ (fixed : Fixed) (net : NetPlan) (n : ℕ) (budget : Bool) where
       (part-goes n _ e.asked_known b e.handed_ring y e.gives_up)
 
   -- no call of the node fails at it
-  pub ends-none : (a b : List Entry) (x y : List RingEntry) (left : Bool) → End a b x y left → NoneFails net n x → NoneFails net n y
+  pub ends-none : (a b : List Entry) (x y : List RingEntry) (left : Bool) → End a b x y left
+      → NoneFails net n x → NoneFails net n y
   ends-none a b x y left e none =
-      none-behind net n e.handed_ring e.gives_up.done y (grew-is (is_of n) e.handed_ring e.gives_up.done y e.gives_up.node)
+      none-behind net n e.handed_ring e.gives_up.done y
+      (grew-is (is_of n) e.handed_ring e.gives_up.done y e.gives_up.node)
       (quiet-order n IsGivenUp (quiet-given n) _ e.gives_up.noted e.gives_up.done e.gives_up.due)
-      (none-behind net n x (last x e.done ∷ []) e.handed_ring (handed-is a b x y left e) (quiet-last n e.done _ _, tt) none)
+      (none-behind net n x (last x e.done ∷ []) e.handed_ring (handed-is a b x y left e)
+      (quiet-last n e.done _ _, tt) none)
 
   -- it makes one thing
-  pub ends-same : (a b b' : List Entry) (x y y' : List RingEntry) (left left' : Bool) → Behind n a x → End a b x y left → May fixed net n b y → End a b' x y' left'
+  pub ends-same : (a b b' : List Entry) (x y y' : List RingEntry) (left left' : Bool) → Behind n a x
+      → End a b x y left → May fixed net n b y → End a b' x y' left'
       → May fixed net n b' y' → Same n b b' y y' × (left ≡ left')
   ends-same a b b' x y y' left left' behind e m e' m' = (
-    part-same fixed net n (Given left) (order-same fixed net n (λ (id : CallId). Unit {0}) IsGivenUp (one-given fixed net n) (ids left) (each-all (λ (id : CallId). Unit {0}) (λ id. tt) (ids left)))
+    part-same fixed net n (Given left)
+        (order-same fixed net n (λ (id : CallId). Unit {0}) IsGivenUp (one-given fixed net n)
+        (ids left) (each-all (λ (id : CallId). Unit {0}) (λ id. tt) (ids left)))
         a b b' (x ++ last x e.done ∷ []) y y' passed
-        (move (λ k r. PartOf true true is_ours n (Given left) k b r y) _ _ _ _ (then-is a b x y left e) (handed-is a b x y left e) e.gives_up) m
-        (move (λ k r. PartOf true true is_ours n (Given left) k b' r y') _ _ _ _ (then-is a b' x y' left' e')
+        (move (λ k r. PartOf true true is_ours n (Given left) k b r y) _ _ _ _
+        (then-is a b x y left e) (handed-is a b x y left e) e.gives_up) m
+        (move (λ k r. PartOf true true is_ours n (Given left) k b' r y') _ _ _ _
+        (then-is a b' x y' left' e')
         (handed-is a b' x y' left' e' ∙ ap (λ d. x ++ last x d ∷ []) (sym done))
-        (subst (λ l. PartOf true true is_ours n (Given l) e'.asked_known b' e'.handed_ring y') (sym same-left) e'.gives_up)) m',
+        (subst (λ l. PartOf true true is_ours n (Given l) e'.asked_known b' e'.handed_ring y')
+        (sym same-left) e'.gives_up)) m',
     same-left,
   )
     where
@@ -198,25 +226,31 @@ module _ (fixed : Fixed) (net : NetPlan) (n : ℕ) (budget : Bool) where
       Given l = InOrder IsGivenUp (if l then calls_waiting n x else [])
 
       done : e.done ≡ e'.done
-      done = same-if e.done e'.done (done-if a b b' x y y' left left' e e') (done-if a b' b x y' y left' left e' e)
+      done = same-if e.done e'.done (done-if a b b' x y y' left left' e e')
+          (done-if a b' b x y' y left' left e' e)
 
       same-left : left ≡ left'
-      same-left = e.left_is ∙ ap (λ d. is_some (cause_due net (ring_after net x) n d budget)) done ∙ sym e'.left_is
+      same-left = e.left_is ∙ ap (λ d. is_some (cause_due net (ring_after net x) n d budget)) done
+          ∙ sym e'.left_is
 
       passed : Behind n a (x ++ last x e.done ∷ [])
       passed = subst (λ k. Behind n k (x ++ last x e.done ∷ [])) (append-nil a)
-          (behind-more n a [] x (last x e.done ∷ []) behind (let z : endings [] ≤ closings (own n (last x e.done ∷ [])) = omega arith in z))
+          (behind-more n a [] x (last x e.done ∷ []) behind
+          (let z : endings [] ≤ closings (own n (last x e.done ∷ [])) = omega arith in z))
 
 -- ---- the whole turn
 
-module _ (laws : CallLaws) (fixed : Fixed) (net : NetPlan) (n : ℕ) (node : fixed.plan.node ≡ n) (budget : Bool) where
-  module _ (left : Bool) (a b : List Entry) (x y : List RingEntry) (t : HoldsTurn true true fixed net n budget a b x y left) where
+module _ (laws : CallLaws) (fixed : Fixed) (net : NetPlan) (n : ℕ) (node : fixed.plan.node ≡ n)
+    (budget : Bool) where
+  module _ (left : Bool) (a b : List Entry) (x y : List RingEntry)
+      (t : HoldsTurn true true fixed net n budget a b x y left) where
     -- each part adds to both lists
     pub serves-goes : Goes n a t.served_known x t.served_ring
     serves-goes = part-goes n _ a t.served_known x t.served_ring t.serves
 
     pub calls-goes : Goes n t.served_known t.called_known t.served_ring t.called_ring
-    calls-goes = collects-goes fixed n (IsMade n) t.served_known t.called_known t.served_ring t.called_ring t.calls
+    calls-goes = collects-goes fixed n (IsMade n) t.served_known t.called_known t.served_ring
+        t.called_ring t.calls
 
     pub sending-goes : Goes n t.called_known t.sent_known t.called_ring t.sent_ring
     sending-goes = sends-goes net n t.called_known t.sent_known t.called_ring t.sent_ring t.sends
@@ -233,24 +267,29 @@ module _ (laws : CallLaws) (fixed : Fixed) (net : NetPlan) (n : ℕ) (node : fix
         goes-then n a t.served_known b x t.served_ring y serves-goes
         (goes-then n t.served_known t.called_known b t.served_ring t.called_ring y calls-goes
         (goes-then n t.called_known t.sent_known b t.called_ring t.sent_ring y sending-goes
-        (goes-then n t.sent_known t.given_known b t.sent_ring t.given_ring y gives-goes ending-goes)))
+        (goes-then n t.sent_known t.given_known b t.sent_ring t.given_ring y gives-goes
+        ending-goes)))
 
     -- no call of the node has failed behind it
     pub turn-none : NoneFails net n y
     turn-none =
         ends-none fixed net n budget t.given_known b t.given_ring y left t.ends
-        (none-behind net n t.sent_ring t.gives_up.done t.given_ring (grew-is (is_of n) t.sent_ring t.gives_up.done t.given_ring t.gives_up.node)
+        (none-behind net n t.sent_ring t.gives_up.done t.given_ring
+        (grew-is (is_of n) t.sent_ring t.gives_up.done t.given_ring t.gives_up.node)
         (quiet-order n IsGivenUp (quiet-given n) _ t.gives_up.noted t.gives_up.done t.gives_up.due)
-        (none-fails net t.sent_ring n t.sends.none_failed))
+        (λ p f. t.sends.frames.none_failed p refl f))
 
     -- nor when the node begins to send
     calls-none : NoneFails net n x → NoneFails net n t.called_ring
     calls-none none =
         none-behind net n t.served_ring t.calls.goes.done t.called_ring
         (grew-is (is_of n) t.served_ring t.calls.goes.done t.called_ring t.calls.goes.node)
-        (quiet-collects n (IsMade n) (quiet-made n) _ t.calls.goes.noted t.calls.goes.done t.calls.goes.due)
-        (none-behind net n x t.serves.done t.served_ring (grew-is (is_of n) x t.serves.done t.served_ring t.serves.node)
-        (quiet-order n (IsServed n) (quiet-served n) _ t.serves.noted t.serves.done t.serves.due) none)
+        (quiet-collects n (IsMade n) (quiet-made n) _ t.calls.goes.noted t.calls.goes.done
+        t.calls.goes.due)
+        (none-behind net n x t.serves.done t.served_ring
+        (grew-is (is_of n) x t.serves.done t.served_ring t.serves.node)
+        (quiet-order n (IsServed n) (quiet-served n) _ t.serves.noted t.serves.done
+        t.serves.due) none)
 
     module _ (m : May fixed net n b y) where
       -- what holds of the last lists holds of those behind each part
@@ -258,62 +297,85 @@ module _ (laws : CallLaws) (fixed : Fixed) (net : NetPlan) (n : ℕ) (node : fix
       may-given = may-goes fixed net n t.given_known b t.given_ring y ending-goes m
 
       may-sent : May fixed net n t.sent_known t.sent_ring
-      may-sent = may-goes fixed net n t.sent_known t.given_known t.sent_ring t.given_ring gives-goes may-given
+      may-sent = may-goes fixed net n t.sent_known t.given_known t.sent_ring t.given_ring
+          gives-goes may-given
 
       may-called : May fixed net n t.called_known t.called_ring
-      may-called = may-goes fixed net n t.called_known t.sent_known t.called_ring t.sent_ring sending-goes may-sent
+      may-called = may-goes fixed net n t.called_known t.sent_known t.called_ring t.sent_ring
+          sending-goes may-sent
 
       may-served : May fixed net n t.served_known t.served_ring
-      may-served = may-goes fixed net n t.served_known t.called_known t.served_ring t.called_ring calls-goes may-called
+      may-served = may-goes fixed net n t.served_known t.called_known t.served_ring t.called_ring
+          calls-goes may-called
 
   -- a turn makes one thing
-  pub turn-same : (left left' : Bool) (a b b' : List Entry) (x y y' : List RingEntry) → Behind n a x → NoneFails net n x
-      → HoldsTurn true true fixed net n budget a b x y left → May fixed net n b y → HoldsTurn true true fixed net n budget a b' x y' left' → May fixed net n b' y'
+  pub turn-same : (left left' : Bool) (a b b' : List Entry) (x y y' : List RingEntry) → Behind n a x
+      → NoneFails net n x
+      → HoldsTurn true true fixed net n budget a b x y left → May fixed net n b y
+      → HoldsTurn true true fixed net n budget a b' x y' left' → May fixed net n b' y'
       → Same n b b' y y' × (left ≡ left')
   turn-same left left' a b b' x y y' behind none t m t' m' = ended
     where
       served : Same n t.served_known t'.served_known t.served_ring t'.served_ring
       served = part-same fixed net n _
-          (order-same fixed net n (λ (f : Frame). Unit {0}) (IsServed n) (one-served fixed net n) (inbox_of net n x)
+          (order-same fixed net n (λ (f : Frame). Unit {0}) (IsServed n) (one-served fixed net n)
+          (inbox_of net n x)
           (each-all (λ (f : Frame). Unit {0}) (λ f. tt) (inbox_of net n x)))
-          a t.served_known t'.served_known x t.served_ring t'.served_ring behind t.serves (may-served left a b x y t m) t'.serves (may-served left' a b' x y' t' m')
+          a t.served_known t'.served_known x t.served_ring t'.served_ring behind t.serves
+          (may-served left a b x y t m) t'.serves (may-served left' a b' x y' t' m')
 
       called : Same n t.called_known t'.called_known t.called_ring t'.called_ring
-      called = collects-same fixed net n laws node (IsMade n) (one-made fixed net n) t.served_known t.called_known t'.called_known
-          t.served_ring t.called_ring t'.called_ring served.behind t.calls (may-called left a b x y t m)
-          (move (λ k r. Collects true true fixed n (IsMade n) k t'.called_known r t'.called_ring) _ _ _ _ (sym served.known_is) (sym served.ring_is) t'.calls)
+      called = collects-same fixed net n laws node (IsMade n) (one-made fixed net n) t.served_known
+          t.called_known t'.called_known
+          t.served_ring t.called_ring t'.called_ring served.behind t.calls
+          (may-called left a b x y t m)
+          (move (λ k r. Collects true true fixed n (IsMade n) k t'.called_known r t'.called_ring) _
+          _ _ _ (sym served.known_is) (sym served.ring_is) t'.calls)
           (may-called left' a b' x y' t' m')
 
       sent : Same n t.sent_known t'.sent_known t.sent_ring t'.sent_ring
-      sent = sent-same fixed net n t.called_known t.sent_known t'.sent_known t.called_ring t.sent_ring t'.sent_ring called.behind
-          (calls-none left a b x y t none) t.sends (may-sent left a b x y t m)
-          (move (λ k r. SendsAll true true net n k t'.sent_known r t'.sent_ring) _ _ _ _ (sym called.known_is) (sym called.ring_is) t'.sends)
+      sent = sent-same fixed net n t.called_known t.sent_known t'.sent_known t.called_ring
+          t.sent_ring t'.sent_ring called.behind
+          (λ p on f. calls-none left a b x y t none p f) t.sends (may-sent left a b x y t m)
+          (move (λ k r. SendsAll true true net n k t'.sent_known r t'.sent_ring) _ _ _ _
+          (sym called.known_is) (sym called.ring_is) t'.sends)
           (may-sent left' a b' x y' t' m')
 
       given : Same n t.given_known t'.given_known t.given_ring t'.given_ring
       given = part-same fixed net n _
-          (order-same fixed net n (λ (id : CallId). Unit {0}) IsGivenUp (one-given fixed net n) (overdue net n t.sent_ring)
+          (order-same fixed net n (λ (id : CallId). Unit {0}) IsGivenUp (one-given fixed net n)
+          (overdue net n t.sent_ring)
           (each-all (λ (id : CallId). Unit {0}) (λ id. tt) (overdue net n t.sent_ring)))
-          t.sent_known t.given_known t'.given_known t.sent_ring t.given_ring t'.given_ring sent.behind t.gives_up (may-given left a b x y t m)
-          (move (λ k r. PartOf true true is_ours n (InOrder IsGivenUp (overdue net n r)) k t'.given_known r t'.given_ring) _ _ _ _ (sym sent.known_is)
+          t.sent_known t.given_known t'.given_known t.sent_ring t.given_ring t'.given_ring
+          sent.behind t.gives_up (may-given left a b x y t m)
+          (move (λ k r. PartOf true true is_ours n (InOrder IsGivenUp (overdue net n r)) k
+          t'.given_known r t'.given_ring) _ _ _ _ (sym sent.known_is)
           (sym sent.ring_is) t'.gives_up)
           (may-given left' a b' x y' t' m')
 
       ended : Same n b b' y y' × (left ≡ left')
-      ended = ends-same fixed net n budget t.given_known b b' t.given_ring y y' left left' given.behind t.ends m
-          (move (λ k r. Ends true true fixed net n budget k b' r y' left') _ _ _ _ (sym given.known_is) (sym given.ring_is) t'.ends) m'
+      ended = ends-same fixed net n budget t.given_known b b' t.given_ring y y' left left'
+          given.behind t.ends m
+          (move (λ k r. EndsHoldTurn true true fixed net n budget k b' r y' left') _ _ _ _
+          (sym given.known_is) (sym given.ring_is) t'.ends) m'
 
   -- ---- a visit
 
-  pub visit-goes : (a b : List Entry) (x y : List RingEntry) → VisitsEnd true true fixed net n a b x y → Goes n a b x y
+  pub visit-goes : (a b : List Entry) (x y : List RingEntry)
+      → VisitsEnd true true fixed net n a b x y → Goes n a b x y
   visit-goes a b x y v = collects-goes fixed n (IsEnded n) a b x y v.calls
 
-  pub visit-none : (a b : List Entry) (x y : List RingEntry) → VisitsEnd true true fixed net n a b x y → NoneFails net n x → NoneFails net n y
+  pub visit-none : (a b : List Entry) (x y : List RingEntry)
+      → VisitsEnd true true fixed net n a b x y → NoneFails net n x → NoneFails net n y
   visit-none a b x y v none =
-      none-behind net n x v.calls.goes.done y (grew-is (is_of n) x v.calls.goes.done y v.calls.goes.node)
-      (quiet-collects n (IsEnded n) (quiet-ended n) _ v.calls.goes.noted v.calls.goes.done v.calls.goes.due) none
+      none-behind net n x v.calls.goes.done y
+      (grew-is (is_of n) x v.calls.goes.done y v.calls.goes.node)
+      (quiet-collects n (IsEnded n) (quiet-ended n) _ v.calls.goes.noted v.calls.goes.done
+      v.calls.goes.due) none
 
-  pub visit-same : (a b b' : List Entry) (x y y' : List RingEntry) → Behind n a x → VisitsEnd true true fixed net n a b x y → May fixed net n b y
+  pub visit-same : (a b b' : List Entry) (x y y' : List RingEntry) → Behind n a x
+      → VisitsEnd true true fixed net n a b x y → May fixed net n b y
       → VisitsEnd true true fixed net n a b' x y' → May fixed net n b' y' → Same n b b' y y'
   visit-same a b b' x y y' behind v m v' m' =
-      collects-same fixed net n laws node (IsEnded n) (one-ended fixed net n) a b b' x y y' behind v.calls m v'.calls m'
+      collects-same fixed net n laws node (IsEnded n) (one-ended fixed net n) a b b' x y y' behind
+      v.calls m v'.calls m'

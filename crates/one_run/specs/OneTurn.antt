@@ -1,16 +1,18 @@
 -- A turn is deterministic: it gives one pair of lists from those that it begins with, where the
 -- lists that it leaves are legal and, at a controller, keep the laws between them. This project's
 -- own.
-use Rattle.std.specs.Prelude.{◌≡◌, ◌<◌, ℕ, Bool, true, List}
+use Rattle.std.specs.Prelude.{◌≡◌, ℕ, Bool, true, List}
 use Rattle.plant_types.specs.declared.net.HostPlan.{HostPlan}
 use Rattle.plant_types.specs.declared.net.NetPlan.{NetPlan}
 use Rattle.ring_core.specs.declared.entry.RingEntry.{RingEntry}
-use Rattle.ring_core.specs.Legal.{IsLegal as IsLegalRing}
+use Rattle.ring_core.specs.Legal.{IsLegalRing}
 use Rattle.controller_core.specs.declared.fixed.Fixed.{Fixed}
 use Rattle.controller_core.specs.declared.entry.Entry.{Entry}
 use Rattle.host_port.specs.declared.entry.HostEntry.{HostEntry}
-use Rattle.comm_port.specs.HoldTurn.{HoldsTurn, NoneFailed, VisitsEnd}
+use Rattle.comm_port.specs.Giving.{part_at}
+use Rattle.comm_port.specs.HoldTurn.{HoldsTurn, VisitsEnd}
 use Rattle.comm_port.specs.HostTurns.{HoldsHostTurn}
+use Rattle.comm_port.specs.SendsAll.{NoneFailed, each_path}
 use Rattle.turn_laws.specs.KeepsOn.{StandsTied}
 
 -- Two holds of the token by a controller that begin alike, when none of its calls has failed, end
@@ -19,7 +21,8 @@ abbrev pub OneTurn : Type 0
 OneTurn =
     (fixed : Fixed) (net : NetPlan) (budget left other_left : Bool)
     (known new_known other_known : List Entry) (ring new_ring other_ring : List RingEntry)
-    → NoneFailed net ring fixed.plan.node → StandsTied fixed net fixed.plan.node known ring
+    → NoneFailed each_path (part_at net fixed.plan.node ring)
+    → StandsTied fixed net fixed.plan.node known ring
     → HoldsTurn true true fixed net fixed.plan.node budget known new_known ring new_ring left
     → StandsTied fixed net fixed.plan.node new_known new_ring
     → HoldsTurn true true fixed net fixed.plan.node budget known other_known ring other_ring
@@ -38,13 +41,11 @@ OneVisit =
     → StandsTied fixed net fixed.plan.node other_known other_ring
     → (new_known ≡ other_known) × (new_ring ≡ other_ring)
 
--- Two holds of the token by a host that begin alike end alike, on a net where a call waits for its
--- answer for one Pass at least.
+-- Two holds of the token by a host that begin alike end alike.
 abbrev pub OneHostTurn : Type 0
 OneHostTurn =
     (net : NetPlan) (n : ℕ) (plan : HostPlan) (budget left other_left : Bool)
     (list new_list other_list : List HostEntry) (ring new_ring other_ring : List RingEntry)
-    → 0 < net.answer
     → HoldsHostTurn true net n plan budget list new_list ring new_ring left
     → IsLegalRing net new_ring
     → HoldsHostTurn true net n plan budget list other_list ring other_ring other_left

@@ -34,11 +34,13 @@ none_in_front [] id h = refl
 none_in_front (Ask other to pdu ∷ front) id h = none_in_front front id h
 none_in_front (Answer other result ∷ front) id h =
     let parts = neither (is_same_call id other) (has_answer front id) h in
-    another (is_same_call id other) result (filter_map (outcome_by id) front) (none_in_front front id parts.1) parts.0
+    another (is_same_call id other) result (filter_map (outcome_by id) front)
+    (none_in_front front id parts.1) parts.0
 none_in_front (Served other request reply ∷ front) id h = none_in_front front id h
 
 -- so the answer to an Ask is found behind it
-found_behind : (before rest : List HostEntry) (id : CallId) (to : ℕ) (pdu : List ℕ) → has_answer before id ≡ false
+found_behind : (before rest : List HostEntry) (id : CallId) (to : ℕ) (pdu : List ℕ)
+    → has_answer before id ≡ false
     → result_in rest id ≡ result_in (before ++ Ask id to pdu ∷ rest) id
 found_behind before rest id to pdu new =
     ap (λ found. slice_get found 0)
@@ -48,12 +50,14 @@ found_behind before rest id to pdu new =
 -- the lines of some entries, by all entries of the host, where so many requests were made before
 abbrev pub lines_left : ℕ → List HostEntry → ℕ → List HostEntry → List ℕ
 lines_left node entries number left =
-    flat_map (λ ask. ask_line node ask.0 (result_in entries ask.1.id)) (enumerate_from (number + 1) (requests_in left))
+    flat_map (λ ask. ask_line node ask.0 (result_in entries ask.1.id))
+    (enumerate_from (number + 1) (requests_in left))
 
 -- an Ask among some entries has a new name
 abbrev pub HasNewNames : List HostEntry → Type 0
 HasNewNames entries =
-    (before rest : List HostEntry) (id : CallId) (to : ℕ) (pdu : List ℕ) → entries ≡ before ++ Ask id to pdu ∷ rest
+    (before rest : List HostEntry) (id : CallId) (to : ℕ) (pdu : List ℕ)
+    → entries ≡ before ++ Ask id to pdu ∷ rest
     → has_answer before id ≡ false
 
 -- the line of an entry, and those of the entries behind it
@@ -69,7 +73,8 @@ lines_from_entry node number entries before rest (Ask id to pdu) new parts =
     ap (λ result. ask_line node (number + 1) result ++ later) (sym found)
     ∙ ap (λ line. line ++ later) (sym (append-nil (ask_line node (number + 1) (result_in rest id))))
 lines_from_entry node number entries before rest (Answer id result) new parts = rw add-zero refl
-lines_from_entry node number entries before rest (Served id request reply) new parts = rw add-zero refl
+lines_from_entry node number entries before rest (Served id request reply) new parts =
+    rw add-zero refl
 
 -- an entry is a request at most once
 pub few_requests : (entry : HostEntry) → length (requests_in (entry ∷ [])) ≤ 1
@@ -78,14 +83,16 @@ few_requests (Answer id result) = lit≤ tt
 few_requests (Served id request reply) = lit≤ tt
 
 -- one entry more
-pub host_step : (node number at after : ℕ) (entries behind : List HostEntry) (entry : HostEntry) (now next whole : List ℕ)
+pub host_step : (node number at after : ℕ) (entries behind : List HostEntry) (entry : HostEntry)
+    (now next whole : List ℕ)
     → at < length entries → entry ≡ get_or entries at entry
     → behind ≡ take (length entries - (at + 1)) (drop (at + 1) entries) → HasNewNames entries
     → after ≡ number + length (requests_in (entry ∷ []))
     → now ++ lines_left node entries number (drop at entries) ≡ whole
     → next ≡ now ++ entry_lines node number behind entry
     → next ++ lines_left node entries after (drop (at + 1) entries) ≡ whole
-host_step node number at after entries behind entry now next whole within is rest new counted so_far added =
+host_step node number at after entries behind entry now next whole within is rest new counted
+    so_far added =
     let left = drop (at + 1) entries in
     let cut : drop at entries ≡ entry ∷ left =
     drop-cons entries at entry within ∙ ap (λ first. first ∷ drop (suc at) entries) (sym is)
@@ -94,10 +101,12 @@ host_step node number at after entries behind entry now next whole within is res
     sym (take-append-drop at entries) ∙ ap (λ back. take at entries ++ back) cut in
     let lines = lines_from_entry node number entries (take at entries) left entry new parts in
     let added_is : next ≡ now ++ entry_lines node number left entry =
-    added ∙ ap (λ back. now ++ entry_lines node number back entry) (rest ∙ take_rest entries (at + 1)) in
+    added ∙ ap (λ back. now ++ entry_lines node number back entry)
+    (rest ∙ take_rest entries (at + 1)) in
     ap (λ text. text ++ lines_left node entries after left) added_is
     ∙ append_assoc now (entry_lines node number left entry) (lines_left node entries after left)
-    ∙ ap (λ count. now ++ (entry_lines node number left entry ++ lines_left node entries count left)) counted
+    ∙ ap (λ count.
+    now ++ (entry_lines node number left entry ++ lines_left node entries count left)) counted
     ∙ ap (λ back. now ++ back) (sym lines)
     ∙ ap (λ back. now ++ lines_left node entries number back) (sym cut)
     ∙ so_far

@@ -1,5 +1,6 @@
 -- The lines of a controller, by what it noted.
-use Rattle.std.proofs.Common.{◌≡◌, ◌≢◌, ◌<◌, ◌≤◌, ℕ, zero, suc, ◌+◌, ◌*◌, ◌-◌, ◌==◌, Bool, true, false}
+use Rattle.std.proofs.Common.{◌≡◌, ◌≢◌, ◌<◌, ◌≤◌, ℕ, zero, suc, ◌+◌, ◌*◌, ◌-◌, ◌==◌, Bool, true}
+use Rattle.std.proofs.Common.{false}
 use Rattle.std.proofs.Common.{List, [], ◌∷◌, ◌++◌, length, get_or, drop, map, refl, sym, ap, ◌∙◌}
 use Rattle.std.proofs.Common.{add-one, append-nil, append_assoc, arith, drop-cons, length-append}
 use native.Mathlib.Nat.{suc-mul}
@@ -108,7 +109,8 @@ noted_many plan notes =
     ∙ at_stop (notes.stop == 0)
   where
     at_stop : (runs : Bool)
-        → notes.ended + length (if runs then [] else line_text (notes.ended + 1) plan.node (stopped_told notes.stop) ∷ [])
+        → notes.ended + length (if runs then []
+        else line_text (notes.ended + 1) plan.node (stopped_told notes.stop) ∷ [])
         ≡ (if runs then notes.ended else notes.ended + 1)
     at_stop true = omega arith
     at_stop false = refl

@@ -1,5 +1,5 @@
 -- The logs of a plant's stations.
-use Rattle.std.proofs.Common.{◌≡◌, List, [], ◌∷◌, suc, length, map, refl, ap}
+use Rattle.std.proofs.Common.{◌≡◌, List, [], ◌∷◌, suc, length, map, refl, ap, arith}
 use Rattle.std.proofs.lemmas.List.Elements.{All-head, All-tail}
 use Rattle.std.specs.List.{All, AllByRecursion, AllZip, zip}
 use Rattle.plant_types.specs.declared.net.HostPlan.{HostPlan}
@@ -11,19 +11,32 @@ use Rattle.joint_history.specs.declared.joint.HostLog.{HostLog}
 use Rattle.controller_core.specs.NotedLines.{NotesTellTheLines}
 use Rattle.joint_history.specs.JointLaws.{IsLegalHostLog, IsLegalLog, fixed_of, most_scans}
 use Rattle.joint_history.specs.Noted.{notes_by_log}
+use Rattle.joint_history.specs.Runnable.{CanRunPlant}
 use Rattle.panel_text.specs.Panel.{CanShow, IsHostLog, log_lines}
 use Rattle.panel_text.specs.Scans.{runs_noted}
 
 -- each log is a legal one of some host
-pub host_logs : (plans : List HostPlan) (logs : List HostLog) → AllZip IsLegalHostLog plans logs → AllByRecursion IsHostLog logs
+pub host_logs : (plans : List HostPlan) (logs : List HostLog) → AllZip IsLegalHostLog plans logs
+    → AllByRecursion IsHostLog logs
 host_logs [] [] legal = tt
 host_logs [] (log ∷ logs) legal = absurd legal
 host_logs (plan ∷ plans) [] legal = tt
 host_logs (plan ∷ plans) (log ∷ logs) legal = ((plan, legal.0.1), host_logs plans logs legal.1)
 
+-- each controller of a plant that can be run can make the most scans
+pub controllers_run : (plant : Plant) → CanRunPlant plant
+    → All (λ plan. IsRunnable (fixed_of plant most_scans plan)) plant.controllers
+controllers_run plant runs = λ k d within. record {
+  plan = runs.controllers k d within;
+  scan_time = runs.sound.scan_time.to;
+  watchdog = runs.sound.watchdog.from;
+  scans = omega arith;
+}
+
 -- each controller can be run, and its log is legal
 pub controller_logs : (plant : Plant) (plans : List ControllerPlan) (logs : List ControllerLog)
-    → All (λ plan. IsRunnable (fixed_of plant most_scans plan)) plans → AllZip (IsLegalLog plant most_scans) plans logs
+    → All (λ plan. IsRunnable (fixed_of plant most_scans plan)) plans
+    → AllZip (IsLegalLog plant most_scans) plans logs
     → AllByRecursion (CanShow plant) (zip plans logs)
 controller_logs plant [] logs runs legal = tt
 controller_logs plant (plan ∷ plans) [] runs legal = tt

@@ -1,7 +1,7 @@
 -- The panel of a plant, by what its controllers and its hosts noted. All of it is this project's
 -- own.
 use Rattle.std.specs.Prelude.{◌≡◌, ℕ, List, [], ◌∷◌, ◌++◌, map}
-use Rattle.std.specs.List.{All, flat_map}
+use Rattle.std.specs.List.{flat_map}
 use Rattle.plant_types.specs.declared.plan.ControllerPlan.{ControllerPlan}
 use Rattle.plant_types.specs.declared.plan.Plant.{Plant}
 use Rattle.plant_types.specs.declared.net.HostPlan.{HostPlan}
@@ -16,11 +16,6 @@ use Rattle.joint_history.specs.declared.joint.Joint.{Joint}
 use Rattle.joint_history.specs.JointLaws.{fixed_of, logged, most_scans}
 use Rattle.panel_text.specs.Hosts.{host_lines}
 use Rattle.panel_text.specs.Scans.{by_scan}
-
--- The controllers of a plant can be run.
-abbrev pub ControllersCanRun : Plant → Type 0
-ControllersCanRun plant =
-    All (λ plan. IsRunnable (fixed_of plant most_scans plan)) plant.controllers
 
 -- A controller can be run, and its log is legal.
 pub record CanShow (plant : Plant) (of : ControllerPlan × ControllerLog) : Type 0 where

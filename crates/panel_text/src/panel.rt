@@ -3,8 +3,9 @@ ghost use Rattle.std.specs.Prelude.{◌≡◌, ◌++◌, IfOk, OnOk, map, string
 ghost use Rattle.std.specs.List.{AllByRecursion, flat_map};
 ghost use Rattle.joint_history.specs.JointLaws.{IsLegalJoint, most_scans};
 ghost use Rattle.joint_history.specs.Noted.{notes_in};
+ghost use Rattle.joint_history.specs.Runnable.{CanRunPlant};
 ghost use Rattle.panel_text.specs.Hosts.{host_lines};
-ghost use Rattle.panel_text.specs.Panel.{ControllersCanRun, IsHostLog, panel};
+ghost use Rattle.panel_text.specs.Panel.{IsHostLog, panel};
 
 use crate::following::notes_by_logs;
 use crate::hosts::push_host;
@@ -71,7 +72,7 @@ pub fn panel_from_notes(
 /// A request that came to nothing yet has no line. The scans are made again, as the lists of the
 /// controllers say.
 pub fn panel_text(alloc: Global, plant: &Plant, joint: &Joint) -> Result<Vec<u8>, AllocError>
-    requires plant { ControllersCanRun plant.now }
+    requires plant { CanRunPlant plant.now }
     requires joint { IsLegalJoint plant.now most_scans joint.now }
     ensures { IfOk result (λ text. text.items ≡ panel plant.now joint.now) }
 {

@@ -2,17 +2,19 @@
 use Rattle.std.proofs.Common.{◌≡◌, ℕ, ◌+◌, ◌<◌, ◌≤◌, ◌↔◌, Bool, true, false, List, [], ◌∷◌, length}
 use Rattle.std.proofs.Common.{Option, Some, None}
 use Rattle.std.proofs.Common.{ap, sym, refl, ◌∙◌, ◌++◌, subst, inl, inr, arith, append-nil}
-use Rattle.plant_io.specs.Streams.{GaveFront, IsWhole}
-use Rattle.plant984.specs.declared.status.Status.{Status}
-use Rattle.plant984.specs.declared.status.Status.TheVariants as ends
-use Rattle.plant984.specs.declared.words.Command.{Command}
-use Rattle.plant984.specs.Words.{IsCommandInRange, IsNumberOfScans, SpellsCommand, SpellsLive}
-use Rattle.plant984.specs.Due.{Due}
-use Rattle.plant984.specs.Promise.{HasAnswered, AskedFor, CanRead, EndsAsDue, Failed, HasRead, IsSomeCommand}
+use Rattle.plant_io.specs.Streams.{GaveFront, GaveAll}
+use Rattle.command_answers.specs.declared.status.Status.{Status}
+use Rattle.command_answers.specs.declared.status.Status.TheVariants as ends
+use Rattle.command_words.specs.declared.words.Command.{Command}
+use Rattle.command_words.specs.Words.{IsCommandInRange, IsNumberOfScans, SpellsCommand, SpellsLive}
+use Rattle.command_answers.specs.Due.{Due}
+use Rattle.plant984.specs.Promise.{HasAnswered, AskedFor, CanRead, EndsAsDue, Failed, HasRead}
+use Rattle.plant984.specs.Promise.{IsSomeCommand}
 use Rattle.plant984.specs.Promise.{KeepsPromise, Side, Wrote, input_limit}
 
 -- What a call has found out before it writes: what was asked, and what was read for it.
-pub record Found {C : Type 0} (Spells : List (List ℕ) → C → Type 0) (reads : C → Bool) (words : List (List ℕ))
+pub record Found {C : Type 0} (Spells : List (List ℕ) → C → Type 0) (reads : C → Bool)
+    (words : List (List ℕ))
     (source source_now : Side) (command : C) (input : List ℕ) : Type 0 where
   pub spelled : Spells words command
   pub only : (other : C) → Spells words other → other ≡ command
@@ -20,7 +22,8 @@ pub record Found {C : Type 0} (Spells : List (List ℕ) → C → Type 0) (reads
   pub later : source.faults ≤ source_now.faults
 
 -- the words spell one command alone
-pub one-command : {C : Type 0} (Spells : List (List ℕ) → C → Type 0) (words : List (List ℕ)) (asked : Option C) (command : C)
+pub one-command : {C : Type 0} (Spells : List (List ℕ) → C → Type 0) (words : List (List ℕ))
+    (asked : Option C) (command : C)
     → ((other : C) → (asked ≡ Some other) ↔ Spells words other)
     → asked ≡ Some command → (other : C) → Spells words other → other ≡ command
 one-command Spells words asked command reads is other spells =
@@ -28,7 +31,8 @@ one-command Spells words asked command reads is other spells =
     cc
 
 -- words that nothing was read from are no command
-pub not-asked : {C : Type 0} (Spells : List (List ℕ) → C → Type 0) (words : List (List ℕ)) (asked : Option C)
+pub not-asked : {C : Type 0} (Spells : List (List ℕ) → C → Type 0) (words : List (List ℕ))
+    (asked : Option C)
     → ((command : C) → (asked ≡ Some command) ↔ Spells words command)
     → asked ≡ None → IsSomeCommand Spells words → ⊥
 not-asked Spells words asked reads none command =
@@ -36,16 +40,19 @@ not-asked Spells words asked reads none command =
     absurd (cc)
 
 -- a command that is spelled is in its range
-pub in_range : (words : List (List ℕ)) (command : Command) → SpellsCommand words command → IsCommandInRange command
+pub in_range : (words : List (List ℕ)) (command : Command) → SpellsCommand words command
+    → IsCommandInRange command
 in_range [] command spells = absurd spells
 in_range (name ∷ behind) command spells = spells.in_range
 
 -- nothing was read where nothing is asked, and else the whole input
-pub nothing_read : (reads : Bool) (left : Option (List ℕ)) → reads ≡ false → HasRead reads left left []
+pub nothing_read : (reads : Bool) (left : Option (List ℕ)) → reads ≡ false
+    → HasRead reads left left []
 nothing_read true left is = absurd (cc)
 nothing_read false left is = (refl, refl)
 
-pub whole_read : (reads : Bool) (left rest : Option (List ℕ)) (input : List ℕ) → reads ≡ true → IsWhole left rest input
+pub whole_read : (reads : Bool) (left rest : Option (List ℕ)) (input : List ℕ) → reads ≡ true
+    → GaveAll left rest input
     → length input ≤ input_limit → HasRead reads left rest input
 whole_read true left rest input is whole within = (whole, within)
 whole_read false left rest input is whole within = absurd (cc)
@@ -55,15 +62,16 @@ same-input : (reads : Bool) (left rest : Option (List ℕ)) (given input : List 
     → CanRead reads left given → HasRead reads left rest input → given ≡ input
 same-input false left rest given input can read = can ∙ sym read.1
 same-input true left rest given input can read =
-    let P : Option (List ℕ) → Type 0 = λ l. IsWhole l rest input in
+    let P : Option (List ℕ) → Type 0 = λ l. GaveAll l rest input in
     (subst P can.0 read.0).0
 
 -- an input that was read whole is not too long
-not-long : (reads : Bool) (left rest : Option (List ℕ)) (given input : List ℕ) → reads ≡ true → left ≡ Some given
+not-long : (reads : Bool) (left rest : Option (List ℕ)) (given input : List ℕ) → reads ≡ true
+    → left ≡ Some given
     → input_limit < length given → HasRead reads left rest input → ⊥
 not-long false left rest given input is gives long read = absurd (cc)
 not-long true left rest given input is gives long read =
-    let P : Option (List ℕ) → Type 0 = λ l. IsWhole l rest input in
+    let P : Option (List ℕ) → Type 0 = λ l. GaveAll l rest input in
     let same : given ≡ input = (subst P gives read.0).0 in
     absurd (omega (arith, long, read.1, ap length same))
 
@@ -72,7 +80,8 @@ nothing-gone : (left rest : Option (List ℕ)) → rest ≡ left → GaveFront l
 nothing-gone None rest same = ([], omega arith, same)
 nothing-gone (Some bytes) rest same = ([], omega arith, (bytes, same, refl))
 
-front-read : (reads : Bool) (left rest : Option (List ℕ)) (input : List ℕ) → HasRead reads left rest input
+front-read : (reads : Bool) (left rest : Option (List ℕ)) (input : List ℕ)
+    → HasRead reads left rest input
     → GaveFront left rest (input_limit + 1)
 front-read false left rest input read = nothing-gone left rest read.0
 front-read true None rest input read = (input, omega (arith, read.1), read.0)
@@ -80,14 +89,17 @@ front-read true (Some bytes) rest input read =
     let whole : bytes ≡ input ++ [] = read.0.0 ∙ sym (append-nil input) in
     (input, omega (arith, read.1), ([], read.0.1, whole))
 
-abbrev asked-found : {C : Type 0} {Spells : List (List ℕ) → C → Type 0} {reads : C → Bool} {words : List (List ℕ)}
+abbrev asked-found : {C : Type 0} {Spells : List (List ℕ) → C → Type 0} {reads : C → Bool}
+    {words : List (List ℕ)}
     {source source_now : Side} {command : C} {input : List ℕ}
-    → Found Spells reads words source source_now command input → AskedFor Spells reads words source.bytes source_now.bytes
+    → Found Spells reads words source source_now command input
+    → AskedFor Spells reads words source.bytes source_now.bytes
 asked-found {command = command} {input = input} found =
     record { command = command; spelled = found.spelled; input = input; read = found.read }
 
 -- what was written is what was due
-wrote-ends : (IsDueHere : Due → Type 0) (status : Status) (had has : Side) → HasAnswered IsDueHere had has status
+wrote-ends : (IsDueHere : Due → Type 0) (status : Status) (had has : Side)
+    → HasAnswered IsDueHere had has status
     → ¬ (Failed had has) → EndsAsDue IsDueHere status had.bytes has.bytes
 wrote-ends IsDueHere ends.Ok had has answers no_write = inl answers
 wrote-ends IsDueHere ends.Refused had has answers no_write = inl answers
@@ -99,18 +111,22 @@ wrote-ends IsDueHere ends.TooLong had has answers no_write = absurd answers
 wrote-ends IsDueHere ends.WriteFault had has answers no_write = absurd (no_write answers.0)
 
 -- so the promise is kept
-pub Keeps-found : {C : Type 0} (Spells : List (List ℕ) → C → Type 0) (reads : C → Bool) (IsDueFor : C → List ℕ → Due → Type 0)
+pub Keeps-found : {C : Type 0} (Spells : List (List ℕ) → C → Type 0) (reads : C → Bool)
+    (IsDueFor : C → List ℕ → Due → Type 0)
     (words : List (List ℕ)) (source source_now : Side) (command : C) (input : List ℕ)
     → Found Spells reads words source source_now command input
-    → (had has : Side) (status : Status) → had.faults ≤ has.faults → HasAnswered (IsDueFor command input) had has status
+    → (had has : Side) (status : Status) → had.faults ≤ has.faults
+    → HasAnswered (IsDueFor command input) had has status
     → KeepsPromise Spells reads IsDueFor status words source source_now had has
-Keeps-found {C = C} Spells reads IsDueFor words source source_now command input found had has status later answers =
+Keeps-found {C = C} Spells reads IsDueFor words source source_now command input found had has status
+    later answers =
     let P : Status → Type 0 = λ s. HasAnswered (IsDueFor command input) had has s in
     record {
       ok = λ is. (asked-found found, subst P is answers);
       refused = λ is. (asked-found found, subst P is answers);
       illegal = λ is. (asked-found found, subst P is answers);
-      usage = λ memory. (λ is. absurd (subst P is answers), λ none. absurd (none (command, found.spelled)));
+      usage = λ memory.
+          (λ is. absurd (subst P is answers), λ none. absurd (none (command, found.spelled)));
       read_fault = λ is. absurd (subst P is answers);
       too_long = λ is. absurd (subst P is answers);
       no_memory = λ is. front-read (reads command) source.bytes source_now.bytes input found.read;
@@ -123,17 +139,22 @@ Keeps-found {C = C} Spells reads IsDueFor words source source_now command input 
           let command_is : other ≡ command = found.only other spells in
           let Can : C → Type 0 = λ c. CanRead (reads c) source.bytes given in
           let given_is : given ≡ input =
-          same-input (reads command) source.bytes source_now.bytes given input (subst Can command_is can) found.read in
+          same-input (reads command) source.bytes source_now.bytes given input
+          (subst Can command_is can) found.read in
           let Ends : C → Type 0 = λ c. EndsAsDue (IsDueFor c given) status had.bytes has.bytes in
-          let EndsOver : List ℕ → Type 0 = λ bytes. EndsAsDue (IsDueFor command bytes) status had.bytes has.bytes in
-          subst Ends (sym command_is) (subst EndsOver (sym given_is) (wrote-ends (IsDueFor command input) status had has answers no_write));
+          let EndsOver : List ℕ → Type 0 =
+          λ bytes. EndsAsDue (IsDueFor command bytes) status had.bytes has.bytes in
+          subst Ends (sym command_is) (subst EndsOver (sym given_is)
+          (wrote-ends (IsDueFor command input) status had has answers no_write));
       long = λ given asks left long no_read.
           let command_is : asks.0 ≡ command = found.only asks.0 asks.1 in
           let reads_is : reads command ≡ true = ap reads (sym command_is) ∙ asks.2 in
-          absurd (not-long (reads command) source.bytes source_now.bytes given input reads_is left long found.read);
+          absurd (not-long (reads command) source.bytes source_now.bytes given input reads_is left
+          long found.read);
     }
 
 -- a live run that is spelled is in its range
-pub live_in_range : (words : List (List ℕ)) (scans : ℕ) → SpellsLive words scans → IsNumberOfScans scans
+pub live_in_range : (words : List (List ℕ)) (scans : ℕ) → SpellsLive words scans
+    → IsNumberOfScans scans
 live_in_range [] scans spells = absurd spells
 live_in_range (name ∷ behind) scans spells = spells.in_range

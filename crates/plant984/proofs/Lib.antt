@@ -1,10 +1,2 @@
-mod CutLemmas
 mod DueLemmas
-mod MoreScans
-mod OneDue
-mod OneNumber
-mod Positionals
-mod Runs
-mod Spelled
-mod TwoNumbers
-mod Written
+mod FirstWord

@@ -1,8 +1,1 @@
-pub mod Status
-pub mod Words
-pub mod Cut
-pub mod Judged
-pub mod Due
-pub mod OneDue
-pub mod Written
 pub mod Promise

@@ -2,11 +2,11 @@
 use Rattle.std.specs.Prelude.{◌≡◌, ◌≢◌, ℕ, ◌*◌, ◌^◌, ◌≤◌, ◌<◌, ◌+◌, ◌↔◌, Bool, true, false, List}
 use Rattle.std.specs.Prelude.{[], ◌∷◌, codes, length, Option, Some, ◌⊎◌}
 use Rattle.plant_io.specs.Causes.{Rose}
-use Rattle.plant_io.specs.Streams.{GaveFront, IsTooLong, IsWhole, Took, TookFront}
-use Rattle.plant984.specs.declared.status.Status.{Status}
-use Rattle.plant984.specs.declared.status.Status.TheVariants as ends
-use Rattle.plant984.specs.Words.{SpellsCommand, SpellsLive}
-use Rattle.plant984.specs.Due.{Due, IsDue, IsLiveDue, reads_input}
+use Rattle.plant_io.specs.Streams.{GaveFront, IsTooLong, GaveAll, Took, TookFront}
+use Rattle.command_answers.specs.declared.status.Status.{Status}
+use Rattle.command_answers.specs.declared.status.Status.TheVariants as ends
+use Rattle.command_words.specs.Words.{SpellsCommand, SpellsLive}
+use Rattle.command_answers.specs.Due.{Due, IsDue, IsLiveDue, reads_input}
 
 -- The most bytes of input that are taken, 64 MiB.
 abbrev pub input_limit : ℕ
@@ -24,7 +24,7 @@ AsksInput {C = C} Spells reads words =
 
 -- What was read: the whole input, which is within the limit; or nothing, where none is asked.
 abbrev pub HasRead : Bool → Option (List ℕ) → Option (List ℕ) → List ℕ → Type 0
-HasRead true left rest input = IsWhole left rest input × (length input ≤ input_limit)
+HasRead true left rest input = GaveAll left rest input × (length input ≤ input_limit)
 HasRead false left rest input = (rest ≡ left) × (input ≡ [])
 
 -- What can be read where nothing fails.

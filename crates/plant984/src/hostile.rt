@@ -2,7 +2,7 @@
 // are lost; and with its journal cut short.
 use crate::nets::read2;
 use crate::serial::plant_serial;
-use crate::status::Status;
+use command_answers::Status;
 use plant_io::{MemSink, MemSource};
 use std::alloc::{AllocError, Global};
 use std::str;

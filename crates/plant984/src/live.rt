@@ -1,16 +1,15 @@
 // The live top call: the plant runs in threads, and may wait.
-ghost use Rattle.std.specs.Prelude.{◌≡◌, ◌≤◌, ◌↔◌, IfOk, ℕ, Some, map, string_bytes};
+ghost use Rattle.std.specs.Prelude.{◌≡◌, ◌≤◌, IfOk, map, string_bytes};
 ghost use Rattle.plant_loader.specs.Plant.{plant_of};
 ghost use Rattle.joint_history.specs.Runnable.{CanRunPlant};
-ghost use Rattle.plant984.specs.Words.{IsNumberOfScans, SpellsLive, SpellsLiveBehind};
-ghost use Rattle.plant984.specs.Due.{IsLiveDue, IsLiveDueOf, IsLiveShown, as_due};
+ghost use Rattle.command_words.specs.Words.{IsNumberOfScans, SpellsLive};
+ghost use Rattle.command_answers.specs.Due.{IsLiveDue, IsLiveDueOf, IsLiveShown, as_due};
 ghost use Rattle.plant984.specs.Promise.{HasAnswered, AsksInput, PromisedLive, always, side};
 ghost use Rattle.plant984.specs.Promise.{WritesNothing};
 
-use crate::answering::{Answer, journal_tells_all, refused, trace_text};
-use crate::arguments::scans_of;
 use crate::serial::INPUT_LIMIT;
-use crate::status::Status;
+use command_answers::{Answer, Status, refused, traced};
+use command_words::live_scans;
 use live_run::{Meet, live_noted};
 use plant_io::{ReadEnd, Sink, Source, read_all, write_all};
 use plant_loader::{LoadEnd, load};
@@ -19,29 +18,6 @@ use std::alloc::{AllocError, Global};
 use std::sync::Wait;
 use std::thread::Threads;
 use std::time::Clock;
-
-/// How many scans the words behind the name of a live run ask for.
-fn live_named(alloc: Global, name: &str, behind: &[String]) -> Result<Option<u32>, AllocError>
-    ensures { IfOk result (λ read. (scans : ℕ) → (read ≡ Some scans)
-        ↔ SpellsLiveBehind name.now (map string_bytes behind.now) scans) }
-{
-    if name == "live" {
-        scans_of(alloc, behind)
-    } else {
-        Ok(None)
-    }
-}
-
-/// How many scans of a live run the words after the program's name ask for.
-fn live_scans(alloc: Global, words: &[String]) -> Result<Option<u32>, AllocError>
-    ensures { IfOk result (λ read. (scans : ℕ)
-        → (read ≡ Some scans) ↔ SpellsLive (map string_bytes words.now) scans) }
-{
-    match words {
-        [name, behind @ ..] => live_named(alloc, name.as_str(), behind),
-        [] => Ok(None),
-    }
-}
 
 /// The journal and the panel of a live run of a plant.
 fn show_live<M: Meet + Sync, R: Threads + Wait + Clock + Sync>(
@@ -56,12 +32,8 @@ fn show_live<M: Meet + Sync, R: Threads + Wait + Clock + Sync>(
     ensures { IfOk result (λ answer. IsLiveShown scans plant.now (as_due answer)) }
 {
     let noted = live_noted(rt, alloc, plant, scans, meet)?;
-    journal_tells_all(plant, &noted.joint);
-    let text = trace_text(alloc, plant, &noted)?;
-    Ok(Answer {
-        status: Status::Ok,
-        text,
-    })
+    let answer = traced(alloc, plant, scans, &noted)?;
+    Ok(answer)
 }
 
 /// The answer to a live run of the plant of a file.

@@ -1,30 +1,23 @@
 // Runs a plant of programmable controllers from its file.
 #![tactic(auto)]
 
-mod answering;
-mod arguments;
-mod cutting;
 #[cfg(test)]
 mod hostile;
-mod judging;
-mod laws;
 mod live;
 #[cfg(test)]
 mod nets;
 #[cfg(test)]
 mod rows;
 mod serial;
-mod status;
 #[cfg(test)]
 mod tests;
 #[cfg(test)]
 mod threads;
 mod top;
-mod words;
 
+use command_answers::Status;
 use live_run::NoMeet;
 use plant_io::{StdSink, StdSource};
-use status::Status;
 use std::io::ErrorKind;
 use std::process::ExitCode;
 use std::{env, io};

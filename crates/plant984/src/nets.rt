@@ -1,8 +1,8 @@
 // Runs of plants with several stations, each with the text that it writes.
 ghost use Rattle.plant_gen.specs.Text.{IsPlantNumber};
 
-use crate::status::Status;
 use crate::tests::{ends_so, outcome_over};
+use command_answers::Status;
 use plant_gen::plant_from;
 use plant_loader::load;
 use std::alloc::{AllocError, Global};

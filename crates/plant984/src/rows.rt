@@ -1,6 +1,6 @@
 // Runs of small plants, each with the text that it writes.
-use crate::status::Status;
 use crate::tests::ends_so;
+use command_answers::Status;
 use std::alloc::{AllocError, Global};
 use std::test::Fail;
 

@@ -1,12 +1,11 @@
 // The serial top call: the whole input is read, and then the whole text is written.
 ghost use Rattle.std.specs.Prelude.{◌≡◌, ◌≤◌, map, string_bytes};
-ghost use Rattle.plant984.specs.Words.{IsCommandInRange, SpellsCommand};
-ghost use Rattle.plant984.specs.Due.{IsDue, reads_input};
+ghost use Rattle.command_words.specs.Words.{IsCommandInRange, SpellsCommand};
+ghost use Rattle.command_answers.specs.Due.{IsDue, reads_input};
 ghost use Rattle.plant984.specs.Promise.{HasAnswered, AsksInput, Promised, side, WritesNothing};
 
-use crate::answering::{Answer, answer_to};
-use crate::status::Status;
-use crate::words::{Command, command_of};
+use command_answers::{Answer, Status, answer_to};
+use command_words::{Command, command_of};
 use plant_io::{ReadEnd, Sink, Source, read_all, write_all};
 use std::alloc::Global;
 

@@ -1,7 +1,7 @@
 // Whole runs, over sources and sinks in memory.
 use crate::serial::{INPUT_LIMIT, plant_serial};
-use crate::status::Status;
 use crate::top::exit_of;
+use command_answers::Status;
 use live_run::NoMeet;
 use plant_io::{MemSink, MemSource};
 use std::alloc::{AllocError, Global};

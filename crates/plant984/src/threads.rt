@@ -1,10 +1,10 @@
 // Live runs of plants in threads: their journals are judged, and their panels replayed.
-ghost use Rattle.plant984.specs.Words.{IsNumberOfScans};
+ghost use Rattle.command_words.specs.Words.{IsNumberOfScans};
 
 use crate::nets::{pumps, read2};
-use crate::status::Status;
 use crate::tests::{Call, Outcome, call_over, ends_so};
 use crate::top::plant_top;
+use command_answers::Status;
 use controller_core::Entry;
 use crossbeam_utils::Backoff;
 use host_port::{HostEntry, HostResult};

@@ -1,13 +1,13 @@
 // The top call of the program.
 ghost use Rattle.std.specs.Prelude.{◌≡◌, IsTrue, ◌↔◌, codes, map, string_bytes};
 ghost use Rattle.std.specs.Process.{exit_status};
-ghost use Rattle.plant984.specs.Status.{exit_number};
-ghost use Rattle.plant984.specs.declared.status.Status.{Status as AnyStatus};
+ghost use Rattle.command_answers.specs.Status.{exit_number};
+ghost use Rattle.command_answers.specs.declared.status.Status.{Status as AnyStatus};
 ghost use Rattle.plant984.specs.Promise.{AsksNothing, PromisedAll, StartsLive, WritesNothing, side};
 
 use crate::live::plant_live;
 use crate::serial::plant_serial;
-use crate::status::Status;
+use command_answers::Status;
 use live_run::Meet;
 use plant_io::{Sink, Source};
 use std::alloc::Global;

@@ -38,8 +38,10 @@ pub lines_of_networks : (network : ℕ → List ℕ) (coils : List ℕ)
     ≡ lines_text (map network_line (map network coils))
 lines_of_networks network [] = refl
 lines_of_networks network (coil ∷ coils) =
-    ap (λ rest. lines_text (network_line (network coil) ∷ []) ++ rest) (lines_of_networks network coils)
-    ∙ sym (flat_map-append (λ line. line ++ codes "\n") (network_line (network coil) ∷ []) (map network_line (map network coils)))
+    ap (λ rest. lines_text (network_line (network coil) ∷ []) ++ rest)
+    (lines_of_networks network coils)
+    ∙ sym (flat_map-append (λ line. line ++ codes "\n") (network_line (network coil) ∷ [])
+    (map network_line (map network coils)))
 
 -- the lines of some controllers, one by one
 pub lines_of_all : (lines : ℕ → List (List ℕ)) (nodes : List ℕ)
@@ -50,14 +52,17 @@ lines_of_all lines (node ∷ nodes) =
     ∙ sym (flat_map-append (λ line. line ++ codes "\n") (lines node) (flat_map lines nodes))
 
 pub segment_text : (old : List ℕ) (message coils : List (List ℕ))
-    → (((old ++ codes "[[controller.segment]]\nnetworks = [\n") ++ lines_text (map network_line message))
+    → (((old ++ codes "[[controller.segment]]\nnetworks = [\n")
+    ++ lines_text (map network_line message))
     ++ lines_text (map network_line coils)) ++ codes "]\n"
-    ≡ old ++ lines_text (codes "[[controller.segment]]" ∷ codes "networks = [" ∷ map network_line (message ++ coils) ++ codes "]" ∷ [])
+    ≡ old ++ lines_text (codes "[[controller.segment]]" ∷ codes "networks = [" ∷ map network_line
+    (message ++ coils) ++ codes "]" ∷ [])
 segment_text old message coils = simp (append_assoc, map-append, flat_map-append)
 
 pub table_text : (old node fixed : List ℕ)
     → (old ++ (codes "[[controller]]\nnode = " ++ (node ++ codes "\n"))) ++ fixed
-    ≡ old ++ ((codes "[[controller]]" ++ codes "\n") ++ (((codes "node = " ++ node) ++ codes "\n") ++ fixed))
+    ≡ old ++ ((codes "[[controller]]" ++ codes "\n")
+    ++ (((codes "node = " ++ node) ++ codes "\n") ++ fixed))
 table_text old node fixed = simp append_assoc
 
 pub script_text : (old first rest : List ℕ)
@@ -72,7 +77,8 @@ pub first_word : (old first : List ℕ)
 first_word old first = simp append_assoc
 
 pub controller_text : (old : List ℕ) (table script segment : List (List ℕ))
-    → ((old ++ lines_text table) ++ lines_text script) ++ lines_text segment ≡ old ++ lines_text (table ++ (script ++ segment))
+    → ((old ++ lines_text table) ++ lines_text script) ++ lines_text segment
+    ≡ old ++ lines_text (table ++ (script ++ segment))
 controller_text old table script segment = simp (append_assoc, flat_map-append)
 
 -- a line that is written with the texts of three references

@@ -12,8 +12,8 @@ abbrev pub IsPlantNumber : ℕ → Type 0
 IsPlantNumber number = (1 ≤ number) × (number ≤ 9999)
 
 -- How many controllers the plant has: 2 to 16, with the nodes from 1 on.
-abbrev pub controllers_of : ℕ → ℕ
-controllers_of number = 2 + number % 15
+abbrev pub controller_count : ℕ → ℕ
+controller_count number = 2 + number % 15
 
 -- How many networks of contacts each controller has: 1 to 200.
 abbrev pub contacts_of : ℕ → ℕ
@@ -21,7 +21,7 @@ contacts_of number = 1 + number % 200
 
 -- The node behind this one, which behind the last is 1.
 abbrev pub next_node : ℕ → ℕ → ℕ
-next_node number node = node % controllers_of number + 1
+next_node number node = node % controller_count number + 1
 
 -- A word of the script of a node, counted from 1.
 abbrev pub script_word : ℕ → ℕ → ℕ → ℕ
@@ -101,7 +101,7 @@ controller_lines number node =
 -- The lines of all controllers, in rising node.
 abbrev pub all_controller_lines : ℕ → List (List ℕ)
 all_controller_lines number =
-    flat_map (controller_lines number) (range_with_len 1 (controllers_of number))
+    flat_map (controller_lines number) (range_with_len 1 (controller_count number))
 
 -- The lines of the plant: its version, and those of its controllers.
 abbrev pub plant_lines : ℕ → List (List ℕ)

@@ -7,7 +7,7 @@ ghost use Rattle.std.specs.List.{range_with_len};
 ghost use Rattle.plant_types.specs.Reference.{coil_at};
 ghost use Rattle.plant_gen.specs.Text.{all_controller_lines, coil_networks};
 ghost use Rattle.plant_gen.specs.Text.{contacts_network, contacts_of, controller_lines};
-ghost use Rattle.plant_gen.specs.Text.{controllers_of, input_at, IsPlantNumber, message_networks};
+ghost use Rattle.plant_gen.specs.Text.{controller_count, input_at, IsPlantNumber, message_networks};
 ghost use Rattle.plant_gen.specs.Text.{network_line, next_node, plant_text, script_line};
 ghost use Rattle.plant_gen.specs.Text.{script_word, segment_lines, table_lines, lines_text};
 ghost use Rattle.plant_gen.specs.Text.{word_text};
@@ -62,7 +62,7 @@ impl Made {
 }
 
 fn controllers_of(number: u32) -> u32
-    ensures { result ≡ controllers_of number }
+    ensures { result ≡ controller_count number }
 {
     2 + number % 15
 }

@@ -12,9 +12,9 @@ abbrev pub GaveFront : Option (List ℕ) → Option (List ℕ) → ℕ → Type 
 GaveFront old new most = (bytes : List ℕ) × (length bytes ≤ most) × Gave old new bytes
 
 -- These bytes are all that was left, and nothing is left now. This project's own.
-abbrev pub IsWhole : Option (List ℕ) → Option (List ℕ) → List ℕ → Type 0
-IsWhole None new bytes = new ≡ None
-IsWhole (Some old) new bytes = (old ≡ bytes) × (new ≡ Some [])
+abbrev pub GaveAll : Option (List ℕ) → Option (List ℕ) → List ℕ → Type 0
+GaveAll None new bytes = new ≡ None
+GaveAll (Some old) new bytes = (old ≡ bytes) × (new ≡ Some [])
 
 -- More was left than the limit, and the limit and one byte went. This project's own.
 abbrev pub IsTooLong : Option (List ℕ) → Option (List ℕ) → ℕ → Type 0

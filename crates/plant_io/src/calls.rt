@@ -1,5 +1,5 @@
 ghost use Rattle.std.specs.Prelude.{◌≡◌, ◌+◌, ◌↔◌, IsTrue, Contains};
-ghost use Rattle.plant_io.specs.Causes.{counted};
+ghost use Rattle.plant_io.specs.Causes.{raised};
 
 /// The calls made so far, and those of them that failed.
 #[derive(Debug, Drop)]
@@ -26,7 +26,7 @@ impl Calls {
     /// Makes one more call, and answers whether it is to fail.
     pub fn fails_next(&mut self) -> bool
         ensures fails { IsTrue result ↔ Contains self.old.fails.items (self.old.made + 1) }
-        ensures after { self.new ≡ record self.old { made = counted self.old.made } }
+        ensures after { self.new ≡ record self.old { made = raised self.old.made } }
     {
         let fails = self.fails.as_slice();
         let Some(number) = self.made.checked_add(1) else {
@@ -39,7 +39,7 @@ impl Calls {
 
     /// Counts a failed call.
     pub fn fail(&mut self)
-        ensures { self.new ≡ record self.old { failed = counted self.old.failed } }
+        ensures { self.new ≡ record self.old { failed = raised self.old.failed } }
     {
         self.failed = self.failed.saturating_add(1);
     }

@@ -1,7 +1,7 @@
 // A source and a sink in memory, which fail at the calls that they are told.
 ghost use Rattle.std.specs.Prelude.{◌≡◌, ◌<◌, ◌+◌, ◌≤◌, ◌↔◌, ◌++◌, ◌⊎◌, [], min, drop, take};
 ghost use Rattle.std.specs.Prelude.{length, Some, Contains, IsErr, IfOk, OnErr};
-ghost use Rattle.plant_io.specs.Causes.{HasCause, counted};
+ghost use Rattle.plant_io.specs.Causes.{HasCause, raised};
 ghost use Rattle.plant_io.specs.Streams.{Gave, Took};
 
 use crate::calls::Calls;
@@ -69,10 +69,10 @@ impl Source for MemSource {
         ensures count { IfOk result (λ count. count ≡
             min self.old.piece (min (length buf.old) (length self.old.left))) }
         ensures ok { IfOk result (λ count. self.new ≡
-            record self.old { left = drop count self.old.left; calls = counted self.old.calls }) }
+            record self.old { left = drop count self.old.left; calls = raised self.old.calls }) }
         ensures err { OnErr result (self.new ≡ record self.old {
-          calls = counted self.old.calls;
-          faults = counted self.old.faults;
+          calls = raised self.old.calls;
+          faults = raised self.old.faults;
         }) }
         ensures filled { IfOk result (λ count. buf.new ≡
             take count self.old.left ++ drop count buf.old) }
@@ -157,12 +157,12 @@ impl Sink for MemSink {
         ensures count { IfOk result (λ count. count ≡ min self.old.piece (length piece.now)) }
         ensures ok { IfOk result (λ count. self.new ≡ record self.old {
           taken = self.old.taken ++ take count piece.now;
-          calls = counted self.old.calls;
+          calls = raised self.old.calls;
           room = self.new.room;
         }) }
         ensures err { OnErr result (self.new ≡ record self.old {
-          calls = counted self.old.calls;
-          faults = counted self.old.faults;
+          calls = raised self.old.calls;
+          faults = raised self.old.faults;
           room = self.new.room;
         }) }
         ensures room { self.old.room ≤ self.new.room }

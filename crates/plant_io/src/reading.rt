@@ -1,7 +1,7 @@
 ghost use Rattle.std.specs.Prelude.{◌≡◌, ◌+◌, ◌<◌, ◌≤◌, ◌↔◌, ℕ, List, [], length, take, Option};
 ghost use Rattle.std.specs.Prelude.{IfOk, IsOk, IfSome, OnErr, ◌⊎◌};
 ghost use Rattle.plant_io.specs.Causes.{HasCause, Rose};
-ghost use Rattle.plant_io.specs.Streams.{Gave, GaveFront, IsWhole, IsTooLong};
+ghost use Rattle.plant_io.specs.Streams.{Gave, GaveFront, GaveAll, IsTooLong};
 ghost use Rattle.plant_io.specs.declared.reading.ReadEnd.TheVariants.{Fault, NoMemory};
 
 use crate::Failed;
@@ -76,7 +76,7 @@ const PIECE: usize = 65_536;
 /// Reads all bytes up to the end of input. Of a longer input it reads the limit and one byte.
 pub fn read_all<S: Source>(alloc: Global, source: &mut S, limit: usize) -> Result<Vec<u8>, ReadEnd>
     ensures whole { IfOk result (λ bytes.
-        IsWhole (S.left source.old) (S.left source.new) bytes.items) }
+        GaveAll (S.left source.old) (S.left source.new) bytes.items) }
     ensures within { IfOk result (λ bytes. length bytes.items ≤ limit) }
 
     // Each early end has its cause, and the source is where the reading ended.

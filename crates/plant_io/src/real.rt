@@ -1,7 +1,7 @@
 // The adapters over std's readers and writers. To those above they tell nothing of bytes.
 ghost use Rattle.std.specs.Prelude.{◌≡◌, ◌<◌, ◌≤◌, length, None, IfOk, is_err, if◌then◌else◌};
 ghost use Rattle.std.specs.Io.KnownBytes.{ReadConsumes, WriteAppends};
-ghost use Rattle.plant_io.specs.Causes.{HasCause, counted};
+ghost use Rattle.plant_io.specs.Causes.{HasCause, raised};
 ghost use Rattle.plant_io.specs.Real.{reader_of, failed_reads, writer_of, failed_writes};
 
 use crate::{Failed, Sink, Source};
@@ -39,7 +39,7 @@ impl<R: Read> Source for StdSource<R> {
 
         // A call that fails counts one, and no other does.
         ensures faults { failed_reads self.new ≡
-            (if is_err result then counted (failed_reads self.old) else failed_reads self.old) }
+            (if is_err result then raised (failed_reads self.old) else failed_reads self.old) }
     {
         match self.reader.read(buf) {
             Ok(count) => Ok(count),
@@ -84,7 +84,7 @@ impl<W: Write> Sink for StdSink<W> {
 
         // A call that fails counts one, and no other does.
         ensures faults { failed_writes self.new ≡
-            (if is_err result then counted (failed_writes self.old) else failed_writes self.old) }
+            (if is_err result then raised (failed_writes self.old) else failed_writes self.old) }
     {
         match self.writer.write(piece) {
             Ok(count) if count > 0 => Ok(count),

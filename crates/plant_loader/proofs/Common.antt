@@ -17,14 +17,17 @@ pub some_value : {A : Type 0} (x y : A) → Some x ≡ Some y → x ≡ y
 some_value x y h = cc
 
 -- what went well at a place went well without it
-pub at_place-ok : {A : Type 0} (place : Place) (r : Result A PlantFault) (y : A) → at_place place r ≡ Ok y → r ≡ Ok y
+pub at_place-ok : {A : Type 0} (place : Place) (r : Result A PlantFault) (y : A)
+    → at_place place r ≡ Ok y → r ≡ Ok y
 at_place-ok place (Ok x) y h = cc
 at_place-ok place (Err e) y h = cc
 
 -- tests that hold, and others behind them
-pub both-hold : {F : Type 0} (xs ys : List (Test F)) → first_failed xs ≡ Ok tt → first_failed ys ≡ Ok tt → first_failed (xs ++ ys) ≡ Ok tt
+pub both-hold : {F : Type 0} (xs ys : List (Test F)) → first_failed xs ≡ Ok tt
+    → first_failed ys ≡ Ok tt → first_failed (xs ++ ys) ≡ Ok tt
 both-hold xs ys h k = first_failed-held xs ys h ∙ k
 
 -- tests that hold do so at a place
-pub placed-hold : (place : Place) (tests : List (Test PlantFault)) → first_failed tests ≡ Ok tt → first_failed (placed place tests) ≡ Ok tt
+pub placed-hold : (place : Place) (tests : List (Test PlantFault)) → first_failed tests ≡ Ok tt
+    → first_failed (placed place tests) ≡ Ok tt
 placed-hold place tests h = sym (placed-first place tests) ∙ ap (at_place place) h

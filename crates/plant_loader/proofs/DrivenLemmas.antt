@@ -34,11 +34,13 @@ found_is false = refl
 -- the order that the derive makes finds the references that are the same
 is_at-same : (at other : Ref) → is_at (derived.cmp-value.it at) other ≡ is_same at other
 is_at-same at other =
-    sym (found_is (is_at (derived.cmp-value.it at) other)) ∙ ap is_some (found_by_code ((other, 0) ∷ []) at) ∙ found_is (is_at (ref_cmp at) other)
+    sym (found_is (is_at (derived.cmp-value.it at) other))
+    ∙ ap is_some (found_by_code ((other, 0) ∷ []) at) ∙ found_is (is_at (ref_cmp at) other)
     ∙ same_then (rank_of at.kind) (rank_of other.kind) at.number other.number
 
 -- the order finds a reference in a list where it is there
-list_any-at : (at : Ref) (keys : List Ref) → list_any (is_at (derived.cmp-value.it at)) keys ≡ list_any (is_same at) keys
+list_any-at : (at : Ref) (keys : List Ref)
+    → list_any (is_at (derived.cmp-value.it at)) keys ≡ list_any (is_same at) keys
 list_any-at at [] = refl
 list_any-at at (key ∷ keys) = rw (is_at-same at key, list_any-at at keys) refl
 
@@ -52,26 +54,35 @@ or_last false false = refl
 -- one more key is one more reference
 pub HoldsJust-gain : (old new : List Ref) (drives : Option Ref) (coil : Ref) → Some coil ≡ drives
     → ((q : Ref) → list_any (is_at (derived.cmp-value.it q)) new
-    ≡ cond (is_at (derived.cmp-value.it coil) q) true (list_any (is_at (derived.cmp-value.it q)) old))
+    ≡ cond (is_at (derived.cmp-value.it coil) q) true
+    (list_any (is_at (derived.cmp-value.it q)) old))
     → HoldsJust new (old ++ cons_option drives [])
 HoldsJust-gain old new drives coil e put = λ at.
-    sym (list_any-at at new) ∙ put at ∙ rw (is_at-same coil at, list_any-at at old, is_same-turned coil at)
+    sym (list_any-at at new) ∙ put at
+    ∙ rw (is_at-same coil at, list_any-at at old, is_same-turned coil at)
     (or_last (is_same at coil) (list_any (is_same at) old))
-    ∙ sym (list_any-append (is_same at) old (coil ∷ [])) ∙ ap (λ (o : Option Ref). list_any (is_same at) (old ++ cons_option o [])) e
+    ∙ sym (list_any-append (is_same at) old (coil ∷ []))
+    ∙ ap (λ (o : Option Ref). list_any (is_same at) (old ++ cons_option o [])) e
 
 -- the coils of one more cell
-pub coils_in-push : (cells : List Cell) (cell : Cell) → coils_in (cells ++ cell ∷ []) ≡ coils_in cells ++ cons_option (driven_by cell.element) []
+pub coils_in-push : (cells : List Cell) (cell : Cell)
+    → coils_in (cells ++ cell ∷ []) ≡ coils_in cells ++ cons_option (driven_by cell.element) []
 coils_in-push cells cell = filter_map-append (λ (c : Cell). driven_by c.element) cells (cell ∷ [])
 
 -- the keys hold the coils of one more cell
-pub HoldsJust-cell : (old new : List Ref) (cells more : List Cell) (cell : Cell) (drives : Option Ref) → drives ≡ driven_by cell.element
-    → more ≡ cells ++ cell ∷ [] → HoldsJust old (coils_in cells) → HoldsJust new (old ++ cons_option drives []) → HoldsJust new (coils_in more)
+pub HoldsJust-cell : (old new : List Ref) (cells more : List Cell) (cell : Cell)
+    (drives : Option Ref) → drives ≡ driven_by cell.element
+    → more ≡ cells ++ cell ∷ [] → HoldsJust old (coils_in cells)
+    → HoldsJust new (old ++ cons_option drives []) → HoldsJust new (coils_in more)
 HoldsJust-cell old new cells more cell drives d m held gained = λ at.
     let one = cons_option (driven_by cell.element) [] in
-    gained at ∙ ap (λ (o : Option Ref). list_any (is_same at) (old ++ cons_option o [])) d ∙ list_any-append (is_same at) old one
+    gained at ∙ ap (λ (o : Option Ref). list_any (is_same at) (old ++ cons_option o [])) d
+    ∙ list_any-append (is_same at) old one
     ∙ rw (held at) (sym (list_any-append (is_same at) (coils_in cells) one))
     ∙ ap (list_any (is_same at)) (sym (ap coils_in m ∙ coils_in-push cells cell))
 
 -- the keys hold the coils of the same cells
-pub HoldsJust-same : (keys : List Ref) (cells other : List Cell) → other ≡ cells → HoldsJust keys (coils_in cells) → HoldsJust keys (coils_in other)
-HoldsJust-same keys cells other e held = λ at. held at ∙ ap (λ (c : List Cell). list_any (is_same at) (coils_in c)) (sym e)
+pub HoldsJust-same : (keys : List Ref) (cells other : List Cell) → other ≡ cells
+    → HoldsJust keys (coils_in cells) → HoldsJust keys (coils_in other)
+HoldsJust-same keys cells other e held =
+    λ at. held at ∙ ap (λ (c : List Cell). list_any (is_same at) (coils_in c)) (sym e)

@@ -1,4 +1,5 @@
--- Segments while they are read: one more cell, one more short, a network or a segment that is whole.
+-- Segments while they are read: one more cell, one more short, a network or a segment that is
+-- whole.
 use Rattle.std.proofs.Common.{◌≡◌, ℕ, ◌+◌, ◌≤◌, ◌<◌, Bool, true, false, not, ◌&&◌, List, [], ◌∷◌}
 use Rattle.std.proofs.Common.{◌++◌, length, length-append, Option, Ok, refl, sym, ap, ◌∙◌}
 use Rattle.std.proofs.Common.{append_assoc, arith}
@@ -36,22 +37,28 @@ use Rattle.plant_loader.specs.Program.{added, with_network, with_segment}
 use Rattle.plant_loader.proofs.DrivenLemmas.{HoldsJust-cell, HoldsJust-same}
 
 -- all cells with one more
-cells_read-cell : (read : ReadProgram) (cell : Cell) → cells_read (added read (pieces.Cell cell)) ≡ cells_read read ++ cell ∷ []
-cells_read-cell read cell = sym (append_assoc (cells_before read.segments read.networks) read.cells (cell ∷ []))
+cells_read-cell : (read : ReadProgram) (cell : Cell)
+    → cells_read (added read (pieces.Cell cell)) ≡ cells_read read ++ cell ∷ []
+cells_read-cell read cell =
+    sym (append_assoc (cells_before read.segments read.networks) read.cells (cell ∷ []))
 
 -- all cells with a network that is whole, and with a segment
 cells_read-network : (read : ReadProgram) → cells_read (with_network read) ≡ cells_read read
 cells_read-network read =
-    append-nil _ ∙ ap (λ more. cells_of_segments read.segments ++ more) (cells_of_networks-push read.networks (open_network read))
-    ∙ sym (append_assoc (cells_of_segments read.segments) (cells_of_networks read.networks) read.cells)
+    append-nil _ ∙ ap (λ more. cells_of_segments read.segments ++ more)
+    (cells_of_networks-push read.networks (open_network read))
+    ∙ sym (append_assoc (cells_of_segments read.segments)
+    (cells_of_networks read.networks) read.cells)
 
 cells_read-segment : (read : ReadProgram) → cells_read (with_segment read) ≡ cells_read read
 cells_read-segment read =
     let whole : Segment = record { networks = read.networks } in
-    ap (λ before. before ++ read.cells) (append-nil (cells_of_segments (read.segments ++ whole ∷ [])) ∙ cells_of_segments-push read.segments whole)
+    ap (λ before. before ++ read.cells) (append-nil
+    (cells_of_segments (read.segments ++ whole ∷ [])) ∙ cells_of_segments-push read.segments whole)
 
 -- a message more is not one too many
-few_more : (messages : ℕ) (is : Bool) → messages ≤ 64 → not (is && not (nat_lt messages 64)) ≡ true → messages + (if is then 1 else 0) ≤ 64
+few_more : (messages : ℕ) (is : Bool) → messages ≤ 64 → not (is && not (nat_lt messages 64)) ≡ true
+    → messages + (if is then 1 else 0) ≤ 64
 few_more messages true few h = grind (arith, nat_tests)
 few_more messages false few h = grind (arith, nat_tests)
 
@@ -59,7 +66,8 @@ few_more messages false few h = grind (arith, nat_tests)
 record Fits (read : ReadProgram) (cell : Cell) : Type 0 where
   place : has_cell_place cell ≡ true
   shape : has_shape read.cells cell ≡ true
-  message : not (is_message cell.element && not (nat_lt (message_count (cells_read read)) message_limit)) ≡ true
+  message : not (is_message cell.element
+      && not (nat_lt (message_count (cells_read read)) message_limit)) ≡ true
 
 passing-fits : (sizes : Sizes) (read : ReadProgram) (cell : Cell)
     → first_failed (site_cell_tests (site_of sizes read) read.cells cell) ≡ Ok tt → Fits read cell
@@ -68,15 +76,19 @@ passing-fits sizes read cell h =
     let standing = standing_of site.is_last (cells_read read) cell.element in
     let parts = parts-ok (cell_tests sizes read.cells cell) (standing_tests standing) h in
     let holds = cell_tests-ok sizes read.cells cell parts.0 in
-    let stands = four-ok (not standing.is_stray_label) (not standing.repeats_label) (not standing.drives_again) (not standing.exceeds_messages)
+    let stands = four-ok (not standing.is_stray_label) (not standing.repeats_label)
+    (not standing.drives_again) (not standing.exceeds_messages)
     BadShape BadShape CoilTwice TooLarge parts.1 in
     record { place = holds.place; shape = holds.shape; message = stands.1.1 }
 
 -- one more cell that passes
-pub KeepsProgram-cell : (old new : List Ref) (messages more : ℕ) (sizes : Sizes) (read : ReadProgram) (cell : Cell) (drives : Option Ref)
-    → first_failed (site_cell_tests (site_of sizes read) read.cells cell) ≡ Ok tt → drives ≡ driven_by cell.element
+pub KeepsProgram-cell : (old new : List Ref) (messages more : ℕ) (sizes : Sizes)
+    (read : ReadProgram) (cell : Cell) (drives : Option Ref)
+    → first_failed (site_cell_tests (site_of sizes read) read.cells cell) ≡ Ok tt
+    → drives ≡ driven_by cell.element
     → more ≡ messages + (if is_message cell.element then 1 else 0)
-    → KeepsProgram old messages read → HoldsJust new (old ++ cons_option drives []) → KeepsProgram new more (added read (pieces.Cell cell))
+    → KeepsProgram old messages read → HoldsJust new (old ++ cons_option drives [])
+    → KeepsProgram new more (added read (pieces.Cell cell))
 KeepsProgram-cell old new messages more sizes read cell drives passes d m kept gained =
     let fits = passing-fits sizes read cell passes in
     let clear = and_parts (is_within cell) (not (list_any (clashes cell) read.cells)) fits.shape in
@@ -84,11 +96,14 @@ KeepsProgram-cell old new messages more sizes read cell drives passes d m kept g
     let room : not (is_message cell.element && not (nat_lt messages 64)) ≡ true =
     ap (λ n. not (is_message cell.element && not (nat_lt n 64))) kept.count ∙ fits.message in
     record {
-      driven = HoldsJust-cell old new (cells_read read) (cells_read (added read (pieces.Cell cell))) cell drives d cells kept.driven gained;
+      driven = HoldsJust-cell old new (cells_read read) (cells_read (added read (pieces.Cell cell)))
+          cell drives d cells kept.driven gained;
       count = m ∙ ap (λ n. n + (if is_message cell.element then 1 else 0)) kept.count
-          ∙ sym (ap message_count cells ∙ message_count-push (cells_read read) cell (is_message cell.element) refl);
+          ∙ sym (ap message_count cells
+          ∙ message_count-push (cells_read read) cell (is_message cell.element) refl);
       few_messages = rw m (few_more messages (is_message cell.element) kept.few_messages room);
-      cells = rw map-append (AreApart-push (cell_places read.cells) (cell.row, cell.column) kept.cells fits.place (free_place
+      cells = rw map-append (AreApart-push (cell_places read.cells)
+          (cell.row, cell.column) kept.cells fits.place (free_place
           read.cells cell (not-true _ clear.1)));
       shorts = kept.shorts;
       segments = kept.segments;
@@ -96,16 +111,19 @@ KeepsProgram-cell old new messages more sizes read cell drives passes d m kept g
     }
 
 -- one more short at a free place
-pub KeepsProgram-short : (keys : List Ref) (messages : ℕ) (read : ReadProgram) (short : Short) → first_failed (short_tests read.shorts short) ≡ Ok tt
+pub KeepsProgram-short : (keys : List Ref) (messages : ℕ) (read : ReadProgram) (short : Short)
+    → first_failed (short_tests read.shorts short) ≡ Ok tt
     → KeepsProgram keys messages read → KeepsProgram keys messages (added read (pieces.Short short))
 KeepsProgram-short keys messages read short passes kept =
-    let holds = two-ok (has_short_place short) (not (list_any (same_short short) read.shorts)) BadCell BadShape passes in
+    let holds = two-ok (has_short_place short) (not (list_any (same_short short) read.shorts))
+    BadCell BadShape passes in
     record {
       driven = kept.driven;
       count = kept.count;
       few_messages = kept.few_messages;
       cells = kept.cells;
-      shorts = rw map-append (AreApart-push (short_places read.shorts) (short.row, short.column) kept.shorts (short_is_place short holds.0)
+      shorts = rw map-append (AreApart-push (short_places read.shorts)
+          (short.row, short.column) kept.shorts (short_is_place short holds.0)
           (free_short read.shorts short (not-true _ holds.1)));
       segments = kept.segments;
       networks = kept.networks;
@@ -117,10 +135,12 @@ unfolding IsDistinct
 none_apart = record { within = refl; distinct = tt }
 
 -- a network that is whole, and none of the next one yet
-pub KeepsProgram-network : (keys : List Ref) (messages : ℕ) (read : ReadProgram) → length read.networks < 1000 → KeepsProgram keys messages read
+pub KeepsProgram-network : (keys : List Ref) (messages : ℕ) (read : ReadProgram)
+    → length read.networks < 1000 → KeepsProgram keys messages read
     → KeepsProgram keys messages (with_network read)
 KeepsProgram-network keys messages read few kept = record {
-  driven = HoldsJust-same keys (cells_read read) (cells_read (with_network read)) (cells_read-network read) kept.driven;
+  driven = HoldsJust-same keys (cells_read read) (cells_read (with_network read))
+      (cells_read-network read) kept.driven;
   count = kept.count ∙ ap message_count (sym (cells_read-network read));
   few_messages = kept.few_messages;
   cells = none_apart;
@@ -130,10 +150,12 @@ KeepsProgram-network keys messages read few kept = record {
 }
 
 -- a segment that is whole, and none of the next one yet
-pub KeepsProgram-segment : (keys : List Ref) (messages : ℕ) (read : ReadProgram) → length read.segments < 32 → KeepsProgram keys messages read
+pub KeepsProgram-segment : (keys : List Ref) (messages : ℕ) (read : ReadProgram)
+    → length read.segments < 32 → KeepsProgram keys messages read
     → KeepsProgram keys messages (with_segment read)
 KeepsProgram-segment keys messages read few kept = record {
-  driven = HoldsJust-same keys (cells_read read) (cells_read (with_segment read)) (cells_read-segment read) kept.driven;
+  driven = HoldsJust-same keys (cells_read read) (cells_read (with_segment read))
+      (cells_read-segment read) kept.driven;
   count = kept.count ∙ ap message_count (sym (cells_read-segment read));
   few_messages = kept.few_messages;
   cells = kept.cells;
@@ -143,7 +165,8 @@ KeepsProgram-segment keys messages read few kept = record {
 }
 
 -- nothing yet
-pub KeepsProgram-none : (count : ℕ) (keys : List Ref) → keys ≡ [] → KeepsProgram keys 0 (nothing_read count)
+pub KeepsProgram-none : (count : ℕ) (keys : List Ref) → keys ≡ []
+    → KeepsProgram keys 0 (nothing_read count)
 KeepsProgram-none count keys e = record {
   driven = λ at. rw e refl;
   count = refl;
@@ -155,7 +178,8 @@ KeepsProgram-none count keys e = record {
 }
 
 -- how many cells and shorts there are at most
-pub KeepsProgram-few : (keys : List Ref) (messages : ℕ) (read : ReadProgram) → KeepsProgram keys messages read → (length read.cells ≤ 96) × (length read.shorts ≤ 96)
+pub KeepsProgram-few : (keys : List Ref) (messages : ℕ) (read : ReadProgram)
+    → KeepsProgram keys messages read → (length read.cells ≤ 96) × (length read.shorts ≤ 96)
 KeepsProgram-few keys messages read kept =
     let cell_count : length read.cells ≤ 96 = omega (
       arith,
@@ -163,5 +187,9 @@ KeepsProgram-few keys messages read kept =
       AreApart-few (cell_places read.cells) kept.cells,
     ) in
     let short_count : length read.shorts ≤ 96 =
-    omega (arith, length-map {B = ℕ × ℕ} read.shorts (λ (short : Short). (short.row, short.column)), AreApart-few (short_places read.shorts) kept.shorts) in
+    omega (
+      arith,
+      length-map {B = ℕ × ℕ} read.shorts (λ (short : Short). (short.row, short.column)),
+      AreApart-few (short_places read.shorts) kept.shorts,
+    ) in
     (cell_count, short_count)

@@ -28,11 +28,14 @@ told-either : (most : ℕ) (digits : List ℕ) (value : ℕ) (b : Bool) → nat_
 told-either most digits value true h =
     let high = least most value h in
     both-most most (fold more (min value most) digits) (fold more value digits)
-    (omega (arith, grows digits (min value most), high.0)) (omega (arith, grows digits value, high.1))
-told-either most digits value false h = ap (λ v. min (fold more v digits) most) (least-not most value h)
+    (omega (arith, grows digits (min value most), high.0))
+    (omega (arith, grows digits value, high.1))
+told-either most digits value false h =
+    ap (λ v. min (fold more v digits) most) (least-not most value h)
 
 -- digits behind a number that is told up to a most
-pub told-more : (most : ℕ) (digits : List ℕ) (value : ℕ) → min (fold more (min value most) digits) most ≡ min (fold more value digits) most
+pub told-more : (most : ℕ) (digits : List ℕ) (value : ℕ)
+    → min (fold more (min value most) digits) most ≡ min (fold more value digits) most
 told-more most digits value = told-either most digits value (nat_le most value) refl
 
 -- what is told is at most the most

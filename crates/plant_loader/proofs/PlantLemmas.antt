@@ -34,7 +34,7 @@ use Rattle.cell_text.specs.Words.{text_words, only_word}
 use Rattle.cell_text.specs.Numbers.{reference_of}
 use Rattle.cell_text.proofs.StepLemmas.{step-ok, unless-ok}
 use Rattle.traffic_cop.specs.Drops.{IsNamed, drop_named}
-use Rattle.traffic_cop.specs.Rows.{HasControl, NamesDrop, FitsPlan}
+use Rattle.traffic_cop.specs.Rows.{HasControl, NamesDrop, FitsPlan, IsRunnablePlan}
 use Rattle.traffic_cop.proofs.CheckLemmas.{checked-ready}
 use Rattle.plant_loader.specs.declared.owner.Owner.{Owner}
 use Rattle.plant_loader.specs.Refusals.{Refusal}
@@ -48,7 +48,7 @@ use Rattle.plant_loader.specs.Pieces.{segments_of}
 use Rattle.plant_loader.specs.Orders.{nameable, orders_of}
 use Rattle.plant_loader.specs.Stations.{Arrays, arrays_from, arrays_at, plan_of, parts_of}
 use Rattle.plant_loader.specs.Stations.{has_controller, controller_behind, controllers_of}
-use Rattle.plant_loader.specs.Accepted.{HasOrders, IsSolvable, PassesDropTests}
+use Rattle.plant_loader.specs.Accepted.{PassesDropTests}
 use Rattle.plant_loader.proofs.Common.{ok_value, both-hold, placed-hold}
 use Rattle.plant_loader.proofs.KeyLemmas.{address_at-within, size_at-is_size}
 use Rattle.plant_loader.proofs.KeyLemmas.{discrete_size_at-is_discrete_size, texts_at-few}
@@ -60,34 +60,41 @@ use Rattle.plant_loader.proofs.DropLemmas.{drops-pass}
 use Rattle.plant_loader.proofs.OrderLemmas.{orders-pass}
 
 -- a reference of a panel stands in the map
-panel_item-held : (owner : Owner) (number : ℕ) (text : List ℕ) (at : Ref) → panel_item owner number text ≡ Ok at → has_reference owner.sizes at ≡ true
+panel_item-held : (owner : Owner) (number : ℕ) (text : List ℕ) (at : Ref)
+    → panel_item owner number text ≡ Ok at → has_reference owner.sizes at ≡ true
 unfolding panel_item
 panel_item-held owner number text at h =
     let bad : Refusal = (BadRef, panel_place owner.position number) in
     let word = step-ok (or_fault bad (only_word (text_words text))) _ at h in
     let found = step-ok (or_fault bad (reference_of word.0)) _ at word.1.1 in
-    let held = unless-ok (has_reference owner.sizes found.0) bad (λ held. Ok found.0) at found.1.1 in
+    let held = unless-ok (has_reference owner.sizes found.0) bad
+    (λ held. Ok found.0) at found.1.1 in
     let same : found.0 ≡ at = ok_value found.0 at held.1 in
     rw (← same) held.0
 
 -- a test alone
-one-test : {F : Type 0} (test : Bool) (fault : F) → test ≡ true → first_failed ((test, fault) ∷ []) ≡ Ok tt
+one-test : {F : Type 0} (test : Bool) (fault : F) → test ≡ true
+    → first_failed ((test, fault) ∷ []) ≡ Ok tt
 one-test test fault h = rw h refl
 
 -- so do all references of a panel
-panel-pass : (owner : Owner) (texts : List (List ℕ)) (panel : List Ref) → panel_of owner texts ≡ Ok panel
+panel-pass : (owner : Owner) (texts : List (List ℕ)) (panel : List Ref)
+    → panel_of owner texts ≡ Ok panel
     → first_failed (tests_of_each (panel_tests owner.sizes) panel) ≡ Ok tt
 panel-pass owner texts panel h =
     each_from-tests (panel_tests owner.sizes) (panel_item owner)
-    (λ before n text at e. placed-hold (panel_place 1 (length before + 1)) ((has_reference owner.sizes at, BadRef) ∷ [])
-    (one-test (has_reference owner.sizes at) BadRef (panel_item-held owner n text at e))) texts 1 panel h
+    (λ before n text at e. placed-hold (panel_place 1 (length before + 1))
+    ((has_reference owner.sizes at, BadRef) ∷ [])
+    (one-test (has_reference owner.sizes at) BadRef (panel_item-held owner n text at e)))
+    texts 1 panel h
 
 -- the numbers that a table gives are an address and sizes
 record HasNumbers (owner : Owner) : Type 0 where
   node : (1 ≤ owner.node) × (owner.node ≤ 64)
   sizes : are_sizes owner.sizes ≡ true
 
-owner_at-has : (position : ℕ) (ms : Members) (owner : Owner) → owner_at position ms ≡ Ok owner → HasNumbers owner
+owner_at-has : (position : ℕ) (ms : Members) (owner : Owner) → owner_at position ms ≡ Ok owner
+    → HasNumbers owner
 unfolding owner_at
 owner_at-has position ms owner h =
     let place = controller_place position in
@@ -96,8 +103,10 @@ owner_at-has position ms owner h =
     let inputs = step-ok (discrete_size_at place (codes "inputs") ms) _ owner coils.1.1 in
     let input_registers = step-ok (size_at place (codes "input_registers") ms) _ owner inputs.1.1 in
     let registers = step-ok (size_at place (codes "registers") ms)
-    (λ registers. Ok (owner_from position node.0 (sizes_from coils.0 inputs.0 input_registers.0 registers))) owner input_registers.1.1 in
-    let whole : Owner = owner_from position node.0 (sizes_from coils.0 inputs.0 input_registers.0 registers.0) in
+    (λ registers. Ok (owner_from position node.0
+    (sizes_from coils.0 inputs.0 input_registers.0 registers))) owner input_registers.1.1 in
+    let whole : Owner =
+    owner_from position node.0 (sizes_from coils.0 inputs.0 input_registers.0 registers.0) in
     let same : whole ≡ owner = ok_value whole owner registers.1.1 in
     let discretes = and_from (is_discrete_size coils.0) (is_discrete_size inputs.0)
     (discrete_size_at-is_discrete_size place (codes "coils") ms coils.0 coils.1.0)
@@ -107,7 +116,8 @@ owner_at-has position ms owner h =
     (size_at-is_size place (codes "registers") ms registers.0 registers.1.0) in
     let has : HasNumbers whole = record {
       node = address_at-within place ms node.0 node.1.0;
-      sizes = and_from (is_discrete_size coils.0 && is_discrete_size inputs.0) (is_size input_registers.0 && is_size registers.0) discretes words;
+      sizes = and_from (is_discrete_size coils.0 && is_discrete_size inputs.0)
+          (is_size input_registers.0 && is_size registers.0) discretes words;
     } in
     rw (← same) has
 
@@ -118,12 +128,14 @@ record HasFewItems (arrays : Arrays) : Type 0 where
   segments : length arrays.segments ≤ segment_limit
   orders : length arrays.orders ≤ order_limit
 
-arrays_at-few : (place : Place) (ms : Members) (arrays : Arrays) → arrays_at place ms ≡ Ok arrays → HasFewItems arrays
+arrays_at-few : (place : Place) (ms : Members) (arrays : Arrays) → arrays_at place ms ≡ Ok arrays
+    → HasFewItems arrays
 unfolding arrays_at
 arrays_at-few place ms arrays h =
     let panel = step-ok (texts_at place panel_limit (codes "panel") ms) _ arrays h in
     let drops = step-ok (tables_at place drop_limit (codes "drop") ms) _ arrays panel.1.1 in
-    let segments = step-ok (tables_at place segment_limit (codes "segment") ms) _ arrays drops.1.1 in
+    let segments = step-ok (tables_at place segment_limit (codes "segment") ms) _
+    arrays drops.1.1 in
     let orders = step-ok (texts_at place order_limit (codes "orders") ms)
     (λ orders. Ok (arrays_from panel.0 drops.0 segments.0 orders)) arrays segments.1.1 in
     let whole = arrays_from panel.0 drops.0 segments.0 orders.0 in
@@ -142,10 +154,12 @@ pub record IsRead (plan : ControllerPlan) : Type 0 where
   pub drops : PassesDropTests plan
   pub node : IsNode plan.node
 
-three-hold : {F : Type 0} (a b c : Bool) (f g k : F) → a ≡ true → b ≡ true → c ≡ true → first_failed ((a, f) ∷ (b, g) ∷ (c, k) ∷ []) ≡ Ok tt
+three-hold : {F : Type 0} (a b c : Bool) (f g k : F) → a ≡ true → b ≡ true → c ≡ true
+    → first_failed ((a, f) ∷ (b, g) ∷ (c, k) ∷ []) ≡ Ok tt
 three-hold a b c f g k p q r = rw (p, q, r) refl
 
-parts_of-read : (owner : Owner) (arrays : Arrays) (plan : ControllerPlan) → HasNumbers owner → HasFewItems arrays
+parts_of-read : (owner : Owner) (arrays : Arrays) (plan : ControllerPlan) → HasNumbers owner
+    → HasFewItems arrays
     → parts_of owner arrays ≡ Ok plan → IsRead plan
 unfolding parts_of
 parts_of-read owner arrays plan numbers few h =
@@ -154,35 +168,47 @@ parts_of-read owner arrays plan numbers few h =
     let sizes = numbers.sizes in
     let drops = step-ok (drops_of owner arrays.drops) _ plan h in
     let segments = step-ok (segments_of owner arrays.segments) _ plan drops.1.1 in
-    let orders = step-ok (orders_of (nameable owner segments.0 drops.0) arrays.orders) _ plan segments.1.1 in
-    let panel = step-ok (panel_of owner arrays.panel) (λ panel. Ok (plan_of owner panel orders.0 drops.0 segments.0)) plan orders.1.1 in
+    let orders = step-ok (orders_of (nameable owner segments.0 drops.0) arrays.orders) _ plan
+    segments.1.1 in
+    let panel = step-ok (panel_of owner arrays.panel)
+    (λ panel. Ok (plan_of owner panel orders.0 drops.0 segments.0)) plan orders.1.1 in
     let whole : ControllerPlan = plan_of owner panel.0 orders.0 drops.0 segments.0 in
     let same : whole ≡ plan = ok_value whole plan panel.1.1 in
     let segment_count = segments-count owner arrays.segments segments.0 segments.1.0 in
     let drop_count = with_positions-count _ arrays.drops drops.0 drops.1.0 in
     let order_count = each_from-length _ arrays.orders 1 orders.0 orders.1.0 in
     let panel_count = each_from-length _ arrays.panel 1 panel.0 panel.1.0 in
-    let segment_pass = segments-pass owner whole arrays.segments (refl {a = owner.sizes}) (sym segment_count) segments.0 segments.1.0 in
-    let address = and_from (nat_le 1 node) (nat_le node 64) (le-leb 1 node within.0) (le-leb node 64 within.1) in
+    let segment_pass = segments-pass owner whole arrays.segments (refl {a = owner.sizes})
+    (sym segment_count) segments.0 segments.1.0 in
+    let address = and_from (nat_le 1 node) (nat_le node 64) (le-leb 1 node within.0)
+    (le-leb node 64 within.1) in
     let panel_few = le-leb (length panel.0) panel_limit (omega (arith, panel_count, few.panel)) in
     let drops_few = le-leb (length drops.0) drop_limit (omega (arith, drop_count, few.drops)) in
-    let segments_few = le-leb (length segments.0) segment_limit (omega (arith, segment_count, few.segments)) in
-    let orders_few = le-leb (length orders.0) order_limit (omega (arith, order_count, few.orders)) in
+    let segments_few = le-leb (length segments.0) segment_limit
+    (omega (arith, segment_count, few.segments)) in
+    let orders_few = le-leb (length orders.0) order_limit
+    (omega (arith, order_count, few.orders)) in
     let count : has_few whole ≡ true =
-    and_from (nat_le (length panel.0) panel_limit && nat_le (length drops.0) drop_limit) (nat_le (length segments.0) segment_limit
+    and_from (nat_le (length panel.0) panel_limit && nat_le (length drops.0) drop_limit)
+    (nat_le (length segments.0) segment_limit
     && nat_le (length orders.0) order_limit)
-    (and_from (nat_le (length panel.0) panel_limit) (nat_le (length drops.0) drop_limit) panel_few drops_few)
-    (and_from (nat_le (length segments.0) segment_limit) (nat_le (length orders.0) order_limit) segments_few orders_few) in
+    (and_from (nat_le (length panel.0) panel_limit) (nat_le (length drops.0) drop_limit)
+    panel_few drops_few)
+    (and_from (nat_le (length segments.0) segment_limit) (nat_le (length orders.0) order_limit)
+    segments_few orders_few) in
     let table : first_failed (table_tests whole) ≡ Ok tt =
-    three-hold (nat_le 1 node && nat_le node 64) (are_sizes owner.sizes) (has_few whole) BadNode BadValue TooLarge address sizes count in
+    three-hold (nat_le 1 node && nat_le node 64) (are_sizes owner.sizes)
+    (has_few whole) BadNode BadValue TooLarge address sizes count in
     let panel_part = tests_of_each (panel_tests owner.sizes) panel.0 in
     let order_part = tests_of_each (order_tests whole) orders.0 in
     let segment_part = tests_of_each (segment_tests whole) segments.0 in
     let tests : first_failed (controller_tests whole) ≡ Ok tt =
-    both-hold (placed (controller_place 1) (table_tests whole)) (segment_part ++ (order_part ++ panel_part))
+    both-hold (placed (controller_place 1) (table_tests whole))
+    (segment_part ++ (order_part ++ panel_part))
     (placed-hold (controller_place 1) (table_tests whole) table)
     (both-hold segment_part (order_part ++ panel_part) segment_pass
-    (both-hold order_part panel_part (orders-pass owner whole (refl {a = owner.sizes}) arrays.orders orders.0 orders.1.0)
+    (both-hold order_part panel_part
+    (orders-pass owner whole (refl {a = owner.sizes}) arrays.orders orders.0 orders.1.0)
     (panel-pass owner arrays.panel panel.0 panel.1.0))) in
     let read : IsRead whole = record {
       tests = tests;
@@ -197,18 +223,22 @@ record IsFresh (earlier : List ControllerPlan) (plan : ControllerPlan) : Type 0 
   fresh : has_controller earlier plan.node ≡ false
 
 -- the node of the parts
-parts_of-node : (owner : Owner) (arrays : Arrays) (plan : ControllerPlan) → parts_of owner arrays ≡ Ok plan → plan.node ≡ owner.node
+parts_of-node : (owner : Owner) (arrays : Arrays) (plan : ControllerPlan)
+    → parts_of owner arrays ≡ Ok plan → plan.node ≡ owner.node
 unfolding parts_of
 parts_of-node owner arrays plan h =
     let drops = step-ok (drops_of owner arrays.drops) _ plan h in
     let segments = step-ok (segments_of owner arrays.segments) _ plan drops.1.1 in
-    let orders = step-ok (orders_of (nameable owner segments.0 drops.0) arrays.orders) _ plan segments.1.1 in
-    let panel = step-ok (panel_of owner arrays.panel) (λ panel. Ok (plan_of owner panel orders.0 drops.0 segments.0)) plan orders.1.1 in
+    let orders = step-ok (orders_of (nameable owner segments.0 drops.0) arrays.orders) _ plan
+    segments.1.1 in
+    let panel = step-ok (panel_of owner arrays.panel)
+    (λ panel. Ok (plan_of owner panel orders.0 drops.0 segments.0)) plan orders.1.1 in
     let same : plan_of owner panel.0 orders.0 drops.0 segments.0 ≡ plan =
     ok_value (plan_of owner panel.0 orders.0 drops.0 segments.0) plan panel.1.1 in
     rw (← same) (refl {a = owner.node})
 
-controller-read : (earlier : List ControllerPlan) (table : ℕ × Members) (plan : ControllerPlan) → controller_behind earlier table
+controller-read : (earlier : List ControllerPlan) (table : ℕ × Members) (plan : ControllerPlan)
+    → controller_behind earlier table
     ≡ Ok plan → IsFresh earlier plan
 unfolding controller_behind
 controller-read earlier table plan h =
@@ -216,45 +246,58 @@ controller-read earlier table plan h =
     let keys = step-ok (table_passes place kinds.Controller table.1) _ plan h in
     let owner = step-ok (owner_at table.0 table.1) _ plan keys.1.1 in
     let arrays = step-ok (arrays_at place table.1) _ plan owner.1.1 in
-    let fresh = unless-ok (not (has_controller earlier owner.0.node)) (BadNode, place) _ plan arrays.1.1 in
+    let fresh = unless-ok (not (has_controller earlier owner.0.node))
+    (BadNode, place) _ plan arrays.1.1 in
     let own = parts_of-node owner.0 arrays.0 plan fresh.1 in
     record {
-      read = parts_of-read owner.0 arrays.0 plan (owner_at-has table.0 table.1 owner.0 owner.1.0) (arrays_at-few place table.1 arrays.0 arrays.1.0)
+      read = parts_of-read owner.0 arrays.0 plan (owner_at-has table.0 table.1 owner.0 owner.1.0)
+          (arrays_at-few place table.1 arrays.0 arrays.1.0)
           fresh.1;
       fresh = rw own (not-true (has_controller earlier owner.0.node) fresh.0);
     }
 
 -- a node that no item has is none of the nodes
-pub none-node : {A : Type 0} (node : A → ℕ) (n : ℕ) (xs : List A) → list_any (λ x. node x == n) xs ≡ list_any (nat_eq n) (map node xs)
+pub none-node : {A : Type 0} (node : A → ℕ) (n : ℕ) (xs : List A)
+    → list_any (λ x. node x == n) xs ≡ list_any (nat_eq n) (map node xs)
 none-node node n [] = refl
 none-node node n (x ∷ xs) = rw (nat_eq_equiv.symm (node x) n, none-node node n xs) refl
 
 -- one more item of another node
-pub distinct-push : {A : Type 0} (node : A → ℕ) (before : List ℕ) (xs : List A) (x : A) → IsDistinct nat_eq (before ++ map node xs)
-    → list_any (nat_eq (node x)) (before ++ map node xs) ≡ false → IsDistinct nat_eq (before ++ map node (xs ++ x ∷ []))
+pub distinct-push : {A : Type 0} (node : A → ℕ) (before : List ℕ) (xs : List A) (x : A)
+    → IsDistinct nat_eq (before ++ map node xs)
+    → list_any (nat_eq (node x)) (before ++ map node xs) ≡ false
+    → IsDistinct nat_eq (before ++ map node (xs ++ x ∷ []))
 distinct-push node before xs x h other =
-    rw (map-append, ← append_assoc before (map node xs) (node x ∷ [])) (IsDistinct-push nat_eq_equiv (before ++ map node xs) (node x) h other)
+    rw (map-append, ← append_assoc before (map node xs) (node x ∷ []))
+    (IsDistinct-push nat_eq_equiv (before ++ map node xs) (node x) h other)
 
 -- the controllers of a plant: each passes its tests, and no two have one node
 pub record AreRead (plans : List ControllerPlan) : Type 0 where
   pub each : AllByRecursion IsRead plans
   pub nodes : IsDistinct nat_eq (map (λ (plan : ControllerPlan). plan.node) plans)
 
-pub controllers-read : (tables : List Members) (plans : List ControllerPlan) → controllers_of tables ≡ Ok plans → AreRead plans
+pub controllers-read : (tables : List Members) (plans : List ControllerPlan)
+    → controllers_of tables ≡ Ok plans → AreRead plans
 unfolding IsDistinct
 controllers-read tables plans h = record {
-  each = each_behind-all IsRead controller_behind (λ before table plan e. (controller-read before table plan e).read) (numbered_from 1 tables) [] plans tt h;
-  nodes = each_behind-keeps (λ plans. IsDistinct nat_eq (map (λ (plan : ControllerPlan). plan.node) plans)) controller_behind
-      (λ before table plan e held. distinct-push (λ (plan : ControllerPlan). plan.node) [] before plan held
-      (sym (none-node (λ (plan : ControllerPlan). plan.node) plan.node before) ∙ (controller-read before table plan e).fresh))
+  each = each_behind-all IsRead controller_behind (λ before table plan e.
+      (controller-read before table plan e).read) (numbered_from 1 tables) [] plans tt h;
+  nodes = each_behind-keeps (λ plans.
+      IsDistinct nat_eq (map (λ (plan : ControllerPlan). plan.node) plans)) controller_behind
+      (λ before table plan e held.
+      distinct-push (λ (plan : ControllerPlan). plan.node) [] before plan held
+      (sym (none-node (λ (plan : ControllerPlan). plan.node) plan.node before)
+      ∙ (controller-read before table plan e).fresh))
       (numbered_from 1 tables) [] plans tt h;
 }
 
 -- ---- what a controller that passes its tests can do
 
 -- a drop that a row can name has a name
-nameable-either : (one : IoDrop) (drops : List IoDrop) (number : ℕ) (b : Bool) → (one.number == number) ≡ b
-    → (list_any (λ (other : IoDrop). other.number == number) drops ≡ true → is_some (drop_named drops number) ≡ true)
+nameable-either : (one : IoDrop) (drops : List IoDrop) (number : ℕ) (b : Bool)
+    → (one.number == number) ≡ b
+    → (list_any (λ (other : IoDrop). other.number == number) drops ≡ true
+    → is_some (drop_named drops number) ≡ true)
     → (one.number == number) || list_any (λ (other : IoDrop). other.number == number) drops ≡ true
     → is_some (if one.number == number then Some one else drop_named drops number) ≡ true
 nameable-either one drops number true is more h = rw is refl
@@ -263,28 +306,39 @@ nameable-either one drops number false is more h =
     sym (ap (λ b. b || list_any (λ (other : IoDrop). other.number == number) drops) is) ∙ h in
     rw is (more rest)
 
-nameable-of : (drops : List IoDrop) (number : ℕ) → list_any (λ one. one.number == number) drops ≡ true → IsNamed drops number
+nameable-of : (drops : List IoDrop) (number : ℕ)
+    → list_any (λ one. one.number == number) drops ≡ true → IsNamed drops number
 unfolding drop_named
 nameable-of [] number h = cc
-nameable-of (one ∷ drops) number h = nameable-either one drops number (one.number == number) refl (nameable-of drops number) h
+nameable-of (one ∷ drops) number h =
+    nameable-either one drops number (one.number == number) refl (nameable-of drops number) h
 
-names-drop : (plan : ControllerPlan) (number : Option ℕ) → passes_check plan ≡ true → PassesDropTests plan → has_drop plan.drops
+names-drop : (plan : ControllerPlan) (number : Option ℕ) → passes_check plan ≡ true
+    → PassesDropTests plan → has_drop plan.drops
     number ≡ true → NamesDrop plan number
 names-drop plan None passes held h = tt
-names-drop plan (Some number) passes held h = checked-ready plan passes held number (nameable-of plan.drops number h)
+names-drop plan (Some number) passes held h =
+    checked-ready plan passes held number (nameable-of plan.drops number h)
 
-has-control : (sizes : Sizes) (control : Option Ref) → has_control sizes control ≡ true → HasControl (cleared sizes) control
+has-control : (sizes : Sizes) (control : Option Ref) → has_control sizes control ≡ true
+    → HasControl (cleared sizes) control
 has-control sizes None h = tt
-has-control sizes (Some at) h = let tests = and_parts (is_discrete at.kind) (has_reference sizes at) h in (contains_key-cleared sizes at ∙ tests.1, tests.0)
+has-control sizes (Some at) h = let tests = and_parts (is_discrete at.kind)
+    (has_reference sizes at) h in (contains_key-cleared sizes at ∙ tests.1, tests.0)
 
-row-fits : (plan : ControllerPlan) (row : OrderRow) → passes_check plan ≡ true → PassesDropTests plan → row_passes plan row ≡ true → FitsPlan plan row
+row-fits : (plan : ControllerPlan) (row : OrderRow) → passes_check plan ≡ true
+    → PassesDropTests plan → row_passes plan row ≡ true → FitsPlan plan row
 row-fits plan row passes held h =
     let parts = and_parts (is_order plan row) (has_control (sizes_of plan) row.control) h in
-    let order = and_parts (is_segment plan.segments row.segment && not (is_subroutines plan.segments row.segment))
+    let order = and_parts (is_segment plan.segments row.segment
+    && not (is_subroutines plan.segments row.segment))
     (has_drop plan.drops row.input && has_drop plan.drops row.output) parts.0 in
-    let segment = and_parts (is_segment plan.segments row.segment) (not (is_subroutines plan.segments row.segment)) order.0 in
-    let numbers = and_parts (nat_le 1 row.segment) (nat_le row.segment (length plan.segments)) segment.0 in
-    let drops = and_parts (has_drop plan.drops row.input) (has_drop plan.drops row.output) order.1 in
+    let segment = and_parts (is_segment plan.segments row.segment)
+    (not (is_subroutines plan.segments row.segment)) order.0 in
+    let numbers = and_parts (nat_le 1 row.segment)
+    (nat_le row.segment (length plan.segments)) segment.0 in
+    let drops = and_parts (has_drop plan.drops row.input)
+    (has_drop plan.drops row.output) order.1 in
     record {
       from = leb-true 1 row.segment numbers.0;
       to = leb-true row.segment (length plan.segments) numbers.1;
@@ -293,22 +347,27 @@ row-fits plan row passes held h =
       output = names-drop plan row.output passes held drops.1;
     }
 
-rows-fit : (plan : ControllerPlan) (rows : List OrderRow) → passes_check plan ≡ true → PassesDropTests plan → list_all (row_passes plan) rows ≡ true
+rows-fit : (plan : ControllerPlan) (rows : List OrderRow) → passes_check plan ≡ true
+    → PassesDropTests plan → list_all (row_passes plan) rows ≡ true
     → AllByRecursion (FitsPlan plan) rows
 rows-fit plan [] passes held h = tt
 rows-fit plan (row ∷ rows) passes held h =
     let parts = and_parts (row_passes plan row) (list_all (row_passes plan) rows) h in
     (row-fits plan row passes held parts.0, rows-fit plan rows passes held parts.1)
 
--- a controller that is read can be solved
-pub read-solvable : (plan : ControllerPlan) → IsRead plan → IsSolvable plan
-read-solvable plan read =
+-- a controller that is read can be run
+pub read-runnable : (plan : ControllerPlan) → IsRead plan → IsRunnablePlan plan
+read-runnable plan read =
     let checked = checks-exact.checked plan ((checks-exact.exact plan).0 read.tests) in
-    let few = and_parts (nat_le (length plan.panel) panel_limit && nat_le (length plan.drops) drop_limit)
-    (nat_le (length plan.segments) segment_limit && nat_le (length plan.orders) order_limit) checked.few in
-    let counts = and_parts (nat_le (length plan.segments) segment_limit) (nat_le (length plan.orders) order_limit) few.1 in
-    let orders : HasOrders plan = record {
-      few = leb-true (length plan.orders) order_limit counts.1;
+    let few = and_parts (nat_le (length plan.panel) panel_limit
+    && nat_le (length plan.drops) drop_limit)
+    (nat_le (length plan.segments) segment_limit
+    && nat_le (length plan.orders) order_limit) checked.few in
+    let counts = and_parts (nat_le (length plan.segments) segment_limit)
+    (nat_le (length plan.orders) order_limit) few.1 in
+    record {
+      passes = checked.passes;
+      messages = checked.messages;
+      count = leb-true (length plan.orders) order_limit counts.1;
       rows = rows-fit plan plan.orders checked.passes read.drops checked.orders;
-    } in
-    record { passes = checked.passes; messages = checked.messages; orders = orders }
+    }

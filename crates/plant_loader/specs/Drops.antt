@@ -25,7 +25,7 @@ use Rattle.plant_types.specs.Fault.{at_place}
 use Rattle.plant_types.specs.FirstFault.{first_failed}
 use Rattle.plant_types.specs.PlanTests.{drop_limit}
 use Rattle.traffic_cop.specs.Tests.{is_regular, carries, module_tests, held_of, has_few_words}
-use Rattle.traffic_cop.specs.Tests.{fits_row}
+use Rattle.traffic_cop.specs.Exchange.{fits_row}
 use Rattle.traffic_cop.specs.DropTests.{module_limit, script_limit, drop_place, module_place}
 use Rattle.traffic_cop.specs.DropTests.{script_place}
 use Rattle.plant_loader.specs.declared.owner.Owner.{Owner}

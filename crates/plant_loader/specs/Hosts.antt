@@ -6,6 +6,7 @@ use Rattle.plant_types.specs.declared.net.HostAsk.{HostAsk}
 use Rattle.plant_types.specs.declared.net.HostPlan.{HostPlan}
 use Rattle.plant_types.specs.declared.plan.ControllerPlan.{ControllerPlan}
 use Rattle.plant_types.specs.declared.fault.PlantFault.TheVariants.{BadNode}
+use Rattle.plant_types.specs.Limits.{request_limit}
 use Rattle.cell_text.specs.Steps.{◌>>=◌, unless}
 use Rattle.plant_loader.specs.Refusals.{Refusal, host_table_place}
 use Rattle.plant_loader.specs.declared.tables.TableKind.TheVariants as kinds
@@ -14,10 +15,6 @@ use Rattle.plant_loader.specs.Keys.{address_at, texts_at}
 use Rattle.plant_loader.specs.InOrder.{with_positions, each_behind}
 use Rattle.plant_loader.specs.Stations.{has_controller}
 use Rattle.plant_loader.specs.Requests.{requests_of}
-
--- The most requests of a host.
-abbrev pub request_limit : ℕ
-request_limit = 1000
 
 -- One of these hosts has this node.
 abbrev pub has_host : List HostPlan → ℕ → Bool

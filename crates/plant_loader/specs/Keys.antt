@@ -10,6 +10,7 @@ use Rattle.plant_types.specs.declared.fault.PlantFault.{PlantFault}
 use Rattle.plant_types.specs.declared.fault.PlantFault.TheVariants.{BadKey, BadValue, BadNode}
 use Rattle.plant_types.specs.declared.fault.PlantFault.TheVariants.{TooLarge}
 use Rattle.plant_types.specs.declared.fault.Place.{Place}
+use Rattle.plant_types.specs.Limits.{most_address}
 use Rattle.plant_types.specs.Reference.{most_references}
 use Rattle.cell_text.specs.Steps.{◌>>=◌, or_fault, unless}
 use Rattle.plant_loader.specs.Refusals.{Refusal}
@@ -60,7 +61,7 @@ number_at_key place fault key low high ms = do
 
 -- The address of a node, 1 to 64.
 abbrev pub address_at : Place → Members → Result ℕ Refusal
-address_at place ms = number_at_key place BadNode (codes "node") 1 64 ms
+address_at place ms = number_at_key place BadNode (codes "node") 1 most_address ms
 
 -- The number of a value, or a default where there is no value.
 abbrev pub number_or : Place → ℕ → ℕ → ℕ → Option Data → Result ℕ Refusal

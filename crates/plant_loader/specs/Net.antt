@@ -10,6 +10,8 @@ use Rattle.plant_types.specs.declared.plan.ControllerPlan.{ControllerPlan}
 use Rattle.plant_types.specs.declared.plan.Plant.{Plant}
 use Rattle.plant_types.specs.declared.fault.PlantFault.TheVariants.{BadValue}
 use Rattle.plant_types.specs.declared.fault.Place.{Place}
+use Rattle.plant_types.specs.Limits.{fate_limit, answer_limit, rotation_limit}
+use Rattle.plant_types.specs.Limits.{round_limit, hold_limit}
 use Rattle.cell_text.specs.Steps.{◌>>=◌, or_fault, unless}
 use Rattle.plant_loader.specs.declared.net.NetRules.{NetRules}
 use Rattle.plant_loader.specs.Refusals.{Refusal}
@@ -32,7 +34,7 @@ fates_in place letters = each_of (λ letter. or_fault (BadValue, place) (fate_of
 
 -- A text has 1 to 1000 letters.
 abbrev pub has_letters : List ℕ → Bool
-has_letters text = nat_le 1 (length text) && nat_le (length text) 1000
+has_letters text = nat_le 1 (length text) && nat_le (length text) fate_limit
 
 -- The fates of a text, or each transmission is delivered where there is none.
 unfoldable pub fates_or : Place → Option Data → Result (List Fate) Refusal
@@ -57,10 +59,10 @@ unfoldable pub rules_in : Place → Members → Result NetRules Refusal
 rules_in place ms = do
   keys ← table_passes place kinds.Net ms
   fates ← fates_or place (get_member (codes "fates") ms)
-  answer ← number_at_or place (codes "answer") 20 2 1000 ms
-  rotations ← number_at_or place (codes "rotations") 4 1 10 ms
-  rounds ← number_at_or place (codes "rounds") 2 1 100 ms
-  holds ← number_at_or place (codes "holds") 100000 1 100000 ms
+  answer ← number_at_or place (codes "answer") 20 2 answer_limit ms
+  rotations ← number_at_or place (codes "rotations") 4 1 rotation_limit ms
+  rounds ← number_at_or place (codes "rounds") 2 1 round_limit ms
+  holds ← number_at_or place (codes "holds") hold_limit 1 hold_limit ms
   Ok (rules_from fates answer rotations rounds holds)
 
 -- The rules of a network by its table; without a table each is its default.

@@ -7,6 +7,8 @@ use Rattle.toml.specs.Parse.{parse_document}
 use Rattle.plant_types.specs.declared.plan.Plant.{Plant}
 use Rattle.plant_types.specs.declared.fault.PlantFault.TheVariants.{BadKey, BadValue, BadVersion}
 use Rattle.plant_types.specs.declared.fault.Place.{Place}
+use Rattle.plant_types.specs.Limits.{controller_limit, host_limit, scan_time_limit}
+use Rattle.plant_types.specs.Limits.{watchdog_limit}
 use Rattle.cell_text.specs.Steps.{◌>>=◌, or_fault, unless}
 use Rattle.plant_loader.specs.Refusals.{Refusal, plant_place, net_place, bad_toml}
 use Rattle.plant_loader.specs.Tables.{table_passes}
@@ -34,13 +36,6 @@ version_of top = do
   number ← or_fault (BadValue, plant_place) (as_integer d)
   or_fault (BadVersion, plant_place) (version_from number)
 
--- The most controllers and hosts of a plant.
-abbrev pub controller_limit : ℕ
-controller_limit = 16
-
-abbrev pub host_limit : ℕ
-host_limit = 16
-
 -- The tables of the array at a key, which must have one at least.
 abbrev pub some_tables_at : Place → ℕ → List ℕ → Members → Result (List Members) Refusal
 some_tables_at place most key ms = do
@@ -57,8 +52,8 @@ controller_tables top = some_tables_at plant_place controller_limit (codes "cont
 unfoldable pub plant_in : Version → Members → Result Plant Refusal
 plant_in version top = do
   keys ← table_passes plant_place (kinds.Plant version) top
-  scan_time ← number_at_or plant_place (codes "scan_time") 10 1 1000 top
-  watchdog ← number_at_or plant_place (codes "watchdog") 500 1 10000 top
+  scan_time ← number_at_or plant_place (codes "scan_time") 10 1 scan_time_limit top
+  watchdog ← number_at_or plant_place (codes "watchdog") 500 1 watchdog_limit top
   net ← table_at plant_place (codes "net") top
   tables ← controller_tables top
   host_tables ← tables_at plant_place host_limit (codes "host") top

@@ -5,6 +5,7 @@ use Rattle.std.specs.List.{list_all}
 use Rattle.plant_types.specs.declared.net.HostAsk.{HostAsk}
 use Rattle.plant_types.specs.declared.fault.PlantFault.TheVariants.{BadValue, BadNode}
 use Rattle.plant_types.specs.declared.fault.Place.{Place}
+use Rattle.plant_types.specs.Limits.{due_limit, most_address}
 use Rattle.plant_types.specs.Words.{pdu_of}
 use Rattle.cell_text.specs.Steps.{◌>>=◌, or_fault, unless}
 use Rattle.cell_text.specs.Words.{text_words}
@@ -59,7 +60,7 @@ abbrev pub another : ℕ → ℕ → Option ℕ
 another node to = if to == node then None else Some to
 
 abbrev pub target_in : ℕ → List ℕ → Option ℕ
-target_in node word = option_and_then (another node) (numeral_within 1 64 word)
+target_in node word = option_and_then (another node) (numeral_within 1 most_address word)
 
 -- A request from its parts.
 abbrev pub ask_from : ℕ → ℕ → List ℕ → HostAsk
@@ -69,7 +70,7 @@ ask_from hold to pdu = record { hold = hold; to = to; pdu = pdu }
 unfoldable pub host_request : ℕ → Place → List ℕ → Result HostAsk Refusal
 host_request node place text = do
   words ← or_fault (BadValue, place) (request_words (text_words text))
-  hold ← or_fault (BadValue, place) (numeral_within 1 10000 words.hold)
+  hold ← or_fault (BadValue, place) (numeral_within 1 due_limit words.hold)
   number ← unless (is_numeral words.to) (BadValue, place)
   pdu ← pdu_in place words.pdu
   to ← or_fault (BadNode, place) (target_in node words.to)

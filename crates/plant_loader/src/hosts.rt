@@ -10,12 +10,9 @@ use crate::refusal::{LoadEnd, host_table_place};
 use crate::requests::requests_of;
 use crate::stations::has_controller;
 use crate::tables::{TableKind, table_passes};
-use plant_types::{ControllerPlan, HostPlan, PlantFault, REQUEST_LIMIT};
+use plant_types::{ControllerPlan, HOST_LIMIT, HostPlan, PlantFault, REQUEST_LIMIT};
 use std::alloc::Global;
 use toml::Table;
-
-/// The most hosts of a plant.
-pub const HOST_LIMIT: usize = 16;
 
 /// Whether one of these hosts has this node.
 pub fn has_host(hosts: &[HostPlan], node: u8) -> bool

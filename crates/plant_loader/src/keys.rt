@@ -120,7 +120,7 @@ pub fn number_at_key(
 /// The address of a node.
 pub fn address_at(place: Place, table: &Table) -> Result<u8, Refusal>
     ensures read { result ≡ address_at place (table_view table.now) }
-    ensures within { IfOk result (InRange 1 64) }
+    ensures within { IfOk result (InRange 1 NODE_LIMIT) }
 {
     let node = number_at_key(
         place,

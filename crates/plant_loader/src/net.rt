@@ -13,13 +13,13 @@ ghost use Rattle.plant_loader.specs.Rising.{by_node};
 use crate::keys::{number_at_or, value_at};
 use crate::refusal::LoadEnd;
 use crate::tables::{TableKind, table_passes};
-use plant_types::{ControllerPlan, Fate, HostPlan, List, NetPlan, Place, Plant, PlantFault};
+use plant_types::{
+    ANSWER_LIMIT, ControllerPlan, FATE_LIMIT, Fate, HOLD_LIMIT, HostPlan, List, NetPlan, Place,
+    Plant, PlantFault, ROTATION_LIMIT, ROUND_LIMIT,
+};
 use std::alloc::Global;
 use std::collections::BTreeMap;
 use toml::{Table, Value};
-
-/// The most letters of its fates.
-const FATE_LIMIT: usize = 1000;
 
 /// How the network treats its members.
 #[derive(Drop)]
@@ -90,10 +90,10 @@ fn rules_in(alloc: Global, place: Place, table: &Table) -> Result<NetRules, Load
 {
     table_passes(place, TableKind::Net, table)?;
     let fates = fates_or(alloc, place, value_at(table, "fates"))?;
-    let answer = number_at_or(place, "answer", 20, 2, 1000, table)?;
-    let rotations = number_at_or(place, "rotations", 4, 1, 10, table)?;
-    let rounds = number_at_or(place, "rounds", 2, 1, 100, table)?;
-    let holds = number_at_or(place, "holds", 100_000, 1, 100_000, table)?;
+    let answer = number_at_or(place, "answer", 20, 2, ANSWER_LIMIT, table)?;
+    let rotations = number_at_or(place, "rotations", 4, 1, ROTATION_LIMIT, table)?;
+    let rounds = number_at_or(place, "rounds", 2, 1, ROUND_LIMIT, table)?;
+    let holds = number_at_or(place, "holds", HOLD_LIMIT, 1, HOLD_LIMIT, table)?;
     Ok(NetRules {
         fates,
         answer,

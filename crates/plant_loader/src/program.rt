@@ -19,7 +19,7 @@ ghost use Rattle.plant_loader.specs.Program.{with_network, with_segment, with_sh
 use crate::refusal::LoadEnd;
 use plant_types::{
     Cell, Element, List, MESSAGE_LIMIT, NETWORK_LIMIT, Network, Place, PlantFault, Ref,
-    SEGMENT_LIMIT, Segment, Short, Sizes, Standing, driven_by, is_label, is_message,
+    SEGMENT_LIMIT, Segment, Short, Sizes, Standing, driven_by, is_label, is_label_of, is_message,
 };
 use std::alloc::Global;
 use std::collections::BTreeSet;
@@ -61,15 +61,6 @@ impl Model for Program {
           cells = p.cells;
           shorts = p.shorts;
         }) };
-}
-
-fn is_label_of(number: u16, element: Element) -> bool
-    ensures { result ≡ is_label_of number element }
-{
-    match element {
-        Element::Label(other) => number == other,
-        _ => false,
-    }
 }
 
 /// The references of a set, and one more, if there is one.

@@ -8,15 +8,18 @@ ghost use Rattle.plant_loader.specs.Given.{tables_in};
 ghost use Rattle.plant_loader.specs.Refusals.{Gives, bad_toml, plant_place};
 ghost use Rattle.plant_loader.specs.Plant.{controller_tables, document_of, version_of, plant_at};
 ghost use Rattle.plant_loader.specs.Plant.{plant_in, plant_of};
-ghost use Rattle.plant_loader.specs.Accepted.{IsSolvable, PassesDropTests};
+ghost use Rattle.traffic_cop.specs.Rows.{IsRunnablePlan};
+ghost use Rattle.plant_loader.specs.Accepted.{PassesDropTests};
 
-use crate::hosts::{HOST_LIMIT, hosts_of};
+use crate::hosts::hosts_of;
 use crate::keys::{number_at_or, table_at, tables_at, value_at};
 use crate::net::{plant_from, rules_of};
 use crate::refusal::{LoadEnd, Refusal, bad_toml, net_place};
-use crate::stations::{CONTROLLER_LIMIT, controllers_of};
+use crate::stations::controllers_of;
 use crate::tables::{TableKind, Version, table_passes};
-use plant_types::{Place, Plant, PlantFault};
+use plant_types::{
+    CONTROLLER_LIMIT, HOST_LIMIT, Place, Plant, PlantFault, SCAN_TIME_LIMIT, WATCHDOG_LIMIT,
+};
 use std::alloc::Global;
 use std::str;
 use toml::Table;
@@ -73,8 +76,8 @@ fn plant_in(alloc: Global, version: Version, top: &Table) -> Result<Plant, LoadE
     ensures { Gives (λ plant. plant) result (plant_in version (table_view top.now)) }
 {
     table_passes(Place::PLANT, TableKind::Plant(version), top)?;
-    let scan_time = number_at_or(Place::PLANT, "scan_time", 10, 1, 1000, top)?;
-    let watchdog = number_at_or(Place::PLANT, "watchdog", 500, 1, 10_000, top)?;
+    let scan_time = number_at_or(Place::PLANT, "scan_time", 10, 1, SCAN_TIME_LIMIT, top)?;
+    let watchdog = number_at_or(Place::PLANT, "watchdog", 500, 1, WATCHDOG_LIMIT, top)?;
     let net = table_at(Place::PLANT, "net", top)?;
     let controllers = controller_tables(alloc, top)?;
     let hosts = tables_at(alloc, Place::PLANT, HOST_LIMIT, "host", top)?;
@@ -101,7 +104,7 @@ pub fn load(alloc: Global, bytes: &[u8]) -> Result<Plant, LoadEnd>
     // What is loaded passes its tests, and can be run.
     ensures checked { IfOk result (λ plant. IsPlant plant) }
     ensures drops { IfOk result (λ plant. All PassesDropTests plant.controllers) }
-    ensures solvable { IfOk result (λ plant. All IsSolvable plant.controllers) }
+    ensures runnable { IfOk result (λ plant. All IsRunnablePlan plant.controllers) }
 {
     let top = document(alloc, bytes)?;
     plant_at(alloc, &top)

@@ -13,7 +13,7 @@ use crate::hex::{are_hex_digits, hex_digit};
 use crate::numerals::{is_numeral, numeral_within};
 use crate::refusal::{LoadEnd, request_place};
 use cell_text::next_word;
-use plant_types::{HostAsk, List, NODE_LIMIT, Pdu, Place, PlantFault, REQUEST_LIMIT};
+use plant_types::{DUE_LIMIT, HostAsk, List, NODE_LIMIT, Pdu, Place, PlantFault, REQUEST_LIMIT};
 use std::alloc::Global;
 
 /// The three words of a request.
@@ -87,7 +87,7 @@ fn host_request(alloc: Global, node: u8, place: Place, text: &str) -> Result<Hos
     let Some(words) = request_words(text.as_bytes()) else {
         return Err(bad_value);
     };
-    let Some(hold) = numeral_within(1, 10_000, words.hold) else {
+    let Some(hold) = numeral_within(1, DUE_LIMIT, words.hold) else {
         return Err(bad_value);
     };
     if !is_numeral(words.to) {

@@ -12,12 +12,9 @@ ghost use Rattle.plant_loader.specs.Drops.{or_zeros};
 use crate::hex::{are_hex_digits, hex_digit};
 use crate::refusal::{LoadEnd, Refusal};
 use cell_text::{has_words, next_word};
-use plant_types::{List, Module, Place, PlantFault, SCRIPT_LIMIT, ScriptRow, Words};
+use plant_types::{DROP_WORDS, List, Module, Place, PlantFault, SCRIPT_LIMIT, ScriptRow, Words};
 use std::alloc::Global;
 use traffic_cop::{fits_row, input_total, script_place};
-
-/// The most input words of a drop.
-const WORD_LIMIT: usize = 64;
 
 fn word_spelled(place: Place, word: &[u8]) -> Result<u16, Refusal>
     ensures { result ≡ word_spelled place word.now }
@@ -66,7 +63,7 @@ fn script_row(
     place: Place,
     text: &str,
 ) -> Result<ScriptRow, LoadEnd>
-    requires { input_total modules.now ≤ 64 }
+    requires { input_total modules.now ≤ DROP_WORDS }
     ensures { Gives (λ row. row) result (script_row modules.now place text.now) }
 {
     let row = row_spelled(alloc, place, text.as_bytes())?;
@@ -85,7 +82,7 @@ pub fn rows_of(
     drop: u32,
     texts: &[&str],
 ) -> Result<List<ScriptRow>, LoadEnd>
-    requires words { input_total modules.now ≤ 64 }
+    requires words { input_total modules.now ≤ DROP_WORDS }
     requires few { length texts.now ≤ SCRIPT_LIMIT }
     ensures { Gives (λ rows. rows) result
         (rows_of controller modules.now drop (texts_in texts.now)) }
@@ -101,10 +98,10 @@ pub fn rows_of(
 }
 
 fn zeros(alloc: Global, modules: &[Module]) -> Result<List<ScriptRow>, LoadEnd>
-    requires { input_total modules.now ≤ 64 }
+    requires { input_total modules.now ≤ DROP_WORDS }
     ensures { Makes result (λ script. script ≡ or_zeros modules.now []) }
 {
-    let zeros = [0; WORD_LIMIT];
+    let zeros = [0; DROP_WORDS];
     let words = Words::of(alloc, &zeros[..input_total(modules)])?;
     let mut script = List::new(alloc);
     script.push(ScriptRow::Row(words))?;
@@ -118,7 +115,7 @@ pub fn or_zeros(
     modules: &[Module],
     rows: List<ScriptRow>,
 ) -> Result<List<ScriptRow>, LoadEnd>
-    requires { input_total modules.now ≤ 64 }
+    requires { input_total modules.now ≤ DROP_WORDS }
     ensures { Makes result (λ script. script ≡ or_zeros modules.now rows) }
 {
     if rows.as_slice().len() == 0 {

@@ -16,13 +16,11 @@ use crate::pieces::segments_of;
 use crate::refusal::LoadEnd;
 use crate::tables::{TableKind, table_passes};
 use plant_types::{
-    ControllerPlan, DROP_LIMIT, ORDER_LIMIT, PANEL_LIMIT, Place, PlantFault, SEGMENT_LIMIT,
+    CONTROLLER_LIMIT, ControllerPlan, DROP_LIMIT, ORDER_LIMIT, PANEL_LIMIT, Place, PlantFault,
+    SEGMENT_LIMIT,
 };
 use std::alloc::Global;
 use toml::Table;
-
-/// The most controllers of a plant.
-pub const CONTROLLER_LIMIT: usize = 16;
 
 /// The arrays of a controller's table: the texts of its panel and of its orders, and the tables of
 /// its drops and of its segments.

@@ -24,11 +24,13 @@ pub exact_refs : CmpEqualImpliesEq ref_cmp
 exact_refs a b h =
     sym (ref_again a)
     ∙ ap (λ (p : ℕ × ℕ). record { kind = kind_of_rank p.0; number = p.1 })
-    (exact_pairs nat_cmp nat_cmp exact_unsigned exact_unsigned (rank_of a.kind, a.number) (rank_of b.kind, b.number) h)
+    (exact_pairs nat_cmp nat_cmp exact_unsigned exact_unsigned (rank_of a.kind, a.number)
+    (rank_of b.kind, b.number) h)
     ∙ ref_again b
 
 pub refs_total : IsTotalOrder ref_cmp
-refs_total = then_total (on_total (λ r. rank_of r.kind) nat_cmp_total) (on_total (λ r. r.number) nat_cmp_total)
+refs_total = then_total (on_total (λ r. rank_of r.kind) nat_cmp_total)
+    (on_total (λ r. r.number) nat_cmp_total)
 
 -- what the entries have at a reference
 abbrev pub found_at : List (Ref × ℕ) → Ref → Option ℕ
@@ -54,10 +56,12 @@ derived_kinds Register InputRegister = refl
 derived_kinds Register Register = refl
 
 pub derived_refs : (a b : Ref) → derived.cmp-value.it a b ≡ ref_cmp a b
-derived_refs a b = ap (λ o. ordering_then o (nat_cmp a.number b.number)) (derived_kinds a.kind b.kind)
+derived_refs a b =
+    ap (λ o. ordering_then o (nat_cmp a.number b.number)) (derived_kinds a.kind b.kind)
 
 -- so the map of the code finds what the definitions find
-pub found_by_code : (es : List (Ref × ℕ)) (q : Ref) → lookup (is_at (derived.cmp-value.it q)) es ≡ found_at es q
+pub found_by_code : (es : List (Ref × ℕ)) (q : Ref)
+    → lookup (is_at (derived.cmp-value.it q)) es ≡ found_at es q
 found_by_code [] q = refl
 found_by_code (e ∷ es) q = rw (derived_refs q e.0, found_by_code es q) refl
 
@@ -65,23 +69,29 @@ find_ref : (es : List (Ref × ℕ)) (q : Ref) → find ref_cmp q es ≡ found_at
 find_ref [] q = refl
 find_ref (e ∷ es) q = ap (cond (is_at (ref_cmp q) e.0) (Some e.1)) (find_ref es q)
 
-pub get_ref : (es : List (Ref × ℕ)) (q : Ref) → get (from_entries {R = ref_cmp} es) q ≡ found_at es q
+pub get_ref : (es : List (Ref × ℕ)) (q : Ref)
+    → get (from_entries {R = ref_cmp} es) q ≡ found_at es q
 get_ref es q = get-from_entries refs_total es q ∙ find_ref es q
 
 -- entries that differ at one reference make maps that differ there
-pub one_set : (es fs : List (Ref × ℕ)) (s : Ref) (n : ℕ) → ((q : Ref) → found_at fs q ≡ cond (is_at (ref_cmp s) q) (Some n) (found_at es q))
+pub one_set : (es fs : List (Ref × ℕ)) (s : Ref) (n : ℕ)
+    → ((q : Ref) → found_at fs q ≡ cond (is_at (ref_cmp s) q) (Some n) (found_at es q))
     → from_entries {R = ref_cmp} fs ≡ insert (from_entries es) s n
 one_set es fs s n h = same_map refs_total exact_refs _ _ (λ q.
-    get_ref fs q ∙ h q ∙ ap (λ b. cond b (Some n) (found_at es q)) ((eq_by_cmp_equiv refs_total).symm s q)
-    ∙ sym (get-insert refs_total (from_entries es) s n q ∙ ap (cond (is_at (ref_cmp q) s) (Some n)) (get_ref es q)))
+    get_ref fs q ∙ h q
+    ∙ ap (λ b. cond b (Some n) (found_at es q)) ((eq_by_cmp_equiv refs_total).symm s q)
+    ∙ sym (get-insert refs_total (from_entries es) s n q
+    ∙ ap (cond (is_at (ref_cmp q) s) (Some n)) (get_ref es q)))
 
 -- the same of the order that the derive makes
 pub one_written : (es fs : List (Ref × ℕ)) (s : Ref) (n : ℕ) → ((q : Ref)
     → lookup (is_at (derived.cmp-value.it q)) fs ≡ cond (is_at (derived.cmp-value.it s) q) (Some n)
-    (lookup (is_at (derived.cmp-value.it q)) es)) → from_entries {R = ref_cmp} fs ≡ insert (from_entries es) s n
+    (lookup (is_at (derived.cmp-value.it q)) es))
+    → from_entries {R = ref_cmp} fs ≡ insert (from_entries es) s n
 one_written es fs s n h = one_set es fs s n (λ q.
     sym (found_by_code fs q) ∙ h q
-    ∙ ap (λ o. cond (is_eq o) (Some n) (lookup (is_at (derived.cmp-value.it q)) es)) (derived_refs s q)
+    ∙ ap (λ o. cond (is_eq o) (Some n) (lookup (is_at (derived.cmp-value.it q)) es))
+    (derived_refs s q)
     ∙ ap (cond (is_at (ref_cmp s) q) (Some n)) (found_by_code es q))
 
 -- more entries on top of two lists that make one map
@@ -92,5 +102,6 @@ from_entries-under (x ∷ xs) a b e = ap (λ m. insert m x.0 x.1) (from_entries-
 
 -- the next reference of a kind
 pub zeros-next : (kind : RefKind) (n : ℕ) (rest : List (Ref × ℕ))
-    → insert (from_entries {R = ref_cmp} (zeros kind n ++ rest)) (record { kind = kind; number = n + 1 }) 0 ≡ from_entries (zeros kind (n + 1) ++ rest)
+    → insert (from_entries {R = ref_cmp} (zeros kind n ++ rest))
+    (record { kind = kind; number = n + 1 }) 0 ≡ from_entries (zeros kind (n + 1) ++ rest)
 zeros-next kind n rest = rw add-one refl

@@ -26,5 +26,6 @@ pub get_or-bits_high_first : (n w j k : ℕ) (d : Bool) → j + k + 1 ≡ n
     → get_or (bits_high_first n w) j d ≡ (bit_at w k == 1)
 unfolding bits_high_first
 get_or-bits_high_first zero w j k d e = absurd (omega arith)
-get_or-bits_high_first (suc n) w zero k d e = let same : n ≡ k = omega arith in ap (λ i. bit_at w i == 1) same
+get_or-bits_high_first (suc n) w zero k d e =
+    let same : n ≡ k = omega arith in ap (λ i. bit_at w i == 1) same
 get_or-bits_high_first (suc n) w (suc j) k d e = get_or-bits_high_first n w j k d (omega arith)

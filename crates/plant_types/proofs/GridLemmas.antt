@@ -30,7 +30,8 @@ same_refl a m = grind (arith, nat_tests)
 
 -- pairs that are one have their numbers in common
 same_parts : (a b m n : ℕ) → (a == b) && (m == n) ≡ true → (a ≡ b) × (m ≡ n)
-same_parts a b m n h = let parts = and_parts (a == b) (m == n) h in (eqb-true a b parts.0, eqb-true m n parts.1)
+same_parts a b m n h =
+    let parts = and_parts (a == b) (m == n) h in (eqb-true a b parts.0, eqb-true m n parts.1)
 
 -- a place is one with each of two that are one, or with neither
 same_congr : (x y z : ℕ × ℕ) → same_place x y ≡ true → same_place x z ≡ same_place y z
@@ -38,13 +39,19 @@ same_congr x y z h = let parts = same_parts x.0 y.0 x.1 y.1 h in rw (parts.0, pa
 
 -- so places can be told apart as keys can
 same_equiv : IsEquivalence same_place
-same_equiv = record { refl = λ x. same_refl x.0 x.1; symm = λ x y. same_symm x.0 y.0 x.1 y.1; congr = same_congr }
+same_equiv = record {
+  refl = λ x. same_refl x.0 x.1;
+  symm = λ x y. same_symm x.0 y.0 x.1 y.1;
+  congr = same_congr;
+}
 
 -- one more place, which none of them is
-pub AreApart-push : (places : List (ℕ × ℕ)) (place : ℕ × ℕ) → AreApart places → is_place place ≡ true → list_any (same_place place) places ≡ false
+pub AreApart-push : (places : List (ℕ × ℕ)) (place : ℕ × ℕ) → AreApart places
+    → is_place place ≡ true → list_any (same_place place) places ≡ false
     → AreApart (places ++ place ∷ [])
 AreApart-push places place apart here other = record {
-  within = list_all-append is_place places (place ∷ []) ∙ and_from _ _ apart.within (and_from _ _ here refl);
+  within = list_all-append is_place places (place ∷ [])
+      ∙ and_from _ _ apart.within (and_from _ _ here refl);
   distinct = IsDistinct-push same_equiv places place apart.distinct other;
 }
 
@@ -63,7 +70,8 @@ number-place place h =
     (omega arith, omega arith)
 
 -- other places have other numbers
-number-other : (one other : ℕ × ℕ) → is_place one ≡ true → is_place other ≡ true → same_place one other ≡ false → nat_eq (number one) (number other) ≡ false
+number-other : (one other : ℕ × ℕ) → is_place one ≡ true → is_place other ≡ true
+    → same_place one other ≡ false → nat_eq (number one) (number other) ≡ false
 number-other one other p q h = ne_eqb (number one) (number other) (λ e.
     let left = number-place one p in
     let right = number-place other q in
@@ -73,23 +81,29 @@ number-other one other p q h = ne_eqb (number one) (number other) (λ e.
     true≢false (sym same ∙ h))
 
 -- so a place has another number than each other place
-numbers-other : (place : ℕ × ℕ) (places : List (ℕ × ℕ)) → is_place place ≡ true → list_all is_place places ≡ true
-    → AllByRecursion (λ other. same_place place other ≡ false) places → AllByRecursion (λ n. nat_eq (number place) n ≡ false) (map number places)
+numbers-other : (place : ℕ × ℕ) (places : List (ℕ × ℕ)) → is_place place ≡ true
+    → list_all is_place places ≡ true
+    → AllByRecursion (λ other. same_place place other ≡ false) places
+    → AllByRecursion (λ n. nat_eq (number place) n ≡ false) (map number places)
 numbers-other place [] here all apart = tt
 numbers-other place (other ∷ places) here all apart =
     let parts = and_parts (is_place other) (list_all is_place places) all in
     (number-other place other here parts.0 apart.0, numbers-other place places here parts.1 apart.1)
 
 -- places of which no two are one have numbers of which no two are one
-numbers-distinct : (places : List (ℕ × ℕ)) → list_all is_place places ≡ true → IsDistinct same_place places → IsDistinct nat_eq (map number places)
+numbers-distinct : (places : List (ℕ × ℕ)) → list_all is_place places ≡ true
+    → IsDistinct same_place places → IsDistinct nat_eq (map number places)
 unfolding IsDistinct
 numbers-distinct [] all distinct = tt
 numbers-distinct (place ∷ places) all distinct =
-    let parts = and_parts (is_place place) (list_all is_place places) all in
-    (numbers-other place places parts.0 parts.1 distinct.0, numbers-distinct places parts.1 distinct.1)
+    let parts = and_parts (is_place place) (list_all is_place places) all in (
+      numbers-other place places parts.0 parts.1 distinct.0,
+      numbers-distinct places parts.1 distinct.1,
+    )
 
 -- the numbers of places of the grid are below 96
-numbers-below : (places : List (ℕ × ℕ)) → list_all is_place places ≡ true → (q : ℕ) → list_any (nat_eq q) (map number places) ≡ true → q < 96
+numbers-below : (places : List (ℕ × ℕ)) → list_all is_place places ≡ true → (q : ℕ)
+    → list_any (nat_eq q) (map number places) ≡ true → q < 96
 numbers-below [] all q h = cc
 numbers-below (place ∷ places) all q h =
     let parts = and_parts (is_place place) (list_all is_place places) all in
@@ -106,7 +120,8 @@ AreApart-few places apart =
     omega (
       arith,
       length-map places number,
-      length-le_from_distinct_below (map number places) 96 (numbers-distinct places apart.within apart.distinct)
+      length-le_from_distinct_below (map number places) 96
+          (numbers-distinct places apart.within apart.distinct)
           (numbers-below places apart.within),
     )
 
@@ -122,10 +137,13 @@ node_count-some (Mstr control area length) = omega arith
 node_count-some _ = omega arith
 
 -- cells whose nodes share no place stand at two places
-apart_places : (row column other_row other_column count other_count : ℕ) → 1 ≤ count → 1 ≤ other_count
-    → (column == other_column) && (nat_lt row (other_row + other_count) && nat_lt other_row (row + count)) ≡ false
+apart_places : (row column other_row other_column count other_count : ℕ) → 1 ≤ count
+    → 1 ≤ other_count
+    → (column == other_column)
+    && (nat_lt row (other_row + other_count) && nat_lt other_row (row + count)) ≡ false
     → (row == other_row) && (column == other_column) ≡ false
-apart_places row column other_row other_column count other_count some more h = grind (arith, nat_tests)
+apart_places row column other_row other_column count other_count some more h =
+    grind (arith, nat_tests)
 
 -- a cell that clashes with none stands at another place than each
 pub free_place : (cells : List Cell) (cell : Cell) → list_any (clashes cell) cells ≡ false
@@ -133,8 +151,10 @@ pub free_place : (cells : List Cell) (cell : Cell) → list_any (clashes cell) c
 free_place [] cell h = refl
 free_place (other ∷ cells) cell h =
     let parts = or_parts (clashes cell other) (list_any (clashes cell) cells) h in
-    let apart = or_parts (overlaps cell other) (is_right_of_coil cell other || is_right_of_coil other cell) parts.0 in
-    let here = apart_places cell.row cell.column other.row other.column (node_count cell.element) (node_count other.element)
+    let apart = or_parts (overlaps cell other)
+    (is_right_of_coil cell other || is_right_of_coil other cell) parts.0 in
+    let here = apart_places cell.row cell.column other.row other.column (node_count cell.element)
+    (node_count other.element)
     (node_count-some cell.element) (node_count-some other.element) apart.0 in
     rw (here, free_place cells cell parts.1) refl
 
@@ -147,7 +167,8 @@ free_short (other ∷ shorts) short h =
     rw (parts.0, free_short shorts short parts.1) refl
 
 -- a short stands at a place of the grid
-pub short_is_place : (short : Short) → has_short_place short ≡ true → is_place (short.row, short.column) ≡ true
+pub short_is_place : (short : Short) → has_short_place short ≡ true
+    → is_place (short.row, short.column) ≡ true
 short_is_place short h =
     let parts = and_parts (nat_le 1 short.row && nat_le short.row 6) (is_column short.column) h in
     let rows = and_parts (nat_le 1 short.row) (nat_le short.row 6) parts.0 in

@@ -34,17 +34,20 @@ on_there true None = refl
 on_there true (Some n) = both_true (nat_lt 0 n)
 on_there false o = refl
 
-contains-discretes_on : (m : Contents) (at : Ref) → contains (discretes_on m) at ≡ is_discrete at.kind && is_on m at
+contains-discretes_on : (m : Contents) (at : Ref)
+    → contains (discretes_on m) at ≡ is_discrete at.kind && is_on m at
 unfolding discretes_on
 contains-discretes_on m at =
     let on = λ (x : Ref). is_discrete x.kind && is_on m x in
     contains-from_list refs_total _ at
-    ∙ any-filter_same (eq_by_cmp ref_cmp at) on (on at) (λ x tie. ap on (sym (exact_refs at x (ties (ref_cmp at x) tie)))) (keys m)
+    ∙ any-filter_same (eq_by_cmp ref_cmp at) on (on at)
+    (λ x tie. ap on (sym (exact_refs at x (ties (ref_cmp at x) tie)))) (keys m)
     ∙ ap (λ b. on at && b) (sym (contains_key-keys m at))
     ∙ on_there (is_discrete at.kind) (get m at)
 
 -- a 0 is off
-off : (discrete there : Bool) → discrete && nat_lt 0 (unwrap_or (cond there (Some 0) None) 0) ≡ false
+off : (discrete there : Bool)
+    → discrete && nat_lt 0 (unwrap_or (cond there (Some 0) None) 0) ≡ false
 off true true = refl
 off true false = refl
 off false there = refl

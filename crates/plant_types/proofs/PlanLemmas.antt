@@ -26,63 +26,78 @@ use Rattle.plant_types.proofs.GridLemmas.{AreApart-push, AreApart-few, free_plac
 use Rattle.plant_types.proofs.GridLemmas.{short_is_place}
 
 -- the first that fails at a place
-pub placed-first : (place : Place) (tests : List (Test PlantFault)) → at_place place (first_failed tests) ≡ first_failed (placed place tests)
+pub placed-first : (place : Place) (tests : List (Test PlantFault))
+    → at_place place (first_failed tests) ≡ first_failed (placed place tests)
 placed-first place [] = refl
 placed-first place ((true, fault) ∷ tests) = placed-first place tests
 placed-first place ((false, fault) ∷ tests) = refl
 
 -- what went well went well without its place
-at_place-ok : (place : Place) (r : Result (Unit {0}) PlantFault) → at_place place r ≡ Ok tt → r ≡ Ok tt
+at_place-ok : (place : Place) (r : Result (Unit {0}) PlantFault)
+    → at_place place r ≡ Ok tt → r ≡ Ok tt
 at_place-ok place (Ok x) h = refl
 at_place-ok place (Err e) h = absurd (cc)
 
 -- tests that hold at a place hold
-pub placed-ok : (place : Place) (tests : List (Test PlantFault)) → first_failed (placed place tests) ≡ Ok tt → first_failed tests ≡ Ok tt
+pub placed-ok : (place : Place) (tests : List (Test PlantFault))
+    → first_failed (placed place tests) ≡ Ok tt → first_failed tests ≡ Ok tt
 placed-ok place tests h = at_place-ok place (first_failed tests) (placed-first place tests ∙ h)
 
 -- where all hold, the first does, and those behind it
-pub first-ok : {F : Type 0} (holds : Bool) (fault : F) (tests : List (Test F)) → first_failed ((holds, fault) ∷ tests) ≡ Ok tt
+pub first-ok : {F : Type 0} (holds : Bool) (fault : F) (tests : List (Test F))
+    → first_failed ((holds, fault) ∷ tests) ≡ Ok tt
     → (holds ≡ true) × (first_failed tests ≡ Ok tt)
 first-ok true fault tests h = (refl, h)
 first-ok false fault tests h = absurd (cc)
 
 -- where all hold, those before do, and those behind them
-pub parts-ok : {F : Type 0} (xs ys : List (Test F)) → first_failed (xs ++ ys) ≡ Ok tt → (first_failed xs ≡ Ok tt) × (first_failed ys ≡ Ok tt)
+pub parts-ok : {F : Type 0} (xs ys : List (Test F)) → first_failed (xs ++ ys) ≡ Ok tt
+    → (first_failed xs ≡ Ok tt) × (first_failed ys ≡ Ok tt)
 parts-ok [] ys h = (refl, h)
 parts-ok ((true, f) ∷ xs) ys h = parts-ok xs ys h
 parts-ok ((false, f) ∷ xs) ys h = absurd (cc)
 
 -- what one more item that passes keeps, all items that pass keep
 pub behind-keeps : {A F : Type 0} (Such : List A → Type 0) (tests : List A → A → List (Test F))
-    → ((earlier : List A) (x : A) → Such earlier → first_failed (tests earlier x) ≡ Ok tt → Such (earlier ++ x ∷ []))
-    → (earlier xs : List A) → Such earlier → first_failed (tests_behind tests earlier xs) ≡ Ok tt → Such (earlier ++ xs)
+    → ((earlier : List A) (x : A) → Such earlier → first_failed (tests earlier x) ≡ Ok tt
+    → Such (earlier ++ x ∷ []))
+    → (earlier xs : List A) → Such earlier → first_failed (tests_behind tests earlier xs) ≡ Ok tt
+    → Such (earlier ++ xs)
 unfolding tests_behind
 behind-keeps Such tests more earlier [] such h = rw (append-nil earlier) such
 behind-keeps Such tests more earlier (x ∷ xs) such h =
     let parts = parts-ok (tests earlier x) (tests_behind tests (earlier ++ x ∷ []) xs) h in
-    rw (← append_assoc earlier (x ∷ []) xs) (behind-keeps Such tests more (earlier ++ x ∷ []) xs (more earlier x such parts.0) parts.1)
+    rw (← append_assoc earlier (x ∷ []) xs)
+    (behind-keeps Such tests more (earlier ++ x ∷ []) xs (more earlier x such parts.0) parts.1)
 
 -- a cell of which no place was in the way
-cell_apart : (earlier : List Cell) (cell : Cell) → AreApart (cell_places earlier) → has_cell_place cell ≡ true → has_shape earlier cell ≡ true
+cell_apart : (earlier : List Cell) (cell : Cell) → AreApart (cell_places earlier)
+    → has_cell_place cell ≡ true → has_shape earlier cell ≡ true
     → AreApart (cell_places (earlier ++ cell ∷ []))
 cell_apart earlier cell apart place shape =
     let clear = and_parts (is_within cell) (not (list_any (clashes cell) earlier)) shape in
-    rw map-append (AreApart-push (cell_places earlier) (cell.row, cell.column) apart place (free_place earlier cell (not-true _ clear.1)))
+    rw map-append (AreApart-push (cell_places earlier) (cell.row, cell.column) apart place
+    (free_place earlier cell (not-true _ clear.1)))
 
 -- a short at a free place
-short_apart : (earlier : List Short) (short : Short) → AreApart (short_places earlier) → has_short_place short ≡ true
-    → not (list_any (same_short short) earlier) ≡ true → AreApart (short_places (earlier ++ short ∷ []))
+short_apart : (earlier : List Short) (short : Short) → AreApart (short_places earlier)
+    → has_short_place short ≡ true
+    → not (list_any (same_short short) earlier) ≡ true
+    → AreApart (short_places (earlier ++ short ∷ []))
 short_apart earlier short apart place free =
-    rw map-append (AreApart-push (short_places earlier) (short.row, short.column) apart (short_is_place short place)
+    rw map-append (AreApart-push (short_places earlier) (short.row, short.column) apart
+    (short_is_place short place)
     (free_short earlier short (not-true _ free)))
 
 -- two tests that hold, and four
-pub two-ok : {F : Type 0} (a b : Bool) (f g : F) → first_failed ((a, f) ∷ (b, g) ∷ []) ≡ Ok tt → (a ≡ true) × (b ≡ true)
+pub two-ok : {F : Type 0} (a b : Bool) (f g : F) → first_failed ((a, f) ∷ (b, g) ∷ []) ≡ Ok tt
+    → (a ≡ true) × (b ≡ true)
 two-ok a b f g h =
     let first = first-ok a f ((b, g) ∷ []) h in
     (first.0, (first-ok b g [] first.1).0)
 
-pub four-ok : {F : Type 0} (a b c d : Bool) (f g k l : F) → first_failed ((a, f) ∷ (b, g) ∷ (c, k) ∷ (d, l) ∷ []) ≡ Ok tt
+pub four-ok : {F : Type 0} (a b c d : Bool) (f g k l : F)
+    → first_failed ((a, f) ∷ (b, g) ∷ (c, k) ∷ (d, l) ∷ []) ≡ Ok tt
     → ((a ≡ true) × (b ≡ true)) × ((c ≡ true) × (d ≡ true))
 four-ok a b c d f g k l h =
     let first = first-ok a f ((b, g) ∷ (c, k) ∷ (d, l) ∷ []) h in
@@ -99,29 +114,43 @@ pub record CellHolds (sizes : Sizes) (earlier : List Cell) (cell : Cell) : Type 
   pub shape : has_shape earlier cell ≡ true
   pub label : has_label_place cell ≡ true
 
-pub cell_tests-ok : (sizes : Sizes) (earlier : List Cell) (cell : Cell) → first_failed (cell_tests sizes earlier cell) ≡ Ok tt → CellHolds sizes earlier cell
+pub cell_tests-ok : (sizes : Sizes) (earlier : List Cell) (cell : Cell)
+    → first_failed (cell_tests sizes earlier cell) ≡ Ok tt → CellHolds sizes earlier cell
 cell_tests-ok sizes earlier cell h =
     let form = has_cell_place cell && has_form cell.element in
     let room = has_kinds cell.element && has_room sizes cell.element in
     let shape = has_shape earlier cell && has_label_place cell in
-    let held = four-ok form (has_values cell.element) room shape BadCell BadValue BadRef BadShape h in
+    let held = four-ok form (has_values cell.element) room shape BadCell BadValue
+    BadRef BadShape h in
     let forms = and_parts (has_cell_place cell) (has_form cell.element) held.0.0 in
     let rooms = and_parts (has_kinds cell.element) (has_room sizes cell.element) held.1.0 in
     let shapes = and_parts (has_shape earlier cell) (has_label_place cell) held.1.1 in
-    record { place = forms.0; form = forms.1; values = held.0.1; kinds = rooms.0; room = rooms.1; shape = shapes.0; label = shapes.1 }
+    record {
+      place = forms.0;
+      form = forms.1;
+      values = held.0.1;
+      kinds = rooms.0;
+      room = rooms.1;
+      shape = shapes.0;
+      label = shapes.1;
+    }
 
 -- the tests of a cell in its network hold where all its tests do
-pub site_cell-ok : (site : Site) (earlier : List Cell) (cell : Cell) → first_failed (placed_cell_tests site earlier cell) ≡ Ok tt
+pub site_cell-ok : (site : Site) (earlier : List Cell) (cell : Cell)
+    → first_failed (placed_cell_tests site earlier cell) ≡ Ok tt
     → CellHolds site.sizes earlier cell × (first_failed (standing_tests
-    (standing_of site.is_last (cells_before site.segments site.networks ++ earlier) cell.element)) ≡ Ok tt)
+    (standing_of site.is_last (cells_before site.segments site.networks ++ earlier) cell.element))
+    ≡ Ok tt)
 site_cell-ok site earlier cell h =
-    let standing = standing_tests (standing_of site.is_last (cells_before site.segments site.networks ++ earlier) cell.element) in
+    let standing = standing_tests (standing_of site.is_last
+    (cells_before site.segments site.networks ++ earlier) cell.element) in
     let tests = parts-ok (cell_tests site.sizes earlier cell) standing
     (placed-ok (piece_place site (length earlier + 1)) (site_cell_tests site earlier cell) h) in
     (cell_tests-ok site.sizes earlier cell tests.0, tests.1)
 
 -- what is known of a short that passes
-pub site_short-ok : (site : Site) (cells : ℕ) (earlier : List Short) (short : Short) → first_failed (placed_short_tests site cells earlier short) ≡ Ok tt
+pub site_short-ok : (site : Site) (cells : ℕ) (earlier : List Short) (short : Short)
+    → first_failed (placed_short_tests site cells earlier short) ≡ Ok tt
     → (has_short_place short ≡ true) × (not (list_any (same_short short) earlier) ≡ true)
 site_short-ok site cells earlier short h =
     two-ok (has_short_place short) (not (list_any (same_short short) earlier)) BadCell BadShape
@@ -129,14 +158,17 @@ site_short-ok site cells earlier short h =
 
 -- one cell more that passes stands apart
 cell_stands : (site : Site) (earlier : List Cell) (cell : Cell) → AreApart (cell_places earlier)
-    → first_failed (placed_cell_tests site earlier cell) ≡ Ok tt → AreApart (cell_places (earlier ++ cell ∷ []))
+    → first_failed (placed_cell_tests site earlier cell) ≡ Ok tt
+    → AreApart (cell_places (earlier ++ cell ∷ []))
 cell_stands site earlier cell apart h =
     let holds = (site_cell-ok site earlier cell h).0 in
     cell_apart earlier cell apart holds.place holds.shape
 
 -- one short more that passes stands apart
-short_stands : (site : Site) (cells : ℕ) (earlier : List Short) (short : Short) → AreApart (short_places earlier)
-    → first_failed (placed_short_tests site cells earlier short) ≡ Ok tt → AreApart (short_places (earlier ++ short ∷ []))
+short_stands : (site : Site) (cells : ℕ) (earlier : List Short) (short : Short)
+    → AreApart (short_places earlier)
+    → first_failed (placed_short_tests site cells earlier short) ≡ Ok tt
+    → AreApart (short_places (earlier ++ short ∷ []))
 short_stands site cells earlier short apart h =
     let holds = site_short-ok site cells earlier short h in
     short_apart earlier short apart holds.0 holds.1
@@ -147,14 +179,26 @@ unfolding IsDistinct
 none_apart = record { within = refl; distinct = tt }
 
 -- cells that pass are few
-pub cells-few : (site : Site) (cells : List Cell) → first_failed (tests_of_each (placed_cell_tests site) cells) ≡ Ok tt → length cells ≤ 96
+pub cells-few : (site : Site) (cells : List Cell)
+    → first_failed (tests_of_each (placed_cell_tests site) cells) ≡ Ok tt → length cells ≤ 96
 cells-few site cells h =
-    let apart = behind-keeps (λ cells. AreApart (cell_places cells)) (placed_cell_tests site) (cell_stands site) [] cells none_apart h in
-    omega (arith, length-map {B = ℕ × ℕ} cells (λ (cell : Cell). (cell.row, cell.column)), AreApart-few (cell_places cells) apart)
+    let apart = behind-keeps (λ cells. AreApart (cell_places cells)) (placed_cell_tests site)
+    (cell_stands site) [] cells none_apart h in
+    omega (
+      arith,
+      length-map {B = ℕ × ℕ} cells (λ (cell : Cell). (cell.row, cell.column)),
+      AreApart-few (cell_places cells) apart,
+    )
 
 -- shorts that pass are few
-pub shorts-few : (site : Site) (count : ℕ) (shorts : List Short) → first_failed (tests_of_each (placed_short_tests site count) shorts) ≡ Ok tt
+pub shorts-few : (site : Site) (count : ℕ) (shorts : List Short)
+    → first_failed (tests_of_each (placed_short_tests site count) shorts) ≡ Ok tt
     → length shorts ≤ 96
 shorts-few site count shorts h =
-    let apart = behind-keeps (λ shorts. AreApart (short_places shorts)) (placed_short_tests site count) (short_stands site count) [] shorts none_apart h in
-    omega (arith, length-map {B = ℕ × ℕ} shorts (λ (short : Short). (short.row, short.column)), AreApart-few (short_places shorts) apart)
+    let apart = behind-keeps (λ shorts. AreApart (short_places shorts))
+    (placed_short_tests site count) (short_stands site count) [] shorts none_apart h in
+    omega (
+      arith,
+      length-map {B = ℕ × ℕ} shorts (λ (short : Short). (short.row, short.column)),
+      AreApart-few (short_places shorts) apart,
+    )

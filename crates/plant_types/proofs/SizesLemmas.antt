@@ -21,7 +21,8 @@ has_number count number = nat_le 1 number && nat_le number count
 same_then : (a b m n : ℕ) → is_eq (ordering_then (nat_cmp a b) (nat_cmp m n)) ≡ (a == b) && (m == n)
 same_then a b m n = grind (arith, nat_tests)
 
-one_more : (x : Bool) (m n : ℕ) (v : Option ℕ) → cond (x && (m == suc n)) (Some 0) (cond (x && has_number n m) (Some 0) v)
+one_more : (x : Bool) (m n : ℕ) (v : Option ℕ)
+    → cond (x && (m == suc n)) (Some 0) (cond (x && has_number n m) (Some 0) v)
     ≡ cond (x && has_number (suc n) m) (Some 0) v
 one_more true m n v = grind (arith, nat_tests)
 one_more false m n v = refl
@@ -32,7 +33,8 @@ none_yet false m v = refl
 
 -- the zeros of one kind answer for the numbers from 1 to their count
 zeros-found : (kind : RefKind) (n : ℕ) (rest : List (Ref × ℕ)) (q : Ref)
-    → found_at (zeros kind n ++ rest) q ≡ cond ((rank_of q.kind == rank_of kind) && has_number n q.number) (Some 0) (found_at rest q)
+    → found_at (zeros kind n ++ rest) q
+    ≡ cond ((rank_of q.kind == rank_of kind) && has_number n q.number) (Some 0) (found_at rest q)
 zeros-found kind zero rest q = none_yet (rank_of q.kind == rank_of kind) q.number (found_at rest q)
 zeros-found kind (suc n) rest q =
     rw (same_then (rank_of q.kind) (rank_of kind) q.number (suc n), zeros-found kind n rest q)
@@ -40,7 +42,8 @@ zeros-found kind (suc n) rest q =
 
 all_found : (s : Sizes) (kind : RefKind) (number : ℕ)
     → found_at (zeros Coil s.coils
-    ++ (zeros Input s.inputs ++ (zeros InputRegister s.input_registers ++ (zeros Register s.registers ++ [])))) (record { kind = kind; number = number })
+    ++ (zeros Input s.inputs ++ (zeros InputRegister s.input_registers
+    ++ (zeros Register s.registers ++ [])))) (record { kind = kind; number = number })
     ≡ cond (has_number (count_of s kind) number) (Some 0) None
 all_found s Coil n = rw (
   zeros-found Coil s.coils _ (record { kind = Coil; number = n }),
@@ -70,9 +73,11 @@ all_found s Register n = rw (
 -- the references of a fresh store are those of its sizes, each 0
 pub get-cleared : StartsCleared
 get-cleared s q =
-    let es = zeros Coil s.coils ++ (zeros Input s.inputs ++ (zeros InputRegister s.input_registers ++ zeros Register s.registers)) in
+    let es = zeros Coil s.coils ++ (zeros Input s.inputs
+    ++ (zeros InputRegister s.input_registers ++ zeros Register s.registers)) in
     get_ref es q
-    ∙ ap (λ t. found_at (zeros Coil s.coils ++ (zeros Input s.inputs ++ (zeros InputRegister s.input_registers ++ t))) q)
+    ∙ ap (λ t. found_at (zeros Coil s.coils
+    ++ (zeros Input s.inputs ++ (zeros InputRegister s.input_registers ++ t))) q)
     (sym (append-nil (zeros Register s.registers)))
     ∙ all_found s q.kind q.number
 
@@ -81,5 +86,6 @@ some_in true = refl
 some_in false = refl
 
 -- the store that sizes make has the references of the sizes
-pub contains_key-cleared : (sizes : Sizes) (at : Ref) → contains_key (cleared sizes) at ≡ has_reference sizes at
+pub contains_key-cleared : (sizes : Sizes) (at : Ref)
+    → contains_key (cleared sizes) at ≡ has_reference sizes at
 contains_key-cleared sizes at = ap is_some (get-cleared sizes at) ∙ some_in (has_reference sizes at)

@@ -9,16 +9,20 @@ use Rattle.plant_types.specs.declared.slot.Slot.{Slot}
 use Rattle.plant_types.specs.Operands.{Named, named_at, named_by}
 
 -- what holds of all that operands name holds of what each names in its slot
-pub named_by-each : (holds : Named → Bool) (length : ℕ) (slots : List Slot) (operands : List Operand)
-    → list_all (λ (at : Slot × Operand). list_all holds (named_at length at.0 at.1)) (zip slots operands) ≡ list_all holds (named_by length slots operands)
+pub named_by-each : (holds : Named → Bool) (length : ℕ) (slots : List Slot)
+    (operands : List Operand)
+    → list_all (λ (at : Slot × Operand). list_all holds (named_at length at.0 at.1))
+    (zip slots operands) ≡ list_all holds (named_by length slots operands)
 named_by-each holds length [] operands = refl
 named_by-each holds length (slot ∷ slots) [] = refl
 named_by-each holds length (slot ∷ slots) (operand ∷ operands) =
-    ap (λ b. list_all holds (named_at length slot operand) && b) (named_by-each holds length slots operands)
+    ap (λ b. list_all holds (named_at length slot operand) && b)
+    (named_by-each holds length slots operands)
     ∙ sym (list_all-append holds (named_at length slot operand) (named_by length slots operands))
 
 -- what holds pair by pair holds of each pair of lists that are as long
-pub pointwise-same : {A B : Type 0} (fits : A → B → Bool) (xs : List A) (ys : List B) → length xs ≡ length ys
+pub pointwise-same : {A B : Type 0} (fits : A → B → Bool) (xs : List A) (ys : List B)
+    → length xs ≡ length ys
     → list_all (λ at. fits at.0 at.1) (zip xs ys) ≡ pointwise fits xs ys
 pointwise-same fits [] [] h = refl
 pointwise-same fits [] (y ∷ ys) h = absurd (omega arith)
@@ -33,7 +37,8 @@ and_none true = refl
 and_none false = refl
 
 -- it holds of no others
-pub pointwise-other : {A B : Type 0} (fits : A → B → Bool) (xs : List A) (ys : List B) → length xs ≢ length ys
+pub pointwise-other : {A B : Type 0} (fits : A → B → Bool) (xs : List A) (ys : List B)
+    → length xs ≢ length ys
     → false ≡ pointwise fits xs ys
 pointwise-other fits [] [] h = absurd (h refl)
 pointwise-other fits [] (y ∷ ys) h = refl

@@ -20,4 +20,5 @@ pub mod PlanTests
 pub mod Passing
 pub mod Effect
 pub mod Discretes
+pub mod Limits
 pub mod Plans

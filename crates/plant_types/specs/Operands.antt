@@ -1,5 +1,5 @@
 -- The operands of the elements: the references that each names, and its constants.
-use Rattle.std.specs.Prelude.{◌≡◌, ℕ, Bool, true, false, ◌&&◌, nat_le, List, [], ◌∷◌, ◌++◌}
+use Rattle.std.specs.Prelude.{◌≡◌, ℕ, Bool, true, false, nat_le, List, [], ◌∷◌, ◌++◌}
 use Rattle.std.specs.List.{list_all, AllByRecursion}
 use lib.Pointwise.{pointwise}
 use Rattle.plant_types.specs.declared.reference.Ref.{Ref}
@@ -14,6 +14,7 @@ use Rattle.plant_types.specs.Slots.{run_count, slots_of}
 use Rattle.plant_types.specs.Elements.{name_of, operands_of, length_of}
 use Rattle.plant_types.specs.Reference.{is_coil, is_discrete, is_register, is_holding}
 use Rattle.plant_types.specs.Store.{Contents, word_at, HasDiscrete, HasRegisters}
+use Rattle.plant_types.specs.Limits.{is_up_to}
 
 -- The number of an operand. Modicon Ladder Logic Block Library User Guide.
 abbrev pub operand_number : Contents → Operand → ℕ
@@ -26,14 +27,14 @@ HasNumber m (Const n) = Unit {0}
 HasNumber m (At at) = HasRegisters m at 1
 
 -- What a reference of an element has to be. This project's own table of operands.
-pub data Kind : Type 0 where
-  OnlyCoil : Kind
-  AnyDiscrete : Kind
-  AnyRegister : Kind
-  OnlyHolding : Kind
+pub data OperandKind : Type 0 where
+  OnlyCoil : OperandKind
+  AnyDiscrete : OperandKind
+  AnyRegister : OperandKind
+  OnlyHolding : OperandKind
 
 -- The kinds of reference that are such. This project's own table of operands.
-abbrev pub accepts : Kind → RefKind → Bool
+abbrev pub accepts : OperandKind → RefKind → Bool
 accepts OnlyCoil kind = is_coil kind
 accepts AnyDiscrete kind = is_discrete kind
 accepts AnyRegister kind = is_register kind
@@ -43,7 +44,7 @@ accepts OnlyHolding kind = is_holding kind
 -- element uses. This project's own.
 pub record Named : Type 0 where
   pub at : Ref
-  pub kind : Kind
+  pub kind : OperandKind
   pub count : ℕ
 
 -- One coil, one discrete, registers that are read, registers that are stored in. This project's
@@ -109,13 +110,9 @@ abbrev pub is_constant : Operand → Bool
 is_constant (Const n) = nat_le n 9999
 is_constant (At at) = true
 
--- A length from 1 to a largest. This project's own table of operands.
-abbrev pub is_length : ℕ → ℕ → Bool
-is_length most length = nat_le 1 length && nat_le length most
-
 -- A constant is in the range of a slot. This project's own table of operands.
 abbrev pub fits_value : Slot → Operand → Bool
-fits_value (Constant most) (Const n) = is_length most n
+fits_value (Constant most) (Const n) = is_up_to most n
 fits_value (Constant most) (At at) = true
 fits_value slot operand = is_constant operand
 
@@ -128,7 +125,7 @@ abbrev pub has_kinds : Element → Bool
 has_kinds element = list_all (λ named. accepts named.kind named.at.kind) (names_of element)
 
 -- A discrete stands, or as many registers as are used. This project's own.
-abbrev pub HasKind : Contents → Ref → ℕ → Kind → Type 0
+abbrev pub HasKind : Contents → Ref → ℕ → OperandKind → Type 0
 HasKind m at count OnlyCoil = HasDiscrete m at
 HasKind m at count AnyDiscrete = HasDiscrete m at
 HasKind m at count AnyRegister = HasRegisters m at count
@@ -147,7 +144,7 @@ pub record HasOperands (m : Contents) (element : Element) : Type 0 where
 
 -- A store of discretes has what a named reference asks of it: nothing for a register. This
 -- project's own.
-abbrev pub HasDiscreteKind : Contents → Ref → Kind → Type 0
+abbrev pub HasDiscreteKind : Contents → Ref → OperandKind → Type 0
 HasDiscreteKind m at OnlyCoil = HasDiscrete m at
 HasDiscreteKind m at AnyDiscrete = HasDiscrete m at
 HasDiscreteKind m at AnyRegister = Unit {0}

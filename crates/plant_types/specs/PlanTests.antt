@@ -16,6 +16,7 @@ use Rattle.plant_types.specs.declared.fault.PlantFault.TheVariants.{BadNode, Too
 use Rattle.plant_types.specs.declared.fault.Place.{Place}
 use Rattle.plant_types.specs.Fault.{controller_place, segment_place, cell_place, order_place}
 use Rattle.plant_types.specs.Fault.{panel_place}
+use Rattle.plant_types.specs.Limits.{most_address}
 use Rattle.plant_types.specs.Reference.{is_discrete}
 use Rattle.plant_types.specs.Sizes.{Sizes, has_reference}
 use Rattle.plant_types.specs.Checks.{sizes_of, is_size, is_discrete_size}
@@ -164,7 +165,7 @@ has_few plan =
 -- The tests of a controller's table, key by key.
 abbrev pub table_tests : ControllerPlan → List (Test PlantFault)
 table_tests plan =
-    (nat_le 1 plan.node && nat_le plan.node 64, BadNode)
+    (nat_le 1 plan.node && nat_le plan.node most_address, BadNode)
     ∷ (are_sizes (sizes_of plan), BadValue)
     ∷ (has_few plan, TooLarge)
     ∷ []

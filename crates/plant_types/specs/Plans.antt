@@ -9,6 +9,9 @@ use Rattle.plant_types.specs.declared.net.HostPlan.{HostPlan}
 use Rattle.plant_types.specs.declared.plan.ControllerPlan.{ControllerPlan}
 use Rattle.plant_types.specs.declared.plan.Plant.{Plant}
 use Rattle.plant_types.specs.FirstFault.{first_failed}
+use Rattle.plant_types.specs.Limits.{controller_limit, host_limit, most_address, scan_time_limit}
+use Rattle.plant_types.specs.Limits.{watchdog_limit, fate_limit, answer_limit, rotation_limit}
+use Rattle.plant_types.specs.Limits.{round_limit, hold_limit, request_limit, due_limit}
 use Rattle.plant_types.specs.PlanTests.{controller_tests}
 
 -- A number is from a least one to a largest one.
@@ -18,29 +21,29 @@ pub record IsFromTo (least most number : ℕ) : Type 0 where
 
 -- An address of a node.
 abbrev pub IsNode : ℕ → Type 0
-IsNode node = IsFromTo 1 64 node
+IsNode node = IsFromTo 1 most_address node
 
 -- A network: its members, of which there is one at least, rise, and each number is in its range.
 pub record IsNetPlan (net : NetPlan) : Type 0 where
   pub first : 1 ≤ length net.members
   pub members : All IsNode net.members
   pub rising : IsStrictlyIncreasing net.members
-  pub fates : IsFromTo 1 1000 (length net.fates)
-  pub answer : IsFromTo 2 1000 net.answer
-  pub rotations : IsFromTo 1 10 net.rotations
-  pub rounds : IsFromTo 1 100 net.rounds
-  pub holds : IsFromTo 1 100000 net.holds
+  pub fates : IsFromTo 1 fate_limit (length net.fates)
+  pub answer : IsFromTo 2 answer_limit net.answer
+  pub rotations : IsFromTo 1 rotation_limit net.rotations
+  pub rounds : IsFromTo 1 round_limit net.rounds
+  pub holds : IsFromTo 1 hold_limit net.holds
 
 -- A request of a host: from when on it is due, and which other node it asks.
 pub record IsAskOf (node : ℕ) (ask : HostAsk) : Type 0 where
-  pub hold : IsFromTo 1 10000 ask.hold
+  pub hold : IsFromTo 1 due_limit ask.hold
   pub to : IsNode ask.to
   pub other : ask.to ≢ node
 
--- A host: its address, and at most a thousand requests.
+-- A host: its address, and its requests, no more than a host can have.
 pub record IsHostPlan (host : HostPlan) : Type 0 where
   pub node : IsNode host.node
-  pub few : length host.requests ≤ 1000
+  pub few : length host.requests ≤ request_limit
   pub requests : All (IsAskOf host.node) host.requests
 
 -- A controller passes its tests.
@@ -57,13 +60,13 @@ host_nodes plant = map (λ host. host.node) plant.hosts
 -- A plant: its controllers and its hosts rise by node, all of them are the members of its network,
 -- each node once, and each number is in its range. The tests of drops are not among these.
 pub record IsPlant (plant : Plant) : Type 0 where
-  pub scan_time : IsFromTo 1 1000 plant.scan_time
-  pub watchdog : IsFromTo 1 10000 plant.watchdog
+  pub scan_time : IsFromTo 1 scan_time_limit plant.scan_time
+  pub watchdog : IsFromTo 1 watchdog_limit plant.watchdog
   pub net : IsNetPlan plant.net
-  pub count : IsFromTo 1 16 (length plant.controllers)
+  pub count : IsFromTo 1 controller_limit (length plant.controllers)
   pub controllers : All PassesTests plant.controllers
   pub controllers_rise : IsStrictlyIncreasing (controller_nodes plant)
-  pub few : length plant.hosts ≤ 16
+  pub few : length plant.hosts ≤ host_limit
   pub hosts : All IsHostPlan plant.hosts
   pub hosts_rise : IsStrictlyIncreasing (host_nodes plant)
   pub members : IsPermutation (controller_nodes plant ++ host_nodes plant) plant.net.members

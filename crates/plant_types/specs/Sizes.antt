@@ -7,7 +7,7 @@ use Rattle.plant_types.specs.declared.reference.RefKind.TheVariants.{Coil, Input
 use Rattle.plant_types.specs.declared.reference.RefKind.TheVariants.{Register}
 use Rattle.plant_types.specs.declared.reference.Ref.{Ref}
 use Rattle.plant_types.specs.declared.sizes.Sizes as declared
-use Rattle.plant_types.specs.Store.{Contents, Keeps, part_at}
+use Rattle.plant_types.specs.Store.{Contents, Keeps, part_within}
 
 -- How many references of each kind there are. This project's own.
 abbrev pub Sizes : Type 0
@@ -71,7 +71,7 @@ discretes sizes m = retain_keys m (has_reference (discretes_of sizes))
 pub record DiscretesFollow : Type 0 where
   pub fresh : (sizes : Sizes) → discretes sizes (cleared sizes) ≡ cleared (discretes_of sizes)
   pub copied :
-      (sizes : Sizes) (m n : Contents) → Keeps (cleared sizes) m → part_at (discretes sizes m) n
+      (sizes : Sizes) (m n : Contents) → Keeps (cleared sizes) m → part_within (discretes sizes m) n
       ≡ discretes sizes n
   pub held :
       (sizes : Sizes) (m n : Contents) → Keeps (cleared sizes) n → Keeps (discretes sizes m) n

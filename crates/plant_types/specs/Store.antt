@@ -35,8 +35,8 @@ abbrev pub Keeps : Contents → Contents → Type 0
 Keeps old new = (at : Ref) → contains_key old at ≡ true → contains_key new at ≡ true
 
 -- The part of a store that stands at the references of another. This project's own.
-abbrev pub part_at : Contents → Contents → Contents
-part_at other m = retain_keys m (contains_key other)
+abbrev pub part_within : Contents → Contents → Contents
+part_within other m = retain_keys m (contains_key other)
 
 -- So many registers from one on are there, within the most that a kind has. This project's own.
 pub record HasRegisters (m : Contents) (at : Ref) (count : ℕ) : Type 0 where

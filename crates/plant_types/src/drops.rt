@@ -5,6 +5,9 @@ use crate::words::Words;
 /// The most modules of a drop.
 pub const MODULE_LIMIT: usize = 16;
 
+/// The most words into a drop, and the most out of it.
+pub const DROP_WORDS: usize = 64;
+
 /// The most rows of a script.
 pub const SCRIPT_LIMIT: usize = 10_000;
 

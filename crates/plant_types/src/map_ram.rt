@@ -5,7 +5,7 @@ ghost use Rattle.std.specs.FinMap as map;
 ghost use Rattle.plant_types.specs.Discretes.{DiscretesAreOn};
 ghost use Rattle.plant_types.specs.MapRam.{AddsZeros};
 ghost use Rattle.plant_types.specs.Sizes.{cleared, sizes_from, StartsCleared, DiscretesFollow};
-ghost use Rattle.plant_types.specs.Store.{Keeps, part_at};
+ghost use Rattle.plant_types.specs.Store.{Keeps, part_within};
 
 use crate::reference::{Ref, RefKind};
 use crate::store::RefStore;
@@ -65,7 +65,7 @@ impl MapRam {
     /// Each reference of this store takes the number that it has in another. Takes no memory.
     pub fn copy_from(&mut self, other: &MapRam)
         requires { Keeps self.old other.now }
-        ensures copied { self.new ≡ part_at self.old other.now }
+        ensures copied { self.new ≡ part_within self.old other.now }
         ensures keeps { Keeps self.old self.new }
         ensures no_more { Keeps self.new self.old }
     {

@@ -66,8 +66,26 @@ pub const NETWORK_PATHS: [u8; 4] = [1, 2, 3, 4];
 /// The paths of a node, with path 0 of its own calls.
 pub const PATH_PLACES: usize = 5;
 
+/// The most fates of a network, which its transmissions take in turn.
+pub const FATE_LIMIT: usize = 1000;
+
+/// The most own Passes after which a call without a reply is given up.
+pub const ANSWER_LIMIT: u32 = 1000;
+
+/// The most rounds of the token after a scan.
+pub const ROTATION_LIMIT: u32 = 10;
+
+/// The most Passes in a row that every member has to be done before a node leaves.
+pub const ROUND_LIMIT: u32 = 100;
+
+/// The most Passes after which a node with a budget leaves in any case.
+pub const HOLD_LIMIT: u32 = 100_000;
+
 /// The most requests of a host.
 pub const REQUEST_LIMIT: usize = 1000;
+
+/// The last hold of the token from which on a request is due.
+pub const DUE_LIMIT: u32 = 10_000;
 
 fn is_node(node: u8) -> bool
     ensures only { result ≡ true → IsNode node }
@@ -111,18 +129,18 @@ pub fn is_net_plan(net: &NetPlan) -> bool
     !members.is_empty()
         && are_nodes(members)
         && rise(members)
-        && (1..=1000).contains(&fates)
-        && (2..=1000).contains(&net.answer)
-        && (1..=10).contains(&net.rotations)
-        && (1..=100).contains(&net.rounds)
-        && (1..=100_000).contains(&net.holds)
+        && (1..=FATE_LIMIT).contains(&fates)
+        && (2..=ANSWER_LIMIT).contains(&net.answer)
+        && (1..=ROTATION_LIMIT).contains(&net.rotations)
+        && (1..=ROUND_LIMIT).contains(&net.rounds)
+        && (1..=HOLD_LIMIT).contains(&net.holds)
 }
 
 fn is_ask_of(node: u8, ask: &HostAsk) -> bool
     ensures only { result ≡ true → IsAskOf node ask.now }
     ensures all { IsAskOf node ask.now → result ≡ true }
 {
-    1 <= ask.hold && ask.hold <= 10_000 && is_node(ask.to) && ask.to != node
+    1 <= ask.hold && ask.hold <= DUE_LIMIT && is_node(ask.to) && ask.to != node
 }
 
 fn are_asks_of(node: u8, asks: &[HostAsk]) -> bool

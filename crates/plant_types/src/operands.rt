@@ -3,12 +3,20 @@ ghost use Rattle.std.specs.Prelude.{◌≡◌, ◌≤◌, ◌<◌, [], ◌∷◌
 ghost use Rattle.plant_types.specs.Elements.{operands_of, reference_in, constant_in, one_reference};
 ghost use Rattle.plant_types.specs.Elements.{one_operand, without_operands, preset_and_acc};
 ghost use Rattle.plant_types.specs.Elements.{numbers_and_low, table_operands, element_of};
+ghost use Rattle.plant_types.specs.Limits.{is_up_to};
 ghost use Rattle.plant_types.specs.declared.name.ElementName.TheVariants as names;
 
 use crate::element::{Element, MatrixOp, MoveOp, Operand};
 use crate::name::ElementName;
 use crate::reference::Ref;
 use std::marker::Model;
+
+/// Whether a number is from 1 to a largest one.
+pub fn is_up_to(most: u16, number: u16) -> bool
+    ensures { result ≡ is_up_to most number }
+{
+    1 <= number && number <= most
+}
 
 /// The most operands of an element.
 pub const OPERAND_LIMIT: usize = 3;

@@ -5,6 +5,18 @@ use crate::net::{HostPlan, NetPlan};
 use crate::network::Segment;
 use crate::reference::Ref;
 
+/// The most controllers of a plant. This project's own.
+pub const CONTROLLER_LIMIT: usize = 16;
+
+/// The most hosts of a plant. This project's own.
+pub const HOST_LIMIT: usize = 16;
+
+/// The most ticks of 10 ms by which the clock goes on at a scan. This project's own.
+pub const SCAN_TIME_LIMIT: u32 = 1000;
+
+/// The most networks that a scan may begin. This project's own.
+pub const WATCHDOG_LIMIT: u32 = 10_000;
+
 /// The most scans of a run. This project's own.
 pub const MOST_SCANS: u32 = 2000;
 

@@ -94,7 +94,8 @@ fn drives(coil: Ref, element: Element) -> bool
     }
 }
 
-fn is_label_of(number: u16, element: Element) -> bool
+/// Whether an element is the LAB of a number.
+pub fn is_label_of(number: u16, element: Element) -> bool
     ensures { result ≡ is_label_of number element }
 {
     match element {

@@ -3,9 +3,10 @@ ghost use Rattle.std.specs.Prelude.{◌≡◌, ◌≢◌, false, true, [], ◌�
 ghost use Rattle.tied_lists.specs.Waits.{Holds};
 ghost use Rattle.comm_port.specs.HostStands.{HostIsReady};
 
+use crate::plans::host_plan;
 use comm_port::HostWorker;
 use host_port::{Host, HostEntry, HostResult};
-use plant_types::{Fate, HostAsk, HostPlan, List, NetPlan, Pdu, is_host_plan};
+use plant_types::{Fate, HostPlan, List, NetPlan, is_host_plan};
 use ring_core::{FrameKind, Ring, RingEntry, is_net};
 use std::alloc::{AllocError, Global};
 use std::process::Abort;
@@ -21,7 +22,8 @@ struct Station {
 
 /// A net of hosts 1 and 2.
 fn net_of(alloc: Global, fates: &[Fate]) -> Result<NetPlan, AllocError>
-    ensures { IfOk result (λ net. net.members ≡ 1 ∷ 2 ∷ []) }
+    ensures members { IfOk result (λ net. net.members ≡ 1 ∷ 2 ∷ []) }
+    ensures answer { IfOk result (λ net. net.answer ≡ 2) }
 {
     Ok(NetPlan {
         members: List::from_vec(Vec::from_slice(alloc, &[1, 2])?),
@@ -43,31 +45,6 @@ fn ring_of(rt: &impl Abort, alloc: Global, net: &NetPlan) -> Result<Ring, AllocE
     Ring::new(alloc, net)
 }
 
-/// From which hold on a request for one register goes to which node.
-fn request_of(alloc: Global, hold: u32, to: u8) -> Result<HostAsk, AllocError> {
-    match Pdu::of(alloc, &[3, 0, 0, 0, 1])? {
-        Some(pdu) => Ok(HostAsk { hold, to, pdu }),
-        None => Err(AllocError),
-    }
-}
-
-/// These requests.
-fn requests_of(alloc: Global, asks: &[(u32, u8)]) -> Result<List<HostAsk>, AllocError> {
-    let mut requests = List::new(alloc);
-    for (hold, to) in asks {
-        requests.push(request_of(alloc, *hold, *to)?)?;
-    }
-    Ok(requests)
-}
-
-/// From which hold on a node asks which other for one register.
-fn plan_of(alloc: Global, node: u8, asks: &[(u32, u8)]) -> Result<HostPlan, AllocError>
-    ensures { IfOk result (λ plan. plan.node ≡ node) }
-{
-    let requests = requests_of(alloc, asks)?;
-    Ok(HostPlan { node, requests })
-}
-
 /// The host of a plan, which has asked nothing.
 fn host_of(
     rt: &impl Abort,
@@ -82,7 +59,7 @@ fn host_of(
     Host::new(alloc, plan, net)
 }
 
-/// The station of a node that asks this.
+/// The station of a node that asks others for one register.
 fn station_of(
     rt: &impl Abort,
     alloc: Global,
@@ -97,7 +74,7 @@ fn station_of(
     ensures left { IfOk result (λ station. station.left ≡ false) }
 {
     let worker = HostWorker::new(alloc, node, net, true)?;
-    let plan = plan_of(alloc, node, asks)?;
+    let plan = host_plan(alloc, node, asks, &[3, 0, 0, 0, 1])?;
     let host = host_of(rt, alloc, &plan, net)?;
     Ok(Station {
         host,
@@ -244,7 +221,8 @@ fn ring_text(
     asks: &[(u32, u8)],
     other_asks: &[(u32, u8)],
 ) -> Result<(Vec<u8>, u16), AllocError>
-    requires { net.now.members ≡ 1 ∷ 2 ∷ [] }
+    requires members { net.now.members ≡ 1 ∷ 2 ∷ [] }
+    requires answer { net.now.answer ≡ 2 }
 {
     let mut one = station_of(rt, alloc, 1, asks, net)?;
     let mut two = station_of(rt, alloc, 2, other_asks, net)?;

@@ -1,38 +1,11 @@
 //! A host with ample memory.
+use crate::plans::{host_plan, pdu_of};
 use host_port::{Host, HostEntry, HostResult};
 use mstr_block::CallId;
-use plant_types::{HostAsk, HostPlan, List, NetPlan, Pdu, is_host_plan};
+use plant_types::{List, NetPlan, is_host_plan};
 use std::alloc::{AllocError, Global};
 use std::process::Abort;
 use std::test::Fail;
-
-/// The PDU of these bytes.
-fn pdu_of(alloc: Global, bytes: &[u8]) -> Result<Pdu, AllocError> {
-    match Pdu::of(alloc, bytes)? {
-        Some(pdu) => Ok(pdu),
-        None => Err(AllocError),
-    }
-}
-
-/// Asks each node for its device, from these holds on.
-fn asks_of(alloc: Global, asks: &[(u32, u8)]) -> Result<List<HostAsk>, AllocError> {
-    let mut requests = List::new(alloc);
-    for (hold, to) in asks {
-        let pdu = pdu_of(alloc, &[17])?;
-        requests.push(HostAsk {
-            hold: *hold,
-            to: *to,
-            pdu,
-        })?;
-    }
-    Ok(requests)
-}
-
-/// The plan of host 1: from which hold on it asks which node for its device.
-fn plan_of(alloc: Global, asks: &[(u32, u8)]) -> Result<HostPlan, AllocError> {
-    let requests = asks_of(alloc, asks)?;
-    Ok(HostPlan { node: 1, requests })
-}
 
 /// A net that no host looks at.
 fn net_of(alloc: Global) -> NetPlan {
@@ -46,9 +19,9 @@ fn net_of(alloc: Global) -> NetPlan {
     }
 }
 
-/// Host 1, which has asked nothing.
+/// Host 1, which asks nodes for their device and has asked nothing yet.
 fn host_of(rt: &impl Abort, alloc: Global, asks: &[(u32, u8)]) -> Result<Host, AllocError> {
-    let plan = plan_of(alloc, asks)?;
+    let plan = host_plan(alloc, 1, asks, &[17])?;
     let can = is_host_plan(&plan);
     assert!(rt; can);
     Host::new(alloc, &plan, &net_of(alloc))

@@ -6,4 +6,6 @@ mod host_turns;
 #[cfg(test)]
 mod hosts;
 #[cfg(test)]
+mod plans;
+#[cfg(test)]
 mod turns;

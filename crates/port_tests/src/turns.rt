@@ -1,6 +1,6 @@
 //! Turns of a controller that reads two registers of node 5, with ample memory.
 ghost use Rattle.std.specs.Prelude.{◌≡◌, ◌∷◌, ◌<◌, [], All, filter, length, IfOk, IfSome};
-ghost use Rattle.controller_core.specs.Machine.{CanRun};
+ghost use Rattle.traffic_cop.specs.Rows.{IsRunnablePlan};
 ghost use Rattle.ring_core.specs.Machine.{addresses, ring_after};
 ghost use Rattle.joint_history.specs.Reading.{is_ours};
 ghost use Rattle.port_tests.specs.TurnTests.{HasFirst};
@@ -102,7 +102,7 @@ fn checked(plan: ControllerPlan) -> Option<ControllerPlan>
     requires rows { plan.orders ≡ ROW ∷ [] }
     requires segment { length plan.segments ≡ 1 }
     requires node { plan.node ≡ 2 }
-    ensures runs { IfSome result CanRun }
+    ensures runs { IfSome result IsRunnablePlan }
     ensures node { IfSome result (λ plan. plan.node ≡ 2) }
 {
     checks_are_exact();
@@ -114,7 +114,7 @@ fn checked(plan: ControllerPlan) -> Option<ControllerPlan>
 
 /// The plan of node 2, if it passes its tests.
 fn plan_of(alloc: Global) -> Result<Option<ControllerPlan>, AllocError>
-    ensures runs { IfOk result (λ plan. IfSome plan CanRun) }
+    ensures runs { IfOk result (λ plan. IfSome plan IsRunnablePlan) }
     ensures node { IfOk result (λ plan. IfSome plan (λ plan. plan.node ≡ 2)) }
 {
     let orders = one_row(alloc)?;

@@ -21,9 +21,11 @@ top-clear zero b k e lt h =
     let eight : k ≡ 8 = omega arith in
     subst (λ (n : ℕ). b / 2 ^ n ≡ 0) (sym eight) (omega arith)
 top-clear (suc m) b k e lt h =
-    let rest : b / 2 ^ suc k ≡ 0 = top-clear m b (suc k) (omega arith) lt (λ j le. h j (omega arith)) in
+    let rest : b / 2 ^ suc k ≡ 0 = top-clear m b (suc k) (omega arith) lt
+    (λ j le. h j (omega arith)) in
     let half = half-on b k in
-    let digit : b / 2 ^ k % 2 ≢ 1 = λ one. both_ways (b / 2 ^ k % 2 == 1) (h k (omega arith) (omega arith)) (eq-eqb (b / 2 ^ k % 2) 1 one) in
+    let digit : b / 2 ^ k % 2 ≢ 1 = λ one. both_ways (b / 2 ^ k % 2 == 1)
+    (h k (omega arith) (omega arith)) (eq-eqb (b / 2 ^ k % 2) 1 one) in
     omega arith
 
 -- And a number that small has no digit there.
@@ -37,7 +39,8 @@ clear-top (suc m) b k e =
     let half = half-on b (k + m) in
     subst (λ (n : ℕ). b / 2 ^ n ≡ 0) (sym same) (omega arith)
 
-last-byte : (q : ℕ) (bytes : List ℕ) → 1 ≤ q → get_or (drop 2 bytes) (bytes_for q - 1) 0 ≡ get_or bytes (bytes_for q + 1) 0
+last-byte : (q : ℕ) (bytes : List ℕ) → 1 ≤ q
+    → get_or (drop 2 bytes) (bytes_for q - 1) 0 ≡ get_or bytes (bytes_for q + 1) 0
 last-byte q bytes some =
     let place : 2 + (bytes_for q - 1) ≡ bytes_for q + 1 = omega arith in
     get_or-drop 2 bytes (bytes_for q - 1) 0 ∙ ap (λ (i : ℕ). get_or bytes i 0) place
@@ -48,8 +51,10 @@ spare-clear q bytes some long t place le lt =
     let x = drop 2 bytes in
     let n = bytes_for q in
     let k = 8 - spare_count q in
-    let small : get_or bytes (n + 1) 0 / 2 ^ k ≡ 0 = eqb-true (get_or bytes (n + 1) 0 / 2 ^ k) 0 t in
-    let top : get_or x (n - 1) 0 / 2 ^ k ≡ 0 = ap (λ (b : ℕ). b / 2 ^ k) (last-byte q bytes some) ∙ small in
+    let small : get_or bytes (n + 1) 0 / 2 ^ k ≡ 0 =
+    eqb-true (get_or bytes (n + 1) 0 / 2 ^ k) 0 t in
+    let top : get_or x (n - 1) 0 / 2 ^ k ≡ 0 =
+    ap (λ (b : ℕ). b / 2 ^ k) (last-byte q bytes some) ∙ small in
     let none = clear-top (place % 8 - k) (get_or x (n - 1) 0) k top in
     let byte : place / 8 ≡ n - 1 = omega arith in
     let digit : k + (place % 8 - k) ≡ place % 8 = omega arith in
@@ -57,7 +62,8 @@ spare-clear q bytes some long t place le lt =
     ∙ (λ i. get_or x (byte i) 0 / 2 ^ (sym digit i) % 2 == 1)
     ∙ ap (λ (z : ℕ). z % 2 == 1) none
 
-pub clear-spare : (q : ℕ) (bytes : List ℕ) → 1 ≤ q → length (drop 2 bytes) ≡ bytes_for q → IsBytes (drop 2 bytes)
+pub clear-spare : (q : ℕ) (bytes : List ℕ) → 1 ≤ q → length (drop 2 bytes) ≡ bytes_for q
+    → IsBytes (drop 2 bytes)
     → IsClear (drop 2 bytes) q → has_clear_spare q bytes ≡ true
 clear-spare q bytes some long fits clear =
     let x = drop 2 bytes in
@@ -72,4 +78,5 @@ clear-spare q bytes some long fits clear =
     (λ i. get_or x (sym byte i) 0 / 2 ^ (sym digit i) % 2 == 1)
     ∙ sym (unpacked-at x (8 * (n - 1) + j) (omega arith))
     ∙ clear (8 * (n - 1) + j) (omega arith) (omega arith)) in
-    eq-eqb (get_or bytes (n + 1) 0 / 2 ^ k) 0 (ap (λ (c : ℕ). c / 2 ^ k) (sym (last-byte q bytes some)) ∙ top)
+    eq-eqb (get_or bytes (n + 1) 0 / 2 ^ k) 0
+    (ap (λ (c : ℕ). c / 2 ^ k) (sym (last-byte q bytes some)) ∙ top)

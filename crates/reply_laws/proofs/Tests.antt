@@ -16,25 +16,30 @@ use Rattle.reply_laws.specs.Result.{exception_told, function_in, good, tells_byt
 use Rattle.reply_laws.specs.Results.{AreBytes, result_with}
 
 -- A reply is an exception reply of a function, or tells no code of it.
-pub exceptions : (f : ℕ) (bytes : List ℕ) → ((code : ℕ) × (bytes ≡ exception_code f ∷ code ∷ [])) ⊎ (exception_told f bytes ≡ None)
+pub exceptions : (f : ℕ) (bytes : List ℕ)
+    → ((code : ℕ) × (bytes ≡ exception_code f ∷ code ∷ [])) ⊎ (exception_told f bytes ≡ None)
 exceptions f [] = inr refl
 exceptions f (a ∷ []) = inr refl
 exceptions f (a ∷ b ∷ c ∷ rest) = inr refl
 exceptions f (a ∷ b ∷ []) = elim (cases_eq a (exception_code f)) [
   | inl e ↦ inl (b, ap (λ (x : ℕ). x ∷ b ∷ []) e)
-  | inr other ↦ inr (ap (λ (t : Bool). if t then Some b else None) (ne_eqb a (exception_code f) other))
+  | inr other ↦
+      inr (ap (λ (t : Bool). if t then Some b else None) (ne_eqb a (exception_code f) other))
 ]
 
 -- An exception reply tells its code.
 pub code-told : (f code : ℕ) → exception_told f (exception_code f ∷ code ∷ []) ≡ Some code
-code-told f code = ap (λ (t : Bool). if t then Some code else None) (eq-eqb (exception_code f) (exception_code f) refl)
+code-told f code = ap (λ (t : Bool). if t then Some code else None)
+    (eq-eqb (exception_code f) (exception_code f) refl)
 
 -- What is left of bytes is bytes.
 pub fits-drop : (n : ℕ) (bytes : List ℕ) → IsBytes bytes → IsBytes (drop n bytes)
-fits-drop n bytes fits i = subst (λ (b : ℕ). b < 2 ^ 8) (sym (get_or-drop n bytes i 0)) (fits (n + i))
+fits-drop n bytes fits i =
+    subst (λ (b : ℕ). b < 2 ^ 8) (sym (get_or-drop n bytes i 0)) (fits (n + i))
 
 -- A reply that tells so many bytes has these behind its count.
-pub tells-behind : (size f : ℕ) (ask bytes : List ℕ) → function_in ask ≡ f → tells_bytes size ask bytes ≡ true
+pub tells-behind : (size f : ℕ) (ask bytes : List ℕ) → function_in ask ≡ f
+    → tells_bytes size ask bytes ≡ true
     → Behind f bytes (drop 2 bytes) × (length (drop 2 bytes) ≡ size)
 tells-behind size f ask [] same t =
     let first = and_parts (0 == 2 + size && 0 == function_in ask) (0 == size) t in
@@ -59,19 +64,23 @@ pub behind-tells : (size f : ℕ) (ask bytes x : List ℕ) → function_in ask �
     → length x ≡ size → tells_bytes size ask bytes ≡ true
 behind-tells size f ask bytes x same e long =
     subst (λ (r : List ℕ). tells_bytes size ask r ≡ true) (sym e)
-    (and_from _ _ (and_from _ _ (eq-eqb (suc (suc (length x))) (2 + size) (omega arith)) (eq-eqb f (function_in ask) (sym same)))
+    (and_from _ _ (and_from _ _ (eq-eqb (suc (suc (length x))) (2 + size) (omega arith))
+    (eq-eqb f (function_in ask) (sym same)))
     (eq-eqb (length x) size long))
 
 -- Bytes are a result just where the words that they are make one.
-pub good-words : (bytes : List ℕ) (count : ℕ) → IsBytes bytes → length bytes ≡ 2 * count → good (Some bytes) ≡ result_with (words_in bytes)
+pub good-words : (bytes : List ℕ) (count : ℕ) → IsBytes bytes → length bytes ≡ 2 * count
+    → good (Some bytes) ≡ result_with (words_in bytes)
 good-words bytes count fits even =
     let words = words_in bytes in
     let back = words_again bytes count fits even in
     let long : length bytes ≡ 2 * length words = ap length (sym back) ∙ length-words_bytes words in
     let one = λ (t : Bool). if t then Good words else Bad 0x3000 in
     elim (cases_lt 100 (length words)) [
-      | inl more ↦ ap one (lt-leb (length bytes) 200 (omega arith)) ∙ sym (ap one (lt-leb (length words) 100 more))
-      | inr few ↦ ap one (le-leb (length bytes) 200 (omega arith)) ∙ sym (ap one (le-leb (length words) 100 few))
+      | inl more ↦ ap one (lt-leb (length bytes) 200 (omega arith))
+          ∙ sym (ap one (lt-leb (length words) 100 more))
+      | inr few ↦ ap one (le-leb (length bytes) 200 (omega arith))
+          ∙ sym (ap one (le-leb (length words) 100 few))
     ]
 
 -- All of them are bytes, where each is.

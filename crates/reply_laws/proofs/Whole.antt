@@ -20,7 +20,8 @@ use Rattle.reply_laws.proofs.Tests.{bytes-are, code-told, exceptions}
 use Rattle.reply_laws.proofs.Told.{came}
 
 -- the function of a request's spelling
-first-is : (request : Request) (ask : List ℕ) → Spells ask request → function_in ask ≡ function_of request
+first-is : (request : Request) (ask : List ℕ) → Spells ask request
+    → function_in ask ≡ function_of request
 first-is (requests.ReadCoils a q) ask s = ap function_in s.form
 first-is (requests.ReadInputs a q) ask s = ap function_in s.form
 first-is (requests.ReadRegisters a q) ask s = ap function_in s.form
@@ -36,26 +37,33 @@ first-is (requests.ReadWrite read q write words) ask s = ap function_in s.form
 
 -- The bytes spell one reply to the request, and come to its result; or none, and come to none.
 data Settled (request : Request) (ask bytes : List ℕ) : Type 0 where
-  by_reply : (x : Reply) → Finds (IsSpelledReply request bytes) (Ok x) → result_of ask bytes ≡ result_by x → Settled request ask bytes
+  by_reply : (x : Reply) → Finds (IsSpelledReply request bytes) (Ok x)
+      → result_of ask bytes ≡ result_by x → Settled request ask bytes
   by_none : HasNoReply request bytes → result_of ask bytes ≡ no_result → Settled request ask bytes
 
-settled : (request : Request) (ask bytes : List ℕ) → Spells ask request → IsBytes bytes → Settled request ask bytes
+settled : (request : Request) (ask bytes : List ℕ) → Spells ask request → IsBytes bytes
+    → Settled request ask bytes
 settled request ask bytes s fits = elim (exceptions (function_in ask) bytes) [
   | inl e ↦ by_reply (replies.Exception (function_of request) e.0)
-      (exception_found e.0 bytes request (e.1 ∙ ap (λ (f : ℕ). exception_code f ∷ e.0 ∷ []) (first-is request ask s)))
+      (exception_found e.0 bytes request
+      (e.1 ∙ ap (λ (f : ℕ). exception_code f ∷ e.0 ∷ []) (first-is request ask s)))
       (ap (result_of ask) e.1
-      ∙ ap (λ (o : Option ℕ). or_good o (told_bytes ask (exception_code (function_in ask) ∷ e.0 ∷ []))) (code-told (function_in ask) e.0))
+      ∙ ap (λ (o : Option ℕ). or_good o (told_bytes ask
+      (exception_code (function_in ask) ∷ e.0 ∷ []))) (code-told (function_in ask) e.0))
   | inr none ↦ normal none (came request ask bytes s fits)
 ]
   where
-    unlike : exception_told (function_in ask) bytes ≡ None → (code : ℕ) → ¬ IsExceptionOf request bytes code
+    unlike : exception_told (function_in ask) bytes ≡ None → (code : ℕ)
+        → ¬ IsExceptionOf request bytes code
     unlike none code e =
         let form : bytes ≡ exception_code (function_in ask) ∷ code ∷ [] =
         e ∙ ap (λ (f : ℕ). exception_code f ∷ code ∷ []) (sym (first-is request ask s)) in
-        let told : exception_told (function_in ask) bytes ≡ Some code = ap (exception_told (function_in ask)) form ∙ code-told (function_in ask) code in
+        let told : exception_told (function_in ask) bytes ≡ Some code =
+        ap (exception_told (function_in ask)) form ∙ code-told (function_in ask) code in
         absurd cc
 
-    normal : exception_told (function_in ask) bytes ≡ None → Comes request ask bytes → Settled request ask bytes
+    normal : exception_told (function_in ask) bytes ≡ None → Comes request ask bytes
+        → Settled request ask bytes
     normal none (to_reply x found is) =
         by_reply x (normal_found bytes request (Ok x) (unlike none) found)
         (ap (λ (o : Option ℕ). or_good o (told_bytes ask bytes)) none ∙ is)
@@ -65,16 +73,20 @@ settled request ask bytes s fits = elim (exceptions (function_in ask) bytes) [
 
 of-answer : (request : Request) (answer : Reply) (ask bytes : List ℕ) → Settled request ask bytes
     → IsSpelledReply request bytes answer → result_of ask bytes ≡ result_by answer
-of-answer request answer ask bytes (by_reply x found is) h = is ∙ ap result_by (sym (found.1 answer h))
+of-answer request answer ask bytes (by_reply x found is) h =
+    is ∙ ap result_by (sym (found.1 answer h))
 of-answer request answer ask bytes (by_none none is) h = absurd (none answer h)
 
-of-none : (request : Request) (ask bytes : List ℕ) → Settled request ask bytes → HasNoReply request bytes
+of-none : (request : Request) (ask bytes : List ℕ) → Settled request ask bytes
+    → HasNoReply request bytes
     → result_of ask bytes ≡ no_result
 of-none request ask bytes (by_reply x found is) h = absurd (h x found.0)
 of-none request ask bytes (by_none none is) h = is
 
 pub answers : AnswersGiveTheirResult
-answers request answer ask bytes s all h = of-answer request answer ask bytes (settled request ask bytes s (bytes-are bytes all)) h
+answers request answer ask bytes s all h =
+    of-answer request answer ask bytes (settled request ask bytes s (bytes-are bytes all)) h
 
 pub others : OthersGiveNone
-others request ask bytes s all h = of-none request ask bytes (settled request ask bytes s (bytes-are bytes all)) h
+others request ask bytes s all h =
+    of-none request ask bytes (settled request ask bytes s (bytes-are bytes all)) h

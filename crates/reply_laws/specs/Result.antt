@@ -40,22 +40,22 @@ exchanges_registers ask =
 
 -- Requests that write many, with an address, a quantity and a count of bytes. Modicon Modbus
 -- Protocol Reference Guide.
-abbrev pub counts : ℕ → List ℕ → Bool
-counts size ask = slice_index ask 5 == size && length ask == 6 + size
+abbrev pub has_byte_count : ℕ → List ℕ → Bool
+has_byte_count size ask = slice_index ask 5 == size && length ask == 6 + size
 
 abbrev pub writes_coils : List ℕ → Bool
 writes_coils ask =
     function_in ask == 15
     && nat_le 6 (length ask)
     && is_up_to most_coils_written (word_in ask 3)
-    && counts (bytes_for (word_in ask 3)) ask
+    && has_byte_count (bytes_for (word_in ask 3)) ask
 
 abbrev pub writes_registers : List ℕ → Bool
 writes_registers ask =
     function_in ask == 16
     && nat_le 6 (length ask)
     && is_up_to most_registers_written (word_in ask 3)
-    && counts (2 * word_in ask 3) ask
+    && has_byte_count (2 * word_in ask 3) ask
 
 -- Requests whose reply is the request again: a coil, a register, an echo, a mask, and a clear of
 -- the statistics. Modicon Modbus Protocol Reference Guide.

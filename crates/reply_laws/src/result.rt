@@ -3,10 +3,10 @@
 ghost use Rattle.std.specs.Prelude.{◌≡◌, ◌+◌, ◌*◌, ◌≤◌, ◌<◌, ◌%◌, length, MatchOption, IfSome};
 ghost use Rattle.std.specs.Prelude.{Some};
 ghost use Rattle.modbus_pdu.specs.Bytes.{word_in, words_in, bytes_for, spare_count};
-ghost use Rattle.modbus_pdu.specs.Quantities.{is_up_to, most_discretes_read};
+ghost use Rattle.modbus_pdu.specs.Quantities.{most_discretes_read};
 ghost use Rattle.modbus_pdu.specs.Spelling.{exception_code};
 ghost use Rattle.reply_laws.specs.Result.{reads, reads_discretes, reads_registers};
-ghost use Rattle.reply_laws.specs.Result.{exchanges_registers, counts, writes_coils};
+ghost use Rattle.reply_laws.specs.Result.{exchanges_registers, has_byte_count, writes_coils};
 ghost use Rattle.reply_laws.specs.Result.{writes_registers, writes_coil, echoes, is_echoed};
 ghost use Rattle.reply_laws.specs.Result.{has_clear_spare, tells_bytes, tells_bits};
 ghost use Rattle.reply_laws.specs.Result.{tells_statistics, fits_words, fits_statistics};
@@ -14,8 +14,11 @@ ghost use Rattle.reply_laws.specs.Result.{fits_plainly, IsTold, TellsNone, excep
 ghost use Rattle.reply_laws.specs.Result.{result_of};
 
 use byteorder::{BigEndian, ByteOrder};
+use modbus_pdu::{
+    COILS_WRITTEN, DISCRETES_READ, REGISTERS_EXCHANGED, REGISTERS_READ, REGISTERS_WRITTEN,
+};
 use mstr_block::MstrResult;
-use plant_types::{BLOCK_LIMIT, Block, Pdu};
+use plant_types::{BLOCK_LIMIT, Block, Pdu, is_up_to};
 use ring_core::{CLEAR_STATISTICS, GET_STATISTICS};
 
 /// The word of a reply that tells no result, and the first of those of exceptions.
@@ -29,12 +32,6 @@ fn word_in(bytes: &[u8], place: usize) -> u16
     ensures { result ≡ word_in bytes.now place }
 {
     256 * u16::from(bytes[place]) + u16::from(bytes[place + 1])
-}
-
-fn is_up_to(most: u16, count: u16) -> bool
-    ensures { result ≡ is_up_to most count }
-{
-    count >= 1 && count <= most
 }
 
 fn bytes_for(quantity: u16) -> usize
@@ -53,14 +50,14 @@ fn reads_discretes(ask: &[u8]) -> bool
     requires { 1 ≤ length ask.now }
     ensures { result ≡ reads_discretes ask.now }
 {
-    (ask[0] == 1 || ask[0] == 2) && reads(2000, ask)
+    (ask[0] == 1 || ask[0] == 2) && reads(DISCRETES_READ, ask)
 }
 
 fn reads_registers(ask: &[u8]) -> bool
     requires { 1 ≤ length ask.now }
     ensures { result ≡ reads_registers ask.now }
 {
-    (ask[0] == 3 || ask[0] == 4) && reads(125, ask)
+    (ask[0] == 3 || ask[0] == 4) && reads(REGISTERS_READ, ask)
 }
 
 fn exchanges_registers(ask: &[u8]) -> bool
@@ -69,8 +66,8 @@ fn exchanges_registers(ask: &[u8]) -> bool
 {
     ask[0] == 23
         && ask.len() >= 10
-        && is_up_to(125, word_in(ask, 3))
-        && is_up_to(121, word_in(ask, 7))
+        && is_up_to(REGISTERS_READ, word_in(ask, 3))
+        && is_up_to(REGISTERS_EXCHANGED, word_in(ask, 7))
         && ask[9] as usize == 2 * word_in(ask, 7) as usize
         && ask.len() == 10 + 2 * word_in(ask, 7) as usize
 }
@@ -78,7 +75,7 @@ fn exchanges_registers(ask: &[u8]) -> bool
 fn counts(size: usize, ask: &[u8]) -> bool
     requires size { size < 1000000 }
     requires long { 6 ≤ length ask.now }
-    ensures { result ≡ counts size ask.now }
+    ensures { result ≡ has_byte_count size ask.now }
 {
     ask[5] as usize == size && ask.len() == 6 + size
 }
@@ -89,7 +86,7 @@ fn writes_coils(ask: &[u8]) -> bool
 {
     ask[0] == 15
         && ask.len() >= 6
-        && is_up_to(1968, word_in(ask, 3))
+        && is_up_to(COILS_WRITTEN, word_in(ask, 3))
         && counts(bytes_for(word_in(ask, 3)), ask)
 }
 
@@ -99,7 +96,7 @@ fn writes_registers(ask: &[u8]) -> bool
 {
     ask[0] == 16
         && ask.len() >= 6
-        && is_up_to(123, word_in(ask, 3))
+        && is_up_to(REGISTERS_WRITTEN, word_in(ask, 3))
         && counts(2 * word_in(ask, 3) as usize, ask)
 }
 

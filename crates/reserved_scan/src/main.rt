@@ -3,12 +3,13 @@
 #![tactic(auto)]
 
 ghost use Rattle.std.specs.Prelude.{◌≤◌};
+ghost use Rattle.plant_types.specs.Limits.{most_scans};
 ghost use Rattle.joint_history.specs.Runnable.{CanRunPlant};
 
 use anyhow::{Context, Result, anyhow, ensure};
 use controller_core::Controller;
 use plant_loader::{LoadEnd, load};
-use plant_types::Plant;
+use plant_types::{MOST_SCANS, Plant};
 use std::alloc::{AllocError, Global};
 use std::io::Print;
 use std::{env, io};
@@ -22,7 +23,7 @@ const PROBE: usize = 1 << 20;
 /// The controllers of a plant at their start, for so many scans.
 fn controllers_of(alloc: Global, plant: &Plant, scans: u32) -> Result<Vec<Controller>, AllocError>
     requires plant { CanRunPlant plant.now }
-    requires scans { scans ≤ 2000 }
+    requires scans { scans ≤ most_scans }
 {
     let mut controllers = Vec::new(alloc);
     for plan in plant.controllers.as_slice() {
@@ -67,7 +68,7 @@ fn make_scans(controllers: &mut [Controller]) -> usize {
 /// Makes the scans up to a number, the last one behind a line that says that its memory is taken.
 fn print_scans(rt: &impl Print, alloc: Global, plant: &Plant, number: u32) -> Result<()>
     requires plant { CanRunPlant plant.now }
-    requires number { number ≤ 2000 }
+    requires number { number ≤ most_scans }
 {
     let mut controllers = controllers_of(alloc, plant, number)?;
     for _ in 1..number {
@@ -87,7 +88,7 @@ fn main(rt: HostRuntime) -> Result<()> {
     let alloc = rt.alloc();
     let word = env::args(&rt)?.skip(1).next().context("which scan?")?;
     let number = u32::from(word.as_str().parse::<u16>()?);
-    ensure!(number <= 2000, "a plant has 2000 scans");
+    ensure!(number <= MOST_SCANS, "a plant has 2000 scans");
     let file = io::read_to_string(alloc, rt.reader())?;
     match load(alloc, file.as_bytes()) {
         Ok(plant) => print_scans(&rt, alloc, &plant, number),

@@ -1,110 +1,134 @@
 -- The fields after one more entry.
-use Rattle.std.proofs.Common.{◌≡◌, ◌≢◌, ℕ, ◌<◌, List, [], ◌∷◌, ◌++◌, length, get_or, All, None}
-use Rattle.std.proofs.Common.{false, sym, ap, ◌∙◌, subst, arith}
+use Rattle.std.proofs.Common.{◌≡◌, ℕ, ◌<◌, List, [], ◌∷◌, ◌++◌, length, get_or, All, sym, ap, ◌∙◌}
+use Rattle.std.proofs.Common.{false, subst, arith}
 use Rattle.std.proofs.lemmas.List.{length_push, get_or_read}
 use Rattle.std.proofs.lemmas.List.Elements.{All-contains}
-use Rattle.global_data.specs.Book.{Book, place_at, new_book}
+use Rattle.global_data.specs.Book.{Book, new_book}
 use Rattle.station_stats.specs.Counts.{StatsIs, stats_words}
 use Rattle.ring_core.proofs.Noting.{stats-scratch, length-stats}
 use Rattle.ring_core.specs.Words.{NetPlan, RingEntry, Post, Send, Take, Local, GiveUp, Pass, Leave}
+use Rattle.ring_core.specs.Words.{FrameKind}
 use Rattle.ring_core.specs.Machine.{NodeIs, RingIs, after, opening, addresses, least_from}
 use Rattle.ring_core.specs.Machine.{ring_node, fresh, opening_nodes}
 use Rattle.ring_core.specs.Scratch.{ring_notes, heard_words, count_members, members_now}
 use Rattle.ring_core.specs.Scratch.{station_counts, statistics}
-use Rattle.ring_core.specs.Legal.{IsRingStep, IsMember}
+use Rattle.ring_core.specs.Legal.{IsRingStep, IsMember, IsFrom}
 use Rattle.ring_core.specs.Kept.{IsRingKept, IsSoundRing, IsBook, RingLog, ring_of}
 use Rattle.ring_core.specs.Kept.{stats_at, noted_all, opening_stats, book_step}
 use Rattle.ring_core.proofs.Runs.{IsLegal-push, after_all-push, stats_after-push}
-use Rattle.ring_core.proofs.Sound.{after-sound, opening-sound}
-use Rattle.ring_core.proofs.Books.{IsTold, book-push, opening-book}
+use Rattle.ring_core.proofs.Sound.{IsSourced, after-sound, opening-sound}
+use Rattle.ring_core.proofs.Books.{book-push, opening-book}
 
 -- a member's address is low
-pub member-low : (net : NetPlan) (n : ℕ) → All (λ m. m < addresses) net.members → IsMember net n → n < addresses
+pub member-low : (net : NetPlan) (n : ℕ) → All (λ m. m < addresses) net.members → IsMember net n
+    → n < addresses
 member-low net n all member = All-contains (λ m. m < addresses) net.members n all member
 
-book-low : (n size : ℕ) → size ≡ 256 → n < addresses → n < size
-book-low n size is low = omega (arith, is, low)
+-- a Request that is posted asks for a member, on a path of its own
+sourced : (net : NetPlan) (h : List RingEntry) (e : RingEntry)
+    → All (λ m. m < addresses) net.members → IsRingStep net h e → IsSourced e
+sourced net h (Post n f) all step = λ asks.
+    let from = subst (λ (kind : FrameKind). IsFrom n kind f) asks step.0.1 in (
+      subst (λ (m : ℕ). m < addresses) (sym from.0) (member-low net n all step.0.0),
+      omega (arith, from.2.1),
+    )
+sourced net h (Send n heard) all step = tt
+sourced net h (Take n f) all step = tt
+sourced net h (Local n id op result) all step = tt
+sourced net h (GiveUp id word) all step = tt
+sourced net h (Pass n done words) all step = tt
+sourced net h (Leave n cause) all step = tt
 
-told : (net : NetPlan) (h : List RingEntry) (b : Book) (e : RingEntry) → All (λ m. m < addresses) net.members → length b ≡ 256
-    → IsRingStep net h e → IsTold net h b e
-told net h b (Post n f) all size step = tt
-told net h b (Send n heard) all size step = tt
-told net h b (Take n f) all size step = tt
-told net h b (Local n id op result) all size step = (book-low n (length b) size (member-low net n all step.0.0), step.0.0)
-told net h b (GiveUp id word) all size step = tt
-told net h b (Pass n done words) all size step = (book-low n (length b) size (member-low net n all step.0), step.0, step.1.1)
-told net h b (Leave n cause) all size step = tt
-
-pub kept-push : (net : NetPlan) (h : List RingEntry) (r : RingIs) (s : List StatsIs) (b : Book) (e : RingEntry) → IsRingKept net h r s b
-    → IsRingStep net h e → IsRingKept net (h ++ e ∷ []) (after net r e) (noted_all s (ring_notes net r e)) (book_step b e)
+pub kept-push : (net : NetPlan) (h : List RingEntry) (r : RingIs) (s : List StatsIs) (b : Book)
+    (e : RingEntry) → IsRingKept net h r s b
+    → IsRingStep net h e → IsRingKept net (h ++ e ∷ []) (after net r e)
+    (noted_all s (ring_notes net r e)) (book_step b e)
 kept-push net h r s b e k step = record {
   members = k.members;
   fates = k.fates;
   legal = IsLegal-push net h e k.legal step;
   state = ap (λ (x : RingIs). after net x e) k.state ∙ sym (after_all-push net (opening net) h e);
-  sound = subst (λ (n : ℕ). IsSoundRing n (after net r e)) (sym (length_push h e)) (after-sound net (length h) r e k.sound);
-  counters = (λ i. noted_all (k.counters i) (ring_notes net (k.state i) e)) ∙ sym (stats_after-push net h e);
-  said = book-push net h b e k.said (told net h b e k.members k.said.size step);
+  sound = subst (λ (n : ℕ). IsSoundRing n (after net r e)) (sym (length_push h e))
+      (after-sound net (length h) r e k.sound (sourced net h e k.members step));
+  counters = (λ i. noted_all (k.counters i) (ring_notes net (k.state i) e))
+      ∙ sym (stats_after-push net h e);
+  said = book-push net h b e k.said step;
 }
 
 -- the same for a call, whose step is said of the value
-pub kept-call : (w v : RingLog) (g : List RingEntry) (r r' : RingIs) (s s' : List StatsIs) (b b' : Book) (e : RingEntry) → w ≡ v
-    → IsRingKept w.net w.history r s b → IsRingStep v.net v.history e → g ≡ w.history ++ e ∷ [] → r' ≡ after w.net r e
+pub kept-call : (w v : RingLog) (g : List RingEntry) (r r' : RingIs) (s s' : List StatsIs)
+    (b b' : Book) (e : RingEntry) → w ≡ v
+    → IsRingKept w.net w.history r s b → IsRingStep v.net v.history e → g ≡ w.history ++ e ∷ []
+    → r' ≡ after w.net r e
     → s' ≡ noted_all s (ring_notes w.net r e) → b' ≡ book_step b e → IsRingKept w.net g r' s' b'
 kept-call w v g r r' s s' b b' e is k step grows ring stats book =
-    let pushed = kept-push w.net w.history r s b e k (subst (λ (x : RingLog). IsRingStep x.net x.history e) (sym is) step) in
+    let pushed = kept-push w.net w.history r s b e k
+    (subst (λ (x : RingLog). IsRingStep x.net x.history e) (sym is) step) in
     subst (λ (x : Book). IsRingKept w.net g r' s' x) (sym book)
     (subst (λ (x : List StatsIs). IsRingKept w.net g r' x (book_step b e)) (sym stats)
-    (subst (λ (x : RingIs). IsRingKept w.net g x (noted_all s (ring_notes w.net r e)) (book_step b e)) (sym ring)
-    (subst (λ (x : List RingEntry). IsRingKept w.net x (after w.net r e) (noted_all s (ring_notes w.net r e)) (book_step b e)) (sym grows) pushed)))
+    (subst (λ (x : RingIs). IsRingKept w.net g x (noted_all s (ring_notes w.net r e))
+    (book_step b e)) (sym ring)
+    (subst (λ (x : List RingEntry). IsRingKept w.net x (after w.net r e)
+    (noted_all s (ring_notes w.net r e)) (book_step b e)) (sym grows) pushed)))
 
 -- the ring of the value is that of the fields
-pub opened : (w v : RingLog) (r : RingIs) (s : List StatsIs) (b : Book) → w ≡ v → IsRingKept w.net w.history r s b → ring_of v ≡ r
+pub opened : (w v : RingLog) (r : RingIs) (s : List StatsIs) (b : Book) → w ≡ v
+    → IsRingKept w.net w.history r s b → ring_of v ≡ r
 opened w v r s b is k = sym (k.state ∙ ap ring_of is)
 
 -- a member's part is there
-pub within : (w v : RingLog) (r : RingIs) (s : List StatsIs) (b : Book) (n : ℕ) → w ≡ v → IsRingKept w.net w.history r s b → IsMember v.net n → n < length r.nodes
+pub within : (w v : RingLog) (r : RingIs) (s : List StatsIs) (b : Book) (n : ℕ) → w ≡ v
+    → IsRingKept w.net w.history r s b → IsMember v.net n → n < length r.nodes
 within w v r s b n is k m = subst (λ (size : ℕ). n < size) (sym k.sound.size)
     (member-low w.net n k.members (subst (λ (x : RingLog). IsMember x.net n) (sym is) m))
 
 -- what was read at a place of the nodes
-pub part : (w v : RingLog) (r : RingIs) (s : List StatsIs) (b : Book) (n : ℕ) (c : NodeIs) → w ≡ v → IsRingKept w.net w.history r s b
+pub part : (w v : RingLog) (r : RingIs) (s : List StatsIs) (b : Book) (n : ℕ) (c : NodeIs) → w ≡ v
+    → IsRingKept w.net w.history r s b
     → IsMember v.net n → c ≡ get_or r.nodes n c → c ≡ ring_node r n
-part w v r s b n c is k m read = get_or_read r.nodes n c (within w v r s b n is k m) read (fresh false)
-
--- a member has its place in the book
-pub has_place : (w v : RingLog) (r : RingIs) (s : List StatsIs) (b : Book) (n : ℕ) → w ≡ v → IsRingKept w.net w.history r s b → IsMember v.net n
-    → place_at b n ≢ None
-has_place w v r s b n is k m = k.said.members n (subst (λ (x : RingLog). IsMember x.net n) (sym is) m)
+part w v r s b n c is k m read =
+    get_or_read r.nodes n c (within w v r s b n is k m) read (fresh false)
 
 -- a member's counters are there
-pub counted : (w v : RingLog) (r : RingIs) (s : List StatsIs) (b : Book) (n : ℕ) → w ≡ v → IsRingKept w.net w.history r s b → IsMember v.net n → n < length s
-counted w v r s b n is k m = subst (λ (size : ℕ). n < size) (sym (ap length k.counters ∙ length-stats w.net w.history))
+pub counted : (w v : RingLog) (r : RingIs) (s : List StatsIs) (b : Book) (n : ℕ) → w ≡ v
+    → IsRingKept w.net w.history r s b → IsMember v.net n → n < length s
+counted w v r s b n is k m =
+    subst (λ (size : ℕ). n < size) (sym (ap length k.counters ∙ length-stats w.net w.history))
     (member-low w.net n k.members (subst (λ (x : RingLog). IsMember x.net n) (sym is) m))
 
 -- each node has its counters
-pub stations : (net : NetPlan) (h : List RingEntry) (r : RingIs) (s : List StatsIs) (b : Book) → IsRingKept net h r s b → length r.nodes ≡ length s
+pub stations : (net : NetPlan) (h : List RingEntry) (r : RingIs) (s : List StatsIs) (b : Book)
+    → IsRingKept net h r s b → length r.nodes ≡ length s
 stations net h r s b k = k.sound.size ∙ sym (ap length k.counters ∙ length-stats net h)
 
 -- the statistics of a member
-pub statistics-are : (w v : RingLog) (r : RingIs) (s : List StatsIs) (b : Book) (n members passed : ℕ) → w ≡ v
-    → IsRingKept w.net w.history r s b → IsMember v.net n → members ≡ count_members r.nodes → passed ≡ length (heard_words n v.history)
+pub statistics-are : (w v : RingLog) (r : RingIs) (s : List StatsIs) (b : Book)
+    (n members passed : ℕ) → w ≡ v
+    → IsRingKept w.net w.history r s b → IsMember v.net n → members ≡ count_members r.nodes
+    → passed ≡ length (heard_words n v.history)
     → stats_words (stats_at s n) members passed ≡ statistics v.net v.history n
 statistics-are w v r s b n members passed is k m members_is passed_is =
     let member : IsMember w.net n = subst (λ (x : RingLog). IsMember x.net n) (sym is) m in
     let counts : stats_at s n ≡ record { node = n; counts = station_counts v.net v.history n } =
-    ap (λ (l : List StatsIs). stats_at l n) k.counters ∙ (stats-scratch w.net w.history n (member-low w.net n k.members member) member
+    ap (λ (l : List StatsIs). stats_at l n) k.counters
+    ∙ (stats-scratch w.net w.history n (member-low w.net n k.members member) member
     ∙ ap (λ (x : RingLog). record { node = n; counts = station_counts x.net x.history n }) is) in
-    let here : members ≡ members_now (ring_of v) = members_is ∙ ap members_now (sym (opened w v r s b is k)) in
+    let here : members ≡ members_now (ring_of v) = members_is
+    ∙ ap members_now (sym (opened w v r s b is k)) in
     λ i. stats_words (counts i) (here i) (passed_is i)
 
 -- a fresh ring
-pub kept-opening : (net : NetPlan) (holder : ℕ) (nodes : List NodeIs) (stats : List StatsIs) (book : Book)
-    → All (λ m. m < addresses) net.members → 0 < length net.fates → nodes ≡ opening_nodes net.members → holder ≡ least_from nodes 0
-    → stats ≡ opening_stats net.members → book ≡ new_book net.members → IsRingKept net [] (record { holder = holder; sent = 0; nodes = nodes }) stats book
+pub kept-opening : (net : NetPlan) (holder : ℕ) (nodes : List NodeIs)
+    (stats : List StatsIs) (book : Book)
+    → All (λ m. m < addresses) net.members → 0 < length net.fates
+    → nodes ≡ opening_nodes net.members → holder ≡ least_from nodes 0
+    → stats ≡ opening_stats net.members → book ≡ new_book net.members
+    → IsRingKept net [] (record { holder = holder; sent = 0; nodes = nodes }) stats book
 kept-opening net holder nodes stats book members fates nodes_is holder_is stats_is book_is =
-    let first : holder ≡ least_from (opening_nodes net.members) 0 = holder_is ∙ ap (λ (l : List NodeIs). least_from l 0) nodes_is in
-    let state : record { holder = holder; sent = 0; nodes = nodes } ≡ opening net = λ i. record { holder = first i; sent = 0; nodes = nodes_is i } in
+    let first : holder ≡ least_from (opening_nodes net.members) 0 = holder_is
+    ∙ ap (λ (l : List NodeIs). least_from l 0) nodes_is in
+    let state : record { holder = holder; sent = 0; nodes = nodes } ≡ opening net =
+    λ i. record { holder = first i; sent = 0; nodes = nodes_is i } in
     record {
       members = members;
       fates = fates;
@@ -112,5 +136,5 @@ kept-opening net holder nodes stats book members fates nodes_is holder_is stats_
       state = state;
       sound = subst (λ (r : RingIs). IsSoundRing 0 r) (sym state) (opening-sound net);
       counters = stats_is;
-      said = subst (λ (x : Book). IsBook net [] x) (sym book_is) (opening-book net members);
+      said = subst (λ (x : Book). IsBook net [] x) (sym book_is) (opening-book net);
     }

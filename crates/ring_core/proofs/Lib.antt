@@ -1,4 +1,5 @@
 pub mod Runs
+pub mod Numbers
 pub mod Sound
 pub mod Books
 pub mod Noting

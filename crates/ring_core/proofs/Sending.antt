@@ -1,34 +1,44 @@
 -- The fields after a transmission.
 use Rattle.std.proofs.Common.{◌≡◌, ℕ, ◌+◌, ◌<◌, Bool, List, [], ◌∷◌, ◌++◌, length, get_or, set}
-use Rattle.std.proofs.Common.{Option, Some, None, false, refl, sym, ap, ◌∙◌, subst}
+use Rattle.std.proofs.Common.{Option, Some, None, unwrap_or, true, false, cond, All, refl, sym, ap}
+use Rattle.std.proofs.Common.{◌∙◌, subst}
 use Rattle.std.proofs.lemmas.List.{length-set, get_or_read}
+use Rattle.std.proofs.lemmas.List.Elements.{All-head}
 use Rattle.global_data.specs.Book.{Book}
 use Rattle.station_stats.specs.Counts.{StatsIs}
-use Rattle.ring_core.specs.Words.{NetPlan, RingEntry, Send, Frame, Fate, Heard, Fell}
+use Rattle.ring_core.specs.Words.{NetPlan, RingEntry, Send, Frame, FrameKind, Request, Reply}
+use Rattle.ring_core.specs.Words.{CallId, Fate, Heard, Fell}
+use Rattle.ring_core.specs.Words.{AcceptedRequest, AcceptedReply, DroppedReply}
 use Rattle.ring_core.specs.Machine.{NodeIs, RingIs, ring_node, part_of, fresh, fate_at, heard_of}
-use Rattle.ring_core.specs.Machine.{arrival, arrived, heard_by, sent_head, sent_one}
+use Rattle.ring_core.specs.Machine.{arrival, arrived, heard_by, sent_head, sent_one, fell}
+use Rattle.ring_core.specs.Machine.{waits_for, path_of, arrives}
 use Rattle.ring_core.specs.Refusals.{turn_no, empty_no, or_no}
 use Rattle.ring_core.specs.Scratch.{counts, heard_event, arrival_notes, sent_notes, send_notes}
 use Rattle.ring_core.specs.Scratch.{ring_notes}
 use Rattle.ring_core.specs.Legal.{IsMember, IsFirst, IsHeard}
-use Rattle.ring_core.specs.Kept.{IsRingKept, RingLog, ring_of, noted_at, noted_all}
+use Rattle.ring_core.specs.Kept.{IsRingKept, RingLog, ring_of, noted_at, noted_all, IsSource}
+use Rattle.ring_core.specs.Kept.{HasSource}
 use Rattle.ring_core.proofs.Runs.{noted_two}
 use Rattle.ring_core.proofs.Keeping.{kept-call, opened, within}
 
 pub record Sends (net : NetPlan) (r : RingIs) (n : ℕ) (box : List Frame) (f : Frame) : Type 0 where
   pub lets : or_no (turn_no r n) (empty_no box) ≡ None
   pub next : sent_head net r n box ≡ sent_one net r n f
-  pub notes : send_notes net r n box ≡ sent_notes n f.to (fate_at net.fates r.sent) (arrival r.nodes (fate_at net.fates r.sent) f)
+  pub notes : send_notes net r n box
+      ≡ sent_notes n f.to (fate_at net.fates r.sent) (arrival r.nodes (fate_at net.fates r.sent) f)
 
 -- what is told of the first frame of a box
 is-heard : (net : NetPlan) (r : RingIs) (box : List Frame) (f : Frame) (h : Heard) → IsFirst box f
-    → h ≡ heard_of (fate_at net.fates r.sent) (arrival r.nodes (fate_at net.fates r.sent) f) → IsHeard net r box h
+    → h ≡ heard_of (fate_at net.fates r.sent) (arrival r.nodes (fate_at net.fates r.sent) f)
+    → IsHeard net r box h
 is-heard net r [] f h first heard = absurd first
 is-heard net r (g ∷ gs) f h first heard = heard
-    ∙ ap (λ (x : Frame). heard_of (fate_at net.fates r.sent) (arrival r.nodes (fate_at net.fates r.sent) x)) (sym first)
+    ∙ ap (λ (x : Frame). heard_of (fate_at net.fates r.sent)
+    (arrival r.nodes (fate_at net.fates r.sent) x)) (sym first)
 
 -- the same for a call, whose first frame is said of the value
-told-send : (w v : RingLog) (r : RingIs) (s : List StatsIs) (b : Book) (n : ℕ) (f : Frame) (h : Heard) (fate : Fate) (fall : Option Fell)
+told-send : (w v : RingLog) (r : RingIs) (s : List StatsIs) (b : Book) (n : ℕ) (f : Frame)
+    (h : Heard) (fate : Fate) (fall : Option Fell)
     → w ≡ v → IsRingKept w.net w.history r s b → IsFirst (ring_node (ring_of v) n).outbox f
     → fate ≡ fate_at w.net.fates r.sent → fall ≡ arrival r.nodes fate f → h ≡ heard_of fate fall
     → IsHeard v.net (ring_of v) (ring_node (ring_of v) n).outbox h
@@ -36,50 +46,103 @@ told-send w v r s b n f h fate fall is k first fate_is fall_is h_is =
     let same = opened w v r s b is k in
     let fate' = fate_at w.net.fates r.sent in
     let heard : h ≡ heard_of fate' (arrival r.nodes fate' f) =
-    h_is ∙ (ap (heard_of fate) fall_is ∙ (λ i. heard_of (fate_is i) (arrival r.nodes (fate_is i) f))) in
+    h_is
+    ∙ (ap (heard_of fate) fall_is ∙ (λ i. heard_of (fate_is i) (arrival r.nodes (fate_is i) f))) in
     subst (λ (x : RingLog). IsHeard x.net (ring_of v) (ring_node (ring_of v) n).outbox h) is
     (subst (λ (x : RingIs). IsHeard w.net x (ring_node x n).outbox h) (sym same)
-    (is-heard w.net r (ring_node r n).outbox f h (subst (λ (x : RingIs). IsFirst (ring_node x n).outbox f) same first) heard))
+    (is-heard w.net r (ring_node r n).outbox f h
+    (subst (λ (x : RingIs). IsFirst (ring_node x n).outbox f) same first) heard))
 
-sends : (net : NetPlan) (r : RingIs) (n : ℕ) (box : List Frame) (f : Frame) → turn_no r n ≡ None → IsFirst box f → Sends net r n box f
+sends : (net : NetPlan) (r : RingIs) (n : ℕ) (box : List Frame) (f : Frame) → turn_no r n ≡ None
+    → IsFirst box f → Sends net r n box f
 sends net r n [] f turn first = absurd first
 sends net r n (g ∷ gs) f turn first = record {
   lets = ap (λ o. or_no o None) turn;
   next = ap (sent_one net r n) first;
-  notes = ap (λ (x : Frame). sent_notes n x.to (fate_at net.fates r.sent) (arrival r.nodes (fate_at net.fates r.sent) x)) first;
+  notes = ap (λ (x : Frame). sent_notes n x.to (fate_at net.fates r.sent)
+      (arrival r.nodes (fate_at net.fates r.sent) x)) first;
 }
 
-length-arrived : (nodes : List NodeIs) (f : Frame) (fall : Option Fell) → length (arrived nodes f fall) ≡ length nodes
+length-arrived : (nodes : List NodeIs) (f : Frame) (fall : Option Fell)
+    → length (arrived nodes f fall) ≡ length nodes
 length-arrived nodes f None = refl
 length-arrived nodes f (Some fall) = length-set nodes f.to _
 
-pub kept-send : (w v : RingLog) (g : List RingEntry) (r : RingIs) (s s1 s2 : List StatsIs) (b : Book) (n : ℕ) (f : Frame) (h : Heard)
+pub kept-send : (w v : RingLog) (g : List RingEntry) (r : RingIs) (s s1 s2 : List StatsIs)
+    (b : Book) (n : ℕ) (f : Frame) (h : Heard)
     (there : Bool) (fate : Fate) (fall : Option Fell) (ns : List NodeIs) (p q : NodeIs)
-    → w ≡ v → IsRingKept w.net w.history r s b → IsMember v.net n → turn_no (ring_of v) n ≡ None → IsFirst (ring_node (ring_of v) n).outbox f
-    → fate ≡ fate_at w.net.fates r.sent → there ≡ (ring_node r f.to).here → fall ≡ arrival r.nodes fate f → h ≡ heard_of fate fall → ns ≡ arrived r.nodes f fall
+    → w ≡ v → IsRingKept w.net w.history r s b → IsMember v.net n → turn_no (ring_of v) n ≡ None
+    → IsFirst (ring_node (ring_of v) n).outbox f
+    → fate ≡ fate_at w.net.fates r.sent → there ≡ (ring_node r f.to).here
+    → fall ≡ arrival r.nodes fate f → h ≡ heard_of fate fall → ns ≡ arrived r.nodes f fall
     → p ≡ get_or ns n p → q ≡ heard_by p f.kind f.id there h
-    → s1 ≡ noted_all s (arrival_notes f.to fall) → s2 ≡ noted_at s1 (counts n (heard_event h)) → g ≡ w.history ++ Send n h ∷ []
+    → s1 ≡ noted_all s (arrival_notes f.to fall) → s2 ≡ noted_at s1 (counts n (heard_event h))
+    → g ≡ w.history ++ Send n h ∷ []
     → IsRingKept w.net g (record { holder = r.holder; sent = r.sent + 1; nodes = set ns n q }) s2 b
-kept-send w v g r s s1 s2 b n f h there fate fall ns p q is k member turn first fate_is there_is fall_is h_is ns_is p_is q_is s1_is s2_is grows =
+kept-send w v g r s s1 s2 b n f h there fate fall ns p q is k member turn first fate_is there_is
+    fall_is h_is ns_is p_is q_is s1_is s2_is grows =
     let same = opened w v r s b is k in
     let fate' = fate_at w.net.fates r.sent in
-    let low : n < length ns = subst (λ (l : ℕ). n < l) (sym (ap length ns_is ∙ length-arrived r.nodes f fall)) (within w v r s b n is k member) in
-    let fell : fall ≡ arrival r.nodes fate' f = fall_is ∙ ap (λ (t : Fate). arrival r.nodes t f) fate_is in
-    let heard : h ≡ heard_of fate' (arrival r.nodes fate' f) = h_is ∙ (λ i. heard_of (fate_is i) (fell i)) in
-    let nodes : ns ≡ arrived r.nodes f (arrival r.nodes fate' f) = ns_is ∙ ap (arrived r.nodes f) fell in
-    let part : p ≡ part_of (arrived r.nodes f (arrival r.nodes fate' f)) n = get_or_read ns n p low p_is (fresh false)
+    let low : n < length ns = subst (λ (l : ℕ). n < l)
+    (sym (ap length ns_is ∙ length-arrived r.nodes f fall)) (within w v r s b n is k member) in
+    let fell : fall ≡ arrival r.nodes fate' f = fall_is
+    ∙ ap (λ (t : Fate). arrival r.nodes t f) fate_is in
+    let heard : h ≡ heard_of fate' (arrival r.nodes fate' f) = h_is
+    ∙ (λ i. heard_of (fate_is i) (fell i)) in
+    let nodes : ns ≡ arrived r.nodes f (arrival r.nodes fate' f) = ns_is
+    ∙ ap (arrived r.nodes f) fell in
+    let part : p ≡ part_of (arrived r.nodes f (arrival r.nodes fate' f)) n =
+    get_or_read ns n p low p_is (fresh false)
     ∙ ap (λ (l : List NodeIs). part_of l n) nodes in
-    let t = sends w.net r n (ring_node r n).outbox f (subst (λ (x : RingIs). turn_no x n ≡ None) same turn)
+    let t = sends w.net r n (ring_node r n).outbox f
+    (subst (λ (x : RingIs). turn_no x n ≡ None) same turn)
     (subst (λ (x : RingIs). IsFirst (ring_node x n).outbox f) same first) in
-    let node : q ≡ heard_by (part_of (arrived r.nodes f (arrival r.nodes fate' f)) n) f.kind f.id (ring_node r f.to).here
-    (heard_of fate' (arrival r.nodes fate' f)) = q_is ∙ (λ i. heard_by (part i) f.kind f.id (there_is i) (heard i)) in
-    let next : record { holder = r.holder; sent = r.sent + 1; nodes = set ns n q } ≡ sent_one w.net r n f =
+    let node : q ≡ heard_by (part_of (arrived r.nodes f (arrival r.nodes fate' f)) n) f.kind f.id
+    (ring_node r f.to).here
+    (heard_of fate' (arrival r.nodes fate' f)) = q_is
+    ∙ (λ i. heard_by (part i) f.kind f.id (there_is i) (heard i)) in
+    let next : record { holder = r.holder; sent = r.sent + 1; nodes = set ns n q }
+    ≡ sent_one w.net r n f =
     λ i. record { holder = r.holder; sent = r.sent + 1; nodes = set (nodes i) n (node i) } in
     let noted : s2 ≡ noted_all s (arrival_notes f.to fall ++ counts n (heard_event h) ∷ []) = s2_is
-    ∙ (ap (λ (l : List StatsIs). noted_at l (counts n (heard_event h))) s1_is ∙ noted_two s (arrival_notes f.to fall) (counts n (heard_event h))) in
+    ∙ (ap (λ (l : List StatsIs). noted_at l (counts n (heard_event h))) s1_is
+    ∙ noted_two s (arrival_notes f.to fall) (counts n (heard_event h))) in
     let notes : s2 ≡ noted_all s (ring_notes w.net r (Send n h)) = noted
-    ∙ ((λ i. noted_all s (arrival_notes f.to (fell i) ++ counts n (heard_event (heard i)) ∷ [])) ∙ ap (noted_all s) (sym t.notes)) in
+    ∙ ((λ i. noted_all s (arrival_notes f.to (fell i) ++ counts n (heard_event (heard i)) ∷ []))
+    ∙ ap (noted_all s) (sym t.notes)) in
     let lets : or_no (turn_no (ring_of v) n) (empty_no (ring_node (ring_of v) n).outbox) ≡ None =
-    subst (λ (x : RingIs). or_no (turn_no x n) (empty_no (ring_node x n).outbox) ≡ None) (sym same) t.lets in
+    subst (λ (x : RingIs). or_no (turn_no x n) (empty_no (ring_node x n).outbox) ≡ None)
+    (sym same) t.lets in
     let told = told-send w v r s b n f h fate fall is k first fate_is fall_is h_is in
-    kept-call w v g r _ s s2 b b (Send n h) is k (member, (lets, told)) grows (next ∙ sym t.next) notes refl
+    kept-call w v g r _ s s2 b b (Send n h) is k (member, (lets, told)) grows
+    (next ∙ sym t.next) notes refl
+
+not_asked : (b : Bool) → cond b AcceptedReply DroppedReply ≡ AcceptedRequest → ⊥
+not_asked true e = absurd (cc)
+not_asked false e = absurd (cc)
+
+fell-asks : (c : NodeIs) (kind : FrameKind) (id : CallId) → fell c kind id ≡ AcceptedRequest
+    → kind ≡ Request
+fell-asks c Request id e = refl
+fell-asks c Reply id e = absurd (not_asked (waits_for (path_of c id.path).awaits id.seq) e)
+
+come : (b : Bool) (x : Fell) → cond b (Some x) None ≡ Some AcceptedRequest → x ≡ AcceptedRequest
+come true x e = ap (λ (o : Option Fell). unwrap_or o AcceptedRequest) e
+come false x e = absurd (cc)
+
+head-source : (box : List Frame) (f : Frame) → IsFirst box f → All HasSource box → HasSource f
+head-source [] f first all = absurd first
+head-source (g ∷ gs) f first all = subst HasSource first (All-head HasSource g gs all)
+
+-- a Request that is accepted has its source
+pub sent-source : (w v : RingLog) (r : RingIs) (s : List StatsIs) (b : Book) (n : ℕ) (f : Frame)
+    (fate : Fate) (fall : Option Fell) → w ≡ v
+    → IsRingKept w.net w.history r s b → IsFirst (ring_node (ring_of v) n).outbox f
+    → fall ≡ arrival r.nodes fate f → fall ≡ Some AcceptedRequest
+    → IsSource f.id
+sent-source w v r s b n f fate fall is k first fall_is accepted =
+    let own = subst (λ (x : RingIs). IsFirst (ring_node x n).outbox f)
+    (opened w v r s b is k) first in
+    let source = head-source (ring_node r n).outbox f own (k.sound.each n).asked in
+    source (fell-asks (part_of r.nodes f.to) f.kind f.id
+    (come (arrives r.nodes fate f.to) _ (sym fall_is ∙ accepted)))

@@ -14,7 +14,8 @@ use Rattle.ring_core.specs.Machine.{fell, with_frame, heard_by, heard_of, fate_a
 use Rattle.ring_core.specs.Machine.{sent_off, failed, silence_word, is_here}
 use Rattle.ring_core.specs.Refusals.{turn_no, free_no, or_no, least_done, least_of, or_zero}
 use Rattle.ring_core.specs.Legal.{IsTimelyEntry}
-use Rattle.ring_core.specs.Stability.{Stays, HolderStays, LeftStays, IsLeave, MemberStays, BoxesStay}
+use Rattle.ring_core.specs.Stability.{Stays, HolderStays, LeftStays, IsLeave, MemberStays}
+use Rattle.ring_core.specs.Stability.{BoxesStay}
 use Rattle.ring_core.specs.Stability.{HoldersKeep, OutsidersKeep}
 use Rattle.ring_core.proofs.Runs.{after_all-push}
 
@@ -22,82 +23,111 @@ first_none : (a b : Option RingNo) → or_no a b ≡ None → a ≡ None
 first_none None b e = refl
 first_none (Some x) b e = absurd (cc)
 
-turned : (here holds : Bool) (why : RingNo) → cond here (cond holds None (Some why)) (Some NotMember) ≡ None → holds ≡ true
+turned : (here holds : Bool) (why : RingNo)
+    → cond here (cond holds None (Some why)) (Some NotMember) ≡ None → holds ≡ true
 turned true true why e = refl
 turned true false why e = absurd (cc)
 turned false holds why e = absurd (cc)
 
 -- whose turn is not refused holds the token
 turn-holds : (r : RingIs) (m : ℕ) → turn_no r m ≡ None → r.holder ≡ m
-turn-holds r m e = eqb-true r.holder m (turned (ring_node r m).here (r.holder == m) (NotHolder r.holder) e)
+turn-holds r m e =
+    eqb-true r.holder m (turned (ring_node r m).here (r.holder == m) (NotHolder r.holder) e)
 
 -- who is let through and does not hold the token has left
-let_out : (here holds : Bool) (why : RingNo) → cond here (cond holds None (Some why)) None ≡ None → holds ≡ false → here ≡ false
+let_out : (here holds : Bool) (why : RingNo) → cond here (cond holds None (Some why)) None ≡ None
+    → holds ≡ false → here ≡ false
 let_out true true why e h = absurd (cc)
 let_out true false why e h = absurd (cc)
 let_out false holds why e h = refl
 
-free-left : (r : RingIs) (n m : ℕ) → free_no r m ≡ None → r.holder ≡ n → (m ≡ n → ⊥) → (ring_node r m).here ≡ false
-free-left r n m e h other = let_out (ring_node r m).here (r.holder == m) (NotHolder r.holder) e (ne_eqb r.holder m (λ q. other (sym q ∙ h)))
+free-left : (r : RingIs) (n m : ℕ) → free_no r m ≡ None → r.holder ≡ n → (m ≡ n → ⊥)
+    → (ring_node r m).here ≡ false
+free-left r n m e h other = let_out (ring_node r m).here (r.holder == m) (NotHolder r.holder) e
+    (ne_eqb r.holder m (λ q. other (sym q ∙ h)))
 
 -- the part of who has left is not asked how long it has been done
-least-out : (nodes : List NodeIs) (m : ℕ) (c : NodeIs) → c.here ≡ false → (part_of nodes m).here ≡ false → least_done (set nodes m c) ≡ least_done nodes
+least-out : (nodes : List NodeIs) (m : ℕ) (c : NodeIs) → c.here ≡ false
+    → (part_of nodes m).here ≡ false → least_done (set nodes m c) ≡ least_done nodes
 least-out [] m c gone_now left = refl
 least-out (d ∷ ds) zero c gone_now left =
     ap (λ (b : Bool). cond b (Some (least_of c.done_run (least_done ds))) (least_done ds)) gone_now
-    ∙ sym (ap (λ (b : Bool). cond b (Some (least_of d.done_run (least_done ds))) (least_done ds)) left)
+    ∙ sym (ap (λ (b : Bool). cond b (Some (least_of d.done_run (least_done ds))) (least_done ds))
+    left)
 least-out (d ∷ ds) (suc m) c gone_now left =
-    ap (λ (l : Option ℕ). cond d.here (Some (least_of d.done_run l)) l) (least-out ds m c gone_now left)
+    ap (λ (l : Option ℕ). cond d.here (Some (least_of d.done_run l)) l)
+    (least-out ds m c gone_now left)
 
 -- another that has left writes its own part
-put-stays : (r : RingIs) (n m : ℕ) (c : NodeIs) → c.here ≡ (ring_node r m).here → (ring_node r m).here ≡ false → (m ≡ n → ⊥)
+put-stays : (r : RingIs) (n m : ℕ) (c : NodeIs) → c.here ≡ (ring_node r m).here
+    → (ring_node r m).here ≡ false → (m ≡ n → ⊥)
     → Stays r (record r { nodes = set r.nodes m c }) n
 put-stays r n m c same left other =
-    let part : part_of (set r.nodes m c) n ≡ part_of r.nodes n = get_or-set_other r.nodes m n c (fresh false) (λ q. other (sym q)) in
+    let part : part_of (set r.nodes m c) n ≡ part_of r.nodes n =
+    get_or-set_other r.nodes m n c (fresh false) (λ q. other (sym q)) in
     record {
       holder = refl;
       part = part;
       quiet = λ i. cond (part i).here (or_zero (least-out r.nodes m c (same ∙ left) left i)) 0;
     }
 
-step-stays : (net : NetPlan) (past : List RingEntry) (r : RingIs) (n : ℕ) (e : RingEntry) → IsTimelyEntry net past r e → r.holder ≡ n
+step-stays : (net : NetPlan) (past : List RingEntry) (r : RingIs) (n : ℕ) (e : RingEntry)
+    → IsTimelyEntry net past r e → r.holder ≡ n
     → maker e ≢ n → Stays r (after net r e) n
-step-stays net past r n (Post m f) t h other = put-stays r n m (posted (ring_node r m) f) refl (free-left r n m (first_none _ _ t.1) h other) other
-step-stays net past r n (Send m heard) t h other = absurd (other (sym (turn-holds r m (first_none _ _ t.0)) ∙ h))
+step-stays net past r n (Post m f) t h other = put-stays r n m (posted (ring_node r m) f) refl
+    (free-left r n m (first_none _ _ t.1) h other) other
+step-stays net past r n (Send m heard) t h other =
+    absurd (other (sym (turn-holds r m (first_none _ _ t.0)) ∙ h))
 step-stays net past r n (Take m f) t h other = absurd (other (sym (turn-holds r m t.0) ∙ h))
-step-stays net past r n (Local m id op result) t h other = record { holder = refl; part = refl; quiet = refl }
-step-stays net past r n (GiveUp id word) t h other = put-stays r n id.node (gave_up (ring_node r id.node) id) refl
+step-stays net past r n (Local m id op result) t h other =
+    record { holder = refl; part = refl; quiet = refl }
+step-stays net past r n (GiveUp id word) t h other =
+    put-stays r n id.node (gave_up (ring_node r id.node) id) refl
     (free-left r n id.node (first_none _ _ t.0) h other) other
-step-stays net past r n (Pass m done words) t h other = absurd (other (sym (turn-holds r m (first_none _ _ t.0)) ∙ h))
-step-stays net past r n (Leave m cause) t h other = absurd (other (sym (turn-holds r m (first_none _ _ (first_none _ _ t))) ∙ h))
+step-stays net past r n (Pass m done words) t h other =
+    absurd (other (sym (turn-holds r m (first_none _ _ t.0)) ∙ h))
+step-stays net past r n (Leave m cause) t h other =
+    absurd (other (sym (turn-holds r m (first_none _ _ (first_none _ _ t))) ∙ h))
 
-next_ring : (net : NetPlan) (past : List RingEntry) (e : RingEntry) → ring_after net (past ++ e ∷ []) ≡ after net (ring_after net past) e
+next_ring : (net : NetPlan) (past : List RingEntry) (e : RingEntry)
+    → ring_after net (past ++ e ∷ []) ≡ after net (ring_after net past) e
 next_ring net past e = after_all-push net (opening net) past e
 
 pub holder-stays : HolderStays
-holder-stays net past [] n run h none = subst (λ (l : List RingEntry). Stays (ring_after net past) (ring_after net l) n)
+holder-stays net past [] n run h none =
+    subst (λ (l : List RingEntry). Stays (ring_after net past) (ring_after net l) n)
     (sym (append-nil past)) (record { holder = refl; part = refl; quiet = refl })
 holder-stays net past (e ∷ es) n run h none =
     let r = ring_after net past in
-    let one : Stays r (ring_after net (past ++ e ∷ [])) n = subst (λ (x : RingIs). Stays r x n) (sym (next_ring net past e))
+    let one : Stays r (ring_after net (past ++ e ∷ [])) n = subst (λ (x : RingIs). Stays r x n)
+    (sym (next_ring net past e))
     (step-stays net past r n e run.0.1 h none.0) in
     let more : Stays (ring_after net (past ++ e ∷ [])) (ring_after net ((past ++ e ∷ []) ++ es)) n =
     holder-stays net (past ++ e ∷ []) es n run.1 (one.holder ∙ h) none.1 in
     subst (λ (l : List RingEntry). Stays r (ring_after net l) n) (append_assoc past (e ∷ []) es)
-    (record { holder = more.holder ∙ one.holder; part = more.part ∙ one.part; quiet = more.quiet ∙ one.quiet })
+    (record {
+      holder = more.holder ∙ one.holder;
+      part = more.part ∙ one.part;
+      quiet = more.quiet ∙ one.quiet;
+    })
 
 -- a node that has left: an entry of another leaves its part
-out : (nodes : List NodeIs) (n m : ℕ) (c : NodeIs) → (m ≡ n → ⊥) → part_of (set nodes m c) n ≡ part_of nodes n
+out : (nodes : List NodeIs) (n m : ℕ) (c : NodeIs) → (m ≡ n → ⊥)
+    → part_of (set nodes m c) n ≡ part_of nodes n
 out nodes n m c other = get_or-set_other nodes m n c (fresh false) (λ q. other (sym q))
 
-left-arrives : (nodes : List NodeIs) (fate : Fate) (f : Frame) → (part_of nodes f.to).here ≡ false → arrival nodes fate f ≡ None
-left-arrives nodes fate f left = ap (λ (b : Bool). cond (cond b (fate_reaches fate) false) (Some (fell (part_of nodes f.to) f.kind f.id)) None) left
+left-arrives : (nodes : List NodeIs) (fate : Fate) (f : Frame) → (part_of nodes f.to).here ≡ false
+    → arrival nodes fate f ≡ None
+left-arrives nodes fate f left = ap (λ (b : Bool). cond (cond b (fate_reaches fate) false)
+    (Some (fell (part_of nodes f.to) f.kind f.id)) None) left
 
-settled-out : (nodes : List NodeIs) (n : ℕ) (f : Frame) (fall : Option Fell) → (f.to ≡ n → ⊥) → part_of (arrived nodes f fall) n ≡ part_of nodes n
+settled-out : (nodes : List NodeIs) (n : ℕ) (f : Frame) (fall : Option Fell) → (f.to ≡ n → ⊥)
+    → part_of (arrived nodes f fall) n ≡ part_of nodes n
 settled-out nodes n f None other = refl
 settled-out nodes n f (Some fall) other = out nodes n f.to _ other
 
-arrived-out : (nodes : List NodeIs) (n : ℕ) (fate : Fate) (f : Frame) → (part_of nodes n).here ≡ false
+arrived-out : (nodes : List NodeIs) (n : ℕ) (fate : Fate) (f : Frame)
+    → (part_of nodes n).here ≡ false
     → part_of (arrived nodes f (arrival nodes fate f)) n ≡ part_of nodes n
 arrived-out nodes n fate f left = ⊎_elim
     (λ (e : f.to ≡ n). ap (λ (fall : Option Fell). part_of (arrived nodes f fall) n)
@@ -105,14 +135,16 @@ arrived-out nodes n fate f left = ⊎_elim
     (λ (no' : f.to ≡ n → ⊥). settled-out nodes n f (arrival nodes fate f) no')
     (cases_eq f.to n)
 
-sent-out : (net : NetPlan) (r : RingIs) (n m : ℕ) (box : List Frame) → (ring_node r n).here ≡ false → (m ≡ n → ⊥)
+sent-out : (net : NetPlan) (r : RingIs) (n m : ℕ) (box : List Frame)
+    → (ring_node r n).here ≡ false → (m ≡ n → ⊥)
     → ring_node (sent_head net r m box) n ≡ ring_node r n
 sent-out net r n m [] left other = refl
 sent-out net r n m (f ∷ fs) left other =
     let fate = fate_at net.fates r.sent in
     out (arrived r.nodes f (arrival r.nodes fate f)) n m _ other ∙ arrived-out r.nodes n fate f left
 
-step-left : (net : NetPlan) (r : RingIs) (n : ℕ) (e : RingEntry) → (ring_node r n).here ≡ false → maker e ≢ n → ring_node (after net r e) n ≡ ring_node r n
+step-left : (net : NetPlan) (r : RingIs) (n : ℕ) (e : RingEntry) → (ring_node r n).here ≡ false
+    → maker e ≢ n → ring_node (after net r e) n ≡ ring_node r n
 step-left net r n (Post m f) left other = out r.nodes n m _ other
 step-left net r n (Send m heard) left other = sent-out net r n m (ring_node r m).outbox left other
 step-left net r n (Take m f) left other = out r.nodes n m _ other
@@ -122,15 +154,20 @@ step-left net r n (Pass m done words) left other = out r.nodes n m _ other
 step-left net r n (Leave m cause) left other = out r.nodes n m _ other
 
 pub left-stays : LeftStays
-left-stays net past [] n left none = ap (λ (l : List RingEntry). ring_node (ring_after net l) n) (append-nil past)
+left-stays net past [] n left none =
+    ap (λ (l : List RingEntry). ring_node (ring_after net l) n) (append-nil past)
 left-stays net past (e ∷ es) n left none =
     let one : ring_node (ring_after net (past ++ e ∷ [])) n ≡ ring_node (ring_after net past) n =
-    ap (λ (x : RingIs). ring_node x n) (next_ring net past e) ∙ step-left net (ring_after net past) n e left none.0 in
-    let more = left-stays net (past ++ e ∷ []) es n (ap (λ (c : NodeIs). c.here) one ∙ left) none.1 in
-    ap (λ (l : List RingEntry). ring_node (ring_after net l) n) (sym (append_assoc past (e ∷ []) es)) ∙ (more ∙ one)
+    ap (λ (x : RingIs). ring_node x n) (next_ring net past e)
+    ∙ step-left net (ring_after net past) n e left none.0 in
+    let more = left-stays net (past ++ e ∷ []) es n
+    (ap (λ (c : NodeIs). c.here) one ∙ left) none.1 in
+    ap (λ (l : List RingEntry). ring_node (ring_after net l) n)
+    (sym (append_assoc past (e ∷ []) es)) ∙ (more ∙ one)
 
 -- a write that keeps whether a node is there
-here-set : (nodes : List NodeIs) (m k : ℕ) (c : NodeIs) → c.here ≡ (part_of nodes m).here → (part_of (set nodes m c) k).here ≡ (part_of nodes k).here
+here-set : (nodes : List NodeIs) (m k : ℕ) (c : NodeIs) → c.here ≡ (part_of nodes m).here
+    → (part_of (set nodes m c) k).here ≡ (part_of nodes k).here
 here-set [] m k c e = refl
 here-set (d ∷ ds) zero zero c e = e
 here-set (d ∷ ds) zero (suc k) c e = refl
@@ -144,40 +181,51 @@ here-frame c CrowdedOut f = refl
 here-frame c AcceptedReply f = refl
 here-frame c DroppedReply f = refl
 
-here-arrived : (nodes : List NodeIs) (f : Frame) (fall : Option Fell) (k : ℕ) → (part_of (arrived nodes f fall) k).here ≡ (part_of nodes k).here
+here-arrived : (nodes : List NodeIs) (f : Frame) (fall : Option Fell) (k : ℕ)
+    → (part_of (arrived nodes f fall) k).here ≡ (part_of nodes k).here
 here-arrived nodes f None k = refl
-here-arrived nodes f (Some fall) k = here-set nodes f.to k _ (here-frame (part_of nodes f.to) fall f)
+here-arrived nodes f (Some fall) k =
+    here-set nodes f.to k _ (here-frame (part_of nodes f.to) fall f)
 
-here-heard : (c : NodeIs) (kind : FrameKind) (id : CallId) (there : Bool) (h : Heard) → (heard_by c kind id there h).here ≡ c.here
+here-heard : (c : NodeIs) (kind : FrameKind) (id : CallId) (there : Bool) (h : Heard)
+    → (heard_by c kind id there h).here ≡ c.here
 here-heard c kind id there Acked = refl
 here-heard c kind id there Busy = refl
-here-heard c kind id there Silent = cond_both (nat_le 2 c.tries) (sent_off c (failed c kind id (silence_word there))) _
+here-heard c kind id there Silent =
+    cond_both (nat_le 2 c.tries) (sent_off c (failed c kind id (silence_word there))) _
     (λ (x : NodeIs). x.here ≡ c.here) (λ _. refl) (λ _. refl)
 
-here-sent : (net : NetPlan) (r : RingIs) (m : ℕ) (box : List Frame) (k : ℕ) → (ring_node (sent_head net r m box) k).here ≡ (ring_node r k).here
+here-sent : (net : NetPlan) (r : RingIs) (m : ℕ) (box : List Frame) (k : ℕ)
+    → (ring_node (sent_head net r m box) k).here ≡ (ring_node r k).here
 here-sent net r m [] k = refl
 here-sent net r m (f ∷ fs) k =
     let fall = arrival r.nodes (fate_at net.fates r.sent) f in
     let nodes = arrived r.nodes f fall in
-    here-set nodes m k _ (here-heard (part_of nodes m) f.kind f.id (ring_node r f.to).here (heard_of (fate_at net.fates r.sent) fall))
+    here-set nodes m k _ (here-heard (part_of nodes m) f.kind f.id (ring_node r f.to).here
+    (heard_of (fate_at net.fates r.sent) fall))
     ∙ here-arrived r.nodes f fall k
 
-step-member : (net : NetPlan) (r : RingIs) (n : ℕ) (e : RingEntry) → (ring_node r n).here ≡ true → (IsLeave n e → ⊥) → (ring_node (after net r e) n).here ≡ true
+step-member : (net : NetPlan) (r : RingIs) (n : ℕ) (e : RingEntry) → (ring_node r n).here ≡ true
+    → (IsLeave n e → ⊥) → (ring_node (after net r e) n).here ≡ true
 step-member net r n (Post m f) there no' = here-set r.nodes m n _ refl ∙ there
 step-member net r n (Send m heard) there no' = here-sent net r m (ring_node r m).outbox n ∙ there
 step-member net r n (Take m f) there no' = here-set r.nodes m n _ refl ∙ there
 step-member net r n (Local m id op result) there no' = there
 step-member net r n (GiveUp id word) there no' = here-set r.nodes id.node n _ refl ∙ there
 step-member net r n (Pass m done words) there no' = here-set r.nodes m n _ refl ∙ there
-step-member net r n (Leave m cause) there no' = ap (λ (c : NodeIs). c.here) (out r.nodes n m _ no') ∙ there
+step-member net r n (Leave m cause) there no' =
+    ap (λ (c : NodeIs). c.here) (out r.nodes n m _ no') ∙ there
 
 pub member-stays : MemberStays
-member-stays net past [] n there none = ap (λ (l : List RingEntry). (ring_node (ring_after net l) n).here) (append-nil past) ∙ there
+member-stays net past [] n there none =
+    ap (λ (l : List RingEntry). (ring_node (ring_after net l) n).here) (append-nil past) ∙ there
 member-stays net past (e ∷ es) n there none =
-    let one : (ring_node (ring_after net (past ++ e ∷ [])) n).here ≡ true = ap (λ (x : RingIs). (ring_node x n).here) (next_ring net past e)
+    let one : (ring_node (ring_after net (past ++ e ∷ [])) n).here ≡ true =
+    ap (λ (x : RingIs). (ring_node x n).here) (next_ring net past e)
     ∙ step-member net (ring_after net past) n e there none.0 in
     let more = member-stays net (past ++ e ∷ []) es n one none.1 in
-    ap (λ (l : List RingEntry). (ring_node (ring_after net l) n).here) (sym (append_assoc past (e ∷ []) es)) ∙ more
+    ap (λ (l : List RingEntry). (ring_node (ring_after net l) n).here)
+    (sym (append_assoc past (e ∷ []) es)) ∙ more
 
 -- equal parts have equal boxes
 boxes-stay : (c d : NodeIs) → d ≡ c → BoxesStay c d
@@ -195,10 +243,12 @@ holders-keep net past more n run there h none =
     record {
       holder = s.holder;
       here = ap is_here s.part;
-      boxes = boxes-stay (ring_node (ring_after net past) n) (ring_node (ring_after net (past ++ more)) n) s.part;
+      boxes = boxes-stay (ring_node (ring_after net past) n)
+          (ring_node (ring_after net (past ++ more)) n) s.part;
       quiet = s.quiet;
     }
 
 pub outsiders-keep : OutsidersKeep
 outsiders-keep net past more n out_before out_after none =
-    boxes-stay (ring_node (ring_after net past) n) (ring_node (ring_after net (past ++ more)) n) (left-stays net past more n out_before none)
+    boxes-stay (ring_node (ring_after net past) n) (ring_node (ring_after net (past ++ more)) n)
+    (left-stays net past more n out_before none)

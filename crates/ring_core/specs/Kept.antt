@@ -1,16 +1,17 @@
 -- What a contract sees of a ring, and what its fields keep. This project's own.
-use Rattle.std.specs.Prelude.{◌+◌, ◌-◌, ◌≡◌, ◌≢◌, ℕ, ◌<◌, ◌≤◌, List, [], ◌∷◌, ◌++◌, length, get_or}
-use Rattle.std.specs.Prelude.{set, replicate, All, Option, Some, None, Result, MatchResult, ◌⊎◌}
-use Rattle.std.specs.Prelude.{Bool, MatchOption}
+use Rattle.std.specs.Prelude.{◌+◌, ◌-◌, ◌≡◌, ℕ, ◌<◌, ◌≤◌, List, [], ◌∷◌, ◌++◌, length, get_or, set}
+use Rattle.std.specs.Prelude.{replicate, All, Option, Some, None, Result, MatchResult, ◌⊎◌, Bool, true}
+use Rattle.std.specs.Prelude.{MatchOption}
+use Rattle.std.specs.FinMap.{contains_key}
 use Rattle.ring_core.specs.Words.{NetPlan, RingEntry, Local, Pass, RingNo, NoMemory, LocalOp}
-use Rattle.ring_core.specs.Words.{PutGlobal, Take, Frame, Heard, LeaveCause}
+use Rattle.ring_core.specs.Words.{PutGlobal, Take, Frame, Heard, LeaveCause, Request, CallId}
 use Rattle.ring_core.specs.Machine.{NodeIs, RingIs, ring_after, opening, addresses, path_places}
-use Rattle.ring_core.specs.Machine.{sources, ring_node, path_of, passes_of}
+use Rattle.ring_core.specs.Machine.{ring_node, path_of, passes_of}
 use Rattle.ring_core.specs.Refusals.{leave_no}
-use Rattle.ring_core.specs.Legal.{IsLegal, IsMember, IsFirst, IsHeard}
+use Rattle.ring_core.specs.Legal.{IsLegalRing, IsMember, IsFirst, IsHeard}
 use Rattle.ring_core.specs.Scratch.{Note, all_notes, words_put, heard_words}
-use Rattle.station_stats.specs.Counts.{StatsIs, cleared, noted}
-use Rattle.global_data.specs.Book.{Book, GlobalIs, place_at, with_put, with_passed}
+use Rattle.station_stats.specs.Counts.{StatsIs, cleared_counters, noted}
+use Rattle.global_data.specs.Book.{Book, words_at, with_put, with_passed}
 
 -- The net that it was made for, its history, and for how many entries memory is kept.
 pub record RingLog : Type 0 where
@@ -56,7 +57,7 @@ passed_on v n done = with_entry v (Pass n done (words_put n v.history))
 
 -- Counters of all stations that run along.
 abbrev pub stats_at : List StatsIs → ℕ → StatsIs
-stats_at stats n = get_or stats n (cleared 0)
+stats_at stats n = get_or stats n (cleared_counters 0)
 
 abbrev pub noted_at : List StatsIs → Note → List StatsIs
 noted_at stats note = set stats note.node (noted (stats_at stats note.node) note.what)
@@ -67,25 +68,21 @@ noted_all stats (note ∷ notes) = noted_all (noted_at stats note) notes
 
 abbrev pub joined_stats : List StatsIs → List ℕ → List StatsIs
 joined_stats stats [] = stats
-joined_stats stats (m ∷ ms) = joined_stats (set stats m (cleared m)) ms
+joined_stats stats (m ∷ ms) = joined_stats (set stats m (cleared_counters m)) ms
 
 abbrev pub opening_stats : List ℕ → List StatsIs
-opening_stats members = joined_stats (replicate addresses (cleared 0)) members
+opening_stats members = joined_stats (replicate addresses (cleared_counters 0)) members
 
 abbrev pub stats_after : NetPlan → List RingEntry → List StatsIs
 stats_after net history =
     noted_all (opening_stats net.members) (all_notes net (opening net) history)
 
 -- The book has what each member put and passed, and nobody else's.
-abbrev pub Says : Option GlobalIs → List ℕ → List ℕ → Type 0
-Says None put heard = heard ≡ []
-Says (Some words) put heard = (words.put ≡ put) × (words.heard ≡ heard)
-
 pub record IsBook (net : NetPlan) (history : List RingEntry) (book : Book) : Type 0 where
-  pub size : length book ≡ 256
-  pub says : (n : ℕ) → Says (place_at book n) (words_put n history) (heard_words n history)
-  pub members : (n : ℕ) → IsMember net n → place_at book n ≢ None
-  pub others : (n : ℕ) → place_at book n ≢ None → IsMember net n
+  pub put : (n : ℕ) → (words_at book n).put ≡ words_put n history
+  pub heard : (n : ℕ) → (words_at book n).heard ≡ heard_words n history
+  pub members : (n : ℕ) → IsMember net n → contains_key book n ≡ true
+  pub others : (n : ℕ) → contains_key book n ≡ true → IsMember net n
 
 -- The book that runs along.
 abbrev pub book_put : Book → ℕ → LocalOp → Book
@@ -97,13 +94,21 @@ book_step book (Local n id op result) = book_put book n op
 book_step book (Pass n done words) = with_passed book n
 book_step book _ = book
 
+-- Who asks is an address, on one of its paths.
+abbrev pub IsSource : CallId → Type 0
+IsSource id = (id.node < addresses) × (id.path < path_places)
+
+-- A Request in a box names who asks so.
+abbrev pub HasSource : Frame → Type 0
+HasSource f = f.kind ≡ Request → IsSource f.id
+
 -- Sizes and bounds of a node's part after so many entries.
 pub record IsSoundNode (k : ℕ) (c : NodeIs) : Type 0 where
   pub tries : c.tries ≤ 2
   pub passes : c.passes ≤ k
   pub done_run : c.done_run ≤ k
   pub paths : length c.paths ≡ path_places
-  pub accepted : length c.accepted ≡ sources
+  pub asked : All HasSource c.outbox
   pub waits : (p : ℕ) → passes_of (path_of c p).awaits ≤ k
 
 pub record IsSoundRing (k : ℕ) (r : RingIs) : Type 0 where
@@ -116,7 +121,7 @@ pub record IsRingKept (net : NetPlan) (history : List RingEntry) (ring : RingIs)
     (stats : List StatsIs) (book : Book) : Type 0 where
   pub members : All (λ m. m < addresses) net.members
   pub fates : 0 < length net.fates
-  pub legal : IsLegal net history
+  pub legal : IsLegalRing net history
   pub state : ring ≡ ring_after net history
   pub sound : IsSoundRing (length history) ring
   pub counters : stats ≡ stats_after net history

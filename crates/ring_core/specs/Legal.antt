@@ -81,5 +81,5 @@ abbrev pub IsRun : NetPlan → List RingEntry → List RingEntry → Type 0
 IsRun net past [] = Unit {0}
 IsRun net past (e ∷ es) = IsRingStep net past e × IsRun net (past ++ e ∷ []) es
 
-abbrev pub IsLegal : NetPlan → List RingEntry → Type 0
-IsLegal net history = IsRun net [] history
+abbrev pub IsLegalRing : NetPlan → List RingEntry → Type 0
+IsLegalRing net history = IsRun net [] history

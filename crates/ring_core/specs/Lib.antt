@@ -1,5 +1,6 @@
 pub mod Words
 pub mod Machine
+pub mod Sources
 pub mod Refusals
 pub mod Scratch
 pub mod Legal

@@ -2,16 +2,32 @@
 -- The token, the paths and the boxes are those of the Modbus Plus Network Planning and Installation
 -- Guide;
 -- fates, tries, give-ups and leaving are this project's own.
-use Rattle.std.specs.Prelude.{ℕ, zero, suc, ◌+◌, ◌*◌, ◌<◌, ◌%◌, ◌^◌, Bool, true, false, nat_le}
+use Rattle.std.specs.Prelude.{ℕ, zero, suc, ◌+◌, ◌<◌, ◌%◌, ◌^◌, Bool, true, false, nat_le}
 use Rattle.std.specs.Prelude.{◌==◌, not, if◌then◌else◌, List, [], ◌∷◌, ◌++◌, length, get_or, set}
-use Rattle.std.specs.Prelude.{map, drop, filter, replicate, count_by, Option, Some, None}
+use Rattle.std.specs.Prelude.{map, drop, filter, replicate, count_by, Option, Some, None, unwrap_or}
+use Rattle.std.specs.declared.cmp.Ordering.{Ordering}
+use Rattle.std.specs.Ordering.{nat_cmp, ordering_then}
+use Rattle.std.specs.FinMap.{FinMap, get, insert, empty}
+pub use Rattle.plant_types.specs.Limits.{path_places}
 use Rattle.ring_core.specs.Words.{CallId, FrameKind, Request, Reply, Frame, Heard, Acked, Silent}
 use Rattle.ring_core.specs.Words.{Busy, Fate, D, L, A, NetPlan, RingEntry, Post, Send, Take, Local}
 use Rattle.ring_core.specs.Words.{GiveUp, Pass, Leave, Await, Nothing, Out, Arrived, Failed, Path}
 use Rattle.ring_core.specs.Words.{Fell, AcceptedRequest, RepeatedRequest, CrowdedOut, AcceptedReply}
 use Rattle.ring_core.specs.Words.{DroppedReply, is_request, asks_for}
 
--- A node's part. A path is found by its number, and the greatest accepted number by its source.
+-- The source of a Request: the node that asks, and the path on which it does.
+abbrev pub Source : Type 0
+Source = ℕ × ℕ
+
+-- Sources in the order of their nodes, those of a node in the order of their paths.
+abbrev pub source_cmp : Source → Source → Ordering
+source_cmp a b = ordering_then (nat_cmp a.0 b.0) (nat_cmp a.1 b.1)
+
+-- Each source of which a Request was accepted, with the greatest number.
+abbrev pub AcceptedIs : Type 0
+AcceptedIs = FinMap source_cmp ℕ
+
+-- A node's part. A path is found by its number.
 pub record NodeIs : Type 0 where
   pub here : Bool
   pub outbox : List Frame
@@ -20,7 +36,7 @@ pub record NodeIs : Type 0 where
   pub passes : ℕ
   pub done_run : ℕ
   pub paths : List Path
-  pub accepted : List ℕ
+  pub accepted : AcceptedIs
 
 -- The ring: who holds the token, how many transmissions there were, and each node's part at its
 -- address.
@@ -33,24 +49,17 @@ pub record RingIs : Type 0 where
 abbrev pub addresses : ℕ
 addresses = 65
 
--- Paths are 1 to 4, and 0 for calls of the own station.
-abbrev pub path_places : ℕ
-path_places = 5
+-- A Request is named by its source, and by its number there.
+abbrev pub source_of : CallId → Source
+source_of id = (id.node, id.path)
 
-abbrev pub sources : ℕ
-sources = 325
+-- The greatest number that was accepted of a Request's source; 0 for none.
+abbrev pub accepted_of : AcceptedIs → CallId → ℕ
+accepted_of accepted id = unwrap_or (get accepted (source_of id)) 0
 
--- The source of a Request: who asks, and on which path.
-abbrev pub source_of : CallId → ℕ
-source_of id = path_places * id.node + id.path
-
--- The greatest number that was accepted of a source, by how numbers are kept; 0 for none.
-abbrev pub accepted_of : List ℕ → CallId → ℕ
-accepted_of accepted id = get_or accepted (source_of id) 0
-
--- A source's number becomes the greatest that was accepted of it.
-abbrev pub accepting : List ℕ → CallId → List ℕ
-accepting accepted id = set accepted (source_of id) id.seq
+-- A Request's number becomes the greatest that was accepted of its source.
+abbrev pub accepting : AcceptedIs → CallId → AcceptedIs
+accepting accepted id = insert accepted (source_of id) id.seq
 
 abbrev pub no_path : Path
 no_path = record { awaits = Nothing; posted = 0 }
@@ -64,7 +73,7 @@ fresh here = record {
   passes = 0;
   done_run = 0;
   paths = replicate path_places no_path;
-  accepted = replicate sources 0;
+  accepted = empty;
 }
 
 abbrev pub part_of : List NodeIs → ℕ → NodeIs

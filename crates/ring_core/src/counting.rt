@@ -1,9 +1,9 @@
 //! The counters of all stations.
-ghost use Rattle.std.specs.Prelude.{◌≡◌, ◌==◌, ◌≢◌, ◌<◌, length, ◌∷◌, [], None, IfSome};
+ghost use Rattle.std.specs.Prelude.{◌≡◌, ◌==◌, ◌<◌, length, ◌∷◌, [], true, IfSome};
+ghost use Rattle.std.specs.FinMap.{contains_key};
 ghost use Rattle.ring_core.specs.Scratch.{counts, arrival_notes, local_counts, owner_event};
 ghost use Rattle.ring_core.specs.Kept.{stats_at, noted_at, noted_all, book_put};
 ghost use Rattle.ring_core.specs.Legal.{HasRoom};
-ghost use Rattle.global_data.specs.Book.{place_at};
 ghost use Rattle.station_stats.specs.Counts.StatNote.{Cleared};
 ghost use Rattle.station_stats.specs.Counts.{stats_words};
 
@@ -72,7 +72,7 @@ pub(crate) fn station_words(stats: &[Stats], node: u8, members: u16, passed: u16
 
 // A PutGlobal puts its words.
 pub(crate) fn put_global(book: &mut GlobalBook, node: u8, op: &LocalOp)
-    requires member { place_at book.old node ≢ None }
+    requires member { contains_key book.old node ≡ true }
     requires room { HasRoom op.now }
     ensures { book.new ≡ book_put book.old node op.now }
 {

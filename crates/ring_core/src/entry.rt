@@ -1,4 +1,6 @@
 //! What happens on the ring.
+ghost use Rattle.std.specs.Prelude.{◌≡◌, ◌↔◌, IsTrue};
+
 use crate::frame::Frame;
 use mstr_block::{CallId, MstrResult};
 use plant_types::Words;
@@ -15,6 +17,31 @@ pub enum LocalOp {
     /// The statistics for another node.
     RemoteGet,
     RemoteClear,
+}
+
+impl LocalOp {
+    /// Whether two operations are one.
+    pub fn is_same(&self, other: &LocalOp) -> bool
+        ensures { IsTrue result ↔ (self.now ≡ other.now) }
+    {
+        match self {
+            LocalOp::GetStats => matches!(other, LocalOp::GetStats),
+            LocalOp::ClearStats => matches!(other, LocalOp::ClearStats),
+            LocalOp::PutGlobal(words) => match other {
+                LocalOp::PutGlobal(others) => words.words() == others.words(),
+                _ => false,
+            },
+            LocalOp::GetGlobal { node, length } => match other {
+                LocalOp::GetGlobal {
+                    node: from,
+                    length: most,
+                } => *node == *from && *length == *most,
+                _ => false,
+            },
+            LocalOp::RemoteGet => matches!(other, LocalOp::RemoteGet),
+            LocalOp::RemoteClear => matches!(other, LocalOp::RemoteClear),
+        }
+    }
 }
 
 /// What a sender is told of its transmission.

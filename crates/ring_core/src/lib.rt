@@ -1,6 +1,7 @@
 //! The Modbus Plus token ring as a machine: who holds the token, and what becomes of each frame.
 #![tactic(auto)]
 
+mod accepted;
 mod arrival;
 mod conditions;
 mod copied;

@@ -5,6 +5,7 @@ ghost use Rattle.ring_core.specs.Machine.{least_from, successor, part_of, arriva
 ghost use Rattle.ring_core.specs.Machine.{is_here, hears};
 ghost use Rattle.ring_core.specs.Refusals.{least_done, least_of, least_over, WantsMemory};
 ghost use Rattle.ring_core.specs.Scratch.{count_members};
+ghost use Rattle.ring_core.specs.Kept.{IsSource};
 
 use crate::arrival::{Fell, fate_reaches};
 use crate::frame::Frame;
@@ -94,7 +95,8 @@ pub(crate) fn arrival(nodes: &[Node], fate: Fate, frame: &Frame) -> Option<Fell>
 
 // A frame comes to its target, one of the nodes, if it arrives.
 pub(crate) fn settle(nodes: &mut Vec<Node>, frame: Frame, fell: Option<Fell>) -> Result<(), RingNo>
-    requires { IfSome fell (λ _. frame.to < length nodes.old.items) }
+    requires there { IfSome fell (λ _. frame.to < length nodes.old.items) }
+    requires source { fell ≡ Some Fell.AcceptedRequest → IsSource frame.id }
     ensures ok { OnOk result (nodes.new.items ≡ arrived nodes.old.items frame fell) }
     ensures err { IfErr result (WantsMemory nodes.old.items nodes.new.items) }
 {

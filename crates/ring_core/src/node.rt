@@ -5,13 +5,14 @@ ghost use Rattle.std.specs.Prelude.{IfErr, None, MatchOption, All};
 ghost use Rattle.ring_core.specs.Machine.{NodeIs, posted, took, after_pass, gone, fresh, path_of};
 ghost use Rattle.ring_core.specs.Machine.{no_path, awaited_number, CanAge, is_repeat, is_full};
 ghost use Rattle.ring_core.specs.Machine.{waits_for, fell, with_frame, heard_by, sent_off, failed};
-ghost use Rattle.ring_core.specs.Machine.{gave_up, is_head, silence_word, source_of};
-ghost use Rattle.ring_core.specs.Machine.{accepted_of, accepting, paths_awaiting};
+ghost use Rattle.ring_core.specs.Machine.{gave_up, is_head, silence_word, paths_awaiting};
+ghost use Rattle.ring_core.specs.Kept.{IsSource};
 ghost use Rattle.ring_core.specs.Refusals.{path_no, boxes_no, cause_boxes_no, empty_no};
 ghost use Rattle.ring_core.specs.Refusals.{WantsMemory};
 ghost use Rattle.ring_core.specs.Legal.{IsFirst, IsNextNumber, TookFirst};
 ghost use Rattle.ring_core.specs.Words.{asks_for};
 
+use crate::accepted::Accepted;
 use crate::arrival::Fell;
 use crate::entry::{Heard, LeaveCause};
 use crate::frame::{Frame, FrameKind};
@@ -28,9 +29,6 @@ const LAST_TRY: u8 = 2;
 
 // The most Requests in an inbox.
 const INBOX_LIMIT: usize = 4;
-
-// The paths of all addresses, 0 to 64.
-const SOURCES: usize = 325;
 
 // The word of a Request whose target had no room.
 const BUSY: u16 = 0x6105;
@@ -49,13 +47,16 @@ pub(crate) struct Node {
     passes: u64,
     done_run: u64,
     paths: Vec<Path>,
-    accepted: Vec<u32>,
+    accepted: Accepted,
 }
 
 impl Model for Node {
     ghost use Rattle.ring_core.specs.Machine.{NodeIs};
+    ghost use Rattle.ring_core.specs.Sources.{coded_node};
 
     ghost Value = { NodeIs };
+
+    ghost coded = { coded_node };
 
     ghost view = { λ n. record {
       here = n.here;
@@ -65,15 +66,8 @@ impl Model for Node {
       passes = n.passes;
       done_run = n.done_run;
       paths = n.paths.items;
-      accepted = n.accepted.items;
+      accepted = n.accepted;
     } };
-}
-
-// The place of a Request's source among the accepted numbers.
-fn source_of(id: CallId) -> usize
-    ensures { result ≡ source_of id }
-{
-    PATH_PLACES * (id.node as usize) + (id.path as usize)
 }
 
 // The path after a Request was posted on it.
@@ -97,30 +91,6 @@ fn set_await(paths: &mut Vec<Path>, path: u8, awaits: Await)
     }
 }
 
-// The greatest number that was accepted of a Request's source. Of one that has no place it is 0.
-fn accepted_of(accepted: &[u32], id: CallId) -> u32
-    ensures accepted { result ≡ accepted_of accepted.now id }
-    ensures beyond { length accepted.now ≤ source_of id → result ≡ 0 }
-{
-    match accepted.get(source_of(id)) {
-        Some(seq) => *seq,
-        None => 0,
-    }
-}
-
-// A Request's number becomes the greatest that was accepted of its source. Of one that has no place
-// nothing is kept.
-fn accept(accepted: &mut Vec<u32>, id: CallId)
-    ensures accepted { accepted.new.items ≡ accepting accepted.old.items id }
-    ensures beyond { length accepted.old.items ≤ source_of id →
-        accepted.new.items ≡ accepted.old.items }
-{
-    let source = source_of(id);
-    if source < accepted.len() {
-        accepted[source] = id.seq;
-    }
-}
-
 // The Request of a call leaves an outbox.
 fn drop_request(outbox: &mut VecDeque<Frame>, id: CallId)
     ensures { outbox.new.items ≡ filter (λ f. not (asks_for id f)) outbox.old.items }
@@ -141,7 +111,7 @@ impl Node {
             passes: 0,
             done_run: 0,
             paths: vec![in alloc; no_path(); PATH_PLACES]?,
-            accepted: vec![in alloc; 0; SOURCES]?,
+            accepted: Accepted::new(alloc)?,
         })
     }
 
@@ -293,7 +263,7 @@ impl Node {
     fn is_repeat(&self, id: CallId) -> bool
         ensures { result ≡ is_repeat self.now id }
     {
-        let greatest = accepted_of(&self.accepted, id);
+        let greatest = self.accepted.greatest(id);
         id.seq <= greatest
     }
 
@@ -338,6 +308,7 @@ impl Node {
     }
 
     fn accept_request(&mut self, frame: Frame) -> Result<(), RingNo>
+        requires source { IsSource frame.id }
         ensures ok { OnOk result (self.new ≡ with_frame self.old Fell.AcceptedRequest frame) }
         ensures err { IfErr result (WantsMemory self.old self.new) }
     {
@@ -345,7 +316,7 @@ impl Node {
         if self.inbox.push_back(frame).is_err() {
             return Err(RingNo::NoMemory);
         }
-        accept(&mut self.accepted, id);
+        self.accepted.accept(id);
         Ok(())
     }
 
@@ -363,6 +334,7 @@ impl Node {
 
     /// A frame arrives.
     pub fn receive(&mut self, fell: Fell, frame: Frame) -> Result<(), RingNo>
+        requires source { fell ≡ Fell.AcceptedRequest → IsSource frame.id }
         ensures ok { OnOk result (self.new ≡ with_frame self.old fell frame) }
         ensures err { IfErr result (WantsMemory self.old self.new) }
     {

@@ -11,7 +11,7 @@ ghost use Rattle.ring_core.specs.Refusals.{leave_due, cause_boxes_no, WantsMemor
 ghost use Rattle.ring_core.specs.Scratch.{words_put, local_result, statistics, global_answer};
 ghost use Rattle.ring_core.specs.Scratch.{heard_words};
 ghost use Rattle.ring_core.specs.Legal.{IsMember, IsPath, IsFrom, IsNextNumber, HasRoom, IsFirst};
-ghost use Rattle.ring_core.specs.Legal.{IsLegal};
+ghost use Rattle.ring_core.specs.Legal.{IsLegalRing};
 ghost use Rattle.ring_core.specs.Kept.{RingLog, ring_of, with_entry, with_spare_entry, RefusedAs};
 ghost use Rattle.ring_core.specs.Kept.{IsTaken, IsToldOf, passed_on, StayedFor};
 
@@ -66,7 +66,7 @@ impl Ring {
     /// All that happened, the first entry first.
     pub fn history(&self) -> &[RingEntry]
         ensures history { result.now ≡ self.now.history }
-        ensures legal { IsLegal self.now.net self.now.history }
+        ensures legal { IsLegalRing self.now.net self.now.history }
     {
         self.history.as_slice()
     }
@@ -74,7 +74,7 @@ impl Ring {
     /// The history alone; takes no memory.
     pub fn into_history(self) -> List<RingEntry>
         ensures history { result ≡ self.history }
-        ensures legal { IsLegal self.net self.history }
+        ensures legal { IsLegalRing self.net self.history }
     {
         List::from_vec(self.history)
     }

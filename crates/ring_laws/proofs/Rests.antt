@@ -13,8 +13,8 @@ use Rattle.ring_core.specs.Words.{asks_for}
 use Rattle.ring_core.specs.declared.path.Await.{Await}
 use Rattle.ring_core.specs.declared.path.Await.TheVariants.{Nothing, Out, Arrived, Failed}
 use Rattle.ring_core.specs.declared.path.Path.{Path}
-use Rattle.ring_core.specs.Machine.{NodeIs, RingIs, addresses, path_places, sources, no_path}
-use Rattle.ring_core.specs.Machine.{ring_node, source_of}
+use Rattle.ring_core.specs.Machine.{NodeIs, RingIs, addresses, path_places, no_path}
+use Rattle.ring_core.specs.Machine.{ring_node, AcceptedIs, accepted_of}
 use Rattle.ring_core.specs.Legal.{IsLawful}
 use Rattle.ring_laws.specs.Once.{posts, HasAsked, IsFailWord}
 
@@ -57,9 +57,8 @@ pub record Below (count mark number : ℕ) : Type 0 where
 
 -- A node's paths, greatest accepted numbers and boxes after the entries.
 pub record PartsRest (net : NetPlan) (h : List RingEntry) (n : ℕ) (paths : List Path)
-    (accepted : List ℕ) (outbox inbox : List Frame) : Type 0 where
+    (accepted : AcceptedIs) (outbox inbox : List Frame) : Type 0 where
   pub paths_all : length paths ≡ path_places
-  pub sources_all : length accepted ≡ sources
   pub sending : Each (Sending net h n) outbox
   pub coming : Each (CameTo net h n) inbox
   pub awaits : (p : ℕ) → IsAskedFor h n p (get_or paths p no_path).awaits
@@ -67,7 +66,7 @@ pub record PartsRest (net : NetPlan) (h : List RingEntry) (n : ℕ) (paths : Lis
       Below (count_by (posts id) h) (get_or paths id.path no_path).posted id.seq
   pub seen : (id : CallId) →
       Below (count_by (takes_at n id) h + count_by (asks_for id) inbox)
-      (get_or accepted (source_of id) 0) id.seq
+      (accepted_of accepted id) id.seq
 
 abbrev pub NodeRests : NetPlan → List RingEntry → ℕ → NodeIs → Type 0
 NodeRests net h n c = PartsRest net h n c.paths c.accepted c.outbox c.inbox

@@ -9,7 +9,7 @@ use Rattle.ring_core.specs.declared.entry.RingEntry.{RingEntry}
 use Rattle.ring_core.specs.declared.entry.RingEntry.TheVariants.{Post, Take, GiveUp}
 use Rattle.ring_core.specs.Words.{asks_for}
 use Rattle.ring_core.specs.Machine.{addresses, ring_node, ring_after}
-use Rattle.ring_core.specs.Legal.{IsLegal}
+use Rattle.ring_core.specs.Legal.{IsLegalRing}
 
 -- An entry posts a Request of this call.
 abbrev pub posts : CallId → RingEntry → Bool
@@ -24,7 +24,7 @@ takes id _ = false
 -- A legal history of a net whose members' addresses are those of a ring.
 pub record IsRingHistory (net : NetPlan) (history : List RingEntry) : Type 0 where
   pub members : All (λ m. m < addresses) net.members
-  pub legal : IsLegal net history
+  pub legal : IsLegalRing net history
 
 -- A call is asked for at most once.
 abbrev pub PostedOnce : Type 0

@@ -1,7 +1,7 @@
 //! The plant READ2: node 2 reads two registers of node 5.
 ghost use Rattle.std.specs.Prelude.{◌≡◌, ◌≤◌, length, IfOk, IfSome, ◌∷◌, [], map, All};
 ghost use Rattle.std.specs.List.{AllByRecursion};
-ghost use Rattle.controller_core.specs.Machine.{CanRun};
+ghost use Rattle.traffic_cop.specs.Rows.{IsRunnablePlan};
 ghost use Rattle.plant_types.specs.Plans.{IsNetPlan, PassesTests};
 ghost use Rattle.joint_history.specs.Runnable.{CanRunPlant};
 
@@ -138,7 +138,7 @@ fn checked(plan: ControllerPlan) -> Option<ControllerPlan>
     requires rows { AllByRecursion (λ row. row ≡ ROW) plan.orders }
     requires few { length plan.orders ≤ 3 }
     requires segment { length plan.segments ≡ 1 }
-    ensures runs { IfSome result CanRun }
+    ensures runs { IfSome result IsRunnablePlan }
     ensures passes { IfSome result PassesTests }
     ensures node { IfSome result (λ checked. checked.node ≡ plan.node) }
 {
@@ -155,7 +155,7 @@ fn controller(
     registers: u16,
     networks: List<Network>,
 ) -> Result<Option<ControllerPlan>, AllocError>
-    ensures runs { IfOk result (λ plan. IfSome plan CanRun) }
+    ensures runs { IfOk result (λ plan. IfSome plan IsRunnablePlan) }
     ensures passes { IfOk result (λ plan. IfSome plan PassesTests) }
     ensures node { IfOk result (λ plan. IfSome plan (λ plan. plan.node ≡ node)) }
 {
@@ -173,10 +173,10 @@ fn controller(
 }
 
 fn one_plan(alloc: Global, plan: Option<ControllerPlan>) -> Result<List<ControllerPlan>, AllocError>
-    requires runs { IfSome plan CanRun }
+    requires runs { IfSome plan IsRunnablePlan }
     requires passes { IfSome plan PassesTests }
     requires node { IfSome plan (λ plan. plan.node ≡ 2) }
-    ensures runs { IfOk result (All CanRun) }
+    ensures runs { IfOk result (All IsRunnablePlan) }
     ensures passes { IfOk result (All PassesTests) }
     ensures nodes { IfOk result (λ plans. map (λ plan. plan.node) plans ≡ 2 ∷ []) }
 {
@@ -192,13 +192,13 @@ fn two_plans(
     mut plans: List<ControllerPlan>,
     plan: Option<ControllerPlan>,
 ) -> Result<List<ControllerPlan>, AllocError>
-    requires all_run { All CanRun plans }
+    requires all_run { All IsRunnablePlan plans }
     requires all_pass { All PassesTests plans }
     requires nodes { map (λ plan. plan.node) plans ≡ 2 ∷ [] }
-    requires runs { IfSome plan CanRun }
+    requires runs { IfSome plan IsRunnablePlan }
     requires passes { IfSome plan PassesTests }
     requires node { IfSome plan (λ plan. plan.node ≡ 5) }
-    ensures runs { IfOk result (All CanRun) }
+    ensures runs { IfOk result (All IsRunnablePlan) }
     ensures passes { IfOk result (All PassesTests) }
     ensures nodes { IfOk result (λ plans. map (λ plan. plan.node) plans ≡ 2 ∷ 5 ∷ []) }
 {
@@ -210,7 +210,7 @@ fn two_plans(
 }
 
 fn controllers(alloc: Global, to: u16) -> Result<List<ControllerPlan>, AllocError>
-    ensures runs { IfOk result (All CanRun) }
+    ensures runs { IfOk result (All IsRunnablePlan) }
     ensures passes { IfOk result (All PassesTests) }
     ensures nodes { IfOk result (λ plans. map (λ plan. plan.node) plans ≡ 2 ∷ 5 ∷ []) }
 {
@@ -241,7 +241,7 @@ fn net(alloc: Global, change: Change) -> Result<NetPlan, AllocError>
 fn plant_of(alloc: Global, net: NetPlan, controllers: List<ControllerPlan>) -> Plant
     requires net { IsNetPlan net }
     requires members { net.members ≡ 2 ∷ 5 ∷ [] }
-    requires runs { All CanRun controllers }
+    requires runs { All IsRunnablePlan controllers }
     requires passes { All PassesTests controllers }
     requires nodes { map (λ plan. plan.node) controllers ≡ 2 ∷ 5 ∷ [] }
     ensures { CanRunPlant result }

@@ -1,5 +1,6 @@
 //! Runs of the plant READ2.
 ghost use Rattle.std.specs.Prelude.{◌≤◌};
+ghost use Rattle.plant_types.specs.Limits.{most_scans};
 
 use crate::read2::{AS_IT_IS, Change, read2};
 use controller_core::Entry;
@@ -78,7 +79,7 @@ fn letters(alloc: Global, joint: &Joint) -> Result<Vec<u8>, AllocError> {
 }
 
 fn turned(alloc: Global, change: Change, scans: u32, order: &[Turn]) -> Result<Joint, AllocError>
-    requires { scans ≤ 2000 }
+    requires { scans ≤ most_scans }
 {
     let plant = read2(alloc, change)?;
     turns(alloc, &plant, scans, order)
@@ -91,14 +92,14 @@ fn turned_letters(
     scans: u32,
     order: &[Turn],
 ) -> Result<Vec<u8>, AllocError>
-    requires { scans ≤ 2000 }
+    requires { scans ≤ most_scans }
 {
     let joint = turned(alloc, change, scans, order)?;
     letters(alloc, &joint)
 }
 
 fn ran(alloc: Global, change: Change, scans: u32) -> Result<Joint, AllocError>
-    requires { scans ≤ 2000 }
+    requires { scans ≤ most_scans }
 {
     let plant = read2(alloc, change)?;
     run(alloc, &plant, scans)

@@ -18,11 +18,13 @@ rows_from-row plan row h =
     let next : length plan.orders - row ≡ suc (length plan.orders) - (row + 1) = omega arith in
     let f = row_steps plan in
     ap (λ n. flat_map f (range_with_len row n) ++ steps.End ∷ []) count
-    ∙ append_assoc (f row) (flat_map f (range_with_len (row + 1) (length plan.orders - row))) (steps.End ∷ [])
+    ∙ append_assoc (f row) (flat_map f (range_with_len (row + 1) (length plan.orders - row)))
+    (steps.End ∷ [])
     ∙ ap (λ n. f row ++ (flat_map f (range_with_len (row + 1) n) ++ steps.End ∷ [])) next
 
 -- behind the last row is the end
-pub rows_from-end : (plan : ControllerPlan) (row : ℕ) → length plan.orders < row → rows_from plan row ≡ steps.End ∷ []
+pub rows_from-end : (plan : ControllerPlan) (row : ℕ) → length plan.orders < row
+    → rows_from plan row ≡ steps.End ∷ []
 unfolding rows_from
 rows_from-end plan row h =
     let count : suc (length plan.orders) - row ≡ 0 = omega arith in
@@ -34,7 +36,8 @@ pub rows_from-in : (plan : ControllerPlan) (scan row drop : ℕ) → row ≤ len
     → rows_from plan row ≡ steps.In row ∷ due_after plan scan (places.DidIn row)
 rows_from-in plan scan row drop h named =
     rows_from-row plan row h
-    ∙ ap (λ d. (step_with d (steps.In row) ++ (steps.Solve row ∷ output_steps plan row)) ++ rows_from plan (row + 1)) named
+    ∙ ap (λ d. (step_with d (steps.In row) ++ (steps.Solve row ∷ output_steps plan row))
+    ++ rows_from plan (row + 1)) named
 
 -- and those of a row that names none with its Solve
 pub rows_from-solve : (plan : ControllerPlan) (scan row : ℕ) → row ≤ length plan.orders
@@ -42,10 +45,12 @@ pub rows_from-solve : (plan : ControllerPlan) (scan row : ℕ) → row ≤ lengt
     → rows_from plan row ≡ steps.Solve row ∷ due_after plan scan (places.DidSolve row)
 rows_from-solve plan scan row h none =
     rows_from-row plan row h
-    ∙ ap (λ d. (step_with d (steps.In row) ++ (steps.Solve row ∷ output_steps plan row)) ++ rows_from plan (row + 1)) none
+    ∙ ap (λ d. (step_with d (steps.In row) ++ (steps.Solve row ∷ output_steps plan row))
+    ++ rows_from plan (row + 1)) none
 
 -- where there is no row, all rows are before
-pub past_rows : (plan : ControllerPlan) (row : ℕ) → row_of plan row ≡ None → 1 ≤ row → length plan.orders < row
+pub past_rows : (plan : ControllerPlan) (row : ℕ) → row_of plan row ≡ None → 1 ≤ row
+    → length plan.orders < row
 past_rows plan row none from =
     elim (slice_get_cases plan.orders (row - 1)).1 [
       | inl there ↦ absurd (let some = sym none ∙ there.2 in cc)

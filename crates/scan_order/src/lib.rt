@@ -4,6 +4,3 @@
 mod due;
 
 pub use due::{ScanPlace, ScanStep, next_due, place_after, row_of};
-
-#[cfg(test)]
-mod tests;

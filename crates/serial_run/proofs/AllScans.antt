@@ -11,7 +11,7 @@ use Rattle.std.proofs.lemmas.List.Elements.{All-cons, All-nil}
 use Rattle.plant_types.specs.declared.plan.ControllerPlan.{ControllerPlan}
 use Rattle.plant_types.specs.declared.plan.Plant.{Plant}
 use Rattle.ring_core.specs.declared.entry.RingEntry.{RingEntry}
-use Rattle.ring_core.specs.Legal.{IsLegal as IsLegalRing}
+use Rattle.ring_core.specs.Legal.{IsLegalRing}
 use Rattle.controller_core.specs.declared.fixed.Fixed.{Fixed}
 use Rattle.controller_core.specs.Controller.{has_ended, left_of}
 use Rattle.joint_history.specs.JointLaws.{fixed_of}

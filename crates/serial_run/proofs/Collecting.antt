@@ -3,7 +3,7 @@ use Rattle.std.proofs.Common.{◌≡◌, ℕ, Bool, true, false, List, [], ◌�
 use Rattle.std.proofs.Common.{sym, ap, subst, ◌∙◌, append-nil, append_assoc, filter_map}
 use Rattle.std.specs.List.{AllByRecursion}
 use Rattle.plant_types.specs.declared.net.NetPlan.{NetPlan}
-use Rattle.mstr_block.specs.Table.{has_started as has_untaken}
+use Rattle.mstr_block.specs.Table.{has_untaken}
 use Rattle.ring_core.specs.declared.entry.RingEntry.{RingEntry}
 use Rattle.ring_core.specs.declared.entry.RingEntry.TheVariants.{Post, Send, Take, Local, GiveUp}
 use Rattle.ring_core.specs.declared.entry.RingEntry.TheVariants.{Pass, Leave}
@@ -16,7 +16,7 @@ use Rattle.controller_core.specs.declared.entry.Entry.TheVariants.{Begin, Input,
 use Rattle.controller_core.specs.declared.entry.Entry.TheVariants.{Collect, Peer, Finish}
 use Rattle.controller_core.specs.Controller.{uncollected}
 use Rattle.controller_core.specs.Laws.{CallsFollow}
-use Rattle.controller_core.specs.Replay.{State, start, table_of}
+use Rattle.controller_core.specs.Replay.{ControllerState, start, table_of}
 use Rattle.controller_core.proofs.Keeping.{replay_more}
 use Rattle.mstr_block.specs.declared.call.CallId.{CallId}
 use Rattle.tied_lists.specs.Own.{Grew, WentOn}
@@ -24,6 +24,7 @@ use Rattle.comm_port.specs.HoldTurn.{Collects, CollectsIf, HoldsTurn, IsEnded, I
 use Rattle.comm_port.specs.HoldTurn.{EndedAs, MadeAs, VisitsEnd, finish_of}
 use Rattle.comm_port.specs.Order.{IsFinish}
 use Rattle.comm_port.specs.Parts.{InOrder}
+use Rattle.comm_port.proofs.Asked.{both-asked}
 use Rattle.joint_history.specs.Reading.{controller_at, has_started_at, is_ours}
 
 each-both : (xs ys : List Entry) → AllByRecursion IsFinish xs → AllByRecursion IsFinish ys
@@ -88,7 +89,7 @@ module _ (laws : CallsFollow) (fixed : Fixed) where
       → has_started_at fixed (h ++ Collect calls ∷ []) ≡ false
   collects-all h calls =
       let v = controller_at fixed h in
-      ap (λ (s : State). has_untaken (table_of s))
+      ap (λ (s : ControllerState). has_untaken (table_of s))
       (replay_more fixed (start fixed.plan) h (Collect calls) ∙ sym
       (replay_more fixed (start fixed.plan) h (Collect (uncollected v))))
       ∙ (laws.collects v).started
@@ -141,12 +142,14 @@ module _ (laws : CallsFollow) (fixed : Fixed) where
   turn-collects alone net n budget known new ring new_ring left t =
       let called = collects-end alone n (IsMade n) (λ x a d. made-each n x.kind x.id a d)
       t.served_known t.called_known t.served_ring t.called_ring t.calls in
-      let sent = finishes-on t.called_known (filter_map finish_of t.sends.done) t.sent_known
-      t.sends.finishes (sent-each t.sends.done) called in
+      let sent = finishes-on t.called_known (filter_map finish_of t.sends.frames.done)
+      t.sent_known
+      t.sends.finishes (sent-each t.sends.frames.done) called in
       let given = finishes-on t.sent_known t.gives_up.noted t.given_known t.gives_up.station
       (in-order IsGivenUp _ t.gives_up.noted t.gives_up.done given-each t.gives_up.due) sent in
-      let asked = asks-on t.ends.asked.at_end t.ends.asked_known t.ends.asked.then_on
-      (asks-on t.given_known t.ends.asked.at_end t.ends.asked.first given) in
+      let both = both-asked t.ends.asked in
+      let asked = asks-on both.at_end t.ends.asked_known both.then_on
+      (asks-on t.given_known both.at_end both.first given) in
       finishes-on t.ends.asked_known t.ends.gives_up.noted new t.ends.gives_up.station
       (in-order IsGivenUp _ t.ends.gives_up.noted t.ends.gives_up.done given-each
       t.ends.gives_up.due) asked

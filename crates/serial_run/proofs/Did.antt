@@ -10,7 +10,7 @@ use Rattle.plant_types.specs.declared.net.HostPlan.{HostPlan}
 use Rattle.plant_types.specs.declared.plan.Plant.{Plant}
 use Rattle.ring_core.specs.declared.entry.RingEntry.{RingEntry}
 use Rattle.ring_core.specs.Machine.{ring_after, ring_node}
-use Rattle.ring_core.specs.Legal.{IsLegal as IsLegalRing}
+use Rattle.ring_core.specs.Legal.{IsLegalRing}
 use Rattle.ring_core.specs.Kept.{ring_of}
 use Rattle.controller_core.specs.declared.fixed.Fixed.{Fixed}
 use Rattle.controller_core.specs.declared.entry.Entry.{Entry}
@@ -391,10 +391,12 @@ module _ (old new : Stations) (at : ℕ) (s t : ControllerStation)
   where
     further-by : (b : Bool) → VisitedWhere b s t old.ring new.ring
         → Further (is_of s.worker.node) old.ring.history new.ring.history
-    further-by true v = visit-ring s.controller.fixed old.ring.net s.worker.node s.controller.history
+    further-by true v = visit-ring s.controller.fixed old.ring.net s.worker.node
+        s.controller.history
         t.controller.history old.ring.history
         new.ring.history v
-    further-by false v = subst (λ (l : List RingEntry). Further (is_of s.worker.node) old.ring.history
+    further-by false v =
+        subst (λ (l : List RingEntry). Further (is_of s.worker.node) old.ring.history
         l) (sym (ap (λ r. r.history) v.1))
         (further-none (is_of s.worker.node) old.ring.history)
 
@@ -406,7 +408,8 @@ module _ (old new : Stations) (at : ℕ) (s t : ControllerStation)
         → VisitedWhere b s t old.ring new.ring
         → s.left ≡ has_left old.ring.net old.ring.history s.worker.node
         → s.left ≡ has_left old.ring.net new.ring.history s.worker.node
-    left-still false due v is-left = is-left ∙ ap (λ r. has_left old.ring.net r.history s.worker.node)
+    left-still false due v is-left = is-left
+        ∙ ap (λ r. has_left old.ring.net r.history s.worker.node)
         (sym v.1)
     left-still true due v is-left =
         let s-left : s.left ≡ true = and-first s.left (has_started s.controller) due in

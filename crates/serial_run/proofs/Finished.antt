@@ -11,7 +11,7 @@ use Rattle.plant_types.specs.declared.plan.Plant.{Plant}
 use Rattle.ring_core.specs.declared.entry.RingEntry.{RingEntry}
 use Rattle.scan_order.specs.declared.due.ScanStep.{ScanStep}
 use Rattle.controller_core.specs.declared.fixed.Fixed.{Fixed}
-use Rattle.controller_core.specs.Controller.{ControllerIs, first_of, has_ended, has_started}
+use Rattle.controller_core.specs.Controller.{ControllerIs, first_step, has_ended, has_started}
 use Rattle.controller_core.specs.Controller.{is_none, left_of}
 use Rattle.controller_core.specs.Controller.{state_of}
 use Rattle.joint_history.specs.JointLaws.{fixed_of}
@@ -36,8 +36,8 @@ use Rattle.serial_run.proofs.Lists.{zip-other}
 
 none-same : (v w : ControllerIs) → KeepsStepsLeft v w → has_ended w ≡ has_ended v
 none-same v w keep =
-    ap (λ n. is_none (if n == 0 then first_of (left_of w.fixed w.history) else None)) keep.stop
-    ∙ ap (λ (l : List ScanStep). is_none (if (state_of v).stop == 0 then first_of l else None))
+    ap (λ n. is_none (if n == 0 then first_step (left_of w.fixed w.history) else None)) keep.stop
+    ∙ ap (λ (l : List ScanStep). is_none (if (state_of v).stop == 0 then first_step l else None))
     keep.left
 
 ended-each : (xs ys : List ControllerStation)

@@ -13,7 +13,7 @@ use Rattle.controller_core.specs.declared.entry.Entry.TheVariants as entries
 use Rattle.controller_core.specs.declared.fixed.Fixed.{Fixed}
 use Rattle.controller_core.specs.declared.notes.Notes.{Notes}
 use Rattle.controller_core.specs.Notes.{NotesAskNoScans, notes_of}
-use Rattle.controller_core.specs.Replay.{State, apply, replay, start}
+use Rattle.controller_core.specs.Replay.{ControllerState, apply, replay, start}
 use Rattle.effect_laws.specs.Effects.{EffectsAreRight}
 use Rattle.entry_causes.specs.Joint.{IsInOneOrder}
 use Rattle.joint_history.specs.declared.joint.ControllerLog.{ControllerLog}
@@ -62,7 +62,7 @@ stand-noted law plant scans run all =
 
 -- ---- the coils
 
-same-after : (f : Fixed) (n : ℕ) (s : State) (e : Entry)
+same-after : (f : Fixed) (n : ℕ) (s : ControllerState) (e : Entry)
     → apply (record f { scans = n }) s e ≡ apply f s e
 same-after f n s entries.Begin = refl
 same-after f n s (entries.Input row) = refl
@@ -73,11 +73,11 @@ same-after f n s (entries.Collect calls) = refl
 same-after f n s (entries.Peer id request reply) = refl
 same-after f n s (entries.Finish id result) = refl
 
-same-fold : (f : Fixed) (n : ℕ) (s : State) (h : List Entry)
+same-fold : (f : Fixed) (n : ℕ) (s : ControllerState) (h : List Entry)
     → fold (apply (record f { scans = n })) s h ≡ fold (apply f) s h
 same-fold f n s [] = refl
 same-fold f n s (e ∷ h) =
-    ap (λ (t : State). fold (apply (record f { scans = n })) t h) (same-after f n s e)
+    ap (λ (t : ControllerState). fold (apply (record f { scans = n })) t h) (same-after f n s e)
     ∙ same-fold f n (apply f s e) h
 
 -- the coils that are on at a station are those by its log
@@ -86,7 +86,7 @@ coils-same : (plant : Plant) (scans : ℕ) (plan : ControllerPlan) (station : Co
     → station_coils (plan, station) ≡ coils_by_log plant (plan, log_of station)
 coils-same plant scans plan station fixed =
     let h = station.controller.history in
-    let on = λ (s : State). count_by (is_on s.solving.map) (all_coils plan) in
+    let on = λ (s : ControllerState). count_by (is_on s.solving.map) (all_coils plan) in
     ap (λ (f : Fixed). on (replay f h)) fixed
     ∙ sym (ap on (same-fold (fixed_of plant scans plan) most_scans (start plan) h))
 

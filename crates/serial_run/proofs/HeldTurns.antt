@@ -11,7 +11,7 @@ use Rattle.ring_core.specs.declared.entry.LeaveCause.TheVariants.{Ended, Spent}
 use Rattle.ring_core.specs.declared.entry.RingEntry.TheVariants.{Pass, Leave, GiveUp, Post, Take}
 use Rattle.ring_core.specs.declared.entry.RingEntry.TheVariants.{Send, Local}
 use Rattle.ring_core.specs.Machine.{addresses, ring_after, ring_node}
-use Rattle.ring_core.specs.Legal.{IsLegal}
+use Rattle.ring_core.specs.Legal.{IsLegalRing}
 use Rattle.ring_core.specs.Stability.{NoLeave}
 use Rattle.ring_core.proofs.Stability.{member-stays}
 use Rattle.std.specs.List.{AllByRecursion}
@@ -94,7 +94,7 @@ module _ (fixed : Fixed) (net : NetPlan) (n : ℕ) (known new_known : List Entry
     words = _;
     to_given = further-both (is_of n) _ _ _ (further-grew (is_of n) _ _ _ t.serves.node)
         (further-both (is_of n) _ _ _ (further-grew (is_of n) _ _ _ t.calls.goes.node)
-        (further-both (is_of n) _ _ _ (further-grew (is_of n) _ _ _ t.sends.grew)
+        (further-both (is_of n) _ _ _ (further-grew (is_of n) _ _ _ t.sends.frames.grew)
         (further-grew (is_of n) _ _ _ t.gives_up.node)));
     left_is = t.ends.left_is;
     grew = t.ends.handed.grew;
@@ -142,7 +142,7 @@ module _ (net : NetPlan) (n : ℕ) (plan : HostPlan) (list new_list : List HostE
     words = _;
     to_given = further-both (is_of n) _ _ _ (further-grew (is_of n) _ _ _ t.serves.all.grew)
         (further-both (is_of n) _ _ _ (further-grew (is_of n) _ _ _ t.makes.in_order.grew)
-        (further-both (is_of n) _ _ _ (further-grew (is_of n) _ _ _ t.sends.sends.grew)
+        (further-both (is_of n) _ _ _ (further-grew (is_of n) _ _ _ t.sends.frames.grew)
         (further-grew (is_of n) _ _ _ t.gives_up.grew)));
     left_is = t.ends.left_is;
     grew = t.ends.handed.grew;
@@ -221,7 +221,7 @@ not-spent net false done ended is = refl
 
 pub turn-less : (net : NetPlan) (n : ℕ) (ring new_ring : List RingEntry) (left : Bool)
     → All (λ m. m < addresses) net.members
-    → IsLegal net new_ring → TurnEnded net n ring new_ring left
+    → IsLegalRing net new_ring → TurnEnded net n ring new_ring left
     → turns_of net new_ring n left < turns_of net ring n false
 turn-less net n ring new_ring true low legal t = omega arith
 turn-less net n ring new_ring false low legal t =
@@ -234,8 +234,8 @@ turn-less net n ring new_ring false low legal t =
     spent in
     let all-further : Further (is_of n) t.given new_ring = further-both (is_of n) _ _ _
     (further-grew (is_of n) _ _ _ t.grew) (further-adds (is_of n) IsGivingUp _ _ t.rest) in
-    let legal-given : IsLegal net t.given = (legal-parts net t.given all-further.more
-    (subst (IsLegal net) all-further.is legal)).0 in
+    let legal-given : IsLegalRing net t.given = (legal-parts net t.given all-further.more
+    (subst (IsLegalRing net) all-further.is legal)).0 in
     let counted = passes-counted net t.given n low legal-given in
     let own-handed : own n t.handed ≡ own n t.given ++ Pass n t.done t.words ∷ [] =
     grew-ours true (is_of n) _ _ _ t.grew ∙ ap

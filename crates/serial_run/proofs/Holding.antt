@@ -5,7 +5,7 @@ use Rattle.std.specs.Prelude.{not, ◌&&◌}
 use Rattle.plant_types.specs.declared.net.NetPlan.{NetPlan}
 use Rattle.plant_types.specs.declared.plan.Plant.{Plant}
 use Rattle.ring_core.specs.Machine.{addresses}
-use Rattle.ring_core.specs.Legal.{IsLegal as IsLegalRing}
+use Rattle.ring_core.specs.Legal.{IsLegalRing}
 use Rattle.tied_lists.specs.Own.{is_of}
 use Rattle.comm_port.specs.HoldTurn.{HoldsTurn}
 use Rattle.serial_run.specs.declared.stations.ControllerStation.{ControllerStation}

@@ -7,6 +7,7 @@ use Rattle.std.proofs.lemmas.Bool.{cases_Bool, cases_eq, cond_both, eq-eqb, ne_e
 use Rattle.std.proofs.lemmas.List.Elements.{All-contains}
 use Rattle.std.proofs.lemmas.List.Sums.{sum_by-append}
 use Rattle.plant_types.specs.declared.net.NetPlan.{NetPlan}
+use Rattle.ring_core.specs.declared.frame.FrameKind.{FrameKind}
 use Rattle.ring_core.specs.declared.entry.RingEntry.{RingEntry}
 use Rattle.ring_core.specs.declared.entry.RingEntry.TheVariants.{Post, Send, Take, Local, GiveUp}
 use Rattle.ring_core.specs.declared.entry.RingEntry.TheVariants.{Pass, Leave}
@@ -15,10 +16,10 @@ use Rattle.ring_core.specs.Machine.{NodeIs, RingIs, addresses, fresh, part_of, r
 use Rattle.ring_core.specs.Machine.{after_pass, gone}
 use Rattle.ring_core.specs.Machine.{after, ring_after}
 use Rattle.ring_core.specs.Machine.{with_members}
-use Rattle.ring_core.specs.Legal.{IsLegal, IsRun, IsRingStep}
+use Rattle.ring_core.specs.Legal.{IsFrom, IsLegalRing, IsRun, IsRingStep}
 use Rattle.ring_core.specs.Kept.{IsSoundRing}
 use Rattle.ring_core.specs.Stability.{IsLeave, NoLeave, NoneBy}
-use Rattle.ring_core.proofs.Sound.{after-sound, opening-sound}
+use Rattle.ring_core.proofs.Sound.{IsSourced, after-sound, opening-sound}
 use Rattle.ring_core.proofs.Stability.{left-stays, member-stays}
 use Rattle.tied_lists.specs.Own.{own}
 use Rattle.tied_lists.proofs.Turns.{next-ring, none-by}
@@ -119,6 +120,20 @@ passes-after net past r n (Leave m cause) size low step =
       left-passes (d ∷ ds) (suc a) zero e = refl
       left-passes (d ∷ ds) (suc a) (suc b) e = left-passes ds a b (omega (arith, e))
 
+-- a Request that is posted asks for a member, on a path of its own
+sourced : (net : NetPlan) (past : List RingEntry) (e : RingEntry)
+    → All (λ m. m < addresses) net.members → IsRingStep net past e → IsSourced e
+sourced net past (Post n f) low step = λ asks.
+    let from = subst (λ (kind : FrameKind). IsFrom n kind f) asks step.0.1 in
+    let address = All-contains (λ m. m < addresses) net.members n low step.0.0 in
+    (subst (λ (m : ℕ). m < addresses) (sym from.0) address, omega (arith, from.2.1))
+sourced net past (Send n heard) low step = tt
+sourced net past (Take n f) low step = tt
+sourced net past (Local n id op result) low step = tt
+sourced net past (GiveUp id word) low step = tt
+sourced net past (Pass n done words) low step = tt
+sourced net past (Leave n cause) low step = tt
+
 counted-from : (net : NetPlan) (n : ℕ) (past es : List RingEntry) → (k : ℕ)
     → IsSoundRing k (ring_after net past)
     → All (λ m. m < addresses) net.members → IsRun net past es
@@ -132,7 +147,8 @@ counted-from net n past (e ∷ es) k sound low run =
     ap (λ (x : RingIs). passes x n) (next-ring net past e) ∙ passes-after net past r n e sound.size
     low run.0 in
     let now : IsSoundRing (k + 1) (ring_after net (past ++ e ∷ [])) =
-    subst (IsSoundRing (k + 1)) (sym (next-ring net past e)) (after-sound net k r e sound) in
+    subst (IsSoundRing (k + 1)) (sym (next-ring net past e)) (after-sound net k r e sound
+    (sourced net past e low run.0)) in
     let more = counted-from net n (past ++ e ∷ []) es (k + 1) now low run.1 in
     let whole : passes (ring_after net (past ++ e ∷ es)) n ≡ passes
     (ring_after net ((past ++ e ∷ []) ++ es)) n =
@@ -165,7 +181,7 @@ fresh-passes (suc size) (suc n) = fresh-passes size n
 
 -- the Passes of a node are those of its list
 pub passes-counted : (net : NetPlan) (history : List RingEntry) (n : ℕ)
-    → All (λ m. m < addresses) net.members → IsLegal net history
+    → All (λ m. m < addresses) net.members → IsLegalRing net history
     → (ring_node (ring_after net history) n).passes ≡ count_by is_pass (own n history)
 passes-counted net history n low legal =
     let start : passes (ring_after net []) n ≡ 0 = opening-passes

@@ -17,13 +17,13 @@ use Rattle.plant_types.specs.declared.drops.IoDrop.{IoDrop}
 use Rattle.plant_types.specs.declared.plan.ControllerPlan.{ControllerPlan}
 use Rattle.controller_core.specs.declared.fixed.Fixed.{Fixed}
 use Rattle.controller_core.specs.declared.entry.Entry.{Entry}
-use Rattle.controller_core.specs.Replay.{State, apply, replay, start, read_in}
+use Rattle.controller_core.specs.Replay.{ControllerState, apply, replay, start, read_in}
 use Rattle.controller_core.specs.Event.{entry_of, scan_steps}
 use Rattle.controller_core.specs.Scans.{all_due, closes_scan, scans_from}
-use Rattle.controller_core.specs.Controller.{ControllerIs, due_step, first_of, has_ended, is_none}
+use Rattle.controller_core.specs.Controller.{ControllerIs, due_step, first_step, has_ended, is_none}
 use Rattle.controller_core.specs.Controller.{left_of, made, state_of, stepped, grown}
 use Rattle.controller_core.specs.Run.{entries_from}
-use Rattle.controller_core.specs.Controller.{AreOf, WentOn}
+use Rattle.controller_core.specs.Controller.{AreOf, ControllerWentOn}
 use Rattle.controller_core.specs.declared.entry.Maker.TheVariants.{Communication, Scan}
 use Rattle.serial_run.specs.Serial.{with_scan}
 use Rattle.serial_run.specs.Stations.{MadeEvents}
@@ -41,7 +41,8 @@ drop-first (suc n) [] x rest is = absurd cc
 drop-first (suc n) (y ∷ xs) x rest is = drop-first n xs x rest is
 
 -- what is left behind one more step
-left-more : (f : Fixed) (s : State) (h : List Entry) (step : ScanStep) (rest : List ScanStep)
+left-more : (f : Fixed) (s : ControllerState) (h : List Entry) (step : ScanStep)
+    (rest : List ScanStep)
     → left_of f h ≡ step ∷ rest
     → left_of f (h ++ entry_of f s step ∷ []) ≡ rest
 left-more f s h step rest left =
@@ -51,7 +52,8 @@ left-more f s h step rest left =
     ap (λ n. drop n (all_due f)) long ∙ drop-first (length (scan_steps h)) (all_due f) step rest
     left
 
-entries-first : (f : Fixed) (s : State) (step : ScanStep) (rest : List ScanStep) → s.stop ≡ 0
+entries-first : (f : Fixed) (s : ControllerState) (step : ScanStep) (rest : List ScanStep) → s.stop
+    ≡ 0
     → entries_from f s (step ∷ rest) ≡ entry_of f s step ∷ entries_from f
     (apply f s (entry_of f s step)) rest
 unfolding entries_from
@@ -59,7 +61,7 @@ entries-first f s step rest goes =
     ap (λ n. if n == 0 then entry_of f s step ∷ entries_from f (apply f s (entry_of f s step)) rest
     else []) goes
 
-entries-none : (f : Fixed) (s : State) (due : List ScanStep) → (s.stop == 0) ≡ false
+entries-none : (f : Fixed) (s : ControllerState) (due : List ScanStep) → (s.stop == 0) ≡ false
     → entries_from f s due ≡ []
 unfolding entries_from
 entries-none f s [] stopped = refl
@@ -67,7 +69,7 @@ entries-none f s (step ∷ rest) stopped =
     ap (λ b. if b then entry_of f s step ∷ entries_from f (apply f s (entry_of f s step)) rest else
     []) stopped
 
-entries-end : (f : Fixed) (s : State) → entries_from f s [] ≡ []
+entries-end : (f : Fixed) (s : ControllerState) → entries_from f s [] ≡ []
 unfolding entries_from
 entries-end f s = refl
 
@@ -115,7 +117,7 @@ due-once plan scan = record {
 
 -- ---- one step of a scan
 
-read-stop : (drops : List IoDrop) (drop : Option ℕ) (s : State)
+read-stop : (drops : List IoDrop) (drop : Option ℕ) (s : ControllerState)
     → (read_in drops drop s).stop ≡ s.stop
 read-stop drops None s = refl
 read-stop drops (Some d) s = refl
@@ -128,7 +130,7 @@ goes-on : (step : ScanStep) (stop : ℕ) → closes_scan step stop ≡ false →
 goes-on step stop open' zero' = record
     { goes_on = λ _. zero'; over = λ is. absurd (let no' : false ≡ true = sym open' ∙ is in cc) }
 
-closes : (f : Fixed) (s : State) (step : ScanStep) → s.stop ≡ 0 → IsNoEnd step
+closes : (f : Fixed) (s : ControllerState) (step : ScanStep) → s.stop ≡ 0 → IsNoEnd step
     → Closes step (apply f s (entry_of f s step)).stop
 closes f s steps.Begin zero' no' = goes-on steps.Begin _ refl zero'
 closes f s (steps.In row) zero' no' = goes-on (steps.In row) _ refl
@@ -172,7 +174,7 @@ module _ (target : List Entry) (v : ControllerIs) (scan : InScan target v)
       let s = state_of v in
       let e = entry_of f s step in
       let now : replay f (h ++ e ∷ []) ≡ apply f s e = replay_more f (start f.plan) h e in
-      ap (λ (t : State). (h ++ e ∷ []) ++ entries_from f t rest) now
+      ap (λ (t : ControllerState). (h ++ e ∷ []) ++ entries_from f t rest) now
       ∙ (append_assoc h (e ∷ []) (entries_from f (apply f s e) rest)
       ∙ (ap (λ (l : List Entry). h ++ l) (sym (entries-first f s step rest stop-is))
       ∙ (ap (λ (l : List ScanStep). h ++ entries_from f s l) (sym is) ∙ scan.runs)))
@@ -187,7 +189,7 @@ module _ (target : List Entry) (v : ControllerIs) (scan : InScan target v)
 
   made-stop : (step : ScanStep) → (state_of (made v (Some step))).stop ≡
       (apply v.fixed (state_of v) (entry_of v.fixed (state_of v) step)).stop
-  made-stop step = ap (λ (t : State). t.stop)
+  made-stop step = ap (λ (t : ControllerState). t.stop)
       (replay_more v.fixed (start v.fixed.plan) v.history (entry_of v.fixed (state_of v) step))
 
   made-kept : (step : ScanStep) → (made v (Some step)).reserved
@@ -238,8 +240,8 @@ module _ (target : List Entry) (v : ControllerIs) (scan : InScan target v)
   due-is : (step : ScanStep) (rest : List ScanStep) → scan.rest ≡ step ∷ rest
       → due_step v ≡ Some step
   due-is step rest is =
-      ap (λ n. if n == 0 then first_of (left_of v.fixed v.history) else None) stop-is
-      ∙ ap first_of (scan.left stop-is ∙ ap
+      ap (λ n. if n == 0 then first_step (left_of v.fixed v.history) else None) stop-is
+      ∙ ap first_step (scan.left stop-is ∙ ap
       (λ (l : List ScanStep). l ++ scans_from v.fixed scan.next scan.many) is)
 
   -- the scan goes on
@@ -297,7 +299,8 @@ scan-over target v scan off = sym (append-nil v.history)
       nothing = ⊎_elim
           (λ (stopped : (state_of v).stop ≢ 0). entries-none v.fixed (state_of v) scan.rest
           (is-not (state_of v).stop stopped))
-          (λ (none : scan.rest ≡ []). ap (entries_from v.fixed (state_of v)) none ∙ entries-end v.fixed
+          (λ (none : scan.rest ≡ []). ap (entries_from v.fixed (state_of v)) none
+          ∙ entries-end v.fixed
           (state_of v))
           (scan.over off)
 
@@ -308,13 +311,13 @@ open-stop v open' = by ((state_of v).stop == 0) refl where
   by true is = eqb-true (state_of v).stop 0 is
   by false is =
       let ended : has_ended v ≡ true = ap
-      (λ b. is_none (if b then first_of (left_of v.fixed v.history) else None)) is in
+      (λ b. is_none (if b then first_step (left_of v.fixed v.history) else None)) is in
       let no' : true ≡ false = sym ended ∙ open' in absurd (cc)
 
 open-left : (v : ControllerIs) → has_ended v ≡ false
-    → is_none (first_of (left_of v.fixed v.history)) ≡ false
+    → is_none (first_step (left_of v.fixed v.history)) ≡ false
 open-left v open' = sym (ap (λ n. is_none
-    (if n == 0 then first_of (left_of v.fixed v.history) else None)) (open-stop v open')) ∙ open'
+    (if n == 0 then first_step (left_of v.fixed v.history) else None)) (open-stop v open')) ∙ open'
 
 -- one whole scan is to come
 record Whole (v : ControllerIs) : Type 0 where
@@ -325,8 +328,8 @@ record Whole (v : ControllerIs) : Type 0 where
 whole-by : (v : ControllerIs) (next many : ℕ) → has_ended v ≡ false
     → left_of v.fixed v.history ≡ scans_from v.fixed next many → Whole v
 whole-by v next zero open' left =
-    let none : is_none (first_of (left_of v.fixed v.history)) ≡ true = ap
-    (λ (l : List ScanStep). is_none (first_of l)) left in
+    let none : is_none (first_step (left_of v.fixed v.history)) ≡ true = ap
+    (λ (l : List ScanStep). is_none (first_step l)) left in
     let no' : true ≡ false = sym none ∙ open-left v open' in absurd (cc)
 whole-by v next (suc many) open' left = record { next = next; many = many; left = left }
 
@@ -376,7 +379,7 @@ between-kept v w keeps b = record {
 pub record IsScanning (first v : ControllerIs) : Type 0 where
   pub within : InScan (with_scan first.fixed first.history) v
   pub events : List Entry
-  pub went_on : WentOn Scan events first v
+  pub went_on : ControllerWentOn Scan events first v
   pub no_more : length (left_of v.fixed v.history) ≤ length (left_of first.fixed first.history)
   pub less : v.reserved ≡ false → length (left_of v.fixed v.history) < length
       (left_of first.fixed first.history)
@@ -385,8 +388,8 @@ are-both : (xs ys : List Entry) → AreOf Scan xs → AreOf Scan ys → AreOf Sc
 are-both [] ys a b = b
 are-both (x ∷ xs) ys a b = (a.0, are-both xs ys a.1 b)
 
-pub went-both : (xs ys : List Entry) (u v w : ControllerIs) → WentOn Scan xs u v
-    → WentOn Scan ys v w → WentOn Scan (xs ++ ys) u w
+pub went-both : (xs ys : List Entry) (u v w : ControllerIs) → ControllerWentOn Scan xs u v
+    → ControllerWentOn Scan ys v w → ControllerWentOn Scan (xs ++ ys) u w
 went-both xs ys u v w a b = record {
   fixed = b.fixed ∙ a.fixed;
   history = b.history ∙ (ap (λ (l : List Entry). l ++ ys) a.history ∙ append_assoc u.history xs ys);
@@ -404,7 +407,7 @@ scan-target v open' =
 
 pub scanning-begins : (v w : ControllerIs) (events : List Entry) → has_ended v ≡ false
     → IsBetweenScans v → w ≡ record v { reserved = true }
-    → WentOn Scan events v w → IsScanning v w
+    → ControllerWentOn Scan events v w → IsScanning v w
 scanning-begins v w events open' between is went = record {
   within = subst (λ (target : List Entry). InScan target w) (sym (scan-target v open'))
       (subst (InScan (v.history ++ entries_from v.fixed (state_of v)
@@ -430,7 +433,7 @@ scanning-shorter first v w s kept is =
 
 pub scanning-goes-on : (first v w : ControllerIs) (events : List Entry) → IsScanning first v
     → v.reserved ≡ true → w ≡ stepped v
-    → WentOn Scan events v w → IsScanning first w
+    → ControllerWentOn Scan events v w → IsScanning first w
 scanning-goes-on first v w events s kept is went = record {
   within = subst (InScan (with_scan first.fixed first.history)) (sym is)
       (scan-goes-on (with_scan first.fixed first.history) v s.within kept);

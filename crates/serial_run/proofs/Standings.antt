@@ -8,11 +8,11 @@ use Rattle.plant_types.specs.declared.net.HostPlan.{HostPlan}
 use Rattle.plant_types.specs.declared.plan.ControllerPlan.{ControllerPlan}
 use Rattle.plant_types.specs.declared.plan.Plant.{Plant}
 use Rattle.ring_core.specs.declared.entry.RingEntry.{RingEntry}
-use Rattle.ring_core.specs.Legal.{IsLegal as IsLegalRing}
+use Rattle.ring_core.specs.Legal.{IsLegalRing}
 use Rattle.controller_core.specs.declared.entry.Entry.{Entry}
 use Rattle.controller_core.specs.declared.entry.Entry.TheVariants as entries
 use Rattle.controller_core.specs.declared.entry.Maker.TheVariants.{Scan}
-use Rattle.controller_core.specs.Controller.{ControllerIs, AreOf, WentOn}
+use Rattle.controller_core.specs.Controller.{ControllerIs, AreOf, ControllerWentOn}
 use Rattle.tied_lists.specs.Own.{is_of}
 use Rattle.tied_lists.specs.Items.{AHost}
 use Rattle.tied_lists.specs.Tied.{Tied}
@@ -31,7 +31,8 @@ use Rattle.joint_history.specs.JointLaws.{fixed_of}
 use Rattle.serial_run.proofs.Distinct.{low-members}
 use Rattle.serial_run.specs.declared.stations.ControllerStation.{ControllerStation}
 use Rattle.serial_run.specs.declared.stations.HostStation.{HostStation}
-use Rattle.serial_run.specs.Stations.{StandsController, StandsHost, MadeEvents, plain_ram_side, ring_side}
+use Rattle.serial_run.specs.Stations.{StandsController, StandsHost, MadeEvents, plain_ram_side}
+use Rattle.serial_run.specs.Stations.{ring_side}
 use Rattle.serial_run.proofs.Grown.{Further, others-own, others-left, others-none}
 
 -- ---- others have their turns
@@ -61,6 +62,7 @@ ties-others net host m n old new other f legal s =
       legal = s.legal;
       serves = s.serves;
       on = record { members = s.on.members; legal = legal; member = s.on.member };
+      answer = s.answer;
       tied = subst (Tied AHost (host_items_of host.history)) (sym same) s.tied;
       paths = subst (PathsAgree host.history) (sym same) s.paths;
     }
@@ -119,7 +121,7 @@ no-items (entries.Peer id request reply ∷ added) of = absurd (let is = of.0 in
 no-items (entries.Finish id result ∷ added) of = absurd (let is = of.0 in cc)
 
 comm-scans : (net : NetPlan) (worker : WorkerIs) (added : List Entry) (v w : ControllerIs)
-    (ring : List RingEntry) → WentOn Scan added v w
+    (ring : List RingEntry) → ControllerWentOn Scan added v w
     → Standing worker (plain_ram_side v) v.history (ring_side net) ring
     → Standing worker (plain_ram_side w) w.history (ring_side net) ring
 comm-scans net worker added v w ring went s =

@@ -19,7 +19,7 @@ use Rattle.host_port.specs.Legal.{IsHostHistory}
 use Rattle.serial_run.specs.declared.stations.ControllerStation.{ControllerStation}
 use Rattle.std.specs.List.{AllZip}
 use Rattle.ring_core.specs.declared.entry.RingEntry.{RingEntry}
-use Rattle.ring_core.specs.Legal.{IsLegal as IsLegalRing}
+use Rattle.ring_core.specs.Legal.{IsLegalRing}
 use Rattle.controller_core.specs.declared.entry.Entry.{Entry}
 use Rattle.controller_core.specs.Controller.{left_of}
 use Rattle.serial_run.specs.declared.stations.Stations.{Stations}
@@ -114,6 +114,7 @@ start-host plant plan v w sound member legal v-is w-is =
           legal = legal;
           serves = tt;
           on = record { members = low-members plant sound; legal = tt; member = member };
+          answer = let from = sound.net.answer.from in omega (arith, from);
           tied = nothing-host-tied;
           paths = paths-agree;
         };

@@ -5,7 +5,7 @@ use Rattle.std.specs.List.{All, AllZip, sum_by, count_by}
 use Rattle.plant_types.specs.declared.net.NetPlan.{NetPlan}
 use Rattle.ring_core.specs.declared.entry.RingEntry.{RingEntry}
 use Rattle.ring_core.specs.Kept.{RingLog}
-use Rattle.ring_core.specs.Legal.{IsLegal as IsLegalRing}
+use Rattle.ring_core.specs.Legal.{IsLegalRing}
 use Rattle.controller_core.specs.Controller.{IsLegal, has_started}
 use Rattle.tied_lists.specs.Own.{own}
 use Rattle.joint_history.specs.Complete.{is_pass}

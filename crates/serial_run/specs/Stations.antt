@@ -10,11 +10,11 @@ use Rattle.plant_types.specs.Plans.{IsPlant}
 use Rattle.plant_types.specs.Store.{is_on}
 use Rattle.std.specs.List.{All}
 use Rattle.ring_core.specs.declared.entry.RingEntry.{RingEntry}
-use Rattle.ring_core.specs.Legal.{IsLegal as IsLegalRing}
+use Rattle.ring_core.specs.Legal.{IsLegalRing}
 use Rattle.controller_core.specs.declared.entry.Entry.{Entry}
 use Rattle.controller_core.specs.declared.entry.Maker.TheVariants.{Scan}
 use Rattle.controller_core.specs.declared.notes.Notes.{Notes}
-use Rattle.controller_core.specs.Controller.{ControllerIs, IsLegal, WentOn, store_of}
+use Rattle.controller_core.specs.Controller.{ControllerIs, IsLegal, ControllerWentOn, store_of}
 use Rattle.controller_core.specs.Notes.{notes_of}
 use Rattle.joint_history.specs.declared.joint.ControllerLog.{ControllerLog}
 use Rattle.joint_history.specs.declared.joint.HostLog.{HostLog}
@@ -142,4 +142,4 @@ pub record Starts (plant : Plant) (scans : ℕ) (run : Stations) : Type 0 where
 pub record MadeEvents (history : List Entry) (old new : ControllerIs) : Type 0 where
   pub history_is : new.history ≡ history
   pub events : List Entry
-  pub went_on : WentOn Scan events old new
+  pub went_on : ControllerWentOn Scan events old new

@@ -84,7 +84,7 @@ MakesStep plant scans None old new = new ≡ old
 MakesStep plant scans (Some at) old new = StepsAt plant scans at old new
 
 -- The controller at a place makes its hold turn: its own list and the ring's go on.
-pub record HoldsAt (plant : Plant) (scans at : ℕ) (old new : Joint) : Type 0 where
+pub record MakesHoldTurnAt (plant : Plant) (scans at : ℕ) (old new : Joint) : Type 0 where
   pub plan : ControllerPlan
   pub log : ControllerLog
   pub is : IsControllerAt plant old at plan log
@@ -110,7 +110,7 @@ pub record HostHoldsAt (plant : Plant) (at : ℕ) (old new : Joint) : Type 0 whe
 -- Hold: the station of the node that holds the token makes its hold turn; nothing where all have
 -- left, so that no station's node holds it.
 abbrev pub MakesHold : Plant → ℕ → Option ℕ → Option ℕ → Joint → Joint → Type 0
-MakesHold plant scans (Some at) host old new = HoldsAt plant scans at old new
+MakesHold plant scans (Some at) host old new = MakesHoldTurnAt plant scans at old new
 MakesHold plant scans None (Some at) old new = HostHoldsAt plant at old new
 MakesHold plant scans None None old new = new ≡ old
 

@@ -1,5 +1,6 @@
 //! Runs: turns in a given order, and the serial run.
 ghost use Rattle.std.specs.Prelude.{◌≡◌, ◌≤◌, IfOk};
+ghost use Rattle.plant_types.specs.Limits.{most_scans};
 ghost use Rattle.effect_laws.specs.Effects.{EffectsAreRight};
 ghost use Rattle.entry_causes.specs.Joint.{IsInOneOrder};
 ghost use Rattle.joint_history.specs.Complete.{IsComplete};
@@ -25,7 +26,7 @@ use turn_laws::runs_complete;
 /// ring noted. Workers keep to their budget of Passes. The only error is that memory ran out.
 pub fn turns(alloc: Global, plant: &Plant, scans: u32, order: &[Turn]) -> Result<Joint, AllocError>
     requires plant { CanRunPlant plant.now }
-    requires scans { scans ≤ 2000 }
+    requires scans { scans ≤ most_scans }
     ensures turns { IfOk result (IsTurns plant.now scans order.now) }
     ensures legal { IfOk result (IsLegalJoint plant.now scans) }
     ensures joint { IfOk result IsJoint }
@@ -53,7 +54,7 @@ pub struct CountedRun {
 /// All stations of a plant behind its serial run.
 fn over(alloc: Global, plant: &Plant, scans: u32) -> Result<Stations, AllocError>
     requires plant { CanRunPlant plant.now }
-    requires scans { scans ≤ 2000 }
+    requires scans { scans ≤ most_scans }
     ensures { IfOk result (AreOver plant.now scans) }
 {
     runs_complete();
@@ -68,7 +69,7 @@ fn over(alloc: Global, plant: &Plant, scans: u32) -> Result<Stations, AllocError
 /// their panels. The only error is that memory ran out.
 pub fn run_noted(alloc: Global, plant: &Plant, scans: u32) -> Result<Noted, AllocError>
     requires plant { CanRunPlant plant.now }
-    requires scans { scans ≤ 2000 }
+    requires scans { scans ≤ most_scans }
     ensures { IfOk result (IsNotedRun plant.now scans) }
 {
     effects_are_right();
@@ -82,7 +83,7 @@ pub fn run_noted(alloc: Global, plant: &Plant, scans: u32) -> Result<Noted, Allo
 /// memory ran out.
 pub fn run_counted(alloc: Global, plant: &Plant, scans: u32) -> Result<CountedRun, AllocError>
     requires plant { CanRunPlant plant.now }
-    requires scans { scans ≤ 2000 }
+    requires scans { scans ≤ most_scans }
     ensures { IfOk result (IsCountedRun plant.now scans) }
 {
     effects_are_right();
@@ -97,7 +98,7 @@ pub fn run_counted(alloc: Global, plant: &Plant, scans: u32) -> Result<CountedRu
 /// The joint history of `run_noted` alone.
 pub fn run(alloc: Global, plant: &Plant, scans: u32) -> Result<Joint, AllocError>
     requires plant { CanRunPlant plant.now }
-    requires scans { scans ≤ 2000 }
+    requires scans { scans ≤ most_scans }
     ensures serial { IfOk result (IsSerial plant.now scans) }
     ensures legal { IfOk result (IsLegalJoint plant.now scans) }
     ensures joint { IfOk result IsJoint }

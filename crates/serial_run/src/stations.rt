@@ -1,7 +1,8 @@
 //! The stations of a plant and their ring, as a run has them.
 ghost use Rattle.std.specs.Prelude.{◌≡◌, ◌≤◌, ◌==◌, IfOk};
 ghost use Rattle.std.specs.List.{position};
-ghost use Rattle.controller_core.specs.Machine.{CanRun};
+ghost use Rattle.plant_types.specs.Limits.{most_scans};
+ghost use Rattle.traffic_cop.specs.Rows.{IsRunnablePlan};
 ghost use Rattle.plant_types.specs.Plans.{IsHostPlan};
 ghost use Rattle.ring_core.specs.Legal.{IsMember};
 ghost use Rattle.joint_history.specs.Runnable.{CanRunPlant};
@@ -49,9 +50,9 @@ fn controller_of(
     scans: u32,
 ) -> Result<ControllerStation, AllocError>
     requires plant { CanRunPlant plant.now }
-    requires runs { CanRun plan.now }
+    requires runs { IsRunnablePlan plan.now }
     requires member { IsMember plant.now.net plan.now.node }
-    requires scans { scans ≤ 2000 }
+    requires scans { scans ≤ most_scans }
     ensures { IfOk result (StartsController plant.now scans plan.now) }
 {
     let (scan_time, watchdog) = (plant.scan_time, plant.watchdog);
@@ -73,7 +74,7 @@ fn controllers_of(
     scans: u32,
 ) -> Result<Vec<ControllerStation>, AllocError>
     requires plant { CanRunPlant plant.now }
-    requires scans { scans ≤ 2000 }
+    requires scans { scans ≤ most_scans }
     ensures { IfOk result (λ stations. StartControllers plant.now scans stations.items) }
 {
     let mut stations = Vec::new(alloc);
@@ -115,7 +116,7 @@ impl Stations {
     /// All stations of a plant at their start, before any turn.
     pub(crate) fn new(alloc: Global, plant: &Plant, scans: u32) -> Result<Stations, AllocError>
         requires plant { CanRunPlant plant.now }
-        requires scans { scans ≤ 2000 }
+        requires scans { scans ≤ most_scans }
         ensures { IfOk result (Starts plant.now scans) }
     {
         let controllers = controllers_of(alloc, plant, scans)?;

@@ -3,7 +3,7 @@ ghost use Rattle.std.specs.Prelude.{◌≡◌, ◌%◌, true, IfOk};
 ghost use Rattle.std.specs.FinMap as map;
 ghost use Rattle.plant_types.specs.Reference.{is_discrete};
 ghost use Rattle.plant_types.specs.Sizes.{cleared, sizes_from};
-ghost use Rattle.plant_types.specs.Store.{Keeps, part_at};
+ghost use Rattle.plant_types.specs.Store.{Keeps, part_within};
 ghost use Rattle.plant_types.specs.Discretes.{word_bits, bits_from, with_bits};
 
 use crate::banks::Banks;
@@ -52,7 +52,7 @@ impl PackedRam {
     /// Each reference of this store takes the number that it has in another, word by word.
     pub fn copy_from(&mut self, other: &PackedRam)
         requires { Keeps self.old other.now }
-        ensures copied { self.new ≡ part_at self.old other.now }
+        ensures copied { self.new ≡ part_within self.old other.now }
         ensures keeps { Keeps self.old self.new }
         ensures no_more { Keeps self.new self.old }
     {

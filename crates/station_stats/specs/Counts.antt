@@ -62,8 +62,8 @@ pub record StatsIs : Type 0 where
   pub node : ℕ
   pub counts : List ℕ
 
-abbrev pub cleared : ℕ → StatsIs
-cleared node = record { node = node; counts = replicate 15 0 }
+abbrev pub cleared_counters : ℕ → StatsIs
+cleared_counters node = record { node = node; counts = replicate 15 0 }
 
 -- One more at the counter of an event.
 abbrev pub counted : StatsIs → StatEvent → StatsIs
@@ -73,7 +73,7 @@ counted stats event =
 
 abbrev pub noted : StatsIs → StatNote → StatsIs
 noted stats (Counted event) = counted stats event
-noted stats Cleared = cleared stats.node
+noted stats Cleared = cleared_counters stats.node
 
 -- Counters that run along.
 abbrev pub running : StatsIs → List StatNote → StatsIs
@@ -88,5 +88,5 @@ stats_words stats members passed =
 -- Counters that run along are the counts from scratch since the last clear.
 abbrev pub CountsAreFromScratch : Type 0
 CountsAreFromScratch =
-    (node : ℕ) (notes : List StatNote) → (running (cleared node) notes ≡
+    (node : ℕ) (notes : List StatNote) → (running (cleared_counters node) notes ≡
     record { node = node; counts = counts_of (since_clear [] notes) })

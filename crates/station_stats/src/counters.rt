@@ -1,6 +1,6 @@
 //! Counters that run along.
 ghost use Rattle.std.specs.Prelude.{◌≡◌};
-ghost use Rattle.station_stats.specs.Counts.{cleared, counted, stats_words};
+ghost use Rattle.station_stats.specs.Counts.{cleared_counters, counted, stats_words};
 
 use crate::event::StatEvent;
 use std::marker::Model;
@@ -24,7 +24,7 @@ impl Model for Stats {
 impl Stats {
     /// Nothing was counted yet.
     pub fn new(node: u8) -> Stats
-        ensures { result ≡ cleared node }
+        ensures { result ≡ cleared_counters node }
     {
         Stats {
             node,
@@ -42,7 +42,7 @@ impl Stats {
 
     /// Counts from zero on.
     pub fn clear(&mut self)
-        ensures { self.new ≡ cleared self.old.node }
+        ensures { self.new ≡ cleared_counters self.old.node }
     {
         self.counts = [0; 15];
     }

@@ -12,38 +12,47 @@ use Rattle.plant_types.proofs.RunLemmas.{HasRegisters-part, length-words_from, g
 use Rattle.table_ops.specs.Tables.{moved}
 
 -- one register is moved by its number
-pub moved-one : (m : Contents) (source target : Ref) → moved m source target 1 ≡ insert m target (word_at m source)
+pub moved-one : (m : Contents) (source target : Ref)
+    → moved m source target 1 ≡ insert m target (word_at m source)
 unfolding words_from with_words
 moved-one m source target = refl
 
 -- registers some places on in a run
-pub HasRegisters-at : (m : Contents) (at : Ref) (count k part : ℕ) (r : Ref) → HasRegisters m at count → k + part ≤ count → r ≡ ref_from at k
+pub HasRegisters-at : (m : Contents) (at : Ref) (count k part : ℕ) (r : Ref)
+    → HasRegisters m at count → k + part ≤ count → r ≡ ref_from at k
     → HasRegisters m r part
-HasRegisters-at m at count k part r has fits e = subst (λ (q : Ref). HasRegisters m q part) (sym e) (HasRegisters-part m at count k part has fits)
+HasRegisters-at m at count k part r has fits e = subst (λ (q : Ref). HasRegisters m q part) (sym e)
+    (HasRegisters-part m at count k part has fits)
 
 -- the first place that holds a number is here, or behind here
 first_place-step : (m : Contents) (table : Ref) (length place value : ℕ) → place < length
     → position_from (λ word. word == value) place (drop place (words_from m table length))
     ≡ (if word_at m (ref_from table place) == value then Some place
-    else position_from (λ word. word == value) (place + 1) (drop (place + 1) (words_from m table length)))
+    else position_from (λ word. word == value) (place + 1)
+    (drop (place + 1) (words_from m table length)))
 first_place-step m table n place value h =
     let words = words_from m table n in
     let e = length-words_from m table n in
     let within : place < length words = omega arith in
     ap (position_from (λ word. word == value) place) (drop_more words place 0 within)
-    ∙ ap (λ word. if word == value then Some place else position_from (λ w. w == value) (place + 1) (drop (place + 1) words))
+    ∙ ap (λ word. if word == value then Some place
+    else position_from (λ w. w == value) (place + 1) (drop (place + 1) words))
     (get_or-words_from m table n place 0 h)
 
 -- here it is
-pub first_place-here : (m : Contents) (table : Ref) (length place value : ℕ) → place < length → word_at m (ref_from table place) ≡ value
-    → position_from (λ word. word == value) place (drop place (words_from m table length)) ≡ Some place
+pub first_place-here : (m : Contents) (table : Ref) (length place value : ℕ) → place < length
+    → word_at m (ref_from table place) ≡ value
+    → position_from (λ word. word == value) place (drop place (words_from m table length))
+    ≡ Some place
 first_place-here m table n place value h e =
     let step = first_place-step m table n place value h in
     grind (arith, nat_tests)
 
 -- here it is not
-pub first_place-later : (m : Contents) (table : Ref) (length place value : ℕ) → place < length → word_at m (ref_from table place) ≢ value
-    → position_from (λ word. word == value) (place + 1) (drop (place + 1) (words_from m table length))
+pub first_place-later : (m : Contents) (table : Ref) (length place value : ℕ) → place < length
+    → word_at m (ref_from table place) ≢ value
+    → position_from (λ word. word == value) (place + 1)
+    (drop (place + 1) (words_from m table length))
     ≡ position_from (λ word. word == value) place (drop place (words_from m table length))
 first_place-later m table n place value h e =
     let step = first_place-step m table n place value h in
@@ -54,4 +63,5 @@ pub first_place-nowhere : (m : Contents) (table : Ref) (length place value : ℕ
     → position_from (λ word. word == value) place (drop place (words_from m table length)) ≡ None
 first_place-nowhere m table n place value h =
     let e = length-words_from m table n in
-    ap (position_from (λ word. word == value) place) (drop_all place (words_from m table n) (omega arith))
+    ap (position_from (λ word. word == value) place)
+    (drop_all place (words_from m table n) (omega arith))

@@ -29,7 +29,7 @@ use Rattle.ring_core.specs.Refusals.{or_no, turn_no, free_no, post_no, path_no, 
 use Rattle.ring_core.specs.Refusals.{unsent_no, untaken_no, pass_no, leave_no, give_up_no}
 use Rattle.ring_core.specs.Refusals.{awaited_no, other_no, answer_after}
 use Rattle.ring_core.specs.Legal.{IsMember, IsPath, IsFrom, IsNextNumber, IsFirst, IsLawful}
-use Rattle.ring_core.specs.Legal.{IsTimelyEntry, IsRingStep, IsRun, IsLegal}
+use Rattle.ring_core.specs.Legal.{IsTimelyEntry, IsRingStep, IsRun, IsLegalRing}
 use Rattle.ring_core.proofs.Runs.{after_all-push}
 use Rattle.tied_lists.specs.Words.{CallId, FrameKind, Request, Reply, Frame, NetPlan, Heard, Acked}
 use Rattle.tied_lists.specs.Words.{Silent, Busy, LeaveCause, RingEntry, Post, Send, Take, Local}
@@ -61,11 +61,15 @@ pub record RingFollows (n : ℕ) (h : List RingEntry) (r : RingIs) : Type 0 wher
   pub frames : (m : ℕ) → Each (IsOwn m) (ring_node r m).outbox
 
 -- own lists
-pub own-mine : (n : ℕ) (h : List RingEntry) (e : RingEntry) → maker e ≡ n → own n (h ++ e ∷ []) ≡ own n h ++ e ∷ []
-own-mine n h e is = filter-append (is_of n) h (e ∷ []) ∙ ap (λ (b : Bool). own n h ++ cond b (e ∷ []) []) (eq-eqb (maker e) n is)
+pub own-mine : (n : ℕ) (h : List RingEntry) (e : RingEntry) → maker e ≡ n
+    → own n (h ++ e ∷ []) ≡ own n h ++ e ∷ []
+own-mine n h e is = filter-append (is_of n) h (e ∷ [])
+    ∙ ap (λ (b : Bool). own n h ++ cond b (e ∷ []) []) (eq-eqb (maker e) n is)
 
-pub own-other : (n : ℕ) (h : List RingEntry) (e : RingEntry) → maker e ≢ n → own n (h ++ e ∷ []) ≡ own n h
-own-other n h e other = filter-append (is_of n) h (e ∷ []) ∙ (ap (λ (b : Bool). own n h ++ cond b (e ∷ []) []) (ne_eqb (maker e) n
+pub own-other : (n : ℕ) (h : List RingEntry) (e : RingEntry) → maker e ≢ n
+    → own n (h ++ e ∷ []) ≡ own n h
+own-other n h e other = filter-append (is_of n) h (e ∷ [])
+    ∙ (ap (λ (b : Bool). own n h ++ cond b (e ∷ []) []) (ne_eqb (maker e) n
     other) ∙ append-nil (own n h))
 
 -- refusals
@@ -77,21 +81,26 @@ second-none : (a b : Option RingNo) → or_no a b ≡ None → b ≡ None
 second-none None b e = e
 second-none (Some x) b e = absurd (cc)
 
-turned : (here holds : Bool) (why : RingNo) → cond here (cond holds None (Some why)) (Some NotMember) ≡ None → holds ≡ true
+turned : (here holds : Bool) (why : RingNo)
+    → cond here (cond holds None (Some why)) (Some NotMember) ≡ None → holds ≡ true
 turned true true why e = refl
 turned true false why e = absurd (cc)
 turned false holds why e = absurd (cc)
 
 pub turn-holds : (r : RingIs) (m : ℕ) → turn_no r m ≡ None → r.holder ≡ m
-turn-holds r m e = eqb-true r.holder m (turned (ring_node r m).here (r.holder == m) (NotHolder r.holder) e)
+turn-holds r m e =
+    eqb-true r.holder m (turned (ring_node r m).here (r.holder == m) (NotHolder r.holder) e)
 
-freed : (here holds : Bool) (why : RingNo) → cond here (cond holds None (Some why)) None ≡ None → (holds ≡ true) ⊎ (here ≡ false)
+freed : (here holds : Bool) (why : RingNo) → cond here (cond holds None (Some why)) None ≡ None
+    → (holds ≡ true) ⊎ (here ≡ false)
 freed true true why e = inl refl
 freed true false why e = absurd (cc)
 freed false holds why e = inr refl
 
-pub free-holds : (r : RingIs) (m : ℕ) → free_no r m ≡ None → (r.holder ≡ m) ⊎ ((ring_node r m).here ≡ false)
-free-holds r m e = ⊎_elim (λ (x : (r.holder == m) ≡ true). inl (eqb-true r.holder m x)) (λ (x : (ring_node r m).here ≡ false). inr x)
+pub free-holds : (r : RingIs) (m : ℕ) → free_no r m ≡ None
+    → (r.holder ≡ m) ⊎ ((ring_node r m).here ≡ false)
+free-holds r m e = ⊎_elim (λ (x : (r.holder == m) ≡ true). inl (eqb-true r.holder m x))
+    (λ (x : (ring_node r m).here ≡ false). inr x)
     (freed (ring_node r m).here (r.holder == m) (NotHolder r.holder) e)
 
 taken-none : (a : Await) → taken_no a ≡ None → a ≡ Nothing
@@ -109,7 +118,8 @@ untaken-none [] e = refl
 untaken-none (f ∷ fs) e = absurd (cc)
 
 other-none : (out seq : ℕ) → other_no out seq ≡ None → out ≡ seq
-other-none out seq e = cond_both (out == seq) None (Some (NotAwaited out)) (λ x. x ≡ None → out ≡ seq) (λ y _. eqb-true out seq y) (λ _ x. absurd (cc)) e
+other-none out seq e = cond_both (out == seq) None (Some (NotAwaited out))
+    (λ x. x ≡ None → out ≡ seq) (λ y _. eqb-true out seq y) (λ _ x. absurd (cc)) e
 
 awaited-none : (a : Await) (seq : ℕ) → awaited_no a seq ≡ None → awaited_number a ≡ seq
 awaited-none Nothing seq e = absurd (cc)
@@ -121,42 +131,52 @@ awaited-none (Failed out word) seq e = other-none out seq e
 low : (net : NetPlan) (n : ℕ) → All (λ m. m < addresses) net.members → IsMember net n → n < addresses
 low net n all member = All-contains (λ m. m < addresses) net.members n all member
 
-pub at-same : (nodes : List NodeIs) (n : ℕ) (c : NodeIs) → length nodes ≡ addresses → n < addresses → part_of (set nodes n c) n ≡ c
-at-same nodes n c size range = get_or-set_same nodes n c (fresh false) (let s = size in let k = range in omega (arith, s, k))
+pub at-same : (nodes : List NodeIs) (n : ℕ) (c : NodeIs) → length nodes ≡ addresses → n < addresses
+    → part_of (set nodes n c) n ≡ c
+at-same nodes n c size range =
+    get_or-set_same nodes n c (fresh false) (let s = size in let k = range in omega (arith, s, k))
 
-at-other : (nodes : List NodeIs) (m n : ℕ) (c : NodeIs) → (n ≡ m → ⊥) → part_of (set nodes m c) n ≡ part_of nodes n
+at-other : (nodes : List NodeIs) (m n : ℕ) (c : NodeIs) → (n ≡ m → ⊥)
+    → part_of (set nodes m c) n ≡ part_of nodes n
 at-other nodes m n c other = get_or-set_other nodes m n c (fresh false) other
 
 -- every place after a write
-each-put : {X : Type 0} (P : ℕ → X → Type 0) (xs : List X) (d : X) (m : ℕ) (x : X) → ((n : ℕ) → P n (get_or xs n d)) → P m x → (n
+each-put : {X : Type 0} (P : ℕ → X → Type 0) (xs : List X) (d : X) (m : ℕ) (x : X)
+    → ((n : ℕ) → P n (get_or xs n d)) → P m x → (n
     : ℕ) → P n (get_or (set xs m x) n d)
 each-put P [] d m x all it n = all n
 each-put P (y ∷ ys) d zero x all it zero = it
 each-put P (y ∷ ys) d zero x all it (suc n) = all (suc n)
 each-put P (y ∷ ys) d (suc m) x all it zero = all zero
-each-put P (y ∷ ys) d (suc m) x all it (suc n) = each-put (λ k. P (suc k)) ys d m x (λ k. all (suc k)) it n
+each-put P (y ∷ ys) d (suc m) x all it (suc n) =
+    each-put (λ k. P (suc k)) ys d m x (λ k. all (suc k)) it n
 
 abbrev OwnBox : ℕ → NodeIs → Type 0
 OwnBox m c = Each (IsOwn m) c.outbox
 
 -- the node's own entry changes its part alone
-own-step : (n : ℕ) (h : List RingEntry) (r : RingIs) (e : RingEntry) (holder' : ℕ) (c : NodeIs) → n < addresses → maker e ≡ n
+own-step : (n : ℕ) (h : List RingEntry) (r : RingIs) (e : RingEntry) (holder' : ℕ) (c : NodeIs)
+    → n < addresses → maker e ≡ n
     → NodeFollows n (own n h ++ e ∷ []) holder' c → OwnBox n c → RingFollows n h r
     → RingFollows n (h ++ e ∷ []) (record { holder = holder'; sent = r.sent; nodes = set r.nodes n c })
 own-step n h r e holder' c range mine node box i = record {
   size = length-set _ _ _ ∙ i.size;
-  node = subst (λ (x : NodeIs). NodeFollows n (own n (h ++ e ∷ [])) holder' x) (sym (at-same r.nodes n c i.size range))
+  node = subst (λ (x : NodeIs). NodeFollows n (own n (h ++ e ∷ [])) holder' x)
+      (sym (at-same r.nodes n c i.size range))
       (subst (λ (l : List RingEntry). NodeFollows n l holder' c) (sym (own-mine n h e mine)) node);
   frames = each-put OwnBox r.nodes (fresh false) n c i.frames box;
 }
 
 -- an entry of another that leaves the node's part
-other-step : (n : ℕ) (h : List RingEntry) (r s : RingIs) (e : RingEntry) → maker e ≢ n → length s.nodes ≡ length r.nodes → ring_node s n ≡ ring_node r n
-    → IsBusy n s.holder (ring_node r n).here (ring_node r n).outbox → ((m : ℕ) → OwnBox m (ring_node s m)) → RingFollows n h r → RingFollows n (h ++ e ∷ []) s
+other-step : (n : ℕ) (h : List RingEntry) (r s : RingIs) (e : RingEntry) → maker e ≢ n
+    → length s.nodes ≡ length r.nodes → ring_node s n ≡ ring_node r n
+    → IsBusy n s.holder (ring_node r n).here (ring_node r n).outbox
+    → ((m : ℕ) → OwnBox m (ring_node s m)) → RingFollows n h r → RingFollows n (h ++ e ∷ []) s
 other-step n h r s e other size same busy frames i = record {
   size = size ∙ i.size;
   node = subst (λ (x : NodeIs). NodeFollows n (own n (h ++ e ∷ [])) s.holder x) (sym same)
-      (subst (λ (l : List RingEntry). NodeFollows n l s.holder (ring_node r n)) (sym (own-other n h e other)) (record {
+      (subst (λ (l : List RingEntry). NodeFollows n l s.holder (ring_node r n))
+      (sym (own-other n h e other)) (record {
         part =
             i.node.part;
         left = i.node.left;
@@ -166,25 +186,33 @@ other-step n h r s e other size same busy frames i = record {
 }
 
 -- another passes the token on: who is busy has left
-moved-busy : (n holder holder' : ℕ) (here : Bool) (out : List Frame) → holder ≢ n → IsBusy n holder here out → IsBusy n holder' here out
+moved-busy : (n holder holder' : ℕ) (here : Bool) (out : List Frame) → holder ≢ n
+    → IsBusy n holder here out → IsBusy n holder' here out
 moved-busy n holder holder' here out not_mine b = ⊎_elim (λ (x : out ≡ []). inl x)
-    (λ (y : (holder ≡ n) ⊎ (here ≡ false)). ⊎_elim (λ (z : holder ≡ n). absurd (not_mine z)) (λ (z : here ≡ false). inr (inr z)) y) b
+    (λ (y : (holder ≡ n) ⊎ (here ≡ false)). ⊎_elim (λ (z : holder ≡ n). absurd (not_mine z))
+    (λ (z : here ≡ false). inr (inr z)) y) b
 
 -- Post
-post-paths : (net : NetPlan) (n : ℕ) (b : List RingEntry) (c : NodeIs) (f : Frame) (kind : FrameKind) → f.kind ≡ kind → IsFrom n
+post-paths : (net : NetPlan) (n : ℕ) (b : List RingEntry) (c : NodeIs) (f : Frame)
+    (kind : FrameKind) → f.kind ≡ kind → IsFrom n
     kind f → IsNextNumber c kind f.id → path_no c kind f.id.path ≡ None
-    → Follows n b c.paths c.outbox c.inbox c.tries → Follows n (b ++ Post n f ∷ []) (asked c kind f.id f.to) (c.outbox ++ f ∷ []) c.inbox c.tries
-post-paths net n b c f Request is from next free i = post-request n b c.paths c.outbox c.inbox c.tries f is from.0 from.1 from.2 (taken-none _ free) next i
+    → Follows n b c.paths c.outbox c.inbox c.tries
+    → Follows n (b ++ Post n f ∷ []) (asked c kind f.id f.to) (c.outbox ++ f ∷ []) c.inbox c.tries
+post-paths net n b c f Request is from next free i = post-request n b c.paths c.outbox c.inbox
+    c.tries f is from.0 from.1 from.2 (taken-none _ free) next i
 post-paths net n b c f Reply is from next free i = post-reply n b c.paths c.outbox c.inbox c.tries f is i
 
-post-step : (net : NetPlan) (h : List RingEntry) (n m : ℕ) (f : Frame) → n < addresses → IsRingStep net h (Post m f) → (r :
-    RingIs) → r ≡ ring_after net h → RingFollows n h r
+post-step : (net : NetPlan) (h : List RingEntry) (n m : ℕ) (f : Frame) → n < addresses
+    → IsRingStep net h (Post m f) → (r : RingIs) → r ≡ ring_after net h → RingFollows n h r
     → RingFollows n (h ++ Post m f ∷ []) (after net r (Post m f))
 post-step net h n m f range s r is i =
-    let t : IsTimelyEntry net h r (Post m f) = subst (λ (x : RingIs). IsTimelyEntry net h x (Post m f)) (sym is) s.1 in
-    ⊎_elim (λ (e : m ≡ n). subst (λ (k : ℕ). RingFollows n (h ++ Post k f ∷ []) (after net r (Post k f))) (sym e)
+    let t : IsTimelyEntry net h r (Post m f) =
+    subst (λ (x : RingIs). IsTimelyEntry net h x (Post m f)) (sym is) s.1 in
+    ⊎_elim (λ (e : m ≡ n).
+    subst (λ (k : ℕ). RingFollows n (h ++ Post k f ∷ []) (after net r (Post k f))) (sym e)
     (let from : IsFrom n f.kind f = subst (λ (k : ℕ). IsFrom k f.kind f) e s.0.1 in
-    let next : IsNextNumber (ring_node r n) f.kind f.id = subst (λ (k : ℕ). IsNextNumber (ring_node r k) f.kind f.id) e t.0 in
+    let next : IsNextNumber (ring_node r n) f.kind f.id =
+    subst (λ (k : ℕ). IsNextNumber (ring_node r k) f.kind f.id) e t.0 in
     let no' : post_no r n f ≡ None = subst (λ (k : ℕ). post_no r k f ≡ None) e t.1 in
     let c = ring_node r n in
     own-step n h r (Post n f) r.holder (posted c f) range refl
@@ -194,8 +222,10 @@ post-step net h n m f range s r is i =
       busy = inr (free-holds r n (first-none _ _ no'));
     })
     (each-push (IsOwn n) c.outbox f (i.frames n) from) i))
-    (λ (o : m ≡ n → ⊥). other-step n h r (after net r (Post m f)) (Post m f) o (length-set _ _ _) (at-other r.nodes m n _ (λ x. o (sym x))) i.node.busy
-    (each-put OwnBox r.nodes (fresh false) m _ i.frames (each-push (IsOwn m) (ring_node r m).outbox f (i.frames m) s.0.1)) i)
+    (λ (o : m ≡ n → ⊥). other-step n h r (after net r (Post m f)) (Post m f) o (length-set _ _ _)
+    (at-other r.nodes m n _ (λ x. o (sym x))) i.node.busy
+    (each-put OwnBox r.nodes (fresh false) m _ i.frames
+    (each-push (IsOwn m) (ring_node r m).outbox f (i.frames m) s.0.1)) i)
     (cases_eq m n)
 
 -- Take
@@ -203,9 +233,11 @@ first-frame : (box : List Frame) (f : Frame) → IsFirst box f → box ≡ f ∷
 first-frame [] f first = absurd first
 first-frame (g ∷ gs) f first = ap (λ (x : Frame). x ∷ gs) first
 
-path-low : (ps : List Path) (p : ℕ) (a : Await) → length ps ≡ path_places → (get_or ps p no_path).awaits ≡ a → (a ≡ Nothing → ⊥) → p < path_places
+path-low : (ps : List Path) (p : ℕ) (a : Await) → length ps ≡ path_places
+    → (get_or ps p no_path).awaits ≡ a → (a ≡ Nothing → ⊥) → p < path_places
 path-low ps p a size is not_nothing = ⊎_elim (λ (x : nat_le path_places p ≡ true).
-    absurd (not_nothing (sym is ∙ ap (λ (y : Path). y.awaits) (default-at ps no_path p (let l = leb-true path_places p x in let s
+    absurd (not_nothing (sym is ∙ ap (λ (y : Path). y.awaits)
+    (default-at ps no_path p (let l = leb-true path_places p x in let s
     = size in omega (arith, l, s))))))
     (λ (x : nat_le path_places p ≡ false). leb-false path_places p x) (cases_Bool (nat_le path_places p))
   where
@@ -214,33 +246,43 @@ path-low ps p a size is not_nothing = ⊎_elim (λ (x : nat_le path_places p ≡
     default-at (x ∷ xs) d zero le = absurd (omega (arith, le))
     default-at (x ∷ xs) d (suc k) le = default-at xs d k (omega (arith, le))
 
-take-paths : (n : ℕ) (b : List RingEntry) (c : NodeIs) (f : Frame) (fs : List Frame) (kind : FrameKind) → f.kind ≡ kind → c.inbox
+take-paths : (n : ℕ) (b : List RingEntry) (c : NodeIs) (f : Frame) (fs : List Frame)
+    (kind : FrameKind) → f.kind ≡ kind → c.inbox
     ≡ f ∷ fs → Follows n b c.paths c.outbox c.inbox c.tries
-    → Follows n (b ++ Take n f ∷ []) (paths_after_take c kind f.id.path) c.outbox (drop 1 c.inbox) c.tries
+    → Follows n (b ++ Take n f ∷ []) (paths_after_take c kind f.id.path) c.outbox
+    (drop 1 c.inbox) c.tries
 take-paths n b c f fs Request is box i = take-request n b c.paths c.outbox c.inbox c.tries f is i
 take-paths n b c f fs Reply is box i =
-    let j : Follows n b c.paths c.outbox (f ∷ fs) c.tries = subst (λ (l : List Frame). Follows n b c.paths c.outbox l c.tries) box i in
-    let came : CameOn n c.paths Reply f.id = subst (λ (k : FrameKind). CameOn n c.paths k f.id) is j.comes.0 in
-    let low' : f.id.path < path_places = path-low c.paths f.id.path (Arrived f.id.seq) i.size came.0 (λ x. absurd (cc)) in
-    subst (λ (l : List Frame). Follows n (b ++ Take n f ∷ []) (paths_after_take c Reply f.id.path) c.outbox (drop 1 l) c.tries) (sym box)
+    let j : Follows n b c.paths c.outbox (f ∷ fs) c.tries =
+    subst (λ (l : List Frame). Follows n b c.paths c.outbox l c.tries) box i in
+    let came : CameOn n c.paths Reply f.id =
+    subst (λ (k : FrameKind). CameOn n c.paths k f.id) is j.comes.0 in
+    let low' : f.id.path < path_places = path-low c.paths f.id.path (Arrived f.id.seq) i.size came.0
+    (λ x. absurd (cc)) in
+    subst (λ (l : List Frame). Follows n (b ++ Take n f ∷ []) (paths_after_take c Reply f.id.path)
+    c.outbox (drop 1 l) c.tries) (sym box)
     (take-reply n b c.paths c.outbox f fs c.tries c refl is low' j)
 
-take-step : (net : NetPlan) (h : List RingEntry) (n m : ℕ) (f : Frame) → n < addresses → IsRingStep net h (Take m f) → (r :
-    RingIs) → r ≡ ring_after net h → RingFollows n h r
+take-step : (net : NetPlan) (h : List RingEntry) (n m : ℕ) (f : Frame) → n < addresses
+    → IsRingStep net h (Take m f) → (r : RingIs) → r ≡ ring_after net h → RingFollows n h r
     → RingFollows n (h ++ Take m f ∷ []) (after net r (Take m f))
 take-step net h n m f range s r is i =
-    let t : IsTimelyEntry net h r (Take m f) = subst (λ (x : RingIs). IsTimelyEntry net h x (Take m f)) (sym is) s.1 in
-    ⊎_elim (λ (e : m ≡ n). subst (λ (k : ℕ). RingFollows n (h ++ Take k f ∷ []) (after net r (Take k f))) (sym e)
+    let t : IsTimelyEntry net h r (Take m f) =
+    subst (λ (x : RingIs). IsTimelyEntry net h x (Take m f)) (sym is) s.1 in
+    ⊎_elim (λ (e : m ≡ n).
+    subst (λ (k : ℕ). RingFollows n (h ++ Take k f ∷ []) (after net r (Take k f))) (sym e)
     (let c = ring_node r n in
     let first : IsFirst c.inbox f = subst (λ (k : ℕ). IsFirst (ring_node r k).inbox f) e t.1 in
     own-step n h r (Take n f) r.holder (took c f.kind f.id) range refl
     (record {
-      part = take-paths n (own n h) c f (drop 1 c.inbox) f.kind refl (first-frame c.inbox f first) i.node.part;
+      part = take-paths n (own n h) c f (drop 1 c.inbox) f.kind refl
+          (first-frame c.inbox f first) i.node.part;
       left = λ gone'. ap (drop 1) (i.node.left gone');
       busy = i.node.busy;
     })
     (i.frames n) i))
-    (λ (o : m ≡ n → ⊥). other-step n h r (after net r (Take m f)) (Take m f) o (length-set _ _ _) (at-other r.nodes m n _ (λ x. o (sym x))) i.node.busy
+    (λ (o : m ≡ n → ⊥). other-step n h r (after net r (Take m f)) (Take m f) o (length-set _ _ _)
+    (at-other r.nodes m n _ (λ x. o (sym x))) i.node.busy
     (each-put OwnBox r.nodes (fresh false) m _ i.frames (i.frames m)) i)
     (cases_eq m n)
 
@@ -249,7 +291,8 @@ own-request : (n : ℕ) (f : Frame) (kind : FrameKind) → IsFrom n kind f → k
 own-request n f Request from is = from.0
 own-request n f Reply from is = absurd (cc)
 
-come-left : (n : ℕ) (ps : List Path) (q : ℕ) (v : Path) (box : List Frame) → box ≡ [] → Each (HasCome n (set ps q v)) box
+come-left : (n : ℕ) (ps : List Path) (q : ℕ) (v : Path) (box : List Frame) → box ≡ []
+    → Each (HasCome n (set ps q v)) box
 come-left n ps q v box e = subst (Each (HasCome n (set ps q v))) (sym e) tt
 
 answer-none : (answer : ℕ) (a : Await) → answer_after answer a ≡ None → has_arrived a ≡ false
@@ -258,27 +301,34 @@ answer-none answer (Out seq to passes) e = refl
 answer-none answer (Arrived seq) e = absurd (cc)
 answer-none answer (Failed seq word) e = refl
 
-give_up-come : (net : NetPlan) (n : ℕ) (c : NodeIs) (q : ℕ) (v : Path) (here : Bool) → c.here ≡ here → (c.here ≡ false → c.inbox ≡
-    []) → (cond here (answer_after net.answer (path_of c q).awaits) None) ≡ None
+give_up-come : (net : NetPlan) (n : ℕ) (c : NodeIs) (q : ℕ) (v : Path) (here : Bool) → c.here ≡ here
+    → (c.here ≡ false → c.inbox ≡ [])
+    → (cond here (answer_after net.answer (path_of c q).awaits) None) ≡ None
     → Each (HasCome n c.paths) c.inbox → Each (HasCome n (set c.paths q v)) c.inbox
-give_up-come net n c q v true is left due all = come-apart n c.paths q v c.inbox (answer-none net.answer (path_of c q).awaits due) all
+give_up-come net n c q v true is left due all =
+    come-apart n c.paths q v c.inbox (answer-none net.answer (path_of c q).awaits due) all
 give_up-come net n c q v false is left due all = come-left n c.paths q v c.inbox (left is)
 
-give_up-step : (net : NetPlan) (h : List RingEntry) (n : ℕ) (id : CallId) (word : ℕ) → n < addresses → IsRingStep net h (GiveUp id
+give_up-step : (net : NetPlan) (h : List RingEntry) (n : ℕ) (id : CallId) (word : ℕ) → n < addresses
+    → IsRingStep net h (GiveUp id
     word) → (r : RingIs) → r ≡ ring_after net h → RingFollows n h r
     → RingFollows n (h ++ GiveUp id word ∷ []) (after net r (GiveUp id word))
 give_up-step net h n id word range s r is i =
-    let t : IsTimelyEntry net h r (GiveUp id word) = subst (λ (x : RingIs). IsTimelyEntry net h x (GiveUp id word)) (sym is) s.1 in
+    let t : IsTimelyEntry net h r (GiveUp id word) =
+    subst (λ (x : RingIs). IsTimelyEntry net h x (GiveUp id word)) (sym is) s.1 in
     let m = id.node in
-    let filtered : Each (IsOwn m) (gave_up (ring_node r m) id).outbox = each-filter (IsOwn m) (IsOwn m) _ (ring_node r m).outbox (λ f x k. k) (i.frames m) in
+    let filtered : Each (IsOwn m) (gave_up (ring_node r m) id).outbox =
+    each-filter (IsOwn m) (IsOwn m) _ (ring_node r m).outbox (λ f x k. k) (i.frames m) in
     ⊎_elim (λ (e : m ≡ n).
     let c = ring_node r n in
     let same : ring_node r m ≡ c = ap (ring_node r) e in
     let no' : give_up_no net r id ≡ None = t.0 in
     let rest = second-none _ _ no' in
-    let number : awaited_number (path_of c id.path).awaits ≡ id.seq = subst (λ (x : NodeIs). awaited_number (path_of x
+    let number : awaited_number (path_of c id.path).awaits ≡ id.seq =
+    subst (λ (x : NodeIs). awaited_number (path_of x
     id.path).awaits ≡ id.seq) same (awaited-none _ id.seq (first-none _ _ rest)) in
-    let due : cond c.here (answer_after net.answer (path_of c id.path).awaits) None ≡ None = subst (λ (x : NodeIs). cond x.here
+    let due : cond c.here (answer_after net.answer (path_of c id.path).awaits) None ≡ None =
+    subst (λ (x : NodeIs). cond x.here
     (answer_after net.answer (path_of x id.path).awaits) None ≡ None) same (second-none _ _ rest) in
     let free : free_no r n ≡ None = subst (λ (k : ℕ). free_no r k ≡ None) e (first-none _ _ no') in
     subst (λ (k : ℕ). RingFollows n (h ++ GiveUp id word ∷ []) (record {
@@ -289,78 +339,100 @@ give_up-step net h n id word range s r is i =
     })) (sym e)
     (own-step n h r (GiveUp id word) r.holder (gave_up c id) range e
     (record {
-      part = give-up n (own n h) c c.inbox id word e s.0.1 number (each-map (IsOwn n) _ c.outbox (λ f from. own-request n f f.kind from) (i.frames n))
-          (give_up-come net n c id.path _ c.here refl i.node.left due i.node.part.comes) i.node.part.once_in i.node.part;
+      part = give-up n (own n h) c c.inbox id word e s.0.1 number
+          (each-map (IsOwn n) _ c.outbox (λ f from. own-request n f f.kind from) (i.frames n))
+          (give_up-come net n c id.path _ c.here refl i.node.left due i.node.part.comes)
+          i.node.part.once_in i.node.part;
       left = i.node.left;
       busy = inr (free-holds r n free);
     })
     (subst (λ (k : ℕ). Each (IsOwn k) (gave_up (ring_node r k) id).outbox) e filtered) i))
-    (λ (o : m ≡ n → ⊥). other-step n h r (after net r (GiveUp id word)) (GiveUp id word) o (length-set _ _ _) (at-other r.nodes m
+    (λ (o : m ≡ n → ⊥). other-step n h r (after net r (GiveUp id word)) (GiveUp id word) o
+    (length-set _ _ _) (at-other r.nodes m
     n _ (λ x. o (sym x))) i.node.busy
     (each-put OwnBox r.nodes (fresh false) m _ i.frames filtered) i)
     (cases_eq m n)
 
 -- Local
-local-step : (net : NetPlan) (h : List RingEntry) (n : ℕ) (e : RingEntry) (r : RingIs) → ((p : ℕ) (now : Option Frame) →
-    Rattle.tied_lists.specs.Waits.waits_next p now e ≡ now) → ((p now : ℕ) → Rattle.tied_lists.specs.Waits.number_next p now e ≡
+local-step : (net : NetPlan) (h : List RingEntry) (n : ℕ) (e : RingEntry) (r : RingIs)
+    → ((p : ℕ) (now : Option Frame) → Rattle.tied_lists.specs.Waits.waits_next p now e ≡ now)
+    → ((p now : ℕ) → Rattle.tied_lists.specs.Waits.number_next p now e ≡
     now)
     → RingFollows n h r → RingFollows n (h ++ e ∷ []) r
 local-step net h n e r w k i = record {
   size = i.size;
-  node = ⊎_elim (λ (x : maker e ≡ n). subst (λ (l : List RingEntry). NodeFollows n l r.holder (ring_node r n)) (sym (own-mine n h e x))
-      (record { part = quiet-own n (own n h) _ _ _ _ e w k i.node.part; left = i.node.left; busy = i.node.busy }))
-      (λ (x : maker e ≡ n → ⊥). subst (λ (l : List RingEntry). NodeFollows n l r.holder (ring_node r n)) (sym (own-other n h e x))
+  node = ⊎_elim (λ (x : maker e ≡ n). subst
+      (λ (l : List RingEntry). NodeFollows n l r.holder (ring_node r n)) (sym (own-mine n h e x))
+      (record {
+        part = quiet-own n (own n h) _ _ _ _ e w k i.node.part;
+        left = i.node.left;
+        busy = i.node.busy;
+      }))
+      (λ (x : maker e ≡ n → ⊥). subst
+      (λ (l : List RingEntry). NodeFollows n l r.holder (ring_node r n)) (sym (own-other n h e x))
       i.node) (cases_eq (maker e) n);
   frames = i.frames;
 }
 
 -- Pass
-pass-step : (net : NetPlan) (h : List RingEntry) (n m : ℕ) (done : Bool) (words : List ℕ) → n < addresses → IsRingStep net h (Pass
+pass-step : (net : NetPlan) (h : List RingEntry) (n m : ℕ) (done : Bool) (words : List ℕ)
+    → n < addresses → IsRingStep net h (Pass
     m done words) → (r : RingIs) → r ≡ ring_after net h → RingFollows n h r
     → RingFollows n (h ++ Pass m done words ∷ []) (after net r (Pass m done words))
 pass-step net h n m done words range s r is i =
-    let t : IsTimelyEntry net h r (Pass m done words) = subst (λ (x : RingIs). IsTimelyEntry net h x (Pass m done words)) (sym is) s.1 in
+    let t : IsTimelyEntry net h r (Pass m done words) =
+    subst (λ (x : RingIs). IsTimelyEntry net h x (Pass m done words)) (sym is) s.1 in
     let holds : r.holder ≡ m = turn-holds r m (first-none _ _ t.0) in
-    ⊎_elim (λ (e : m ≡ n). subst (λ (k : ℕ). RingFollows n (h ++ Pass k done words ∷ []) (after net r (Pass k done words))) (sym e)
+    ⊎_elim (λ (e : m ≡ n). subst (λ (k : ℕ). RingFollows n (h ++ Pass k done words ∷ [])
+    (after net r (Pass k done words))) (sym e)
     (let c = ring_node r n in
     let no' : pass_no r n ≡ None = subst (λ (k : ℕ). pass_no r k ≡ None) e t.0 in
     let boxes = second-none _ _ no' in
     let out : c.outbox ≡ [] = unsent-none c.outbox (first-none _ _ boxes) in
     let box : c.inbox ≡ [] = untaken-none c.inbox (second-none _ _ boxes) in
-    let j : Follows n (own n h) c.paths [] [] c.tries = subst (λ (l : List Frame). Follows n (own n h) c.paths [] l c.tries) box
+    let j : Follows n (own n h) c.paths [] [] c.tries =
+    subst (λ (l : List Frame). Follows n (own n h) c.paths [] l c.tries) box
     (subst (λ (l : List Frame). Follows n (own n h) c.paths l c.inbox c.tries) out i.node.part) in
     own-step n h r (Pass n done words) _ (after_pass c done) range refl
     (record {
-      part = subst (λ (l : List Frame). Follows n (own n h ++ Pass n done words ∷ []) (map aged c.paths) c.outbox l c.tries) (sym
-          box) (subst (λ (l : List Frame). Follows n (own n h ++ Pass n done words ∷ []) (map aged c.paths) l [] c.tries) (sym
+      part = subst (λ (l : List Frame). Follows n (own n h ++ Pass n done words ∷ [])
+          (map aged c.paths) c.outbox l c.tries) (sym
+          box) (subst (λ (l : List Frame). Follows n (own n h ++ Pass n done words ∷ [])
+          (map aged c.paths) l [] c.tries) (sym
           out)
           (pass-on n (own n h) c.paths c.tries done words j));
       left = i.node.left;
       busy = inl out;
     })
     (i.frames n) i))
-    (λ (o : m ≡ n → ⊥). other-step n h r (after net r (Pass m done words)) (Pass m done words) o (length-set _ _ _) (at-other r.nodes m n _ (λ x. o (sym x)))
+    (λ (o : m ≡ n → ⊥). other-step n h r (after net r (Pass m done words)) (Pass m done words) o
+    (length-set _ _ _) (at-other r.nodes m n _ (λ x. o (sym x)))
     (moved-busy n r.holder _ _ _ (λ x. o (sym holds ∙ x)) i.node.busy)
     (each-put OwnBox r.nodes (fresh false) m _ i.frames (i.frames m)) i)
     (cases_eq m n)
 
 -- Leave
-leave-step : (net : NetPlan) (h : List RingEntry) (n m : ℕ) (cause : LeaveCause) → n < addresses → IsRingStep net h (Leave m
+leave-step : (net : NetPlan) (h : List RingEntry) (n m : ℕ) (cause : LeaveCause) → n < addresses
+    → IsRingStep net h (Leave m
     cause) → (r : RingIs) → r ≡ ring_after net h → RingFollows n h r
     → RingFollows n (h ++ Leave m cause ∷ []) (after net r (Leave m cause))
 leave-step net h n m cause range s r is i =
-    let t : IsTimelyEntry net h r (Leave m cause) = subst (λ (x : RingIs). IsTimelyEntry net h x (Leave m cause)) (sym is) s.1 in
+    let t : IsTimelyEntry net h r (Leave m cause) =
+    subst (λ (x : RingIs). IsTimelyEntry net h x (Leave m cause)) (sym is) s.1 in
     let holds : r.holder ≡ m = turn-holds r m (first-none _ _ (first-none _ _ t)) in
-    ⊎_elim (λ (e : m ≡ n). subst (λ (k : ℕ). RingFollows n (h ++ Leave k cause ∷ []) (after net r (Leave k cause))) (sym e)
+    ⊎_elim (λ (e : m ≡ n).
+    subst (λ (k : ℕ). RingFollows n (h ++ Leave k cause ∷ []) (after net r (Leave k cause))) (sym e)
     (let c = ring_node r n in
     own-step n h r (Leave n cause) _ (gone c) range refl
     (record {
-      part = empty-box n _ c.paths c.outbox c.inbox c.tries (quiet-own n (own n h) _ _ _ _ (Leave n cause) (λ p now. refl) (λ p now. refl) i.node.part);
+      part = empty-box n _ c.paths c.outbox c.inbox c.tries (quiet-own n (own n h) _ _ _ _
+          (Leave n cause) (λ p now. refl) (λ p now. refl) i.node.part);
       left = λ _. refl;
       busy = inr (inr refl);
     })
     (i.frames n) i))
-    (λ (o : m ≡ n → ⊥). other-step n h r (after net r (Leave m cause)) (Leave m cause) o (length-set _ _ _) (at-other r.nodes m n _ (λ x. o (sym x)))
+    (λ (o : m ≡ n → ⊥). other-step n h r (after net r (Leave m cause)) (Leave m cause) o
+    (length-set _ _ _) (at-other r.nodes m n _ (λ x. o (sym x)))
     (moved-busy n r.holder _ _ _ (λ x. o (sym holds ∙ x)) i.node.busy)
     (each-put OwnBox r.nodes (fresh false) m _ i.frames (i.frames m)) i)
     (cases_eq m n)
@@ -374,32 +446,41 @@ low-if : (n : ℕ) (f : Frame) (kind : FrameKind) → IsFrom n kind f → LowIfA
 low-if n f Request from = let k = from.2.1 in omega (arith, k)
 low-if n f Reply from = tt
 
-failed-follows : (n : ℕ) (b : List RingEntry) (c : NodeIs) (f : Frame) (fs : List Frame) (word : ℕ) (kind : FrameKind) → f.kind ≡ kind → LowIfAsk kind f.id.path
+failed-follows : (n : ℕ) (b : List RingEntry) (c : NodeIs) (f : Frame) (fs : List Frame) (word : ℕ)
+    (kind : FrameKind) → f.kind ≡ kind → LowIfAsk kind f.id.path
     → Follows n b c.paths (f ∷ fs) c.inbox c.tries → Follows n b (failed c kind f.id word) fs c.inbox 0
-failed-follows n b c f fs word Request is low' i = fail-request n b c f fs c.inbox c.tries 0 word is low' (omega arith) i
-failed-follows n b c f fs word Reply is low' i = drop-first n b c.paths f fs c.inbox c.tries 0 (omega arith) i
+failed-follows n b c f fs word Request is low' i =
+    fail-request n b c f fs c.inbox c.tries 0 word is low' (omega arith) i
+failed-follows n b c f fs word Reply is low' i =
+    drop-first n b c.paths f fs c.inbox c.tries 0 (omega arith) i
 
 abbrev NodeOf : ℕ → List RingEntry → NodeIs → Type 0
 NodeOf n b c = Follows n b c.paths c.outbox c.inbox c.tries
 
-heard-follows : (n : ℕ) (b : List RingEntry) (c : NodeIs) (f : Frame) (fs : List Frame) (there : Bool) (heard : Heard) → c.outbox
+heard-follows : (n : ℕ) (b : List RingEntry) (c : NodeIs) (f : Frame) (fs : List Frame)
+    (there : Bool) (heard : Heard) → c.outbox
     ≡ f ∷ fs → IsOwn n f → NodeOf n b c
     → NodeOf n b (heard_by c f.kind f.id there heard)
 heard-follows n b c f fs there heard is from i =
-    let j : Follows n b c.paths (f ∷ fs) c.inbox c.tries = subst (λ (l : List Frame). Follows n b c.paths l c.inbox c.tries) is i in
+    let j : Follows n b c.paths (f ∷ fs) c.inbox c.tries =
+    subst (λ (l : List Frame). Follows n b c.paths l c.inbox c.tries) is i in
     let low' = low-if n f f.kind from in
     let rest : fs ≡ drop 1 c.outbox = sym (ap (drop 1) is) in
     let gone' : (word : ℕ) → NodeOf n b (sent_off c (failed c f.kind f.id word)) =
-    λ word. subst (λ (l : List Frame). Follows n b (failed c f.kind f.id word) l c.inbox 0) rest (failed-follows n b c f fs word f.kind refl low' j) in
-    by-heard heard gone' (subst (λ (l : List Frame). Follows n b c.paths l c.inbox 0) rest (drop-first n b c.paths f fs c.inbox c.tries 0 (omega arith) j))
+    λ word. subst (λ (l : List Frame). Follows n b (failed c f.kind f.id word) l c.inbox 0) rest
+    (failed-follows n b c f fs word f.kind refl low' j) in
+    by-heard heard gone' (subst (λ (l : List Frame). Follows n b c.paths l c.inbox 0) rest
+    (drop-first n b c.paths f fs c.inbox c.tries 0 (omega arith) j))
   where
-    by-heard : (h : Heard) → ((word : ℕ) → NodeOf n b (sent_off c (failed c f.kind f.id word))) → NodeOf n b (sent_off c c.paths)
+    by-heard : (h : Heard) → ((word : ℕ) → NodeOf n b (sent_off c (failed c f.kind f.id word)))
+        → NodeOf n b (sent_off c c.paths)
         → NodeOf n b (heard_by c f.kind f.id there h)
     by-heard Acked lost kept = kept
     by-heard Busy lost kept = lost busy_word
-    by-heard Silent lost kept = cond_both (nat_le 2 c.tries) (sent_off c (failed c f.kind f.id (silence_word there))) (record c {
-      tries = c.tries + 1;
-    }) (NodeOf n b)
+    by-heard Silent lost kept = cond_both (nat_le 2 c.tries)
+        (sent_off c (failed c f.kind f.id (silence_word there))) (record c {
+          tries = c.tries + 1;
+        }) (NodeOf n b)
         (λ _. lost (silence_word there))
         (λ (few : nat_le 2 c.tries ≡ false). let k = leb-false 2 c.tries few in record {
           size = i.size;
@@ -413,22 +494,26 @@ heard-follows n b c f fs there heard is from i =
           tries_few = omega (arith, k);
         })
 
-pub heard-here : (c : NodeIs) (kind : FrameKind) (id : CallId) (there : Bool) (h : Heard) → (heard_by c kind id there h).here ≡ c.here
+pub heard-here : (c : NodeIs) (kind : FrameKind) (id : CallId) (there : Bool) (h : Heard)
+    → (heard_by c kind id there h).here ≡ c.here
 heard-here c kind id there Acked = refl
 heard-here c kind id there Busy = refl
-heard-here c kind id there Silent = cond_both (nat_le 2 c.tries) (sent_off c (failed c kind id (silence_word there))) _ (λ (x :
-    NodeIs). x.here ≡ c.here) (λ _. refl) (λ _. refl)
+heard-here c kind id there Silent = cond_both (nat_le 2 c.tries) (sent_off c (failed c kind id
+    (silence_word there))) _ (λ (x : NodeIs). x.here ≡ c.here) (λ _. refl) (λ _. refl)
 
-pub heard-inbox : (c : NodeIs) (kind : FrameKind) (id : CallId) (there : Bool) (h : Heard) → (heard_by c kind id there h).inbox ≡ c.inbox
+pub heard-inbox : (c : NodeIs) (kind : FrameKind) (id : CallId) (there : Bool) (h : Heard)
+    → (heard_by c kind id there h).inbox ≡ c.inbox
 heard-inbox c kind id there Acked = refl
 heard-inbox c kind id there Busy = refl
-heard-inbox c kind id there Silent = cond_both (nat_le 2 c.tries) (sent_off c (failed c kind id (silence_word there))) _ (λ (x :
-    NodeIs). x.inbox ≡ c.inbox) (λ _. refl) (λ _. refl)
+heard-inbox c kind id there Silent = cond_both (nat_le 2 c.tries) (sent_off c (failed c kind id
+    (silence_word there))) _ (λ (x : NodeIs). x.inbox ≡ c.inbox) (λ _. refl) (λ _. refl)
 
-heard-own : (m : ℕ) (c : NodeIs) (kind : FrameKind) (id : CallId) (there : Bool) (h : Heard) → OwnBox m c → OwnBox m (heard_by c kind id there h)
+heard-own : (m : ℕ) (c : NodeIs) (kind : FrameKind) (id : CallId) (there : Bool) (h : Heard)
+    → OwnBox m c → OwnBox m (heard_by c kind id there h)
 heard-own m c kind id there Acked all = each-drop (IsOwn m) c.outbox all
 heard-own m c kind id there Busy all = each-drop (IsOwn m) c.outbox all
-heard-own m c kind id there Silent all = cond_both (nat_le 2 c.tries) (sent_off c (failed c kind id (silence_word there))) _
+heard-own m c kind id there Silent all =
+    cond_both (nat_le 2 c.tries) (sent_off c (failed c kind id (silence_word there))) _
     (OwnBox m) (λ _. each-drop (IsOwn m) c.outbox all) (λ _. all)
 
 -- Send: the target
@@ -440,7 +525,8 @@ pub to-other : (m : ℕ) (f : Frame) (kind : FrameKind) → IsFrom m kind f → 
 to-other m f Request from = from.1
 to-other m f Reply from = from.1
 
-fell-follows : (n m : ℕ) (b : List RingEntry) (c : NodeIs) (f : Frame) (kind : FrameKind) → f.kind ≡ kind → IsFrom m kind f → f.to
+fell-follows : (n m : ℕ) (b : List RingEntry) (c : NodeIs) (f : Frame) (kind : FrameKind)
+    → f.kind ≡ kind → IsFrom m kind f → f.to
     ≡ n → m ≢ n → c.outbox ≡ [] → NodeOf n b c → NodeOf n b (with_frame c (fell c kind f.id) f)
 fell-follows n m b c f Request is from to other out i =
     cond_both (is_repeat c f.id) _ _ (λ x. NodeOf n b (with_frame c x f)) (λ _. i)
@@ -449,40 +535,55 @@ fell-follows n m b c f Request is from to other out i =
 fell-follows n m b c f Reply is from to other out i =
     cond_both (waits_for (path_of c f.id.path).awaits f.id.seq) _ _ (λ x. NodeOf n b (with_frame c x f))
     (λ (w : waits_for (path_of c f.id.path).awaits f.id.seq ≡ true).
-    let j : Follows n b c.paths [] c.inbox c.tries = subst (λ (l : List Frame). Follows n b c.paths l c.inbox c.tries) out i in
-    subst (λ (l : List Frame). Follows n b (awaiting c f.id.path (Arrived f.id.seq)) l (c.inbox ++ f ∷ []) c.tries) (sym out)
-    (come-reply n b c c.inbox c.tries f is (sym from.0 ∙ to) (path-low c.paths f.id.path _ i.size refl (λ e. not-nothing
+    let j : Follows n b c.paths [] c.inbox c.tries =
+    subst (λ (l : List Frame). Follows n b c.paths l c.inbox c.tries) out i in
+    subst (λ (l : List Frame). Follows n b (awaiting c f.id.path (Arrived f.id.seq)) l
+    (c.inbox ++ f ∷ []) c.tries) (sym out)
+    (come-reply n b c c.inbox c.tries f is (sym from.0 ∙ to)
+    (path-low c.paths f.id.path _ i.size refl (λ e. not-nothing
     (path_of c f.id.path).awaits f.id.seq w e)) w j))
     (λ _. i)
   where
     not-nothing : (a : Await) (s : ℕ) → waits_for a s ≡ true → a ≡ Nothing → ⊥
-    not-nothing a s w e = let no' : waits_for Nothing s ≡ true = subst (λ (x : Await). waits_for x s ≡ true) e w in let no2 : false ≡ true = no' in cc
+    not-nothing a s w e = let no' : waits_for Nothing s ≡ true =
+        subst (λ (x : Await). waits_for x s ≡ true) e w in let no2 : false ≡ true = no' in cc
 
 -- frames come to nobody's outbox, and to nobody who has left
-fell-outbox : (c : NodeIs) (f : Frame) (kind : FrameKind) → (with_frame c (fell c kind f.id) f).outbox ≡ c.outbox
-fell-outbox c f Request = cond_both (is_repeat c f.id) _ _ (λ x. (with_frame c x f).outbox ≡ c.outbox) (λ _. refl)
+fell-outbox : (c : NodeIs) (f : Frame) (kind : FrameKind)
+    → (with_frame c (fell c kind f.id) f).outbox ≡ c.outbox
+fell-outbox c f Request =
+    cond_both (is_repeat c f.id) _ _ (λ x. (with_frame c x f).outbox ≡ c.outbox) (λ _. refl)
     (λ _. cond_both (is_full c) _ _ (λ x. (with_frame c x f).outbox ≡ c.outbox) (λ _. refl) (λ _. refl))
-fell-outbox c f Reply = cond_both (waits_for (path_of c f.id.path).awaits f.id.seq) _ _ (λ x. (with_frame c x f).outbox ≡ c.outbox) (λ _. refl) (λ _. refl)
+fell-outbox c f Reply = cond_both (waits_for (path_of c f.id.path).awaits f.id.seq) _ _
+    (λ x. (with_frame c x f).outbox ≡ c.outbox) (λ _. refl) (λ _. refl)
 
-fell-here : (c : NodeIs) (f : Frame) (kind : FrameKind) → (with_frame c (fell c kind f.id) f).here ≡ c.here
-fell-here c f Request = cond_both (is_repeat c f.id) _ _ (λ x. (with_frame c x f).here ≡ c.here) (λ _. refl)
+fell-here : (c : NodeIs) (f : Frame) (kind : FrameKind)
+    → (with_frame c (fell c kind f.id) f).here ≡ c.here
+fell-here c f Request =
+    cond_both (is_repeat c f.id) _ _ (λ x. (with_frame c x f).here ≡ c.here) (λ _. refl)
     (λ _. cond_both (is_full c) _ _ (λ x. (with_frame c x f).here ≡ c.here) (λ _. refl) (λ _. refl))
-fell-here c f Reply = cond_both (waits_for (path_of c f.id.path).awaits f.id.seq) _ _ (λ x. (with_frame c x f).here ≡ c.here) (λ _. refl) (λ _. refl)
+fell-here c f Reply = cond_both (waits_for (path_of c f.id.path).awaits f.id.seq) _ _
+    (λ x. (with_frame c x f).here ≡ c.here) (λ _. refl) (λ _. refl)
 
 arrives-here : (here : Bool) (x : Bool) → cond here x false ≡ true → here ≡ true
 arrives-here true x e = refl
 arrives-here false x e = absurd (let no' : false ≡ true = e in cc)
 
-pub arrived-part : (nodes : List NodeIs) (f : Frame) (fate : Fate) (P : ℕ → NodeIs → Type 0) → ((k : ℕ) → P k (part_of nodes k)) →
-    ((part_of nodes f.to).here ≡ true → P f.to (with_frame (part_of nodes f.to) (fell (part_of nodes f.to) f.kind f.id) f))
+pub arrived-part : (nodes : List NodeIs) (f : Frame) (fate : Fate) (P : ℕ → NodeIs → Type 0)
+    → ((k : ℕ) → P k (part_of nodes k)) → ((part_of nodes f.to).here ≡ true
+    → P f.to (with_frame (part_of nodes f.to) (fell (part_of nodes f.to) f.kind f.id) f))
     → (k : ℕ) → P k (part_of (arrived nodes f (arrival nodes fate f)) k)
-arrived-part nodes f fate P all at = cond_both (arrives nodes fate f.to) (Some (fell (part_of nodes f.to) f.kind f.id)) None (λ x.
+arrived-part nodes f fate P all at =
+    cond_both (arrives nodes fate f.to) (Some (fell (part_of nodes f.to) f.kind f.id)) None (λ x.
     (k : ℕ) → P k (part_of (arrived nodes f x) k))
-    (λ (y : arrives nodes fate f.to ≡ true). each-put P nodes (fresh false) f.to _ all (at (arrives-here _ _ y)))
+    (λ (y : arrives nodes fate f.to ≡ true). each-put P nodes (fresh false) f.to _ all
+    (at (arrives-here _ _ y)))
     (λ _. all)
 
-pub length-arrived : (nodes : List NodeIs) (fate : Fate) (f : Frame) → length (arrived nodes f (arrival nodes fate f)) ≡ length nodes
-length-arrived nodes fate f = cond_both (arrives nodes fate f.to) (Some (fell (part_of nodes f.to) f.kind f.id)) None
+pub length-arrived : (nodes : List NodeIs) (fate : Fate) (f : Frame)
+    → length (arrived nodes f (arrival nodes fate f)) ≡ length nodes
+length-arrived nodes fate f =
+    cond_both (arrives nodes fate f.to) (Some (fell (part_of nodes f.to) f.kind f.id)) None
     (λ x. length (arrived nodes f x) ≡ length nodes) (λ _. length-set _ _ _) (λ _. refl)
 
 -- what is said of the node, of each place
@@ -490,112 +591,145 @@ abbrev If : ℕ → (NodeIs → Type 0) → ℕ → NodeIs → Type 0
 If n P k c = k ≡ n → P c
 
 -- nothing in the outbox of a member that does not hold the token
-nothing-out : (n holder : ℕ) (here : Bool) (out : List Frame) → holder ≢ n → here ≡ true → IsBusy n holder here out → out ≡ []
+nothing-out : (n holder : ℕ) (here : Bool) (out : List Frame) → holder ≢ n → here ≡ true
+    → IsBusy n holder here out → out ≡ []
 nothing-out n holder here out not_mine is b = ⊎_elim (λ (x : out ≡ []). x)
-    (λ (y : (holder ≡ n) ⊎ (here ≡ false)). ⊎_elim (λ (z : holder ≡ n). absurd (not_mine z)) (λ (z : here ≡ false). absurd (cc)) y) b
+    (λ (y : (holder ≡ n) ⊎ (here ≡ false)). ⊎_elim (λ (z : holder ≡ n). absurd (not_mine z))
+    (λ (z : here ≡ false). absurd (cc)) y) b
 
 pub record SentTo (n : ℕ) (b : List RingEntry) (holder : ℕ) (old new : NodeIs) : Type 0 where
   pub node : NodeFollows n b holder new
   pub outbox : new.outbox ≡ old.outbox
 
-came-node : (n m : ℕ) (b : List RingEntry) (holder : ℕ) (c : NodeIs) (f : Frame) → IsOwn m f → f.to ≡ n → m ≢ n → holder ≢ n →
-    c.here ≡ true → NodeFollows n b holder c → NodeFollows n b holder (with_frame c (fell c f.kind f.id) f)
+came-node : (n m : ℕ) (b : List RingEntry) (holder : ℕ) (c : NodeIs) (f : Frame) → IsOwn m f
+    → f.to ≡ n → m ≢ n → holder ≢ n → c.here ≡ true → NodeFollows n b holder c
+    → NodeFollows n b holder (with_frame c (fell c f.kind f.id) f)
 came-node n m b holder c f from to other not_mine here i =
     let d = with_frame c (fell c f.kind f.id) f in
     record {
-      part = fell-follows n m b c f f.kind refl from to other (nothing-out n holder c.here c.outbox not_mine here i.busy) i.part;
+      part = fell-follows n m b c f f.kind refl from to other
+          (nothing-out n holder c.here c.outbox not_mine here i.busy) i.part;
       left = λ gone'. absurd (let x : d.here ≡ true = fell-here c f f.kind ∙ here in cc);
-      busy = subst (λ (o : List Frame). IsBusy n holder d.here o) (sym (fell-outbox c f f.kind)) (subst (λ (x : Bool). IsBusy n
+      busy = subst (λ (o : List Frame). IsBusy n holder d.here o) (sym (fell-outbox c f f.kind))
+          (subst (λ (x : Bool). IsBusy n
           holder x c.outbox) (sym (fell-here c f f.kind)) i.busy);
     }
 
-sent-other : (net : NetPlan) (h : List RingEntry) (n m : ℕ) (heard : Heard) (f : Frame) (fs : List Frame) → m ≢ n → (r : RingIs) →
-    r.holder ≡ m → (ring_node r m).outbox ≡ f ∷ fs → RingFollows n h r
+sent-other : (net : NetPlan) (h : List RingEntry) (n m : ℕ) (heard : Heard) (f : Frame)
+    (fs : List Frame) → m ≢ n → (r : RingIs) → r.holder ≡ m → (ring_node r m).outbox ≡ f ∷ fs
+    → RingFollows n h r
     → RingFollows n (h ++ Send m heard ∷ []) (sent_one net r m f)
 sent-other net h n m heard f fs other r holds box i =
     let fate = fate_at net.fates r.sent in
     let nodes = arrived r.nodes f (arrival r.nodes fate f) in
     let from : IsOwn m f = (subst (λ (l : List Frame). Each (IsOwn m) l) box (i.frames m)).0 in
-    let mine : (k : ℕ) → If n (NodeFollows n (own n h) r.holder) k (part_of nodes k) = arrived-part r.nodes f fate (If n (NodeFollows n (own n h) r.holder))
+    let mine : (k : ℕ) → If n (NodeFollows n (own n h) r.holder) k (part_of nodes k) =
+    arrived-part r.nodes f fate (If n (NodeFollows n (own n h) r.holder))
     (λ k e. subst (λ (x : ℕ). NodeFollows n (own n h) r.holder (part_of r.nodes x)) (sym e) i.node)
-    (λ here e. came-node n m (own n h) r.holder (part_of r.nodes f.to) f from e other (λ x. other (sym holds ∙ x)) here (subst (λ
+    (λ here e. came-node n m (own n h) r.holder (part_of r.nodes f.to) f from e other
+    (λ x. other (sym holds ∙ x)) here (subst (λ
     (x : ℕ). NodeFollows n (own n h) r.holder (part_of r.nodes x)) (sym e) i.node)) in
-    let frames : (k : ℕ) → OwnBox k (part_of nodes k) = arrived-part r.nodes f fate OwnBox i.frames (λ here. subst (Each
+    let frames : (k : ℕ) → OwnBox k (part_of nodes k) = arrived-part r.nodes f fate OwnBox i.frames
+    (λ here. subst (Each
     (IsOwn f.to)) (sym (fell-outbox (part_of r.nodes f.to) f f.kind)) (i.frames f.to)) in
-    let c' = heard_by (part_of nodes m) f.kind f.id (ring_node r f.to).here (heard_of fate (arrival r.nodes fate f)) in
+    let c' = heard_by (part_of nodes m) f.kind f.id (ring_node r f.to).here
+    (heard_of fate (arrival r.nodes fate f)) in
     record {
       size = length-set _ _ _ ∙ (length-arrived r.nodes fate f ∙ i.size);
-      node = subst (λ (x : NodeIs). NodeFollows n (own n (h ++ Send m heard ∷ [])) r.holder x) (sym (at-other nodes m n c' (λ x. other (sym x))))
-          (subst (λ (l : List RingEntry). NodeFollows n l r.holder (part_of nodes n)) (sym (own-other n h (Send m heard) other)) (mine n refl));
-      frames = each-put OwnBox nodes (fresh false) m c' frames (heard-own m (part_of nodes m) f.kind f.id _ _ (frames m));
+      node = subst (λ (x : NodeIs). NodeFollows n (own n (h ++ Send m heard ∷ [])) r.holder x)
+          (sym (at-other nodes m n c' (λ x. other (sym x))))
+          (subst (λ (l : List RingEntry). NodeFollows n l r.holder (part_of nodes n))
+          (sym (own-other n h (Send m heard) other)) (mine n refl));
+      frames = each-put OwnBox nodes (fresh false) m c' frames
+          (heard-own m (part_of nodes m) f.kind f.id _ _ (frames m));
     }
 
-sent-own : (net : NetPlan) (h : List RingEntry) (n : ℕ) (heard : Heard) (f : Frame) (fs : List Frame) → n < addresses → (r :
-    RingIs) → r.holder ≡ n → (ring_node r n).outbox ≡ f ∷ fs → RingFollows n h r
+sent-own : (net : NetPlan) (h : List RingEntry) (n : ℕ) (heard : Heard) (f : Frame)
+    (fs : List Frame) → n < addresses → (r : RingIs) → r.holder ≡ n
+    → (ring_node r n).outbox ≡ f ∷ fs → RingFollows n h r
     → RingFollows n (h ++ Send n heard ∷ []) (sent_one net r n f)
 sent-own net h n heard f fs range r holds box i =
     let fate = fate_at net.fates r.sent in
     let nodes = arrived r.nodes f (arrival r.nodes fate f) in
     let from : IsOwn n f = (subst (λ (l : List Frame). Each (IsOwn n) l) box (i.frames n)).0 in
-    let same : part_of nodes n ≡ ring_node r n = arrived-part r.nodes f fate (If n (λ c. c ≡ ring_node r n))
+    let same : part_of nodes n ≡ ring_node r n =
+    arrived-part r.nodes f fate (If n (λ c. c ≡ ring_node r n))
     (λ k e. ap (part_of r.nodes) e) (λ here e. absurd (to-other n f f.kind from e)) n refl in
-    let frames : (k : ℕ) → OwnBox k (part_of nodes k) = arrived-part r.nodes f fate OwnBox i.frames (λ here. subst (Each
+    let frames : (k : ℕ) → OwnBox k (part_of nodes k) = arrived-part r.nodes f fate OwnBox i.frames
+    (λ here. subst (Each
     (IsOwn f.to)) (sym (fell-outbox (part_of r.nodes f.to) f f.kind)) (i.frames f.to)) in
     let there = (ring_node r f.to).here in
     let told = heard_of fate (arrival r.nodes fate f) in
     let c = part_of nodes n in
     let c' = heard_by c f.kind f.id there told in
     let size : length nodes ≡ addresses = length-arrived r.nodes fate f ∙ i.size in
-    let now : NodeFollows n (own n h) r.holder c = subst (NodeFollows n (own n h) r.holder) (sym same) i.node in
+    let now : NodeFollows n (own n h) r.holder c = subst (NodeFollows n (own n h) r.holder)
+    (sym same) i.node in
     let b' = own n h ++ Send n heard ∷ [] in
     let node : NodeFollows n b' r.holder c' = record {
-      part = heard-follows n b' c f fs there told (ap (λ (x : NodeIs). x.outbox) same ∙ box) from (quiet-own n (own n h) c.paths
+      part = heard-follows n b' c f fs there told (ap (λ (x : NodeIs). x.outbox) same ∙ box) from
+          (quiet-own n (own n h) c.paths
           c.outbox c.inbox c.tries (Send n heard) (λ p now'. refl) (λ p now'. refl) now.part);
-      left = λ gone'. heard-inbox c f.kind f.id there told ∙ now.left (sym (heard-here c f.kind f.id there told) ∙ gone');
+      left = λ gone'. heard-inbox c f.kind f.id there told
+          ∙ now.left (sym (heard-here c f.kind f.id there told) ∙ gone');
       busy = inr (inl holds);
     } in
     record {
       size = length-set _ _ _ ∙ size;
-      node = subst (λ (x : NodeIs). NodeFollows n (own n (h ++ Send n heard ∷ [])) r.holder x) (sym (at-same nodes n c' size range))
-          (subst (λ (l : List RingEntry). NodeFollows n l r.holder c') (sym (own-mine n h (Send n heard) refl)) node);
-      frames = each-put OwnBox nodes (fresh false) n c' frames (heard-own n c f.kind f.id there told (frames n));
+      node = subst (λ (x : NodeIs). NodeFollows n (own n (h ++ Send n heard ∷ [])) r.holder x)
+          (sym (at-same nodes n c' size range))
+          (subst (λ (l : List RingEntry). NodeFollows n l r.holder c')
+          (sym (own-mine n h (Send n heard) refl)) node);
+      frames = each-put OwnBox nodes (fresh false) n c' frames
+          (heard-own n c f.kind f.id there told (frames n));
     }
 
-sent-step : (net : NetPlan) (h : List RingEntry) (n m : ℕ) (heard : Heard) (box : List Frame) → n < addresses → (r : RingIs) →
-    r.holder ≡ m → (ring_node r m).outbox ≡ box → RingFollows n h r
+sent-step : (net : NetPlan) (h : List RingEntry) (n m : ℕ) (heard : Heard) (box : List Frame)
+    → n < addresses → (r : RingIs) → r.holder ≡ m → (ring_node r m).outbox ≡ box → RingFollows n h r
     → RingFollows n (h ++ Send m heard ∷ []) (sent_head net r m box)
-sent-step net h n m heard [] range r holds is i = local-step net h n (Send m heard) r (λ p now. refl) (λ p now. refl) i
+sent-step net h n m heard [] range r holds is i =
+    local-step net h n (Send m heard) r (λ p now. refl) (λ p now. refl) i
 sent-step net h n m heard (f ∷ fs) range r holds is i =
-    ⊎_elim (λ (e : m ≡ n). subst (λ (k : ℕ). RingFollows n (h ++ Send k heard ∷ []) (sent_one net r k f)) (sym e)
-    (sent-own net h n heard f fs range r (holds ∙ e) (subst (λ (k : ℕ). (ring_node r k).outbox ≡ f ∷ fs) e is) i))
+    ⊎_elim (λ (e : m ≡ n).
+    subst (λ (k : ℕ). RingFollows n (h ++ Send k heard ∷ []) (sent_one net r k f)) (sym e)
+    (sent-own net h n heard f fs range r (holds ∙ e)
+    (subst (λ (k : ℕ). (ring_node r k).outbox ≡ f ∷ fs) e is) i))
     (λ (o : m ≡ n → ⊥). sent-other net h n m heard f fs o r holds is i)
     (cases_eq m n)
 
-send-step : (net : NetPlan) (h : List RingEntry) (n m : ℕ) (heard : Heard) → n < addresses → IsRingStep net h (Send m heard) → (r
+send-step : (net : NetPlan) (h : List RingEntry) (n m : ℕ) (heard : Heard) → n < addresses
+    → IsRingStep net h (Send m heard) → (r
     : RingIs) → r ≡ ring_after net h → RingFollows n h r
     → RingFollows n (h ++ Send m heard ∷ []) (after net r (Send m heard))
 send-step net h n m heard range s r is i =
-    let t : IsTimelyEntry net h r (Send m heard) = subst (λ (x : RingIs). IsTimelyEntry net h x (Send m heard)) (sym is) s.1 in
+    let t : IsTimelyEntry net h r (Send m heard) =
+    subst (λ (x : RingIs). IsTimelyEntry net h x (Send m heard)) (sym is) s.1 in
     sent-step net h n m heard (ring_node r m).outbox range r (turn-holds r m (first-none _ _ t.0)) refl i
 
 -- all seven, and lists of them
-step-follows : (net : NetPlan) (h : List RingEntry) (n : ℕ) (e : RingEntry) → n < addresses → IsRingStep net h e → (r : RingIs) →
-    r ≡ ring_after net h → RingFollows n h r → RingFollows n (h ++ e ∷ []) (after net r e)
+step-follows : (net : NetPlan) (h : List RingEntry) (n : ℕ) (e : RingEntry) → n < addresses
+    → IsRingStep net h e → (r : RingIs) → r ≡ ring_after net h → RingFollows n h r
+    → RingFollows n (h ++ e ∷ []) (after net r e)
 step-follows net h n (Post m f) range s r is i = post-step net h n m f range s r is i
 step-follows net h n (Send m heard) range s r is i = send-step net h n m heard range s r is i
 step-follows net h n (Take m f) range s r is i = take-step net h n m f range s r is i
-step-follows net h n (Local m id op result) range s r is i = local-step net h n (Local m id op result) r (λ p now. refl) (λ p now. refl) i
+step-follows net h n (Local m id op result) range s r is i =
+    local-step net h n (Local m id op result) r (λ p now. refl) (λ p now. refl) i
 step-follows net h n (GiveUp id word) range s r is i = give_up-step net h n id word range s r is i
 step-follows net h n (Pass m done words) range s r is i = pass-step net h n m done words range s r is i
 step-follows net h n (Leave m cause) range s r is i = leave-step net h n m cause range s r is i
 
-run-follows : (net : NetPlan) (n : ℕ) (h es : List RingEntry) → n < addresses → IsRun net h es → RingFollows n h (ring_after net
+run-follows : (net : NetPlan) (n : ℕ) (h es : List RingEntry) → n < addresses → IsRun net h es
+    → RingFollows n h (ring_after net
     h) → RingFollows n (h ++ es) (ring_after net (h ++ es))
-run-follows net n h [] range run i = subst (λ (l : List RingEntry). RingFollows n l (ring_after net l)) (sym (append-nil h)) i
+run-follows net n h [] range run i =
+    subst (λ (l : List RingEntry). RingFollows n l (ring_after net l)) (sym (append-nil h)) i
 run-follows net n h (e ∷ es) range run i =
     let one' = step-follows net h n e range run.0 (ring_after net h) refl i in
-    let more = subst (λ (x : RingIs). RingFollows n (h ++ e ∷ []) x) (sym (after_all-push net (opening net) h e)) one' in
-    subst (λ (l : List RingEntry). RingFollows n l (ring_after net l)) (append_assoc h (e ∷ []) es) (run-follows net n (h ++ e ∷ []) es range run.1 more)
+    let more = subst (λ (x : RingIs). RingFollows n (h ++ e ∷ []) x)
+    (sym (after_all-push net (opening net) h e)) one' in
+    subst (λ (l : List RingEntry). RingFollows n l (ring_after net l)) (append_assoc h (e ∷ []) es)
+    (run-follows net n (h ++ e ∷ []) es range run.1 more)
 
 -- at first
 get_or-same : {X : Type 0} (k : ℕ) (x : X) (p : ℕ) → get_or (replicate k x) p x ≡ x
@@ -606,9 +740,11 @@ get_or-same (suc k) x (suc p) = get_or-same k x p
 abbrev IsFresh : NodeIs → Type 0
 IsFresh c = (c.paths ≡ replicate path_places no_path) × (c.outbox ≡ []) × (c.inbox ≡ []) × (c.tries ≡ 0)
 
-joined-fresh : (nodes : List NodeIs) (ms : List ℕ) → ((k : ℕ) → IsFresh (part_of nodes k)) → (k : ℕ) → IsFresh (part_of (with_members nodes ms) k)
+joined-fresh : (nodes : List NodeIs) (ms : List ℕ) → ((k : ℕ) → IsFresh (part_of nodes k)) → (k : ℕ)
+    → IsFresh (part_of (with_members nodes ms) k)
 joined-fresh nodes [] all = all
-joined-fresh nodes (m ∷ ms) all = joined-fresh (set nodes m (fresh true)) ms (each-put (λ _. IsFresh) nodes (fresh false) m (fresh
+joined-fresh nodes (m ∷ ms) all =
+    joined-fresh (set nodes m (fresh true)) ms (each-put (λ _. IsFresh) nodes (fresh false) m (fresh
     true) all (refl, refl, refl, refl))
 
 length-joined : (nodes : List NodeIs) (ms : List ℕ) → length (with_members nodes ms) ≡ length nodes
@@ -630,7 +766,8 @@ fresh-follows n = record {
 
 opening-follows : (net : NetPlan) (n : ℕ) → RingFollows n [] (opening net)
 opening-follows net n =
-    let all : (k : ℕ) → IsFresh (part_of (opening net).nodes k) = joined-fresh (replicate addresses (fresh false)) net.members
+    let all : (k : ℕ) → IsFresh (part_of (opening net).nodes k) =
+    joined-fresh (replicate addresses (fresh false)) net.members
     (λ k. subst IsFresh (sym (get_or-same addresses (fresh false) k)) (refl, refl, refl, refl)) in
     let c = ring_node (opening net) n in
     let is = all n in
@@ -644,13 +781,18 @@ opening-follows net n =
       frames = λ m. subst (Each (IsOwn m)) (sym (all m).1) tt;
     }
   where
-    fresh-part : (ps : List Path) (out box : List Frame) (tries : ℕ) → ps ≡ replicate path_places no_path → out ≡ [] → box ≡ [] →
-        tries ≡ 0 → Follows n [] ps out box tries
-    fresh-part ps out box tries a b c d = subst (λ (x : List Path). Follows n [] x out box tries) (sym a) (subst (λ
+    fresh-part : (ps : List Path) (out box : List Frame) (tries : ℕ)
+        → ps ≡ replicate path_places no_path → out ≡ [] → box ≡ [] → tries ≡ 0
+        → Follows n [] ps out box tries
+    fresh-part ps out box tries a b c d = subst (λ (x : List Path). Follows n [] x out box tries)
+        (sym a) (subst (λ
         (x : List Frame). Follows n [] (replicate path_places no_path) x box tries) (sym b)
-        (subst (λ (x : List Frame). Follows n [] (replicate path_places no_path) [] x tries) (sym c) (subst (λ (x : ℕ). Follows n
+        (subst (λ (x : List Frame). Follows n [] (replicate path_places no_path) [] x tries) (sym c)
+        (subst (λ (x : ℕ). Follows n
         [] (replicate path_places no_path) [] [] x) (sym d) (fresh-follows n))))
 
 -- what a node's paths and boxes follow after a legal history
-pub legal-follows : (net : NetPlan) (h : List RingEntry) (n : ℕ) → IsOnRing net h n → RingFollows n h (ring_after net h)
-legal-follows net h n on = run-follows net n [] h (low net n on.members on.member) on.legal (opening-follows net n)
+pub legal-follows : (net : NetPlan) (h : List RingEntry) (n : ℕ) → IsOnRing net h n
+    → RingFollows n h (ring_after net h)
+legal-follows net h n on =
+    run-follows net n [] h (low net n on.members on.member) on.legal (opening-follows net n)

@@ -17,7 +17,7 @@ use Rattle.ring_core.specs.Machine.{NodeIs, RingIs, addresses, path_places, no_p
 use Rattle.ring_core.specs.Machine.{ring_node, path_of, posted, took, gave_up, gone, after, opening}
 use Rattle.ring_core.specs.Machine.{ring_after, heard_by, awaited_number, sent_head, after_pass}
 use Rattle.ring_core.specs.Legal.{IsFirst, IsPath, IsFrom, IsLawful, IsTimelyEntry, IsRingStep}
-use Rattle.ring_core.specs.Legal.{IsRun, IsLegal}
+use Rattle.ring_core.specs.Legal.{IsRun, IsLegalRing}
 use Rattle.ring_core.specs.Stability.{Stays, NoneBy}
 use Rattle.ring_core.proofs.Runs.{after_all-push}
 use Rattle.ring_core.proofs.Stability.{holder-stays, left-stays}
@@ -35,34 +35,46 @@ abbrev pub part : NetPlan → List RingEntry → ℕ → NodeIs
 part net history n = ring_node (ring_after net history) n
 
 -- runs that are joined
-run-parts : (net : NetPlan) (past xs ys : List RingEntry) → IsRun net past (xs ++ ys) → IsRun net past xs × IsRun net (past ++ xs) ys
-run-parts net past [] ys run = (tt, subst (λ (l : List RingEntry). IsRun net l ys) (sym (append-nil past)) run)
+run-parts : (net : NetPlan) (past xs ys : List RingEntry) → IsRun net past (xs ++ ys)
+    → IsRun net past xs × IsRun net (past ++ xs) ys
+run-parts net past [] ys run =
+    (tt, subst (λ (l : List RingEntry). IsRun net l ys) (sym (append-nil past)) run)
 run-parts net past (x ∷ xs) ys run =
-    let more = run-parts net (past ++ x ∷ []) xs ys run.1 in
-    ((run.0, more.0), subst (λ (l : List RingEntry). IsRun net l ys) (append_assoc past (x ∷ []) xs) more.1)
+    let more = run-parts net (past ++ x ∷ []) xs ys run.1 in (
+      (run.0, more.0),
+      subst (λ (l : List RingEntry). IsRun net l ys) (append_assoc past (x ∷ []) xs) more.1,
+    )
 
-pub legal-parts : (net : NetPlan) (xs ys : List RingEntry) → IsLegal net (xs ++ ys) → IsLegal net xs × IsRun net xs ys
+pub legal-parts : (net : NetPlan) (xs ys : List RingEntry) → IsLegalRing net (xs ++ ys)
+    → IsLegalRing net xs × IsRun net xs ys
 legal-parts net xs ys legal = run-parts net [] xs ys legal
 
-pub next-ring : (net : NetPlan) (past : List RingEntry) (e : RingEntry) → ring_after net (past ++ e ∷ []) ≡ after net (ring_after net past) e
+pub next-ring : (net : NetPlan) (past : List RingEntry) (e : RingEntry)
+    → ring_after net (past ++ e ∷ []) ≡ after net (ring_after net past) e
 next-ring net past e = after_all-push net (opening net) past e
 
 -- nothing of its own
-kept-out : (b : Bool) (e : RingEntry) (rest : List RingEntry) → cond b (e ∷ rest) rest ≡ [] → (b ≡ false) × (rest ≡ [])
+kept-out : (b : Bool) (e : RingEntry) (rest : List RingEntry) → cond b (e ∷ rest) rest ≡ []
+    → (b ≡ false) × (rest ≡ [])
 kept-out true e rest h = absurd (cc)
 kept-out false e rest h = (refl, h)
 
 pub none-by : (n : ℕ) (es : List RingEntry) → own n es ≡ [] → NoneBy n es
 none-by n [] none = tt
 none-by n (e ∷ es) none =
-    let k = kept-out (maker e == n) e (own n es) none in
-    ((λ is. let t : (maker e == n) ≡ true = eq-eqb (maker e) n is in let f : (maker e == n) ≡ false = k.0 in cc), none-by n es k.1)
+    let k = kept-out (maker e == n) e (own n es) none in (
+      (λ is. let t : (maker e == n) ≡ true =
+          eq-eqb (maker e) n is in let f : (maker e == n) ≡ false = k.0 in cc),
+      none-by n es k.1,
+    )
 
 pub own-joined : (n : ℕ) (xs ys : List RingEntry) → own n (xs ++ ys) ≡ own n xs ++ own n ys
 own-joined n xs ys = filter-append (is_of n) xs ys
 
-pub own-found : (n : ℕ) (before between : List RingEntry) → own n between ≡ [] → own n (before ++ between) ≡ own n before
-own-found n before between none = own-joined n before between ∙ (ap (λ l. own n before ++ l) none ∙ append-nil (own n before))
+pub own-found : (n : ℕ) (before between : List RingEntry) → own n between ≡ []
+    → own n (before ++ between) ≡ own n before
+own-found n before between none =
+    own-joined n before between ∙ (ap (λ l. own n before ++ l) none ∙ append-nil (own n before))
 
 -- others leave the node's part
 pub record Found (net : NetPlan) (n : ℕ) (before found : List RingEntry) : Type 0 where
@@ -71,30 +83,47 @@ pub record Found (net : NetPlan) (n : ℕ) (before found : List RingEntry) : Typ
   pub part_is : part net found n ≡ part net before n
   pub own_is : own n found ≡ own n before
 
-pub found-at : (net : NetPlan) (n : ℕ) (before between : List RingEntry) → IsLegal net (before ++ between) → own n between ≡ [] →
-    IsFree net before n → Found net n before (before ++ between)
+pub found-at : (net : NetPlan) (n : ℕ) (before between : List RingEntry)
+    → IsLegalRing net (before ++ between) → own n between ≡ [] → IsFree net before n
+    → Found net n before (before ++ between)
 found-at net n before between legal none free =
     let run = (legal-parts net before between legal).1 in
     ⊎_elim (λ (h : Holds net before n).
-    let s : Stays (ring_after net before) (ring_after net (before ++ between)) n = holder-stays net before between n run
+    let s : Stays (ring_after net before) (ring_after net (before ++ between)) n =
+    holder-stays net before between n run
     h.holder (none-by n between none) in
-    let now : Holds net (before ++ between) n = record { holder = s.holder ∙ h.holder; here = ap (λ (c : NodeIs). c.here) s.part ∙ h.here } in
-    record { free = inl now; holds = λ _. now; part_is = s.part; own_is = own-found n before between none })
+    let now : Holds net (before ++ between) n =
+    record { holder = s.holder ∙ h.holder; here = ap (λ (c : NodeIs). c.here) s.part ∙ h.here } in
+    record {
+      free = inl now;
+      holds = λ _. now;
+      part_is = s.part;
+      own_is = own-found n before between none;
+    })
     (λ (l : HasLeft net before n).
-    let same : part net (before ++ between) n ≡ part net before n = left-stays net before between n l (none-by n between none) in
+    let same : part net (before ++ between) n ≡ part net before n =
+    left-stays net before between n l (none-by n between none) in
     let gone' : HasLeft net (before ++ between) n = ap (λ (c : NodeIs). c.here) same ∙ l in
-    record { free = inr gone'; holds = λ h. absurd (let x = h.here in cc); part_is = same; own_is = own-found n before between none })
+    record {
+      free = inr gone';
+      holds = λ h. absurd (let x = h.here in cc);
+      part_is = same;
+      own_is = own-found n before between none;
+    })
     free
 
 -- a call that added nothing
-pub unmoved : (net : NetPlan) (n : ℕ) (alone : Bool) (before after' : List RingEntry) → IsOnRing net after' n → WentOn alone
+pub unmoved : (net : NetPlan) (n : ℕ) (alone : Bool) (before after' : List RingEntry)
+    → IsOnRing net after' n → WentOn alone
     (is_of n) before [] after' → IsFree net before n → Found net n before after'
 unmoved net n alone before after' on w free =
     let is : after' ≡ before ++ w.between = w.after_is ∙ append-nil (before ++ w.between) in
-    subst (Found net n before) (sym is) (found-at net n before w.between (subst (IsLegal net) is on.legal) w.others free)
+    subst (Found net n before) (sym is)
+    (found-at net n before w.between (subst (IsLegalRing net) is on.legal) w.others free)
 
 -- a call that added an entry
-pub record Moved (net : NetPlan) (n : ℕ) (before : List RingEntry) (e : RingEntry) (after' : List RingEntry) : Type 0 where
+pub record Moved (net : NetPlan) (n : ℕ) (before : List RingEntry) (e : RingEntry)
+    (after' : List RingEntry) : Type 0 where
   pub past : List RingEntry
   pub found : Found net n before past
   pub on : IsOnRing net past n
@@ -102,12 +131,13 @@ pub record Moved (net : NetPlan) (n : ℕ) (before : List RingEntry) (e : RingEn
   pub ring_is : ring_after net after' ≡ after net (ring_after net past) e
   pub own_is : own n after' ≡ own n before ++ e ∷ []
 
-pub moved : (net : NetPlan) (n : ℕ) (alone : Bool) (before : List RingEntry) (e : RingEntry) (after' : List RingEntry) → maker e ≡
-    n → IsOnRing net after' n → WentOn alone (is_of n) before (e ∷ []) after' → IsFree net before n
+pub moved : (net : NetPlan) (n : ℕ) (alone : Bool) (before : List RingEntry)
+    (e : RingEntry) (after' : List RingEntry) → maker e ≡ n → IsOnRing net after' n
+    → WentOn alone (is_of n) before (e ∷ []) after' → IsFree net before n
     → Moved net n before e after'
 moved net n alone before e after' mine on w free =
     let past = before ++ w.between in
-    let legal : IsLegal net (past ++ e ∷ []) = subst (IsLegal net) w.after_is on.legal in
+    let legal : IsLegalRing net (past ++ e ∷ []) = subst (IsLegalRing net) w.after_is on.legal in
     let parts = legal-parts net past (e ∷ []) legal in
     let f = found-at net n before w.between parts.0 w.others free in
     record {
@@ -123,18 +153,21 @@ moved net n alone before e after' mine on w free =
 low : (net : NetPlan) (h : List RingEntry) (n : ℕ) → IsOnRing net h n → n < addresses
 low net h n on = All-contains (λ m. m < addresses) net.members n on.members on.member
 
-written : (net : NetPlan) (n : ℕ) (past : List RingEntry) (c : NodeIs) → IsOnRing net past n → part_of (set (ring_after net past).nodes n c) n ≡ c
+written : (net : NetPlan) (n : ℕ) (past : List RingEntry) (c : NodeIs) → IsOnRing net past n
+    → part_of (set (ring_after net past).nodes n c) n ≡ c
 written net n past c on =
     let size = (legal-follows net past n on).size in let range = low net past n on in
     get_or-set_same (ring_after net past).nodes n c (fresh false) (omega (arith, size, range))
 
 -- Post, Take and GiveUp write the node's part and keep who holds the token
-pub record Wrote (net : NetPlan) (n : ℕ) (before after' : List RingEntry) (c : NodeIs) : Type 0 where
+pub record Wrote (net : NetPlan) (n : ℕ) (before after' : List RingEntry)
+    (c : NodeIs) : Type 0 where
   pub part_is : part net after' n ≡ c
   pub holds : Holds net before n → Holds net after' n
   pub free : IsFree net after' n
 
-wrote-by : (net : NetPlan) (n : ℕ) (before past after' : List RingEntry) (c d : NodeIs) → Found net n before past → IsOnRing net
+wrote-by : (net : NetPlan) (n : ℕ) (before past after' : List RingEntry) (c d : NodeIs)
+    → Found net n before past → IsOnRing net
     past n → d.here ≡ (part net past n).here
     → ring_after net after' ≡ record {
       holder = (ring_after net past).holder;
@@ -143,28 +176,39 @@ wrote-by : (net : NetPlan) (n : ℕ) (before past after' : List RingEntry) (c d 
           (ring_after net past).nodes n d;
     } → d ≡ c → Wrote net n before after' c
 wrote-by net n before past after' c d f on here is same =
-    let now : part net after' n ≡ d = ap (λ (r : RingIs). ring_node r n) is ∙ written net n past d on in
-    let holder : (ring_after net after').holder ≡ (ring_after net past).holder = ap (λ (r : RingIs). r.holder) is in
-    let still : (part net after' n).here ≡ (part net past n).here = ap (λ (x : NodeIs). x.here) now ∙ here in
-    let keep : Holds net past n → Holds net after' n = λ h. record { holder = holder ∙ h.holder; here = still ∙ h.here } in
+    let now : part net after' n ≡ d = ap (λ (r : RingIs). ring_node r n) is
+    ∙ written net n past d on in
+    let holder : (ring_after net after').holder ≡ (ring_after net past).holder =
+    ap (λ (r : RingIs). r.holder) is in
+    let still : (part net after' n).here ≡ (part net past n).here =
+    ap (λ (x : NodeIs). x.here) now ∙ here in
+    let keep : Holds net past n → Holds net after' n =
+    λ h. record { holder = holder ∙ h.holder; here = still ∙ h.here } in
     record {
       part_is = now ∙ same;
       holds = λ h. keep (f.holds h);
-      free = ⊎_elim (λ (h : Holds net past n). inl (keep h)) (λ (l : HasLeft net past n). inr (still ∙ l)) f.free;
+      free = ⊎_elim (λ (h : Holds net past n). inl (keep h))
+          (λ (l : HasLeft net past n). inr (still ∙ l)) f.free;
     }
 
-pub after-post : (net : NetPlan) (n : ℕ) (before : List RingEntry) (f : Frame) (after' : List RingEntry) → Moved net n before
+pub after-post : (net : NetPlan) (n : ℕ) (before : List RingEntry) (f : Frame)
+    (after' : List RingEntry) → Moved net n before
     (Post n f) after' → Wrote net n before after' (posted (part net before n) f)
-after-post net n before f after' m = wrote-by net n before m.past after' _ (posted (part net m.past n) f) m.found m.on refl
+after-post net n before f after' m =
+    wrote-by net n before m.past after' _ (posted (part net m.past n) f) m.found m.on refl
     m.ring_is (ap (λ (c : NodeIs). posted c f) m.found.part_is)
 
-pub after-take : (net : NetPlan) (n : ℕ) (before : List RingEntry) (f : Frame) (after' : List RingEntry) → Moved net n before
+pub after-take : (net : NetPlan) (n : ℕ) (before : List RingEntry) (f : Frame)
+    (after' : List RingEntry) → Moved net n before
     (Take n f) after' → Wrote net n before after' (took (part net before n) f.kind f.id)
-after-take net n before f after' m = wrote-by net n before m.past after' _ (took (part net m.past n) f.kind f.id) m.found m.on
+after-take net n before f after' m =
+    wrote-by net n before m.past after' _ (took (part net m.past n) f.kind f.id) m.found m.on
     refl m.ring_is (ap (λ (c : NodeIs). took c f.kind f.id) m.found.part_is)
 
-pub after-give_up : (net : NetPlan) (n : ℕ) (before : List RingEntry) (id : CallId) (word : ℕ) (after' : List RingEntry) → id.node
-    ≡ n → Moved net n before (GiveUp id word) after' → Wrote net n before after' (gave_up (part net before n) id)
+pub after-give_up : (net : NetPlan) (n : ℕ) (before : List RingEntry) (id : CallId) (word : ℕ)
+    (after' : List RingEntry) → id.node
+    ≡ n → Moved net n before (GiveUp id word) after'
+    → Wrote net n before after' (gave_up (part net before n) id)
 after-give_up net n before id word after' own' m =
     wrote-by net n before m.past after' _ (gave_up (part net m.past n) id) m.found m.on refl
     (m.ring_is ∙ ap (λ (k : ℕ). record {
@@ -175,28 +219,38 @@ after-give_up net n before id word after' own' m =
     }) own')
     (ap (λ (c : NodeIs). gave_up c id) m.found.part_is)
 
-pub after-local : (net : NetPlan) (n : ℕ) (before : List RingEntry) (id : CallId) (op : LocalOp) (result : MstrResult) (after' :
-    List RingEntry) → Moved net n before (Local n id op result) after' → Wrote net n before after' (part net before n)
+pub after-local : (net : NetPlan) (n : ℕ) (before : List RingEntry) (id : CallId) (op : LocalOp)
+    (result : MstrResult) (after' : List RingEntry) → Moved net n before
+    (Local n id op result) after' → Wrote net n before after' (part net before n)
 after-local net n before id op result after' m =
-    let same : part net after' n ≡ part net m.past n = ap (λ (r : RingIs). ring_node r n) m.ring_is in
-    let holder : (ring_after net after').holder ≡ (ring_after net m.past).holder = ap (λ (r : RingIs). r.holder) m.ring_is in
-    let keep : Holds net m.past n → Holds net after' n = λ h. record { holder = holder ∙ h.holder; here = ap (λ (c : NodeIs). c.here) same ∙ h.here } in
+    let same : part net after' n ≡ part net m.past n =
+    ap (λ (r : RingIs). ring_node r n) m.ring_is in
+    let holder : (ring_after net after').holder ≡ (ring_after net m.past).holder =
+    ap (λ (r : RingIs). r.holder) m.ring_is in
+    let keep : Holds net m.past n → Holds net after' n =
+    λ h. record { holder = holder ∙ h.holder; here = ap (λ (c : NodeIs). c.here) same ∙ h.here } in
     record {
       part_is = same ∙ m.found.part_is;
       holds = λ h. keep (m.found.holds h);
-      free = ⊎_elim (λ (h : Holds net m.past n). inl (keep h)) (λ (l : HasLeft net m.past n). inr (ap (λ (c : NodeIs). c.here) same ∙ l)) m.found.free;
+      free = ⊎_elim (λ (h : Holds net m.past n). inl (keep h))
+          (λ (l : HasLeft net m.past n). inr (ap (λ (c : NodeIs). c.here) same ∙ l)) m.found.free;
     }
 
-pub after-leave : (net : NetPlan) (n : ℕ) (before : List RingEntry) (cause : LeaveCause) (after' : List RingEntry) → Moved net n
+pub after-leave : (net : NetPlan) (n : ℕ) (before : List RingEntry) (cause : LeaveCause)
+    (after' : List RingEntry) → Moved net n
     before (Leave n cause) after' → HasLeft net after' n
 after-leave net n before cause after' m =
-    ap (λ (r : RingIs). (ring_node r n).here) m.ring_is ∙ ap (λ (c : NodeIs). c.here) (written net n m.past (gone (part net m.past n)) m.on)
+    ap (λ (r : RingIs). (ring_node r n).here) m.ring_is
+    ∙ ap (λ (c : NodeIs). c.here) (written net n m.past (gone (part net m.past n)) m.on)
 
-pub after-pass : (net : NetPlan) (n : ℕ) (before : List RingEntry) (done : Bool) (words : List ℕ) (after' : List RingEntry)
-    → Moved net n before (Pass n done words) after' → Holds net before n → (part net after' n).here ≡ true
+pub after-pass : (net : NetPlan) (n : ℕ) (before : List RingEntry) (done : Bool) (words : List ℕ)
+    (after' : List RingEntry)
+    → Moved net n before (Pass n done words) after' → Holds net before n
+    → (part net after' n).here ≡ true
 after-pass net n before done words after' m h =
     ap (λ (r : RingIs). (ring_node r n).here) m.ring_is
-    ∙ (ap (λ (c : NodeIs). c.here) (written net n m.past (after_pass (part net m.past n) done) m.on) ∙ (m.found.holds h).here)
+    ∙ (ap (λ (c : NodeIs). c.here) (written net n m.past (after_pass (part net m.past n) done) m.on)
+    ∙ (m.found.holds h).here)
 
 -- a Reply that is taken is to the Request that its path waits for
 first-come : (P : Frame → Type 0) (box : List Frame) (f : Frame) → IsFirst box f → Each P box → P f
@@ -209,20 +263,24 @@ pub record Awaited (n : ℕ) (b : List RingEntry) (f : Frame) : Type 0 where
   pub is_ask : IsAsk n f.id.path ask
   pub same : ask.id ≡ f.id
 
-awaits-some : (p seq : ℕ) (a : Await) (w : Option Frame) → a ≡ Arrived seq → AwaitsThis a w → (g : Frame) × (w ≡ Some g) × (g.id.seq ≡ seq)
+awaits-some : (p seq : ℕ) (a : Await) (w : Option Frame) → a ≡ Arrived seq → AwaitsThis a w
+    → (g : Frame) × (w ≡ Some g) × (g.id.seq ≡ seq)
 awaits-some p seq Nothing w e k = absurd (cc)
 awaits-some p seq (Out s to passes) w e k = absurd (cc)
 awaits-some p seq (Failed s word) w e k = absurd (cc)
 awaits-some p seq (Arrived s) None e k = absurd k
 awaits-some p seq (Arrived s) (Some g) e k = let same : s ≡ seq = cc in (g, refl, sym k ∙ same)
 
-pub reply-awaited : (net : NetPlan) (n : ℕ) (before : List RingEntry) (f : Frame) (after' : List RingEntry) → f.kind ≡ Reply →
-    Moved net n before (Take n f) after' → Awaited n (own n before) f
+pub reply-awaited : (net : NetPlan) (n : ℕ) (before : List RingEntry) (f : Frame) (after' : List
+    RingEntry) → f.kind ≡ Reply → Moved net n before (Take n f) after' → Awaited n (own n before) f
 reply-awaited net n before f after' kind m =
     let follows = (legal-follows net m.past n m.on).node.part in
-    let came : HasCome n (part net m.past n).paths f = first-come (HasCome n (part net m.past n).paths) (part net m.past n).inbox f m.step.1.1 follows.comes in
-    let reply : CameOn n (part net m.past n).paths Reply f.id = subst (λ (k : FrameKind). CameOn n (part net m.past n).paths k f.id) kind came in
-    let w = awaits-some f.id.path f.id.seq _ (waiting f.id.path (own n m.past)) reply.0 (follows.paths f.id.path) in
+    let came : HasCome n (part net m.past n).paths f = first-come
+    (HasCome n (part net m.past n).paths) (part net m.past n).inbox f m.step.1.1 follows.comes in
+    let reply : CameOn n (part net m.past n).paths Reply f.id =
+    subst (λ (k : FrameKind). CameOn n (part net m.past n).paths k f.id) kind came in
+    let w = awaits-some f.id.path f.id.seq _ (waiting f.id.path (own n m.past)) reply.0
+    (follows.paths f.id.path) in
     let ask = follows.asks f.id.path w.0 w.1 in
     record {
       ask = w.0;
@@ -232,9 +290,11 @@ reply-awaited net n before f after' kind m =
     }
 
 -- a Request that is taken is of another node
-pub request-of-other : (net : NetPlan) (n : ℕ) (before : List RingEntry) (f : Frame) (after' : List RingEntry) → f.kind ≡ Request
+pub request-of-other : (net : NetPlan) (n : ℕ) (before : List RingEntry) (f : Frame)
+    (after' : List RingEntry) → f.kind ≡ Request
     → Moved net n before (Take n f) after' → f.id.node ≢ n
 request-of-other net n before f after' kind m =
     let follows = (legal-follows net m.past n m.on).node.part in
-    let came : HasCome n (part net m.past n).paths f = first-come (HasCome n (part net m.past n).paths) (part net m.past n).inbox f m.step.1.1 follows.comes in
+    let came : HasCome n (part net m.past n).paths f = first-come
+    (HasCome n (part net m.past n).paths) (part net m.past n).inbox f m.step.1.1 follows.comes in
     subst (λ (k : FrameKind). CameOn n (part net m.past n).paths k f.id) kind came

@@ -5,8 +5,9 @@ use Rattle.std.specs.Prelude.{map, filter_map, Option, Some, None}
 use Rattle.std.specs.List.{cons_option}
 use Rattle.modbus_pdu.specs.Spelling.{reply_bytes}
 use Rattle.modbus_pdu.specs.declared.reply.Reply.TheVariants as replies
+pub use Rattle.mstr_block.specs.Call.{words_told}
 use Rattle.ring_core.specs.Words.{is_same_call}
-use Rattle.tied_lists.specs.Words.{CallId, MstrResult, Good, Bad, FrameKind, Request, Reply, Frame}
+use Rattle.tied_lists.specs.Words.{CallId, MstrResult, Bad, FrameKind, Request, Reply, Frame}
 use Rattle.tied_lists.specs.Words.{LocalOp, RemoteGet, RemoteClear, RingEntry, Post, Take, Local}
 use Rattle.tied_lists.specs.Words.{GiveUp}
 use Rattle.ring_core.specs.Statistics.{get_statistics, clear_statistics, is_stats}
@@ -141,10 +142,6 @@ request_of _ = None
 
 -- The reply that tells what an operation for another node came to. Modicon Modbus Protocol
 -- Reference Guide.
-abbrev pub words_told : MstrResult → List ℕ
-words_told (Good words) = words
-words_told (Bad word) = []
-
 abbrev pub reply_of : MstrResult → List ℕ
 reply_of result = reply_bytes (replies.Stats (words_told result))
 
@@ -179,9 +176,9 @@ replied_by b = filter_map replied_of b
 abbrev pub replies_in : List Answered → List (List ℕ)
 replies_in answers = map (λ (a : Answered). a.reply) answers
 
-abbrev pub first_of : List (List ℕ) → Option (List ℕ)
-first_of [] = None
-first_of (x ∷ xs) = Some x
+abbrev pub first_reply : List (List ℕ) → Option (List ℕ)
+first_reply [] = None
+first_reply (x ∷ xs) = Some x
 
 abbrev pub rest_of : List (List ℕ) → List (List ℕ)
 rest_of [] = []
@@ -192,9 +189,9 @@ rest_of (x ∷ xs) = xs
 abbrev pub due_replies : List Taken → List (List ℕ) → List (List ℕ) → List Item
 due_replies [] peers locals = []
 due_replies (Plain id pdu ∷ ts) peers locals =
-    (id, first_of peers) ∷ due_replies ts (rest_of peers) locals
+    (id, first_reply peers) ∷ due_replies ts (rest_of peers) locals
 due_replies (ForStats id pdu ∷ ts) peers locals =
-    (id, first_of locals) ∷ due_replies ts peers (rest_of locals)
+    (id, first_reply locals) ∷ due_replies ts peers (rest_of locals)
 
 -- The result of a Reply, where the Request of its name was posted.
 abbrev pub result_for : Option (List ℕ) → List ℕ → MstrResult

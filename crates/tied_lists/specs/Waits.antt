@@ -2,7 +2,7 @@
 use Rattle.std.specs.Prelude.{◌≡◌, ◌≢◌, ◌⊎◌, ℕ, ◌<◌, ◌==◌, true, false, if◌then◌else◌, List, []}
 use Rattle.std.specs.Prelude.{◌∷◌, Option, Some, None, Contains, All}
 use Rattle.ring_core.specs.Machine.{addresses, path_of, ring_node, ring_after}
-use Rattle.ring_core.specs.Legal.{IsMember, IsPath, IsLegal}
+use Rattle.ring_core.specs.Legal.{IsMember, IsPath, IsLegalRing}
 use Rattle.ring_core.specs.Words.{is_same_call}
 use Rattle.ring_core.specs.declared.path.Await.{Await}
 use Rattle.ring_core.specs.declared.path.Await.TheVariants.{Nothing, Out, Arrived, Failed}
@@ -69,7 +69,7 @@ AwaitsThis _ _ = ⊥
 -- A legal history of a net whose members' addresses are those of a ring, and one of its members.
 pub record IsOnRing (net : NetPlan) (history : List RingEntry) (n : ℕ) : Type 0 where
   pub members : All (λ m. m < addresses) net.members
-  pub legal : IsLegal net history
+  pub legal : IsLegalRing net history
   pub member : IsMember net n
 
 -- A node holds the token.

@@ -1,7 +1,8 @@
 -- A controller's turn keeps it in time with its node.
-use Rattle.std.proofs.Common.{◌≡◌, ◌≢◌, ℕ, ◌+◌, ◌==◌, Bool, true, false, cond, List, [], ◌∷◌, ◌++◌, map}
+use Rattle.std.proofs.Common.{◌≡◌, ◌≢◌, ℕ, ◌+◌, ◌==◌, Bool, true, false, cond, List, [], ◌∷◌, ◌++◌}
+use Rattle.std.proofs.Common.{map}
 use Rattle.std.proofs.Common.{filter, filter_map, Option, Some, None, refl, sym, ap, ◌∙◌, subst}
-use Rattle.std.proofs.Common.{arith, append_assoc, append-nil}
+use Rattle.std.proofs.Common.{arith, append-nil}
 use Rattle.std.specs.List.{AllByRecursion as Each}
 use Rattle.std.proofs.lemmas.Bool.{eq-eqb, ne_eqb}
 use Rattle.plant_types.specs.declared.net.NetPlan.{NetPlan}
@@ -30,8 +31,11 @@ use Rattle.comm_port.specs.Order.{IsSending}
 use Rattle.comm_port.specs.Parts.{InOrder, PartOf}
 use Rattle.joint_history.specs.Reading.{is_ours, has_started_at}
 use Rattle.comm_port.specs.HoldTurn.{CollectsIf, Collects, HoldsTurn, VisitsEnd, IsGivenUp, IsMade}
-use Rattle.comm_port.specs.HoldTurn.{IsEnded, EndedAs, IsNextSending, IsServed, MadeAs, SendsAll}
+use Rattle.comm_port.specs.HoldTurn.{IsEnded, EndedAs, IsServed, MadeAs, SendsAll}
+use Rattle.comm_port.specs.SendsAll.{IsNextSending, each_path}
+use Rattle.comm_port.proofs.Parts.{each-added}
 use Rattle.comm_port.specs.HoldTurn.{ServedAs, finish_of, inbox_of}
+use Rattle.comm_port.proofs.Asked.{both-asked}
 use Rattle.one_order.specs.Merges.{tally}
 use Rattle.one_order.proofs.Merges.{nothing-due, noted-first, end-fits, goes-on, tally-append}
 use Rattle.entry_causes.specs.Causes.{Ends, Asks, AsksPort, WorksPort, IsOver, PostsRequest}
@@ -53,7 +57,8 @@ Timely s d known own = blocks.Timely notings s d known own
 abbrev IsDue : List Entry → List RingEntry → Type 0
 IsDue noted done = blocks.IsDue notings noted done
 
-due-as : (noted noted' : List Entry) (done done' : List RingEntry) → noted ≡ noted' → done ≡ done' → IsDue noted' done' → IsDue noted done
+due-as : (noted noted' : List Entry) (done done' : List RingEntry) → noted ≡ noted' → done ≡ done'
+    → IsDue noted' done' → IsDue noted done
 due-as noted noted' done done' p q is = blocks.due-as notings noted noted' done done' p q is
 
 scan-quiet : (s : Noted) (e : Entry) → is_ours e ≡ false → note_entry s e ≡ s
@@ -67,49 +72,64 @@ scan-quiet s (entries.Peer id request reply) q = absurd (cc)
 scan-quiet s (entries.Finish id result) q = absurd (cc)
 
 -- lists that went on by what is due
-by-grew : (n : ℕ) (alone alone' : Bool) (a b : List Entry) (x y : List RingEntry) (noted : List Entry) (done : List RingEntry)
-    → Grew alone is_ours a noted b → Grew alone' (is_of n) x done y → IsDue noted done → StaysInTime n a x → StaysInTime n b y
+by-grew : (n : ℕ) (alone alone' : Bool) (a b : List Entry) (x y : List RingEntry)
+    (noted : List Entry) (done : List RingEntry)
+    → Grew alone is_ours a noted b → Grew alone' (is_of n) x done y → IsDue noted done
+    → StaysInTime n a x → StaysInTime n b y
 by-grew n alone alone' a b x y noted done g h is k =
     let s : Noted = tally note_entry no_notes a in
     let d : Done = tally deed no_deeds (own n x) in
-    let due = is s d (end-fits note_entry deed AreCaused no_notes no_deeds a (own n x) none-caused k.timely) k.replied in
+    let due = is s d (end-fits note_entry deed AreCaused no_notes no_deeds a
+    (own n x) none-caused k.timely) k.replied in
     let own-is : own n y ≡ own n x ++ done = grew-ours alone' (is_of n) x done y h in
     record {
       timely = subst (λ (l : List Entry). InTime l (own n y)) (sym g.after_is)
           (subst (λ (l : List RingEntry). InTime (a ++ g.more) l) (sym own-is)
-          (goes-on note_entry deed AreCaused is_ours scan-quiet no_notes no_deeds a g.more (own n x) done none-caused k.timely
+          (goes-on note_entry deed AreCaused is_ours scan-quiet no_notes no_deeds a g.more
+          (own n x) done none-caused k.timely
           (subst (λ (l : List Entry). Timely s d l done) (sym g.ours_are) due.0)));
       replied = subst (λ (l : List RingEntry). (tally deed no_deeds l).waiting ≡ []) (sym own-is)
-          (subst (λ (q : Done). q.waiting ≡ []) (sym (tally-append deed no_deeds (own n x) done)) due.1);
+          (subst (λ (q : Done). q.waiting ≡ [])
+          (sym (tally-append deed no_deeds (own n x) done)) due.1);
     }
 
 same-ring : (n : ℕ) (x : List RingEntry) → Grew true (is_of n) x [] x
-same-ring n x = record { more = []; after_is = sym (append-nil x); ours_are = refl; all_alone = λ is. refl }
+same-ring n x =
+    record { more = []; after_is = sym (append-nil x); ours_are = refl; all_alone = λ is. refl }
 
-by-ask : (n : ℕ) (alone : Bool) (a b : List Entry) (x : List RingEntry) → WentOn alone is_ours a [] b → StaysInTime n a x
+by-ask : (n : ℕ) (alone : Bool) (a b : List Entry) (x : List RingEntry)
+    → WentOn alone is_ours a [] b → StaysInTime n a x
     → StaysInTime n b x
 by-ask n alone a b x w k =
-    by-grew n alone true a b x x [] [] (grew-one alone is_ours a [] b refl w) (same-ring n x) (blocks.none-due notings) k
+    by-grew n alone true a b x x [] [] (grew-one alone is_ours a [] b refl w) (same-ring n x)
+    (blocks.none-due notings) k
 
 -- what is due to each
 in-order : {X : Type 0} (Good : X → Type 0) (Due : X → List Entry → List RingEntry → Type 0)
-    → ((x : X) (noted : List Entry) (done : List RingEntry) → Good x → Due x noted done → IsDue noted done)
-    → (xs : List X) (noted : List Entry) (done : List RingEntry) → Each Good xs → InOrder Due xs noted done → IsDue noted done
-in-order Good Due due [] noted done good is = due-as noted [] done [] is.0 is.1 (blocks.none-due notings)
+    → ((x : X) (noted : List Entry) (done : List RingEntry) → Good x → Due x noted done
+    → IsDue noted done)
+    → (xs : List X) (noted : List Entry) (done : List RingEntry) → Each Good xs
+    → InOrder Due xs noted done → IsDue noted done
+in-order Good Due due [] noted done good is =
+    due-as noted [] done [] is.0 is.1 (blocks.none-due notings)
 in-order Good Due due (x ∷ xs) noted done good is =
     due-as noted (is.0 ++ is.1) done (is.2 ++ is.3) is.4 is.5
-    (blocks.both-due notings is.0 is.1 is.2 is.3 (due x is.0 is.2 good.0 is.6) (in-order Good Due due xs is.1 is.3 good.1 is.7))
+    (blocks.both-due notings is.0 is.1 is.2 is.3 (due x is.0 is.2 good.0 is.6)
+    (in-order Good Due due xs is.1 is.3 good.1 is.7))
 
 abbrev finish : CallId → MstrResult → Entry
 finish id result = entries.Finish id result
 
 -- ---- rows of what comes and of what the port does
-pub take-is : (n : ℕ) (f : Frame) (kind : FrameKind) (stats : Bool) → f.kind ≡ kind → is_stats f.pdu ≡ stats
+pub take-is : (n : ℕ) (f : Frame) (kind : FrameKind) (stats : Bool) → f.kind ≡ kind
+    → is_stats f.pdu ≡ stats
     → doings (Take n f) ≡ taking kind stats ∷ []
 take-is n f kind stats p q =
-    subst (λ (k : FrameKind). doings (Take n f) ≡ taking k stats ∷ []) p (ap (λ (b : Bool). taking f.kind b ∷ []) q)
+    subst (λ (k : FrameKind). doings (Take n f) ≡ taking k stats ∷ []) p
+    (ap (λ (b : Bool). taking f.kind b ∷ []) q)
 
-pub local-is : (n : ℕ) (id : CallId) (op : LocalOp) (result : MstrResult) (home : Bool) → (id.node == n) ≡ home
+pub local-is : (n : ℕ) (id : CallId) (op : LocalOp) (result : MstrResult) (home : Bool)
+    → (id.node == n) ≡ home
     → doings (Local n id op result) ≡ working home
 local-is n id op result home is = ap working is
 
@@ -123,35 +143,48 @@ NamesOwn n (entries.Collect calls) = Each (λ (call : Call). call.id.node ≡ n)
 NamesOwn n _ = Unit {0}
 
 -- ---- first: served
-served-due : (n : ℕ) (f : Frame) (kind : FrameKind) (stats : Bool) → f.kind ≡ kind → is_stats f.pdu ≡ stats
+served-due : (n : ℕ) (f : Frame) (kind : FrameKind) (stats : Bool) → f.kind ≡ kind
+    → is_stats f.pdu ≡ stats
     → (noted : List Entry) (done : List RingEntry)
     → IsForeign n f → ServedAs kind stats n f noted done → IsDue noted done
 served-due n f Reply stats p q noted done other is =
-    due-as noted _ done _ is.1 is.2 (blocks.ends-due notings (finish f.id is.0) (Take n f) refl (take-is n f Reply stats p q))
+    due-as noted _ done _ is.1 is.2
+    (blocks.ends-due notings (finish f.id is.0) (Take n f) refl (take-is n f Reply stats p q))
 served-due n f Request true p q noted done other is =
-    due-as noted _ done _ is.3 is.4 (blocks.tells-due notings (Take n f) (Local n f.id is.0 is.1) _ (take-is n f Request true p q)
+    due-as noted _ done _ is.3 is.4
+    (blocks.tells-due notings (Take n f) (Local n f.id is.0 is.1) _ (take-is n f Request true p q)
     (local-is n f.id is.0 is.1 false (ne_eqb f.id.node n (other p))) refl)
 served-due n f Request false p q noted done other is =
-    due-as noted _ done _ is.1 is.2 (blocks.serves-due notings (entries.Peer f.id f.pdu is.0) (Take n f) _ refl (take-is n f Request false p q) refl)
+    due-as noted _ done _ is.1 is.2 (blocks.serves-due notings (entries.Peer f.id f.pdu is.0)
+    (Take n f) _ refl (take-is n f Request false p q) refl)
 
-by-serves : (n : ℕ) (alone alone' : Bool) (fs : List Frame) (a b : List Entry) (x y : List RingEntry)
-    → PartOf alone alone' is_ours n (InOrder (IsServed n) fs) a b x y → Each (IsForeign n) fs → StaysInTime n a x → StaysInTime n b y
-by-serves n alone alone' fs a b x y p other k = by-grew n alone alone' a b x y p.noted p.done p.station p.node
-    (in-order (IsForeign n) (IsServed n) (λ f noted done o is. served-due n f f.kind (is_stats f.pdu) refl refl noted done o is) fs p.noted p.done other p.due) k
+by-serves : (n : ℕ) (alone alone' : Bool) (fs : List Frame) (a b : List Entry)
+    (x y : List RingEntry)
+    → PartOf alone alone' is_ours n (InOrder (IsServed n) fs) a b x y → Each (IsForeign n) fs
+    → StaysInTime n a x → StaysInTime n b y
+by-serves n alone alone' fs a b x y p other k =
+    by-grew n alone alone' a b x y p.noted p.done p.station p.node
+    (in-order (IsForeign n) (IsServed n) (λ f noted done o is. served-due n f f.kind
+    (is_stats f.pdu) refl refl noted done o is) fs p.noted p.done other p.due) k
 
 -- ---- fourth: given up
 all-good : {X : Type 0} (xs : List X) → Each (λ (x : X). Unit {0}) xs
 all-good [] = tt
 all-good (x ∷ xs) = (tt, all-good xs)
 
-by-gives : (n : ℕ) (alone alone' : Bool) (ids : List CallId) (a b : List Entry) (x y : List RingEntry)
-    → PartOf alone alone' is_ours n (InOrder IsGivenUp ids) a b x y → StaysInTime n a x → StaysInTime n b y
-by-gives n alone alone' ids a b x y p k = by-grew n alone alone' a b x y p.noted p.done p.station p.node
+by-gives : (n : ℕ) (alone alone' : Bool) (ids : List CallId) (a b : List Entry)
+    (x y : List RingEntry)
+    → PartOf alone alone' is_ours n (InOrder IsGivenUp ids) a b x y → StaysInTime n a x
+    → StaysInTime n b y
+by-gives n alone alone' ids a b x y p k =
+    by-grew n alone alone' a b x y p.noted p.done p.station p.node
     (in-order (λ (id : CallId). Unit {0}) IsGivenUp
-    (λ id noted done o is. due-as noted _ done _ is.1 is.2 (blocks.ends-due notings (finish id (Bad is.0)) (GiveUp id is.0) refl refl)) ids p.noted p.done (all-good ids) p.due) k
+    (λ id noted done o is. due-as noted _ done _ is.1 is.2 (blocks.ends-due notings
+    (finish id (Bad is.0)) (GiveUp id is.0) refl refl)) ids p.noted p.done (all-good ids) p.due) k
 
 -- ---- the token goes on
-pub last-still : (n : ℕ) (done : Bool) (words : List ℕ) (cause : Option LeaveCause) → doings (last_entry n done words cause) ≡ []
+pub last-still : (n : ℕ) (done : Bool) (words : List ℕ) (cause : Option LeaveCause)
+    → doings (last_entry n done words cause) ≡ []
 last-still n done words None = refl
 last-still n done words (Some cause) = refl
 
@@ -159,9 +192,11 @@ last-still n done words (Some cause) = refl
 sent-due : (done : List RingEntry) → Each IsSending done → IsDue (filter_map finish_of done) done
 sent-due [] is = blocks.none-due notings
 sent-due (Send m heard ∷ done) is =
-    blocks.both-due notings [] (filter_map finish_of done) (Send m heard ∷ []) done (blocks.still-due notings (Send m heard) refl) (sent-due done is.1)
+    blocks.both-due notings [] (filter_map finish_of done) (Send m heard ∷ []) done
+    (blocks.still-due notings (Send m heard) refl) (sent-due done is.1)
 sent-due (GiveUp id word ∷ done) is =
-    blocks.both-due notings (finish id (Bad word) ∷ []) (filter_map finish_of done) (GiveUp id word ∷ []) done
+    blocks.both-due notings (finish id (Bad word) ∷ []) (filter_map finish_of done)
+    (GiveUp id word ∷ []) done
     (blocks.ends-due notings (finish id (Bad word)) (GiveUp id word) refl refl) (sent-due done is.1)
 sent-due (Post m f ∷ done) is = absurd is.0
 sent-due (Take m f ∷ done) is = absurd is.0
@@ -169,39 +204,25 @@ sent-due (Local m id op result ∷ done) is = absurd is.0
 sent-due (Pass m words said ∷ done) is = absurd is.0
 sent-due (Leave m cause ∷ done) is = absurd is.0
 
-next-sending : (net : NetPlan) (n : ℕ) (past : List RingEntry) (e : RingEntry) → IsNextSending net n past e → IsSending e
-next-sending net n past (Send m heard) is = tt
-next-sending net n past (GiveUp id word) is = tt
-next-sending net n past (Post m f) is = absurd is
-next-sending net n past (Take m f) is = absurd is
-next-sending net n past (Local m id op result) is = absurd is
-next-sending net n past (Pass m done words) is = absurd is
-next-sending net n past (Leave m cause) is = absurd is
+pub next-sending : (net : NetPlan) (n : ℕ) (on : ℕ → Bool) (past : List RingEntry) (e : RingEntry)
+    → IsNextSending net n on past e → IsSending e
+next-sending net n on past (Send m heard) is = tt
+next-sending net n on past (GiveUp id word) is = tt
+next-sending net n on past (Post m f) is = absurd is
+next-sending net n on past (Take m f) is = absurd is
+next-sending net n on past (Local m id op result) is = absurd is
+next-sending net n on past (Pass m done words) is = absurd is
+next-sending net n on past (Leave m cause) is = absurd is
 
-sends-all : (net : NetPlan) (n : ℕ) (ring front rest : List RingEntry)
-    → ((before after : List RingEntry) (e : RingEntry) → front ++ rest ≡ before ++ e ∷ after → is_of n e ≡ true → IsNextSending net n (ring ++ before) e)
-    → Each IsSending (filter (is_of n) rest)
-sends-all net n ring front [] each = tt
-sends-all net n ring front (e ∷ rest) each =
-    at (is_of n e) refl
-    (sends-all net n ring (front ++ e ∷ []) rest
-    (λ before after x is. each before after x (sym (append_assoc front (e ∷ []) rest) ∙ is)))
-  where
-    at : (b : Bool) → is_of n e ≡ b → Each IsSending (filter (is_of n) rest)
-        → Each IsSending (cond b (e ∷ filter (is_of n) rest) (filter (is_of n) rest))
-    at true mine all = (next-sending net n (ring ++ front) e (each front rest e refl mine), all)
-    at false mine all = all
-
-cancel : {X : Type 0} (a b c : List X) → a ++ b ≡ a ++ c → b ≡ c
-cancel [] b c is = is
-cancel (x ∷ a) b c is = cancel a b c (cc)
-
-by-sends : (n : ℕ) (alone alone' : Bool) (net : NetPlan) (a b : List Entry) (x y : List RingEntry) → SendsAll alone alone' net n a b x y
+by-sends : (n : ℕ) (alone alone' : Bool) (net : NetPlan) (a b : List Entry) (x y : List RingEntry)
+    → SendsAll alone alone' net n a b x y
     → StaysInTime n a x → StaysInTime n b y
 by-sends n alone alone' net a b x y s k =
-    let same : s.each.more ≡ s.grew.more = cancel x s.each.more s.grew.more (sym s.each.after_is ∙ s.grew.after_is) in
-    by-grew n alone alone' a b x y (filter_map finish_of s.done) s.done s.finishes s.grew
-    (sent-due s.done (subst (Each IsSending) (ap (filter (is_of n)) same ∙ s.grew.ours_are) (sends-all net n x [] s.each.more s.each.each))) k
+    let frames = s.frames in
+    by-grew n alone alone' a b x y (filter_map finish_of frames.done) frames.done s.finishes
+    frames.grew
+    (sent-due frames.done (each-added alone' n (IsNextSending net n each_path) IsSending
+    (next-sending net n each_path) x frames.done y frames.grew frames.each)) k
 
 -- ---- second: calls are made
 abbrev note_call : Noted → CallKind → Noted
@@ -210,13 +231,17 @@ note_call s kind = noted_next s (asking kind)
 abbrev note_calls : Noted → List Call → Noted
 note_calls s calls = tally noted_next s (map asking_of calls)
 
-call-caused : (s : Noted) (d : Done) (kind : CallKind) → AreCaused s d → AreCaused (note_call s kind) d
+call-caused : (s : Noted) (d : Done) (kind : CallKind) → AreCaused s d
+    → AreCaused (note_call s kind) d
 call-caused s d (call_kinds.Net to pdu) f = asked-caused s d f
-call-caused s d (call_kinds.Local op) f = works-caused s d (s.asked_port + 1) d.worked_port f (let h = f.port_works in omega (arith, h))
+call-caused s d (call_kinds.Local op) f =
+    works-caused s d (s.asked_port + 1) d.worked_port f (let h = f.port_works in omega (arith, h))
 
-calls-caused : (s : Noted) (d : Done) (calls : List Call) → AreCaused s d → AreCaused (note_calls s calls) d
+calls-caused : (s : Noted) (d : Done) (calls : List Call) → AreCaused s d
+    → AreCaused (note_calls s calls) d
 calls-caused s d [] f = f
-calls-caused s d (call ∷ calls) f = calls-caused (note_call s call.kind) d calls (call-caused s d call.kind f)
+calls-caused s d (call ∷ calls) f =
+    calls-caused (note_call s call.kind) d calls (call-caused s d call.kind f)
 
 abbrev ended : Noted → Noted
 ended s = noted_next s Ends
@@ -225,67 +250,89 @@ ended-call : (s : Noted) (kind : CallKind) → note_call (ended s) kind ≡ ende
 ended-call s (call_kinds.Net to pdu) = refl
 ended-call s (call_kinds.Local op) = refl
 
-ended-calls : (s : Noted) (calls : List Call) → note_calls (ended s) calls ≡ ended (note_calls s calls)
+ended-calls : (s : Noted) (calls : List Call)
+    → note_calls (ended s) calls ≡ ended (note_calls s calls)
 ended-calls s [] = refl
-ended-calls s (call ∷ calls) = ap (λ (t : Noted). note_calls t calls) (ended-call s call.kind) ∙ ended-calls (note_call s call.kind) calls
+ended-calls s (call ∷ calls) = ap (λ (t : Noted). note_calls t calls) (ended-call s call.kind)
+    ∙ ended-calls (note_call s call.kind) calls
 
 abbrev Goes : Noted → Done → List Entry → List RingEntry → Type 0
 Goes s d noted done = Timely s d noted done × ((tally deed d done).waiting ≡ [])
 
-goes-as : (s : Noted) (d : Done) (noted noted' : List Entry) (done done' : List RingEntry) → noted ≡ noted' → done ≡ done'
+goes-as : (s : Noted) (d : Done) (noted noted' : List Entry) (done done' : List RingEntry)
+    → noted ≡ noted' → done ≡ done'
     → Goes s d noted' done' → Goes s d noted done
 goes-as s d noted noted' done done' p q is =
-    subst (λ (l : List Entry). Goes s d l done) (sym p) (subst (λ (l : List RingEntry). Goes s d noted' l) (sym q) is)
+    subst (λ (l : List Entry). Goes s d l done) (sym p)
+    (subst (λ (l : List RingEntry). Goes s d noted' l) (sym q) is)
 
 -- what is due to one of the calls collected, before what is due to those behind it
 abbrev CallDue : CallKind → List Entry → List RingEntry → Type 0
 CallDue kind noted done =
-    (s : Noted) (d : Done) → AreCaused s d → d.waiting ≡ [] → (calls : List Call) (rest : List Entry) (later : List RingEntry)
-    → ((t : Noted) (q : Done) → AreCaused t q → q.waiting ≡ [] → Goes (note_calls t calls) q rest later)
+    (s : Noted) (d : Done) → AreCaused s d → d.waiting ≡ []
+    → (calls : List Call) (rest : List Entry) (later : List RingEntry)
+    → ((t : Noted) (q : Done) → AreCaused t q → q.waiting ≡ []
+    → Goes (note_calls t calls) q rest later)
     → Goes (note_calls (note_call s kind) calls) d (noted ++ rest) (done ++ later)
 
 abbrev worked : Done → Done
 worked d = done_next (done_next d WorksPort) IsOver
 
-works : (s : Noted) (d : Done) → AreCaused s d → AreCaused (noted_next s AsksPort) (done_next d WorksPort)
-works s d f = works-caused s d (s.asked_port + 1) (d.worked_port + 1) f (let h = f.port_works in omega (arith, h))
+works : (s : Noted) (d : Done) → AreCaused s d
+    → AreCaused (noted_next s AsksPort) (done_next d WorksPort)
+works s d f = works-caused s d (s.asked_port + 1) (d.worked_port + 1) f
+    (let h = f.port_works in omega (arith, h))
 
-worked-caused : (s : Noted) (d : Done) → AreCaused s d → AreCaused (noted_next s AsksPort) (worked d)
+worked-caused : (s : Noted) (d : Done) → AreCaused s d
+    → AreCaused (noted_next s AsksPort) (worked d)
 worked-caused s d f = over-caused (noted_next s AsksPort) (done_next d WorksPort) (works s d f)
 
-worked-ended : (s : Noted) (d : Done) → AreCaused s d → AreCaused (ended (noted_next s AsksPort)) (worked d)
+worked-ended : (s : Noted) (d : Done) → AreCaused s d
+    → AreCaused (ended (noted_next s AsksPort)) (worked d)
 worked-ended s d f = ended-caused (noted_next s AsksPort) (done_next d WorksPort) (works s d f)
 
 -- a call ends, with those behind it
-finish-goes : (s : Noted) (d : Done) (calls : List Call) (id : CallId) (result : MstrResult) (rest : List Entry) (later : List RingEntry)
+finish-goes : (s : Noted) (d : Done) (calls : List Call) (id : CallId) (result : MstrResult)
+    (rest : List Entry) (later : List RingEntry)
     → AreCaused (ended s) d
-    → Timely (note_calls (ended s) calls) d rest later → Timely (note_calls s calls) d (finish id result ∷ rest) later
+    → Timely (note_calls (ended s) calls) d rest later
+    → Timely (note_calls s calls) d (finish id result ∷ rest) later
 finish-goes s d calls id result rest later f x =
     noted-first note_entry deed AreCaused (note_calls s calls) d (finish id result) rest later
     (subst (λ (t : Noted). AreCaused t d) (ended-calls s calls) (calls-caused (ended s) d calls f))
     (subst (λ (t : Noted). Timely t d rest later) (ended-calls s calls) x)
 
-made-due : (n : ℕ) (kind : CallKind) (id : CallId) (noted : List Entry) (done : List RingEntry) → id.node ≡ n → MadeAs kind n id noted done
+made-due : (n : ℕ) (kind : CallKind) (id : CallId) (noted : List Entry) (done : List RingEntry)
+    → id.node ≡ n → MadeAs kind n id noted done
     → CallDue kind noted done
 made-due n (call_kinds.Net to pdu) id noted done mine is s d f g calls rest later go =
     let q : Done = done_next d PostsRequest in
     let k = posted-caused s d f in
     let x = go (noted_next s Asks) q k g in
-    goes-as (note_calls (noted_next s Asks) calls) d (noted ++ rest) rest (done ++ later) _ (ap (λ (l : List Entry). l ++ rest) is.0) (ap (λ (l : List RingEntry). l ++ later) is.1)
-    (blocks.done-as notings (note_calls (noted_next s Asks) calls) d _ (PostsRequest ∷ []) rest later refl (calls-caused (noted_next s Asks) q calls k) x.0, x.1)
+    goes-as (note_calls (noted_next s Asks) calls) d (noted ++ rest) rest (done ++ later) _
+    (ap (λ (l : List Entry). l ++ rest) is.0) (ap (λ (l : List RingEntry). l ++ later) is.1) (
+      blocks.done-as notings (note_calls (noted_next s Asks) calls) d _
+          (PostsRequest ∷ []) rest later refl (calls-caused (noted_next s Asks) q calls k) x.0,
+      x.1,
+    )
 made-due n (call_kinds.Local op) id noted done mine is s d f g calls rest later go =
     let q : Done = worked d in
     let s' : Noted = noted_next s AsksPort in
     let k = worked-ended s d f in
     let x = go (ended s') q k g in
-    let at : doings (Local n id op is.0) ≡ working true = local-is n id op is.0 true (eq-eqb id.node n mine) in
-    goes-as (note_calls s' calls) d (noted ++ rest) (finish id is.0 ∷ rest) (done ++ later) _ (ap (λ (l : List Entry). l ++ rest) is.1) (ap (λ (l : List RingEntry). l ++ later) is.2) (
-      blocks.done-as notings (note_calls s' calls) d (Local n id op is.0) (working true) (finish id is.0 ∷ rest) later at (calls-caused s' q calls (worked-caused s d f))
+    let at : doings (Local n id op is.0) ≡ working true =
+    local-is n id op is.0 true (eq-eqb id.node n mine) in
+    goes-as (note_calls s' calls) d (noted ++ rest) (finish id is.0 ∷ rest) (done ++ later) _
+    (ap (λ (l : List Entry). l ++ rest) is.1) (ap (λ (l : List RingEntry). l ++ later) is.2) (
+      blocks.done-as notings (note_calls s' calls) d (Local n id op is.0) (working true)
+          (finish id is.0 ∷ rest) later at (calls-caused s' q calls (worked-caused s d f))
           (finish-goes s' q calls id is.0 rest later k x.0),
-      subst (λ (row : List Doing). (tally deed (tally done_next d row) later).waiting ≡ []) (sym at) x.1,
+      subst (λ (row : List Doing). (tally deed (tally done_next d row) later).waiting ≡ [])
+          (sym at) x.1,
     )
 
-ended-due : (n : ℕ) (kind : CallKind) (id : CallId) (noted : List Entry) (done : List RingEntry) → id.node ≡ n
+ended-due : (n : ℕ) (kind : CallKind) (id : CallId) (noted : List Entry) (done : List RingEntry)
+    → id.node ≡ n
     → EndedAs kind n id noted done → CallDue kind noted done
 ended-due n (call_kinds.Net to pdu) id noted done mine is s d f g calls rest later go =
     let q : Done = done_next d PostsRequest in
@@ -294,9 +341,12 @@ ended-due n (call_kinds.Net to pdu) id noted done mine is s d f g calls rest lat
     let k = posted-caused s d f in
     let m = ended-caused s' q k in
     let x = go (ended s') o m g in
-    goes-as (note_calls s' calls) d (noted ++ rest) (finish id (Bad is.0) ∷ rest) (done ++ later) _ (ap (λ (l : List Entry). l ++ rest) is.1) (ap (λ (l : List RingEntry). l ++ later) is.2) (
-      blocks.done-as notings (note_calls s' calls) d _ (PostsRequest ∷ []) (finish id (Bad is.0) ∷ rest) (GiveUp id is.0 ∷ later) refl (calls-caused s' q calls k)
-          (blocks.done-as notings (note_calls s' calls) q (GiveUp id is.0) (IsOver ∷ []) (finish id (Bad is.0) ∷ rest) later refl (calls-caused s' o calls (over-caused s' q k))
+    goes-as (note_calls s' calls) d (noted ++ rest) (finish id (Bad is.0) ∷ rest) (done ++ later) _
+    (ap (λ (l : List Entry). l ++ rest) is.1) (ap (λ (l : List RingEntry). l ++ later) is.2) (
+      blocks.done-as notings (note_calls s' calls) d _ (PostsRequest ∷ [])
+          (finish id (Bad is.0) ∷ rest) (GiveUp id is.0 ∷ later) refl (calls-caused s' q calls k)
+          (blocks.done-as notings (note_calls s' calls) q (GiveUp id is.0) (IsOver ∷ [])
+          (finish id (Bad is.0) ∷ rest) later refl (calls-caused s' o calls (over-caused s' q k))
           (finish-goes s' o calls id (Bad is.0) rest later m x.0)),
       x.1,
     )
@@ -304,28 +354,42 @@ ended-due n (call_kinds.Local op) id noted done mine is s d f g calls rest later
     made-due n (call_kinds.Local op) id noted done mine is s d f g calls rest later go
 
 module _ (n : ℕ) (Due : Call → List Entry → List RingEntry → Type 0)
-    (each : (call : Call) (noted : List Entry) (done : List RingEntry) → call.id.node ≡ n → Due call noted done → CallDue call.kind noted done) where
-  calls-due : (calls : List Call) (noted : List Entry) (done : List RingEntry) → Each (λ (call : Call). call.id.node ≡ n) calls
+    (each : (call : Call) (noted : List Entry) (done : List RingEntry) → call.id.node ≡ n
+    → Due call noted done → CallDue call.kind noted done) where
+  calls-due : (calls : List Call) (noted : List Entry) (done : List RingEntry)
+      → Each (λ (call : Call). call.id.node ≡ n) calls
       → InOrder Due calls noted done
-      → (s : Noted) (d : Done) → AreCaused s d → d.waiting ≡ [] → Goes (note_calls s calls) d noted done
-  calls-due [] noted done mine is s d f g = goes-as s d noted [] done [] is.0 is.1 (nothing-due note_entry deed AreCaused s d, g)
+      → (s : Noted) (d : Done) → AreCaused s d → d.waiting ≡ []
+      → Goes (note_calls s calls) d noted done
+  calls-due [] noted done mine is s d f g = goes-as s d noted [] done [] is.0 is.1
+      (nothing-due note_entry deed AreCaused s d, g)
   calls-due (call ∷ calls) noted done mine is s d f g =
-      goes-as (note_calls (note_call s call.kind) calls) d noted (is.0 ++ is.1) done (is.2 ++ is.3) is.4 is.5
-      (each call is.0 is.2 mine.0 is.6 s d f g calls is.1 is.3 (λ t q k h. calls-due calls is.1 is.3 mine.1 is.7 t q k h))
+      goes-as (note_calls (note_call s call.kind) calls) d noted (is.0 ++ is.1) done
+      (is.2 ++ is.3) is.4 is.5
+      (each call is.0 is.2 mine.0 is.6 s d f g calls is.1 is.3
+      (λ t q k h. calls-due calls is.1 is.3 mine.1 is.7 t q k h))
 
-  collects-due : (b : Bool) (noted : List Entry) (done : List RingEntry) → Each (NamesOwn n) noted → CollectsIf b Due noted done
+  collects-due : (b : Bool) (noted : List Entry) (done : List RingEntry) → Each (NamesOwn n) noted
+      → CollectsIf b Due noted done
       → IsDue noted done
-  collects-due false noted done mine is = due-as noted [] done [] is.0 is.1 (blocks.none-due notings)
-  collects-due true noted done mine is = due-as noted (entries.Collect is.0 ∷ is.1) done done is.2 refl
+  collects-due false noted done mine is = due-as noted [] done [] is.0 is.1
+      (blocks.none-due notings)
+  collects-due true noted done mine is = due-as noted (entries.Collect is.0 ∷ is.1) done
+      done is.2 refl
       (λ s d f g.
-      let x = calls-due is.0 is.1 done (subst (Each (NamesOwn n)) is.2 mine).0 is.3 s d f g in
-      (noted-first note_entry deed AreCaused s d (entries.Collect is.0) is.1 done (calls-caused s d is.0 f) x.0, x.1))
+      let x = calls-due is.0 is.1 done (subst (Each (NamesOwn n)) is.2 mine).0 is.3 s d f g in (
+        noted-first note_entry deed AreCaused s d (entries.Collect is.0) is.1 done
+            (calls-caused s d is.0 f) x.0,
+        x.1,
+      ))
 
-  each-filter : (p : Entry → Bool) (xs : List Entry) → Each (NamesOwn n) xs → Each (NamesOwn n) (filter p xs)
+  each-filter : (p : Entry → Bool) (xs : List Entry) → Each (NamesOwn n) xs
+      → Each (NamesOwn n) (filter p xs)
   each-filter p [] is = tt
   each-filter p (x ∷ xs) is = at (p x) (each-filter p xs is.1)
     where
-      at : (b : Bool) → Each (NamesOwn n) (filter p xs) → Each (NamesOwn n) (cond b (x ∷ filter p xs) (filter p xs))
+      at : (b : Bool) → Each (NamesOwn n) (filter p xs)
+          → Each (NamesOwn n) (cond b (x ∷ filter p xs) (filter p xs))
       at true all = (is.0, all)
       at false all = all
 
@@ -333,13 +397,16 @@ module _ (n : ℕ) (Due : Call → List Entry → List RingEntry → Type 0)
   each-back [] ys is = is
   each-back (x ∷ xs) ys is = each-back xs ys is.1
 
-  by-collects : (alone alone' : Bool) (fixed : Fixed) (a b : List Entry) (x y : List RingEntry) → Collects alone alone' fixed n Due a b x y
+  by-collects : (alone alone' : Bool) (fixed : Fixed) (a b : List Entry) (x y : List RingEntry)
+      → Collects alone alone' fixed n Due a b x y
       → Each (NamesOwn n) b → StaysInTime n a x → StaysInTime n b y
   by-collects alone alone' fixed a b x y c mine k =
       let p = c.goes in
       let ours : Each (NamesOwn n) p.noted =
-      subst (Each (NamesOwn n)) p.station.ours_are (each-filter is_ours p.station.more (each-back c.asked p.station.more (subst (Each (NamesOwn n)) p.station.after_is mine))) in
-      by-grew n alone alone' c.asked b x y p.noted p.done p.station p.node (collects-due (has_started_at fixed c.asked) p.noted p.done ours p.due)
+      subst (Each (NamesOwn n)) p.station.ours_are (each-filter is_ours p.station.more
+      (each-back c.asked p.station.more (subst (Each (NamesOwn n)) p.station.after_is mine))) in
+      by-grew n alone alone' c.asked b x y p.noted p.done p.station p.node
+      (collects-due (has_started_at fixed c.asked) p.noted p.done ours p.due)
       (by-ask n alone a c.asked x c.asks k)
 
 -- ---- the whole
@@ -347,48 +414,79 @@ each-front : (n : ℕ) (xs ys : List Entry) → Each (NamesOwn n) (xs ++ ys) →
 each-front n [] ys is = tt
 each-front n (x ∷ xs) ys is = (is.0, each-front n xs ys is.1)
 
-before-grew : (n : ℕ) (alone : Bool) (a added b : List Entry) → Grew alone is_ours a added b → Each (NamesOwn n) b → Each (NamesOwn n) a
+before-grew : (n : ℕ) (alone : Bool) (a added b : List Entry) → Grew alone is_ours a added b
+    → Each (NamesOwn n) b → Each (NamesOwn n) a
 before-grew n alone a added b g is = each-front n a g.more (subst (Each (NamesOwn n)) g.after_is is)
 
-before-asked : (n : ℕ) (alone : Bool) (a b : List Entry) → WentOn alone is_ours a [] b → Each (NamesOwn n) b → Each (NamesOwn n) a
+before-asked : (n : ℕ) (alone : Bool) (a b : List Entry) → WentOn alone is_ours a [] b
+    → Each (NamesOwn n) b → Each (NamesOwn n) a
 before-asked n alone a b w is = before-grew n alone a [] b (grew-one alone is_ours a [] b refl w) is
 
 same-list : (a : List Entry) → Grew true is_ours a [] a
-same-list a = record { more = []; after_is = sym (append-nil a); ours_are = refl; all_alone = λ is. refl }
+same-list a =
+    record { more = []; after_is = sym (append-nil a); ours_are = refl; all_alone = λ is. refl }
 
-pub turn-in-time : (alone_ram alone_ring : Bool) (fixed : Fixed) (net : NetPlan) (n : ℕ) (budget left : Bool) (known new_known : List Entry) (ring new_ring : List RingEntry)
+pub turn-in-time : (alone_ram alone_ring : Bool) (fixed : Fixed) (net : NetPlan) (n : ℕ)
+    (budget left : Bool) (known new_known : List Entry) (ring new_ring : List RingEntry)
     → HoldsTurn alone_ram alone_ring fixed net n budget known new_known ring new_ring left
-    → Each (IsForeign n) (inbox_of net n ring) → Each (NamesOwn n) new_known → StaysInTime n known ring → StaysInTime n new_known new_ring
-turn-in-time alone_ram alone_ring fixed net n budget left known new_known ring new_ring t foreign named k =
-    let named-asked : Each (NamesOwn n) t.ends.asked_known = before-grew n alone_ram _ _ new_known t.ends.gives_up.station named in
+    → Each (IsForeign n) (inbox_of net n ring) → Each (NamesOwn n) new_known
+    → StaysInTime n known ring → StaysInTime n new_known new_ring
+turn-in-time alone_ram alone_ring fixed net n budget left known new_known ring new_ring t
+    foreign named k =
+    let both = both-asked t.ends.asked in
+    let named-asked : Each (NamesOwn n) t.ends.asked_known =
+    before-grew n alone_ram _ _ new_known t.ends.gives_up.station named in
     let named-given : Each (NamesOwn n) t.given_known =
-    before-asked n alone_ram _ _ t.ends.asked.first (before-asked n alone_ram _ _ t.ends.asked.then_on named-asked) in
+    before-asked n alone_ram _ _ both.first
+    (before-asked n alone_ram _ _ both.then_on named-asked) in
     let named-called : Each (NamesOwn n) t.called_known =
-    before-grew n alone_ram _ _ _ t.sends.finishes (before-grew n alone_ram _ _ _ t.gives_up.station named-given) in
-    let served = by-serves n alone_ram alone_ring (inbox_of net n ring) known t.served_known ring t.served_ring t.serves foreign k in
-    let called = by-collects n (IsMade n) (λ call noted done mine is. made-due n call.kind call.id noted done mine is) alone_ram alone_ring fixed
+    before-grew n alone_ram _ _ _ t.sends.finishes
+    (before-grew n alone_ram _ _ _ t.gives_up.station named-given) in
+    let served = by-serves n alone_ram alone_ring (inbox_of net n ring) known t.served_known ring
+    t.served_ring t.serves foreign k in
+    let called = by-collects n (IsMade n) (λ call noted done mine is.
+    made-due n call.kind call.id noted done mine is) alone_ram alone_ring fixed
     t.served_known t.called_known t.served_ring t.called_ring t.calls named-called served in
-    let sent = by-sends n alone_ram alone_ring net t.called_known t.sent_known t.called_ring t.sent_ring t.sends called in
-    let given = by-gives n alone_ram alone_ring _ t.sent_known t.given_known t.sent_ring t.given_ring t.gives_up sent in
-    let asked = by-ask n alone_ram t.ends.asked.at_end t.ends.asked_known t.given_ring t.ends.asked.then_on
-    (by-ask n alone_ram t.given_known t.ends.asked.at_end t.given_ring t.ends.asked.first given) in
-    let handed = by-grew n true alone_ring t.ends.asked_known t.ends.asked_known t.given_ring t.ends.handed_ring [] _ (same-list t.ends.asked_known) t.ends.handed.grew
+    let sent = by-sends n alone_ram alone_ring net t.called_known t.sent_known t.called_ring
+    t.sent_ring t.sends called in
+    let given = by-gives n alone_ram alone_ring _ t.sent_known t.given_known t.sent_ring
+    t.given_ring t.gives_up sent in
+    let asked = by-ask n alone_ram both.at_end t.ends.asked_known t.given_ring both.then_on
+    (by-ask n alone_ram t.given_known both.at_end t.given_ring both.first given) in
+    let handed = by-grew n true alone_ring t.ends.asked_known t.ends.asked_known t.given_ring
+    t.ends.handed_ring [] _ (same-list t.ends.asked_known) t.ends.handed.grew
     (blocks.still-due notings _ (last-still n t.ends.done _ _)) asked in
-    by-gives n alone_ram alone_ring _ t.ends.asked_known new_known t.ends.handed_ring new_ring t.ends.gives_up handed
+    by-gives n alone_ram alone_ring _ t.ends.asked_known new_known t.ends.handed_ring new_ring
+    t.ends.gives_up handed
 
-pub visit-in-time : (alone_ram alone_ring : Bool) (fixed : Fixed) (net : NetPlan) (n : ℕ) (known new_known : List Entry) (ring new_ring : List RingEntry)
-    → VisitsEnd alone_ram alone_ring fixed net n known new_known ring new_ring → Each (NamesOwn n) new_known → StaysInTime n known ring
+pub visit-in-time : (alone_ram alone_ring : Bool) (fixed : Fixed) (net : NetPlan) (n : ℕ)
+    (known new_known : List Entry) (ring new_ring : List RingEntry)
+    → VisitsEnd alone_ram alone_ring fixed net n known new_known ring new_ring
+    → Each (NamesOwn n) new_known → StaysInTime n known ring
     → StaysInTime n new_known new_ring
 visit-in-time alone_ram alone_ring fixed net n known new_known ring new_ring t named k =
-    by-collects n (IsEnded n) (λ call noted done mine is. ended-due n call.kind call.id noted done mine is) alone_ram alone_ring fixed known new_known ring new_ring t.calls named k
+    by-collects n (IsEnded n) (λ call noted done mine is. ended-due n call.kind call.id noted done
+    mine is) alone_ram alone_ring fixed known new_known ring new_ring t.calls named k
 
 pub others-in-time : OthersStayInTime
-others-in-time n known more ring others quiet none k = by-grew n false false known (known ++ more) ring (ring ++ others) [] []
-    (record { more = more; after_is = refl; ours_are = quiet; all_alone = λ (is : false ≡ true). absurd (cc) })
-    (record { more = others; after_is = refl; ours_are = none; all_alone = λ (is : false ≡ true). absurd (cc) }) (blocks.none-due notings) k
+others-in-time n known more ring others quiet none k =
+    by-grew n false false known (known ++ more) ring (ring ++ others) [] []
+    (record {
+      more = more;
+      after_is = refl;
+      ours_are = quiet;
+      all_alone = λ (is : false ≡ true). absurd (cc);
+    })
+    (record {
+      more = others;
+      after_is = refl;
+      ours_are = none;
+      all_alone = λ (is : false ≡ true). absurd (cc);
+    }) (blocks.none-due notings) k
 
 pub starts-in-time : StartsInTime
 starts-in-time n ring none = record {
-  timely = subst (λ (l : List RingEntry). InTime [] l) (sym none) (nothing-due note_entry deed AreCaused no_notes no_deeds);
+  timely = subst (λ (l : List RingEntry). InTime [] l) (sym none)
+      (nothing-due note_entry deed AreCaused no_notes no_deeds);
   replied = subst (λ (l : List RingEntry). (tally deed no_deeds l).waiting ≡ []) (sym none) refl;
 }

@@ -24,7 +24,8 @@ use Rattle.plant_types.specs.Reference.{most_references}
 use Rattle.plant_types.specs.Checks.{sizes_of, is_size, is_discrete_size, numbers_pass}
 use Rattle.plant_types.specs.Checks.{passes_check}
 use Rattle.traffic_cop.specs.Tests.{module_tests, fault_in, module_fault, held_of, has_few_words}
-use Rattle.traffic_cop.specs.Tests.{fits_row, IsTested}
+use Rattle.traffic_cop.specs.Exchange.{fits_row}
+use Rattle.traffic_cop.specs.Tests.{IsTested}
 use Rattle.traffic_cop.specs.DropTests.{module_limit, script_limit, drop_place, module_place}
 use Rattle.traffic_cop.specs.DropTests.{script_place, number_tests, placed_module_tests}
 use Rattle.traffic_cop.specs.DropTests.{placed_row_tests, word_tests, part_tests, drop_tests}
@@ -50,10 +51,12 @@ unnamed-step d drops number false e h more =
     let other : nat_eq number d.number ≡ false = grind (arith, nat_tests) in
     rw (other, more h) refl
 
-unnamed-other : (drops : List IoDrop) (number : ℕ) → is_some (drop_named drops number) ≡ false → list_any (nat_eq number) (numbers drops) ≡ false
+unnamed-other : (drops : List IoDrop) (number : ℕ) → is_some (drop_named drops number) ≡ false
+    → list_any (nat_eq number) (numbers drops) ≡ false
 unfolding drop_named
 unnamed-other [] number h = refl
-unnamed-other (d ∷ drops) number h = unnamed-step d drops number (d.number == number) refl h (unnamed-other drops number)
+unnamed-other (d ∷ drops) number h =
+    unnamed-step d drops number (d.number == number) refl h (unnamed-other drops number)
 
 -- one of more
 any-more : (a b : Bool) → b ≡ true → a || b ≡ true
@@ -61,29 +64,38 @@ any-more true b h = refl
 any-more false b h = h
 
 -- what holds of each number and of one more holds of all
-below-push : (drops : List IoDrop) (d : IoDrop) (q : ℕ) → ((n : ℕ) → list_any (nat_eq n) (numbers drops) ≡ true → n < 33) → d.number ≤ 32
+below-push : (drops : List IoDrop) (d : IoDrop) (q : ℕ)
+    → ((n : ℕ) → list_any (nat_eq n) (numbers drops) ≡ true → n < 33) → d.number ≤ 32
     → list_any (nat_eq q) (numbers (drops ++ d ∷ [])) ≡ true → q < 33
 below-push [] d q below small h =
-    elim (or_cases (nat_eq q d.number) false h) [ inl e ↦ (let same : q ≡ d.number = eqb-true q d.number e in omega arith) | inr e ↦ cc ]
+    elim (or_cases (nat_eq q d.number) false h)
+    [ inl e ↦ (let same : q ≡ d.number = eqb-true q d.number e in omega arith) | inr e ↦ cc ]
 below-push (other ∷ drops) d q below small h =
     elim (or_cases (nat_eq q other.number) (list_any (nat_eq q) (numbers (drops ++ d ∷ []))) h) [
       | inl e ↦ below q (rw e refl)
-      | inr e ↦ below-push drops d q (λ n m. below n (any-more (nat_eq n other.number) (list_any (nat_eq n) (numbers drops)) m)) small e
+      | inr e ↦ below-push drops d q (λ n m. below n
+          (any-more (nat_eq n other.number) (list_any (nat_eq n) (numbers drops)) m)) small e
     ]
 
 -- one drop more that passes keeps the numbers apart
-numbers-push : (sizes : Sizes) (earlier : List IoDrop) (d : IoDrop) → AreNumbers earlier → first_failed (drop_tests sizes earlier d) ≡ Ok tt
+numbers-push : (sizes : Sizes) (earlier : List IoDrop) (d : IoDrop) → AreNumbers earlier
+    → first_failed (drop_tests sizes earlier d) ≡ Ok tt
     → AreNumbers (earlier ++ d ∷ [])
 numbers-push sizes earlier d held h =
-    let parts = parts-ok (placed (drop_place 1 (length earlier + 1)) (number_tests earlier d)) (part_tests sizes (length earlier + 1) d) h in
+    let parts = parts-ok (placed (drop_place 1 (length earlier + 1)) (number_tests earlier d))
+    (part_tests sizes (length earlier + 1) d) h in
     let tests = placed-ok (drop_place 1 (length earlier + 1)) (number_tests earlier d) parts.0 in
-    let four = four-ok (nat_le 1 d.number && nat_le d.number drop_limit) (nat_le (length d.modules) module_limit)
-    (nat_le (length d.script) script_limit) (not (is_some (drop_named earlier d.number))) BadValue TooLarge TooLarge BadDrop tests in
+    let four = four-ok (nat_le 1 d.number && nat_le d.number drop_limit)
+    (nat_le (length d.modules) module_limit)
+    (nat_le (length d.script) script_limit) (not (is_some (drop_named earlier d.number))) BadValue
+    TooLarge TooLarge BadDrop tests in
     let small = and_parts (nat_le 1 d.number) (nat_le d.number drop_limit) four.0.0 in
-    let other = unnamed-other earlier d.number (not-true (is_some (drop_named earlier d.number)) four.1.1) in
+    let other = unnamed-other earlier d.number
+    (not-true (is_some (drop_named earlier d.number)) four.1.1) in
     record {
       below = λ q m. below-push earlier d q held.below (leb-true d.number 32 small.1) m;
-      distinct = rw (map-append (λ (one : IoDrop). one.number) earlier (d ∷ [])) (IsDistinct-push nat_eq_equiv (numbers earlier) d.number held.distinct other);
+      distinct = rw (map-append (λ (one : IoDrop). one.number) earlier (d ∷ []))
+          (IsDistinct-push nat_eq_equiv (numbers earlier) d.number held.distinct other);
     }
 
 -- no drops, no numbers
@@ -92,13 +104,20 @@ unfolding IsDistinct
 no_numbers = record { below = λ q h. cc; distinct = tt }
 
 -- drops that pass are few
-pub drops-few : (sizes : Sizes) (drops : List IoDrop) → first_failed (tests_of_each (drop_tests sizes) drops) ≡ Ok tt → length drops ≤ 33
+pub drops-few : (sizes : Sizes) (drops : List IoDrop)
+    → first_failed (tests_of_each (drop_tests sizes) drops) ≡ Ok tt → length drops ≤ 33
 drops-few sizes drops h =
-    let all = behind-keeps AreNumbers (drop_tests sizes) (numbers-push sizes) [] drops no_numbers h in
-    omega (arith, length-map drops (λ (d : IoDrop). d.number), length-le_from_distinct_below (numbers drops) 33 all.distinct all.below)
+    let all = behind-keeps AreNumbers (drop_tests sizes)
+    (numbers-push sizes) [] drops no_numbers h in
+    omega (
+      arith,
+      length-map drops (λ (d : IoDrop). d.number),
+      length-le_from_distinct_below (numbers drops) 33 all.distinct all.below,
+    )
 
 -- what holds of each item and of one more holds of all
-all-push : {A : Type 0} (P : A → Type 0) (xs : List A) (x : A) → AllByRecursion P xs → P x → AllByRecursion P (xs ++ x ∷ [])
+all-push : {A : Type 0} (P : A → Type 0) (xs : List A) (x : A) → AllByRecursion P xs → P x
+    → AllByRecursion P (xs ++ x ∷ [])
 all-push P [] x all here = (here, tt)
 all-push P (y ∷ ys) x all here = (all.0, all-push P ys x all.1 here)
 
@@ -106,52 +125,67 @@ all-push P (y ∷ ys) x all here = (all.0, all-push P ys x all.1 here)
 abbrev NoFault : Sizes → Module → Type 0
 NoFault sizes io_module = module_fault (held_of sizes io_module) io_module ≡ None
 
-no_fault : (held : ℕ) (io_module : Module) → first_failed (module_tests held io_module) ≡ Ok tt → module_fault held io_module ≡ None
+no_fault : (held : ℕ) (io_module : Module) → first_failed (module_tests held io_module) ≡ Ok tt
+    → module_fault held io_module ≡ None
 unfolding module_fault
 no_fault held io_module h = ap fault_in h
 
 modules-faultless : (sizes : Sizes) (position : ℕ) (modules : List Module)
-    → first_failed (tests_of_each (placed_module_tests sizes position) modules) ≡ Ok tt → AllByRecursion (NoFault sizes) modules
+    → first_failed (tests_of_each (placed_module_tests sizes position) modules) ≡ Ok tt
+    → AllByRecursion (NoFault sizes) modules
 modules-faultless sizes position modules h =
     behind-keeps (AllByRecursion (NoFault sizes)) (placed_module_tests sizes position)
     (λ earlier m all held. all-push (NoFault sizes) earlier m all (no_fault (held_of sizes m) m
-    (placed-ok (module_place 1 position (length earlier + 1)) (module_tests (held_of sizes m) m) held)))
+    (placed-ok (module_place 1 position (length earlier + 1))
+    (module_tests (held_of sizes m) m) held)))
     [] modules tt h
 
 -- rows that pass fit
 rows-fitting : (modules : List Module) (position : ℕ) (rows : List ScriptRow)
-    → first_failed (tests_of_each (placed_row_tests modules position) rows) ≡ Ok tt → AllByRecursion (λ row. fits_row modules row ≡ true) rows
+    → first_failed (tests_of_each (placed_row_tests modules position) rows) ≡ Ok tt
+    → AllByRecursion (λ row. fits_row modules row ≡ true) rows
 rows-fitting modules position rows h =
-    behind-keeps (AllByRecursion (λ row. fits_row modules row ≡ true)) (placed_row_tests modules position)
+    behind-keeps (AllByRecursion (λ row. fits_row modules row ≡ true))
+    (placed_row_tests modules position)
     (λ earlier row all held. all-push (λ row. fits_row modules row ≡ true) earlier row all
-    (first-ok (fits_row modules row) BadScript [] (placed-ok (script_place 1 position (length earlier + 1)) ((fits_row modules row, BadScript) ∷ []) held)).0)
+    (first-ok (fits_row modules row) BadScript [] (placed-ok (script_place 1 position
+    (length earlier + 1)) ((fits_row modules row, BadScript) ∷ []) held)).0)
     [] rows tt h
 
 -- a drop that passes is tested
-drop-tested : (sizes : Sizes) (earlier : List IoDrop) (d : IoDrop) → first_failed (drop_tests sizes earlier d) ≡ Ok tt → IsTested sizes d
+drop-tested : (sizes : Sizes) (earlier : List IoDrop) (d : IoDrop)
+    → first_failed (drop_tests sizes earlier d) ≡ Ok tt → IsTested sizes d
 drop-tested sizes earlier d h =
     let position = length earlier + 1 in
-    let parts = parts-ok (placed (drop_place 1 position) (number_tests earlier d)) (part_tests sizes position d) h in
-    let four = four-ok (nat_le 1 d.number && nat_le d.number drop_limit) (nat_le (length d.modules) module_limit)
-    (nat_le (length d.script) script_limit) (not (is_some (drop_named earlier d.number))) BadValue TooLarge TooLarge BadDrop
+    let parts = parts-ok (placed (drop_place 1 position) (number_tests earlier d))
+    (part_tests sizes position d) h in
+    let four = four-ok (nat_le 1 d.number && nat_le d.number drop_limit)
+    (nat_le (length d.modules) module_limit)
+    (nat_le (length d.script) script_limit) (not (is_some (drop_named earlier d.number))) BadValue
+    TooLarge TooLarge BadDrop
     (placed-ok (drop_place 1 position) (number_tests earlier d) parts.0) in
     let within = and_parts (nat_le 1 d.number) (nat_le d.number drop_limit) four.0.0 in
     let words = placed (drop_place 1 position) (word_tests d.modules) in
     let rows = tests_of_each (placed_row_tests d.modules position) d.script in
-    let modules = parts-ok (tests_of_each (placed_module_tests sizes position) d.modules) (words ++ rows) parts.1 in
+    let modules = parts-ok (tests_of_each (placed_module_tests sizes position) d.modules)
+    (words ++ rows) parts.1 in
     let others = parts-ok words rows modules.1 in
     record {
       number = (leb-true 1 d.number within.0, leb-true d.number 32 within.1);
       modules = modules-faultless sizes position d.modules modules.0;
       rows = rows-fitting d.modules position d.script others.1;
-      words = (first-ok (has_few_words d.modules) TooLarge [] (placed-ok (drop_place 1 position) (word_tests d.modules) others.0)).0;
+      words = (first-ok (has_few_words d.modules) TooLarge []
+          (placed-ok (drop_place 1 position) (word_tests d.modules) others.0)).0;
     }
 
 -- so do all drops
-drops-tested : (sizes : Sizes) (drops : List IoDrop) → first_failed (tests_of_each (drop_tests sizes) drops) ≡ Ok tt → AllByRecursion (IsTested sizes) drops
+drops-tested : (sizes : Sizes) (drops : List IoDrop)
+    → first_failed (tests_of_each (drop_tests sizes) drops) ≡ Ok tt
+    → AllByRecursion (IsTested sizes) drops
 drops-tested sizes drops h =
     behind-keeps (AllByRecursion (IsTested sizes)) (drop_tests sizes)
-    (λ earlier d all held. all-push (IsTested sizes) earlier d all (drop-tested sizes earlier d held)) [] drops tt h
+    (λ earlier d all held. all-push (IsTested sizes) earlier d all
+    (drop-tested sizes earlier d held)) [] drops tt h
 
 -- the sizes of a plan that passes
 passing-sizes : (plan : ControllerPlan) → passes_check plan ≡ true → AreSizes (sizes_of plan)
@@ -173,5 +207,6 @@ passing-sizes plan h =
 -- drops that pass are ready
 pub checked-ready : CheckedDropsAreReady
 checked-ready plan passes held number named =
-    let ready = tested-ready (sizes_of plan) plan.drops number (passing-sizes plan passes) (drops-tested (sizes_of plan) plan.drops held) named in
+    let ready = tested-ready (sizes_of plan) plan.drops number (passing-sizes plan passes)
+    (drops-tested (sizes_of plan) plan.drops held) named in
     record { from = ready.from; to = ready.to; ready = ready.ready }

@@ -16,7 +16,8 @@ use Rattle.plant_types.specs.Checks.{sizes_of, passes_check}
 use Rattle.plant_types.specs.FirstFault.{Test, first_failed, tests_of_each}
 use Rattle.plant_types.specs.PlanTests.{drop_limit, placed}
 use Rattle.traffic_cop.specs.Drops.{IsNamed, drop_named}
-use Rattle.traffic_cop.specs.Tests.{module_tests, held_of, has_few_words, fits_row}
+use Rattle.traffic_cop.specs.Exchange.{fits_row}
+use Rattle.traffic_cop.specs.Tests.{module_tests, held_of, has_few_words}
 use Rattle.traffic_cop.specs.Rows.{HasDrop}
 
 -- The most modules of a drop, and the most rows of its script.

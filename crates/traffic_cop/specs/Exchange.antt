@@ -1,5 +1,5 @@
 -- What the field gives a drop at an exchange, and what a drop gives the field.
-use Rattle.std.specs.Prelude.{◌≡◌, ◌≤◌, ◌<◌, ℕ, ◌+◌, ◌-◌, true, min, List, [], ◌∷◌}
+use Rattle.std.specs.Prelude.{◌≡◌, ◌≤◌, ◌<◌, ℕ, ◌+◌, ◌-◌, Bool, true, ◌==◌, min, List, [], ◌∷◌}
 use Rattle.std.specs.Prelude.{length, take, drop, replicate, Option, Some, None, slice_get}
 use Rattle.std.specs.Prelude.{slice_index}
 use Rattle.std.specs.List.{flat_map, sum_by, AllByRecursion}
@@ -14,21 +14,22 @@ use Rattle.plant_types.specs.declared.drops.Module.{Module}
 use Rattle.plant_types.specs.declared.drops.ScriptRow.{ScriptRow}
 use Rattle.plant_types.specs.declared.drops.ScriptRow.TheVariants.{Silent, Row}
 use Rattle.plant_types.specs.declared.drops.IoDrop.{IoDrop}
+use Rattle.plant_types.specs.Limits.{drop_words}
 use Rattle.plant_types.specs.Reference.{ref_from, is_discrete, most_references}
 use Rattle.plant_types.specs.Store.{Contents, HasRegisters, words_from, with_words}
 use Rattle.plant_types.specs.Discretes.{bits_from, with_bits, word_bits, number_of_bits}
 
 -- The kind of reference that a module carries: inputs, coils, input registers, holding
 -- registers. This project's own.
-abbrev pub kind_of : ModuleKind → RefKind
-kind_of In = Input
-kind_of Out = Coil
-kind_of InWords = InputRegister
-kind_of OutWords = Register
+abbrev pub carried_kind : ModuleKind → RefKind
+carried_kind In = Input
+carried_kind Out = Coil
+carried_kind InWords = InputRegister
+carried_kind OutWords = Register
 
 -- The first reference of a module. This project's own.
 abbrev pub module_at : Module → Ref
-module_at io_module = record { kind = kind_of io_module.kind; number = io_module.first }
+module_at io_module = record { kind = carried_kind io_module.kind; number = io_module.first }
 
 -- How many words a module takes from the field, and how many it gives: one for sixteen
 -- discretes. This project's own.
@@ -82,12 +83,12 @@ given_by Out count at m = number_of_bits (bits_from m at 16) ∷ []
 given_by OutWords count at m = words_from m at count
 given_by _ count at m = []
 
-unfoldable pub given : Contents → Module → List ℕ
-given m io_module = given_by io_module.kind io_module.count (module_at io_module) m
+unfoldable pub words_given : Contents → Module → List ℕ
+words_given m io_module = given_by io_module.kind io_module.count (module_at io_module) m
 
 -- The output words of a drop: those of its modules in their order. This project's own.
 abbrev pub output_words : Contents → List Module → List ℕ
-output_words m modules = flat_map (given m) modules
+output_words m modules = flat_map (words_given m) modules
 
 -- Sixteen discretes from one on are there. This project's own.
 pub record HasGroup (m : Contents) (at : Ref) : Type 0 where
@@ -124,14 +125,14 @@ exchanged_by (Some (Row words)) modules m = put_all modules words m
 abbrev pub after_exchange : IoDrop → ℕ → Contents → Contents
 after_exchange drop k m = exchanged_by (row_at drop.script k) drop.modules m
 
--- A row has a word for each input word. This project's own.
-abbrev pub FitsRow : List Module → ScriptRow → Type 0
-FitsRow modules Silent = Unit {0}
-FitsRow modules (Row words) = length words ≡ input_total modules
+-- A row is silent, or has a word for each input word of the modules. This project's own.
+abbrev pub fits_row : List Module → ScriptRow → Bool
+fits_row modules Silent = true
+fits_row modules (Row words) = length words == input_total modules
 
 -- A drop whose rows have as many words as it takes, and which gives at most 64 and takes at
 -- most 64. This project's own.
 pub record IsDrop (drop : IoDrop) : Type 0 where
-  pub rows : AllByRecursion (FitsRow drop.modules) drop.script
-  pub inputs : input_total drop.modules ≤ 64
-  pub outputs : output_total drop.modules ≤ 64
+  pub rows : AllByRecursion (λ row. fits_row drop.modules row ≡ true) drop.script
+  pub inputs : input_total drop.modules ≤ drop_words
+  pub outputs : output_total drop.modules ≤ drop_words

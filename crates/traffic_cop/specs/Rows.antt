@@ -1,10 +1,13 @@
--- What the rows of an order of solve name. This project's own.
-use Rattle.std.specs.Prelude.{◌≤◌, ℕ, length, Option, Some, None}
+-- What the rows of an order of solve name, and which plans can be run. This project's own.
+use Rattle.std.specs.Prelude.{◌≡◌, ◌≤◌, ℕ, true, length, Option, Some, None}
+use Rattle.std.specs.List.{AllByRecursion}
 use Rattle.plant_types.specs.declared.reference.Ref.{Ref}
 use Rattle.plant_types.specs.declared.plan.OrderRow.{OrderRow}
 use Rattle.plant_types.specs.declared.plan.ControllerPlan.{ControllerPlan}
-use Rattle.plant_types.specs.Checks.{sizes_of}
+use Rattle.plant_types.specs.Checks.{passes_check, sizes_of}
+use Rattle.plant_types.specs.PlanTests.{drop_limit, order_limit}
 use Rattle.plant_types.specs.Sizes.{cleared}
+use Rattle.plant_types.specs.Standing.{cells_of_segments, message_count, message_limit}
 use Rattle.plant_types.specs.Store.{Contents, HasDiscrete}
 use Rattle.traffic_cop.specs.Drops.{CanExchange}
 
@@ -16,7 +19,7 @@ HasControl m (Some at) = HasDiscrete m at
 -- A drop of the plan has a number from 1 to 32, and its modules are in the map.
 pub record HasDrop (plan : ControllerPlan) (number : ℕ) : Type 0 where
   pub from : 1 ≤ number
-  pub to : number ≤ 32
+  pub to : number ≤ drop_limit
   pub ready : CanExchange plan.drops number (cleared (sizes_of plan))
 
 abbrev pub NamesDrop : ControllerPlan → Option ℕ → Type 0
@@ -30,3 +33,11 @@ pub record FitsPlan (plan : ControllerPlan) (row : OrderRow) : Type 0 where
   pub control : HasControl (cleared (sizes_of plan)) row.control
   pub input : NamesDrop plan row.input
   pub output : NamesDrop plan row.output
+
+-- A plan that can be run: it passes its tests, has no more messages than a controller can have, and
+-- its order of solve has few rows, and each fits the plan and its drops.
+pub record IsRunnablePlan (plan : ControllerPlan) : Type 0 where
+  pub passes : passes_check plan ≡ true
+  pub messages : message_count (cells_of_segments plan.segments) ≤ message_limit
+  pub count : length plan.orders ≤ order_limit
+  pub rows : AllByRecursion (FitsPlan plan) plan.orders

@@ -1,6 +1,6 @@
 -- The tests of a drop's modules and rows. This project's own.
 use Rattle.std.specs.Prelude.{◌≡◌, ◌≤◌, ℕ, ◌+◌, ◌%◌, Bool, true, false, ◌&&◌, ◌==◌, nat_le, List}
-use Rattle.std.specs.Prelude.{[], ◌∷◌, length, Option, Some, None, Result, Ok, Err}
+use Rattle.std.specs.Prelude.{[], ◌∷◌, Option, Some, None, Result, Ok, Err}
 use Rattle.std.specs.List.{AllByRecursion}
 use Rattle.plant_types.specs.declared.reference.RefKind.{RefKind}
 use Rattle.plant_types.specs.declared.reference.RefKind.TheVariants.{Coil, Input, InputRegister}
@@ -8,15 +8,14 @@ use Rattle.plant_types.specs.declared.reference.RefKind.TheVariants.{Register}
 use Rattle.plant_types.specs.declared.drops.ModuleKind.{ModuleKind}
 use Rattle.plant_types.specs.declared.drops.ModuleKind.TheVariants.{In, Out, InWords, OutWords}
 use Rattle.plant_types.specs.declared.drops.Module.{Module}
-use Rattle.plant_types.specs.declared.drops.ScriptRow.{ScriptRow}
-use Rattle.plant_types.specs.declared.drops.ScriptRow.TheVariants.{Silent, Row}
 use Rattle.plant_types.specs.declared.drops.IoDrop.{IoDrop}
 use Rattle.plant_types.specs.declared.fault.PlantFault.{PlantFault}
 use Rattle.plant_types.specs.declared.fault.PlantFault.TheVariants.{BadDrop, BadRef}
 use Rattle.plant_types.specs.declared.sizes.Sizes.{Sizes}
 use Rattle.plant_types.specs.Sizes.{count_of}
 use Rattle.plant_types.specs.FirstFault.{Test, first_failed}
-use Rattle.traffic_cop.specs.Exchange.{kind_of, input_total, output_total}
+use Rattle.plant_types.specs.Limits.{drop_words}
+use Rattle.traffic_cop.specs.Exchange.{carried_kind, input_total, output_total, fits_row}
 
 -- How many words a module can carry: one for sixteen discretes, 1 to 16 for registers.
 abbrev pub is_word_count : ModuleKind → ℕ → Bool
@@ -76,16 +75,11 @@ module_fault held io_module = fault_in (first_failed (module_tests held io_modul
 
 -- How many references of a module's kind a controller has.
 abbrev pub held_of : Sizes → Module → ℕ
-held_of sizes io_module = count_of sizes (kind_of io_module.kind)
+held_of sizes io_module = count_of sizes (carried_kind io_module.kind)
 
 -- The modules of a drop have at most 64 words in and 64 words out.
 abbrev pub has_few_words : List Module → Bool
-has_few_words modules = nat_le (input_total modules) 64 && nat_le (output_total modules) 64
-
--- A row is silent, or has a word for each input word of the modules.
-abbrev pub fits_row : List Module → ScriptRow → Bool
-fits_row modules Silent = true
-fits_row modules (Row words) = length words == input_total modules
+has_few_words modules = nat_le (input_total modules) drop_words && nat_le (output_total modules) drop_words
 
 -- A drop that passes its tests: its number is 1 to 32, its modules have no fault in a map of these
 -- sizes, and its rows fit them.

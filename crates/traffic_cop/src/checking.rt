@@ -14,8 +14,8 @@ use crate::cop::Cop;
 use crate::places::{drop_place, module_place, script_place};
 use crate::testing::{fits_row, has_few_words, module_fault};
 use plant_types::{
-    ControllerPlan, DROP_LIMIT, IoDrop, MODULE_LIMIT, Module, ModuleKind, Place, PlantFault,
-    SCRIPT_LIMIT, ScriptRow, Sizes,
+    ControllerPlan, DROP_LIMIT, DROP_WORDS, IoDrop, MODULE_LIMIT, Module, ModuleKind, Place,
+    PlantFault, SCRIPT_LIMIT, ScriptRow, Sizes,
 };
 
 /// Whether one of these drops has this number.
@@ -96,7 +96,7 @@ fn check_row(
     earlier: &[ScriptRow],
     row: &ScriptRow,
 ) -> Result<(), (PlantFault, Place)>
-    requires words { input_total modules.now ≤ 64 }
+    requires words { input_total modules.now ≤ DROP_WORDS }
     requires few { length earlier.now < SCRIPT_LIMIT }
     ensures { result ≡ first_failed (placed_row_tests modules.now drop earlier.now row.now) }
 {
@@ -110,7 +110,7 @@ fn check_row(
 }
 
 fn check_rows(modules: &[Module], drop: u32, rows: &[ScriptRow]) -> Result<(), (PlantFault, Place)>
-    requires words { input_total modules.now ≤ 64 }
+    requires words { input_total modules.now ≤ DROP_WORDS }
     requires few { length rows.now ≤ SCRIPT_LIMIT }
     ensures { result ≡ first_failed (tests_of_each (placed_row_tests modules.now drop) rows.now) }
 {

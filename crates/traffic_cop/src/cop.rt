@@ -5,8 +5,7 @@ ghost use Rattle.traffic_cop.specs.Drops.{drop_named, health_at, input_after, ou
 ghost use Rattle.traffic_cop.specs.Drops.{CanExchange};
 
 use crate::modules::{input_total, put_all, take_all};
-use crate::testing::WORD_LIMIT;
-use plant_types::{Block, Copied, IoDrop, List, RefStore, ScriptRow};
+use plant_types::{Block, Copied, DROP_WORDS, IoDrop, List, RefStore, ScriptRow};
 use std::alloc::{AllocError, Global};
 use std::marker::Model;
 
@@ -79,7 +78,7 @@ impl Cop {
         let script = found.script.as_slice();
         match script.get(row_place(k, script.len())) {
             None => {
-                let zeros = [0; WORD_LIMIT];
+                let zeros = [0; DROP_WORDS];
                 put_all(ram, modules, &zeros[..input_total(modules)]);
             }
             Some(ScriptRow::Silent) => return Health::Silent,
@@ -93,7 +92,7 @@ impl Cop {
         requires { CanExchange self.now drop (R.contents ram.now) }
         ensures { result ≡ outputs_of self.now drop (R.contents ram.now) }
     {
-        let mut words = [0; WORD_LIMIT];
+        let mut words = [0; DROP_WORDS];
         let count = take_all(ram, self.drop_of(drop).modules.as_slice(), &mut words);
         Block::of(&words[..count])
     }

@@ -12,6 +12,3 @@ pub use cop::{Cop, Health};
 pub use modules::input_total;
 pub use places::{drop_place, module_place, script_place};
 pub use testing::{carries, fits_row, has_few_words, is_regular, kind_of, module_fault};
-
-#[cfg(test)]
-mod tests;

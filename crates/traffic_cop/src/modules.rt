@@ -4,12 +4,14 @@ ghost use Rattle.std.specs.Int.{bit_at};
 ghost use Rattle.plant_types.specs.Discretes.{bits_from, with_bits, word_bits, number_of_bits};
 ghost use Rattle.plant_types.specs.Store.{Keeps};
 ghost use Rattle.traffic_cop.specs.Exchange.{module_at, input_count, output_count};
-ghost use Rattle.traffic_cop.specs.Exchange.{given, put_words, put_all, HasGroup, HasModule};
+ghost use Rattle.traffic_cop.specs.Exchange.{words_given, put_words, put_all, HasGroup, HasModule};
 ghost use Rattle.traffic_cop.specs.Exchange.{HasModules};
 ghost use Rattle.traffic_cop.specs.Exchange.{input_total, output_total, output_words};
 
 use crate::testing::kind_of;
-use plant_types::{Module, ModuleKind, Ref, RefStore, load_words, ref_after, store_words};
+use plant_types::{
+    DROP_WORDS, Module, ModuleKind, Ref, RefStore, load_words, ref_after, store_words,
+};
 
 /// The first reference of a module.
 fn module_at(io_module: Module) -> Ref
@@ -34,7 +36,7 @@ pub(crate) fn input_count(io_module: Module) -> usize
 
 /// How many words all modules take from the field.
 pub fn input_total(modules: &[Module]) -> usize
-    requires { input_total modules.now ≤ 64 }
+    requires { input_total modules.now ≤ DROP_WORDS }
     ensures { result ≡ input_total modules.now }
 {
     let mut total = 0;
@@ -117,12 +119,13 @@ pub(crate) fn output_count(io_module: Module) -> usize
 }
 
 /// Takes the words that a module gives the field, and answers how many they are.
-#[tactic(auto, unfolding(crate::specs::Exchange::given))]
+#[tactic(auto, unfolding(crate::specs::Exchange::words_given))]
 fn take_words<R: RefStore>(ram: &R, io_module: Module, words: &mut [u16]) -> usize
     requires room { HasModule (R.contents ram.now) io_module }
     requires words { output_count io_module ≤ length words.old }
     ensures count { result ≡ output_count io_module }
-    ensures taken { take (output_count io_module) words.new ≡ given (R.contents ram.now) io_module }
+    ensures taken { take (output_count io_module) words.new
+        ≡ words_given (R.contents ram.now) io_module }
 {
     match io_module.kind {
         ModuleKind::Out => {

@@ -1,12 +1,13 @@
 //! The tests of a drop's modules and rows.
 ghost use Rattle.std.specs.Prelude.{◌≡◌, ◌≤◌, nat_le, length};
-ghost use Rattle.traffic_cop.specs.Exchange.{kind_of, input_total, output_count, output_total};
+ghost use Rattle.traffic_cop.specs.Exchange.{carried_kind, input_total, output_count, output_total};
+ghost use Rattle.traffic_cop.specs.Exchange.{fits_row};
 ghost use Rattle.traffic_cop.specs.Tests.{is_word_count, is_aligned, is_regular, carries};
 ghost use Rattle.traffic_cop.specs.Tests.{references_by, has_references, module_fault};
-ghost use Rattle.traffic_cop.specs.Tests.{has_few_words, fits_row};
+ghost use Rattle.traffic_cop.specs.Tests.{has_few_words};
 
 use crate::modules::{input_count, input_total, output_count};
-use plant_types::{Module, ModuleKind, PlantFault, RefKind, ScriptRow};
+use plant_types::{DROP_WORDS, Module, ModuleKind, PlantFault, RefKind, ScriptRow};
 
 /// The most words that a module of registers carries.
 const MODULE_WORDS: u16 = 16;
@@ -14,12 +15,9 @@ const MODULE_WORDS: u16 = 16;
 /// How many discretes a word carries.
 const WORD_BITS: u16 = 16;
 
-/// The most words into or out of a drop.
-pub(crate) const WORD_LIMIT: usize = 64;
-
 /// The kind of reference that a module carries.
 pub fn kind_of(kind: ModuleKind) -> RefKind
-    ensures { result ≡ kind_of kind }
+    ensures { result ≡ carried_kind kind }
 {
     match kind {
         ModuleKind::In => RefKind::Input,
@@ -102,9 +100,9 @@ pub fn module_fault(held: u16, io_module: Module) -> Option<PlantFault>
 
 /// Whether modules take at most 64 words from the field.
 fn takes_few_words(modules: &[Module]) -> bool
-    ensures { result ≡ nat_le (input_total modules.now) 64 }
+    ensures { result ≡ nat_le (input_total modules.now) DROP_WORDS }
 {
-    let mut left = WORD_LIMIT;
+    let mut left = DROP_WORDS;
     for io_module in modules {
         let count = input_count(*io_module);
         if left < count {
@@ -117,9 +115,9 @@ fn takes_few_words(modules: &[Module]) -> bool
 
 /// Whether modules give the field at most 64 words.
 fn gives_few_words(modules: &[Module]) -> bool
-    ensures { result ≡ nat_le (output_total modules.now) 64 }
+    ensures { result ≡ nat_le (output_total modules.now) DROP_WORDS }
 {
-    let mut left = WORD_LIMIT;
+    let mut left = DROP_WORDS;
     for io_module in modules {
         let count = output_count(*io_module);
         if left < count {
@@ -139,7 +137,7 @@ pub fn has_few_words(modules: &[Module]) -> bool
 
 /// Whether a row is silent, or has a word for each input word of the modules.
 pub fn fits_row(modules: &[Module], row: &ScriptRow) -> bool
-    requires { input_total modules.now ≤ 64 }
+    requires { input_total modules.now ≤ DROP_WORDS }
     ensures { result ≡ fits_row modules.now row.now }
 {
     match row {

@@ -6,13 +6,14 @@ use mathlib.Core.Option.{some, some-injective, some-ne-none}
 use lib.ListN.{get_elem?}
 use Rattle.atomic_table.specs.Table.{opening}
 use Rattle.turn_gate.specs.declared.views.View.{View}
-use Rattle.turn_gate.specs.Rule.{first_view, Account, Fits, OwnsNumber, Rule}
+use Rattle.turn_gate.specs.Rule.{first_view, Account, ViewFits, OwnsNumber, Rule}
 use Rattle.turn_gate.proofs.Lists.{at_only}
 use Rattle.turn_gate.proofs.Owning.{distinct-nil, distinct-cons}
 
 module _ {V E F : Type 0} (entries : V → List E) (fixed : V → F) (maker : E → ℕ) (first : V) where
   -- both words are 0, the opening value is at home, and pass 0 has seen its entries
-  pub begins : (xs : List (Option V)) → xs ≡ Some first ∷ [] → Rule entries fixed maker first (opening (0 ∷ 0 ∷ []) xs (first_view (entries first)))
+  pub begins : (xs : List (Option V)) → xs ≡ Some first ∷ []
+      → Rule entries fixed maker first (opening (0 ∷ 0 ∷ []) xs (first_view (entries first)))
   begins xs is = record {
     account = start;
     words = refl;
@@ -34,9 +35,18 @@ module _ {V E F : Type 0} (entries : V → List E) (fixed : V → F) (maker : E 
       v = first_view (entries first)
 
       start : Account V E
-      start = record { made = []; ticket = 0; serving = 0; holder = λ _. 0; owner = λ _. 0; given = []; slot = Some first }
+      start = record {
+        made = [];
+        ticket = 0;
+        serving = 0;
+        holder = λ _. 0;
+        owner = λ _. 0;
+        given = [];
+        slot = Some first;
+      }
 
-      owns : (n : ℕ) (es : List E) (k : ℕ) → get_elem? {A = ℕ × List E} ((0, []) ∷ []) k ≡ some (n, es)
+      owns : (n : ℕ) (es : List E) (k : ℕ)
+          → get_elem? {A = ℕ × List E} ((0, []) ∷ []) k ≡ some (n, es)
           → OwnsNumber maker (entries first) [] (λ _. 0) [] 0 (entries first) [] n es
       owns n es k there = let p = at_only (0, []) (n, es) k there in
           record {
@@ -47,8 +57,9 @@ module _ {V E F : Type 0} (entries : V → List E) (fixed : V → F) (maker : E 
             unseen = refl;
           }
 
-      one : (j : ℕ) (d : View E) → get_elem? (v ∷ []) j ≡ some d → Fits maker (entries first) start j d
-      one zero d e = subst (Fits maker (entries first) start 0) (some-injective v d e) (record {
+      one : (j : ℕ) (d : View E) → get_elem? (v ∷ []) j ≡ some d
+          → ViewFits maker (entries first) start j d
+      one zero d e = subst (ViewFits maker (entries first) start 0) (some-injective v d e) (record {
         begins = ([], append-nil _ ∙ sym (append-nil _));
         heard = λ k s e. absurd (some-ne-none s (sym e));
         early = [];

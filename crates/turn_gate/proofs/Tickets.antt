@@ -16,12 +16,14 @@ module _ {E : Type 0} where
   pub tickets_held-set : (vs : List (View E)) (me : ℕ) (v w : View E) → get_elem? vs me ≡ some v
       → tickets_held (set vs me w) + tickets_of v.phase ≡ tickets_held vs + tickets_of w.phase
   tickets_held-set [] me v w e = absurd (some-ne-none v (sym e))
-  tickets_held-set (x ∷ xs) zero v w e = let same : tickets_of x.phase ≡ tickets_of v.phase = ap (λ (u : View E). tickets_of u.phase)
+  tickets_held-set (x ∷ xs) zero v w e =
+      let same : tickets_of x.phase ≡ tickets_of v.phase = ap (λ (u : View E). tickets_of u.phase)
       (some-injective x v e) in omega arith
   tickets_held-set (x ∷ xs) (suc me) v w e = let k = tickets_held-set xs me v w e in omega arith
 
   -- further views
-  pub tickets_held-append : (vs ws : List (View E)) → tickets_held (vs ++ ws) ≡ tickets_held vs + tickets_held ws
+  pub tickets_held-append : (vs ws : List (View E))
+      → tickets_held (vs ++ ws) ≡ tickets_held vs + tickets_held ws
   tickets_held-append [] ws = omega arith
   tickets_held-append (x ∷ xs) ws = let k = tickets_held-append xs ws in omega arith
 
@@ -36,5 +38,7 @@ module _ {E : Type 0} where
       at_most (Inside t) = omega arith
 
 -- there are at most as many different numbers below 2 ^ 32
-pub few_numbers : (given : List ℕ) → IsDistinct nat_eq given → ((n : ℕ) → is_among n given ≡ true → (0 < n) × (n < 2 ^ 32)) → length given ≤ 2 ^ 32
-few_numbers given distinct low = length-le_from_distinct_below given (2 ^ 32) distinct (λ n is. (low n is).1)
+pub few_numbers : (given : List ℕ) → IsDistinct nat_eq given
+    → ((n : ℕ) → is_among n given ≡ true → (0 < n) × (n < 2 ^ 32)) → length given ≤ 2 ^ 32
+few_numbers given distinct low =
+    length-le_from_distinct_below given (2 ^ 32) distinct (λ n is. (low n is).1)

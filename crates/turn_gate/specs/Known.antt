@@ -39,8 +39,8 @@ abbrev pub is_among : ℕ → List ℕ → Bool
 is_among n numbers = list_any (nat_eq n) numbers
 
 -- the entries that name n, in order
-abbrev pub own : {E : Type 0} → (E → ℕ) → ℕ → List E → List E
-own maker n entries = filter (λ e. maker e == n) entries
+abbrev pub made_by : {E : Type 0} → (E → ℕ) → ℕ → List E → List E
+made_by maker n entries = filter (λ e. maker e == n) entries
 
 -- the list begins with these entries
 abbrev pub StartsWith : {E : Type 0} → List E → List E → Type 0
@@ -90,8 +90,8 @@ module _ {E : Type 0} where
   own_lists p = (p.number, p.mine) ∷ p.joined
 
   -- the pass p, which has taken in q
-  abbrev pub taken_in : PassFacts E → PassFacts E → PassFacts E
-  taken_in p q = record p {
+  abbrev pub with_pass : PassFacts E → PassFacts E → PassFacts E
+  with_pass p q = record p {
     seen = longer p.seen q.seen;
     joined = p.joined ++ own_lists q;
     heard = p.heard ++ q.seen ∷ q.heard;
@@ -115,19 +115,19 @@ module _ {E : Type 0} where
 
   -- the entries found begin with all that the pass had seen, and what others added since names
   -- none of its numbers
-  pub record Finds (maker : E → ℕ) (p : PassFacts E) (found : List E) : Type 0 where
+  pub record PassFinds (maker : E → ℕ) (p : PassFacts E) (found : List E) : Type 0 where
     pub between : List E
     pub begins : found ≡ p.seen ++ between
-    pub not_mine : own maker p.number between ≡ []
-    pub not_joined : All (λ q. own maker q.0 between ≡ []) p.joined
+    pub not_mine : made_by maker p.number between ≡ []
+    pub not_joined : All (λ q. made_by maker q.0 between ≡ []) p.joined
 
   -- of the entries made after the opening ones, those that name a number of the pass are exactly
   -- its own entries under that number, each once and in order
   pub record Owns (maker : E → ℕ) (p : PassFacts E) (all : List E) : Type 0 where
     pub made : List E
     pub all_is : all ≡ p.gate.opening ++ made
-    pub mine_is : p.mine ≡ own maker p.number made
-    pub joined_are : All (λ q. q.1 ≡ own maker q.0 made) p.joined
+    pub mine_is : p.mine ≡ made_by maker p.number made
+    pub joined_are : All (λ q. q.1 ≡ made_by maker q.0 made) p.joined
 
   -- each entry made after the opening ones names a number that the pass keeps
   pub record NamesKept (maker : E → ℕ) (p : PassFacts E) (all : List E) : Type 0 where
@@ -136,14 +136,14 @@ module _ {E : Type 0} where
     pub named : All (λ e. is_among (maker e) (numbers p) ≡ true) made
 
   -- the entries are those that the pass has seen, and then some that name its number
-  pub record Adds (maker : E → ℕ) (p : PassFacts E) (entries : List E) : Type 0 where
+  pub record PassAdds (maker : E → ℕ) (p : PassFacts E) (entries : List E) : Type 0 where
     pub added : List E
     pub grown : entries ≡ p.seen ++ added
     pub own_all : All (λ e. maker e ≡ p.number) added
 
   -- the pass is ready for a stay under this number: it is of this gate and outside, no other was
   -- joined into it, and of what it has seen its own entries are exact
-  pub record IsReady (maker : E → ℕ) (number : ℕ) (gate : GateName E)
+  pub record IsPassReady (maker : E → ℕ) (number : ℕ) (gate : GateName E)
       (p : PassFacts E) : Type 0 where
     pub gate_is : p.gate ≡ gate
     pub outside : IsOutside p

@@ -8,7 +8,7 @@ use Rattle.atomic_table.specs.Table.{Me, Step}
 use Rattle.turn_gate.specs.declared.views.Phase.{Phase}
 use Rattle.turn_gate.specs.declared.views.Phase.TheVariants.{Idle, Waiting, Inside}
 use Rattle.turn_gate.specs.declared.views.View.{View}
-use Rattle.turn_gate.specs.Known.{own, longer}
+use Rattle.turn_gate.specs.Known.{made_by, longer}
 use Rattle.turn_gate.specs.Rule.{HasKept}
 
 module _ {E : Type 0} where
@@ -74,7 +74,7 @@ module _ {E : Type 0} (maker : E → ℕ) where
   pub record Exact (v : View E) (all : List E) : Type 0 where
     pub made : List E
     pub all_is : all ≡ v.opening ++ made
-    pub exact : (n : ℕ) (es : List E) → HasKept v n es → es ≡ own maker n made
+    pub exact : (n : ℕ) (es : List E) → HasKept v n es → es ≡ made_by maker n made
 
 module _ {S E : Type 0} (maker : E → ℕ) where
   -- heed: the pass stays as it is, and of what it has seen its own lists are exact
@@ -89,7 +89,7 @@ module _ {V E F : Type 0} (entries : V → List E) (fixed : V → F) (maker : E 
   pub record Handed (v : View E) (x : V) : Type 0 where
     pub between : List E
     pub begins : entries x ≡ v.seen ++ between
-    pub others : (n : ℕ) (es : List E) → HasKept v n es → own maker n between ≡ []
+    pub others : (n : ℕ) (es : List E) → HasKept v n es → made_by maker n between ≡ []
     pub fixed_is : about ≡ Some (fixed x)
     pub lists : Exact maker v (entries x)
 

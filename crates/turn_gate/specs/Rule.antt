@@ -9,7 +9,7 @@ use Rattle.atomic_table.specs.Table.{State}
 use Rattle.turn_gate.specs.declared.views.Phase.{Phase}
 use Rattle.turn_gate.specs.declared.views.Phase.TheVariants.{Idle, Waiting, Inside}
 use Rattle.turn_gate.specs.declared.views.View.{View}
-use Rattle.turn_gate.specs.Known.{own, is_among, StartsWith}
+use Rattle.turn_gate.specs.Known.{made_by, is_among, StartsWith}
 
 -- the numbers of lists that are kept by number
 abbrev pub numbers_of : {E : Type 0} → List (ℕ × List E) → List ℕ
@@ -65,7 +65,7 @@ pub record Account (V E : Type 0) : Type 0 where
 
 module _ {V E : Type 0} (a : Account V E) (all : List E) (j : ℕ) (seen : List E) where
   -- the seat j, inside: its ticket is served, it has seen all entries, and the slot is empty
-  pub record IsServed (t : ℕ) : Type 0 where
+  pub record IsSeatServed (t : ℕ) : Type 0 where
     pub served : t ≡ a.serving
     pub drawn : t < a.ticket
     pub holds : a.holder t ≡ j
@@ -76,7 +76,7 @@ module _ {V E : Type 0} (a : Account V E) (all : List E) (j : ℕ) (seen : List 
   abbrev pub InPhase : Phase → Type 0
   InPhase Idle = Unit {0}
   InPhase (Waiting t) = (a.serving ≤ t) × (t < a.ticket) × (a.holder t ≡ j)
-  InPhase (Inside t) = IsServed t
+  InPhase (Inside t) = IsSeatServed t
 
 module _ {E : Type 0} (maker : E → ℕ) (start made : List E) (owner : ℕ → ℕ) (given : List ℕ) where
   -- what the rule says of each number n that the view of the seat j keeps: its list is exactly the
@@ -84,17 +84,17 @@ module _ {E : Type 0} (maker : E → ℕ) (start made : List E) (owner : ℕ →
   -- keeps it, it is 0 or was given by the pass that keeps 0, and the view knows the opening
   -- entries
   pub record OwnsNumber (j : ℕ) (opening rest : List E) (n : ℕ) (es : List E) : Type 0 where
-    pub exact : es ≡ own maker n made
+    pub exact : es ≡ made_by maker n made
     pub owner_is : owner n ≡ j
     pub origin : (n ≡ 0) ⊎ (is_among n given ≡ true)
     pub opening_is : opening ≡ start
-    pub unseen : own maker n rest ≡ []
+    pub unseen : made_by maker n rest ≡ []
 
 module _ {V E : Type 0} (maker : E → ℕ) (start : List E) (a : Account V E) (j : ℕ) where
   -- what the rule says of the view v of the seat j: what it has seen begins all entries, and so
   -- does what each pass had seen that was joined into it; of the entries made it has seen the
   -- early ones; its phase fits; the numbers that it keeps differ
-  pub record Fits (v : View E) : Type 0 where
+  pub record ViewFits (v : View E) : Type 0 where
     pub begins : StartsWith (start ++ a.made) v.seen
     pub heard : (k : ℕ) (s : List E) → get_elem? v.heard k ≡ some s → StartsWith (start ++ a.made) s
     pub early : List E
@@ -111,9 +111,9 @@ module _ {V E F : Type 0} (entries : V → List E) (fixed : V → F) (all : List
     (a : Account V E) (views : List (View E)) where
   -- the value is at home, with all entries and the opening value's fixed part, or the seat that is
   -- served has it
-  abbrev pub AtHome : Option V → Type 0
-  AtHome (Some x) = (entries x ≡ all) × (fixed x ≡ about)
-  AtHome None =
+  abbrev pub IsAtHome : Option V → Type 0
+  IsAtHome (Some x) = (entries x ≡ all) × (fixed x ≡ about)
+  IsAtHome None =
       (v : View E) × (get_elem? views (a.holder a.serving) ≡ some v) × (v.phase ≡ Inside a.serving)
 
 -- the slot as the table knows it
@@ -133,12 +133,13 @@ module _ {V E F : Type 0} (entries : V → List E) (fixed : V → F) (maker : E 
     pub homes : s.homes ≡ home_of account.slot ∷ []
     pub ordered : account.serving ≤ account.ticket
     pub counted : tickets_held s.views + account.serving ≡ account.ticket
-    pub at_home : AtHome entries fixed (entries first ++ account.made) (fixed first) account s.views
+    pub at_home : IsAtHome entries fixed (entries first ++ account.made)
+        (fixed first) account s.views
         account.slot
     pub held : (t : ℕ) → account.serving ≤ t → t < account.ticket
         → (v : View E) × (get_elem? s.views (account.holder t) ≡ some v) × HasTicket v.phase t
     pub each : (j : ℕ) (v : View E) → get_elem? s.views j ≡ some v
-        → Fits maker (entries first) account j v
+        → ViewFits maker (entries first) account j v
     pub longest : (j : ℕ) × (v : View E)
         × (get_elem? s.views j ≡ some v) × (v.seen ≡ entries first ++ account.made)
     pub named : (k : ℕ) (e : E) → get_elem? account.made k ≡ some e

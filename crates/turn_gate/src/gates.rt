@@ -1,9 +1,9 @@
 //! The gate.
 ghost use Rattle.std.specs.Prelude.{◌≡◌, ◌≢◌, ℕ, false, [], ◌∷◌, All, IfOk, Some, None};
-ghost use Rattle.turn_gate.specs.Known.{first_pass, entered, left_after, split_off, taken_in};
+ghost use Rattle.turn_gate.specs.Known.{first_pass, entered, left_after, split_off, with_pass};
 ghost use Rattle.turn_gate.specs.Known.{is_among};
-ghost use Rattle.turn_gate.specs.Known.{StartsWith, IsOutside, IsReady, HandedTo, HasAllBack};
-ghost use Rattle.turn_gate.specs.Known.{Finds, Owns, NamesKept, Adds};
+ghost use Rattle.turn_gate.specs.Known.{StartsWith, IsOutside, IsPassReady, HandedTo, HasAllBack};
+ghost use Rattle.turn_gate.specs.Known.{PassFinds, Owns, NamesKept, PassAdds};
 ghost use Rattle.turn_gate.specs.Rule.{KeepsNumber};
 ghost use Rattle.turn_gate.specs.Moves.{giver, newcomer, emptied_by, left_with};
 ghost use Rattle.turn_gate.specs.Moves.{HasEmptied, Handed, Exact, MayLeave};
@@ -71,7 +71,7 @@ impl<V: Journal> Gate<V> {
         ensures held { HandedTo pass.new result }
         ensures pass { pass.new ≡ entered pass.old (V.entries result.value) result.ticket }
         ensures fixed { V.fixed result.value ≡ self.now.fixed }
-        ensures found { Finds V.maker pass.old (V.entries result.value) }
+        ensures found { PassFinds V.maker pass.old (V.entries result.value) }
         ensures own { Owns V.maker pass.old (V.entries result.value) }
     {
         let value = self.await_turn::<Brand, R>(rt, &mut pass.seat);
@@ -119,7 +119,7 @@ impl<V: Journal> Gate<V> {
         requires gate { pass.old.gate ≡ self.now.name }
         requires held { HandedTo pass.old held }
         requires fixed { V.fixed held.value ≡ self.now.fixed }
-        requires added { Adds V.maker pass.old (V.entries held.value) }
+        requires added { PassAdds V.maker pass.old (V.entries held.value) }
         ensures pass { pass.new ≡ left_after pass.old (V.entries held.value) }
         ensures own { Owns V.maker pass.new (V.entries held.value) }
     {
@@ -151,7 +151,7 @@ impl<V: Journal> Gate<V> {
         requires fresh { (number ≢ 0) × (is_among number pass.given ≡ false) }
         ensures zero { result.0 ≡ record pass { given = number ∷ pass.given } }
         ensures other { result.1 ≡ split_off number pass }
-        ensures ready { IsReady V.maker number self.now.name result.1 }
+        ensures ready { IsPassReady V.maker number self.now.name result.1 }
     {
         let mut seat = self.cut::<Brand>(&mut pass.seat, number);
         self.heed(&mut seat);
@@ -188,7 +188,7 @@ impl<V: Journal> Gate<V> {
         requires gate { (one.gate ≡ self.now.name) × (other.gate ≡ self.now.name) }
         requires outside { IsOutside one × IsOutside other }
         requires other { other.number ≢ 0 }
-        ensures { result ≡ taken_in one other }
+        ensures { result ≡ with_pass one other }
     {
         let Pass { seat } = other;
         self.table.shared.join_seat::<Glue>(&mut one.seat, seat);

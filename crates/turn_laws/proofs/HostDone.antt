@@ -35,7 +35,8 @@ clash is no' = let e : true ≡ false = sym is ∙ no' in absurd cc
 
 -- ---- fronts of a legal history
 
-pub front_of : (plan : HostPlan) (h rest : List HostEntry) → IsHostHistory plan (h ++ rest) → IsHostHistory plan h
+pub front_of : (plan : HostPlan) (h rest : List HostEntry) → IsHostHistory plan (h ++ rest)
+    → IsHostHistory plan h
 front_of plan h rest legal = record {
   order = (
     questions_in rest ++ legal.order.0,
@@ -52,12 +53,15 @@ front_of plan h rest legal = record {
         ∙ Rattle.std.proofs.lemmas.List.map-append question_of (requests_in h) (requests_in rest)
 
 -- no more is asked than the plan has
-pub asked-few : (plan : HostPlan) (h : List HostEntry) → IsHostHistory plan h → length (requests_in h) ≤ length plan.requests
+pub asked-few : (plan : HostPlan) (h : List HostEntry) → IsHostHistory plan h
+    → length (requests_in h) ≤ length plan.requests
 asked-few plan h legal =
     let all = ap length legal.order.1 in
     let two = length-append (questions_in h) legal.order.0 in
-    let asked : length (questions_in h) ≡ length (requests_in h) = length-map (requests_in h) question_of in
-    let due : length (questions_of plan) ≡ length plan.requests = length-map plan.requests question_due in
+    let asked : length (questions_in h) ≡ length (requests_in h) =
+    length-map (requests_in h) question_of in
+    let due : length (questions_of plan) ≡ length plan.requests =
+    length-map plan.requests question_due in
     omega (arith, all, two, asked, due)
 
 -- ---- a host that is done
@@ -71,12 +75,18 @@ no-length : {X : Type 0} (xs : List X) → (length xs == 0) ≡ true → xs ≡ 
 no-length [] is = refl
 no-length (x ∷ xs) is = absurd (let none = eqb-true (length (x ∷ xs)) 0 is in omega (arith, none))
 
-pub did-all : (plan : HostPlan) (h : List HostEntry) → host_is_done (record { plan = plan; history = h }) ≡ true → DidAll plan h
+pub did-all : (plan : HostPlan) (h : List HostEntry)
+    → host_is_done (record { plan = plan; history = h }) ≡ true → DidAll plan h
 did-all plan h done =
-    let two = and_parts (length (requests_in h) == length plan.requests) (length (unanswered_in h) == 0) done in
-    record { asked = eqb-true (length (requests_in h)) (length plan.requests) two.0; answered = no-length (unanswered_in h) two.1 }
+    let two = and_parts (length (requests_in h) == length plan.requests)
+    (length (unanswered_in h) == 0) done in
+    record {
+      asked = eqb-true (length (requests_in h)) (length plan.requests) two.0;
+      answered = no-length (unanswered_in h) two.1;
+    }
 
-pub all-done : (plan : HostPlan) (h : List HostEntry) → DidAll plan h → host_is_done (record { plan = plan; history = h }) ≡ true
+pub all-done : (plan : HostPlan) (h : List HostEntry) → DidAll plan h
+    → host_is_done (record { plan = plan; history = h }) ≡ true
 all-done plan h d =
     let one = eq-eqb (length (requests_in h)) (length plan.requests) d.asked in
     let two : (length (unanswered_in h) == 0) ≡ true = ap (λ l. length l == 0) d.answered in
@@ -88,11 +98,13 @@ pub record GoesDone (plan : HostPlan) (h new : List HostEntry) : Type 0 where
   pub calls : (host_items_of new).calls ≡ (host_items_of h).calls
   pub ends : (host_items_of new).ends ≡ (host_items_of h).ends
 
-done-push : (plan : HostPlan) (h : List HostEntry) (e : HostEntry) → IsHostHistory plan (h ++ e ∷ []) → DidAll plan h → GoesDone plan h (h ++ e ∷ [])
+done-push : (plan : HostPlan) (h : List HostEntry) (e : HostEntry)
+    → IsHostHistory plan (h ++ e ∷ []) → DidAll plan h → GoesDone plan h (h ++ e ∷ [])
 done-push plan h (Ask id to pdu) legal d =
     let few = asked-few plan (h ++ Ask id to pdu ∷ []) legal in
     let one = ap length (requests_ask h id to pdu) in
-    let two = length-append (requests_in h) (Rattle.host_port.specs.Calls.requests_in (Ask id to pdu ∷ [])) in
+    let two = length-append (requests_in h)
+    (Rattle.host_port.specs.Calls.requests_in (Ask id to pdu ∷ [])) in
     let all = d.asked in
     absurd (omega (arith, few, one, two, all))
 done-push plan h (Answer id result) legal d =
@@ -107,8 +119,10 @@ done-push plan h (Served id request reply) legal d = record {
   ends = ap (λ (a : Items). a.ends) (items_with h (Served id request reply));
 }
 
-pub done-more : (plan : HostPlan) (h more : List HostEntry) → IsHostHistory plan (h ++ more) → DidAll plan h → GoesDone plan h (h ++ more)
-done-more plan h [] legal d = subst (GoesDone plan h) (sym (append-nil h)) (record { done = d; calls = refl; ends = refl })
+pub done-more : (plan : HostPlan) (h more : List HostEntry) → IsHostHistory plan (h ++ more)
+    → DidAll plan h → GoesDone plan h (h ++ more)
+done-more plan h [] legal d =
+    subst (GoesDone plan h) (sym (append-nil h)) (record { done = d; calls = refl; ends = refl })
 done-more plan h (e ∷ more) legal d =
     let joined = subst (IsHostHistory plan) (sym (append_assoc h (e ∷ []) more)) legal in
     let one = done-push plan h e (front_of plan (h ++ e ∷ []) more joined) d in
@@ -121,19 +135,24 @@ done-more plan h (e ∷ more) legal d =
 
 -- ---- as many calls as requests
 
-asks-after : (a : Items) (h : List HostEntry) → length (filter_map net_ask (host_items_after a h).calls)
+asks-after : (a : Items) (h : List HostEntry)
+    → length (filter_map net_ask (host_items_after a h).calls)
     ≡ length (filter_map net_ask a.calls) + length (requests_in h)
 asks-after a [] = omega arith
 asks-after a (Ask id to pdu ∷ h) =
     let e = Ask id to pdu in
     let more = asks-after (host_item_next a e) h in
-    let one = ap length (filter_map-append net_ask a.calls (record { id = id; sort = Rattle.tied_lists.specs.Items.OverNet to pdu } ∷ [])) in
-    let two = length-append (filter_map net_ask a.calls) (record { id = id; to = to; pdu = pdu } ∷ []) in
+    let one = ap length (filter_map-append net_ask a.calls
+    (record { id = id; sort = Rattle.tied_lists.specs.Items.OverNet to pdu } ∷ [])) in
+    let two = length-append (filter_map net_ask a.calls)
+    (record { id = id; to = to; pdu = pdu } ∷ []) in
     omega (arith, more, one, two)
 asks-after a (Answer id result ∷ h) = asks-after (host_item_next a (Answer id result)) h
-asks-after a (Served id request reply ∷ h) = asks-after (host_item_next a (Served id request reply)) h
+asks-after a (Served id request reply ∷ h) =
+    asks-after (host_item_next a (Served id request reply)) h
 
-pub asks-many : (h : List HostEntry) → length (filter_map net_ask (host_items_of h).calls) ≡ length (requests_in h)
+pub asks-many : (h : List HostEntry)
+    → length (filter_map net_ask (host_items_of h).calls) ≡ length (requests_in h)
 asks-many h = let all = asks-after Rattle.tied_lists.specs.Items.no_items h in omega (arith, all)
 
 -- ---- each call ends once
@@ -147,34 +166,46 @@ or-last false false = refl
 same-turned : (a b : CallId) → is_same_call a b ≡ is_same_call b a
 same-turned a b = at (is_same_call a b) (is_same_call b a) refl refl
   where
-    at : (x y : Bool) → is_same_call a b ≡ x → is_same_call b a ≡ y → is_same_call a b ≡ is_same_call b a
+    at : (x y : Bool) → is_same_call a b ≡ x → is_same_call b a ≡ y
+        → is_same_call a b ≡ is_same_call b a
     at true true p q = p ∙ sym q
     at false false p q = p ∙ sym q
-    at true false p q = clash (ap (λ (z : CallId). is_same_call z a) (sym (same-equal a b p)) ∙ same-refl a) q
-    at false true p q = clash (ap (λ (z : CallId). is_same_call z b) (sym (same-equal b a q)) ∙ same-refl b) p
+    at true false p q =
+        clash (ap (λ (z : CallId). is_same_call z a) (sym (same-equal a b p)) ∙ same-refl a) q
+    at false true p q =
+        clash (ap (λ (z : CallId). is_same_call z b) (sym (same-equal b a q)) ∙ same-refl b) p
 
-over-push : (id : CallId) (ends : List Ended) (e : Ended) → over id (ends ++ e ∷ []) ≡ (over id ends || is_same_call e.id id)
-over-push id ends e = list_any-append (λ (x : Ended). is_same_call x.id id) ends (e ∷ []) ∙ or-last (over id ends) (is_same_call e.id id)
+over-push : (id : CallId) (ends : List Ended) (e : Ended)
+    → over id (ends ++ e ∷ []) ≡ (over id ends || is_same_call e.id id)
+over-push id ends e = list_any-append (λ (x : Ended). is_same_call x.id id) ends (e ∷ [])
+    ∙ or-last (over id ends) (is_same_call e.id id)
 
-answer-push : (id name : CallId) (ends : List CallId) → list_any (is_same_call id) (ends ++ name ∷ []) ≡ (list_any (is_same_call id) ends || is_same_call id name)
-answer-push id name ends = list_any-append (is_same_call id) ends (name ∷ []) ∙ or-last (list_any (is_same_call id) ends) (is_same_call id name)
+answer-push : (id name : CallId) (ends : List CallId) → list_any (is_same_call id)
+    (ends ++ name ∷ []) ≡ (list_any (is_same_call id) ends || is_same_call id name)
+answer-push id name ends = list_any-append (is_same_call id) ends (name ∷ [])
+    ∙ or-last (list_any (is_same_call id) ends) (is_same_call id name)
 
 -- by one entry more
-over-next : (h : List HostEntry) (e : HostEntry) (id : CallId) → over id (host_items_of h).ends ≡ has_answer h id
+over-next : (h : List HostEntry) (e : HostEntry) (id : CallId)
+    → over id (host_items_of h).ends ≡ has_answer h id
     → over id (host_items_of (h ++ e ∷ [])).ends ≡ has_answer (h ++ e ∷ []) id
 over-next h (Ask name to pdu) id old =
-    ap (λ (a : Items). over id a.ends) (items_with h (Ask name to pdu)) ∙ old ∙ sym (ap (list_any (is_same_call id)) (ended_ask h name to pdu))
+    ap (λ (a : Items). over id a.ends) (items_with h (Ask name to pdu)) ∙ old
+    ∙ sym (ap (list_any (is_same_call id)) (ended_ask h name to pdu))
 over-next h (Answer name result) id old =
     ap (λ (a : Items). over id a.ends) (items_with h (Answer name result))
     ∙ over-push id (host_items_of h).ends _ ∙ (λ i. old i || same-turned name id i)
-    ∙ sym (ap (list_any (is_same_call id)) (ended_answer h name result) ∙ answer-push id name (answered_calls h))
+    ∙ sym (ap (list_any (is_same_call id)) (ended_answer h name result)
+    ∙ answer-push id name (answered_calls h))
 over-next h (Served name request reply) id old =
     ap (λ (a : Items). over id a.ends) (items_with h (Served name request reply)) ∙ old
     ∙ sym (ap (list_any (is_same_call id)) (ended_served h name request reply))
 
-over-more : (h more : List HostEntry) (id : CallId) → over id (host_items_of h).ends ≡ has_answer h id
+over-more : (h more : List HostEntry) (id : CallId)
+    → over id (host_items_of h).ends ≡ has_answer h id
     → over id (host_items_of (h ++ more)).ends ≡ has_answer (h ++ more) id
-over-more h [] id old = subst (λ l. over id (host_items_of l).ends ≡ has_answer l id) (sym (append-nil h)) old
+over-more h [] id old =
+    subst (λ l. over id (host_items_of l).ends ≡ has_answer l id) (sym (append-nil h)) old
 over-more h (e ∷ more) id old =
     subst (λ l. over id (host_items_of l).ends ≡ has_answer l id) (append_assoc h (e ∷ []) more)
     (over-more (h ++ e ∷ []) more id (over-next h e id old))
@@ -184,47 +215,62 @@ over-answer h id = over-more [] h id refl
 
 -- a call without an answer has none
 open-none : (h : List HostEntry) (requests : List Frame) (id : CallId)
-    → list_any (Rattle.host_port.specs.Calls.is_request_of id) (filter (λ request. not (has_answer h request.id)) requests) ≡ true → has_answer h id ≡ false
+    → list_any (Rattle.host_port.specs.Calls.is_request_of id)
+    (filter (λ request. not (has_answer h request.id)) requests) ≡ true → has_answer h id ≡ false
 open-none h [] id some = absurd (let no' : false ≡ true = some in cc)
 open-none h (r ∷ rs) id some = at (has_answer h r.id) refl some (open-none h rs id)
   where
     first : (b : Bool) → is_same_call r.id id ≡ b → has_answer h r.id ≡ false
-        → (b || list_any (Rattle.host_port.specs.Calls.is_request_of id) (filter (λ request. not (has_answer h request.id)) rs)) ≡ true
-        → (list_any (Rattle.host_port.specs.Calls.is_request_of id) (filter (λ request. not (has_answer h request.id)) rs) ≡ true → has_answer h id ≡ false)
+        → (b || list_any (Rattle.host_port.specs.Calls.is_request_of id)
+        (filter (λ request. not (has_answer h request.id)) rs)) ≡ true
+        → (list_any (Rattle.host_port.specs.Calls.is_request_of id)
+        (filter (λ request. not (has_answer h request.id)) rs) ≡ true → has_answer h id ≡ false)
         → has_answer h id ≡ false
     first true same none some' rest = ap (has_answer h) (sym (same-equal r.id id same)) ∙ none
     first false same none some' rest = rest some'
 
     at : (b : Bool) → has_answer h r.id ≡ b
-        → list_any (Rattle.host_port.specs.Calls.is_request_of id) (cond (not b) (r ∷ filter (λ request. not (has_answer h request.id)) rs)
+        → list_any (Rattle.host_port.specs.Calls.is_request_of id)
+        (cond (not b) (r ∷ filter (λ request. not (has_answer h request.id)) rs)
         (filter (λ request. not (has_answer h request.id)) rs)) ≡ true
-        → (list_any (Rattle.host_port.specs.Calls.is_request_of id) (filter (λ request. not (has_answer h request.id)) rs) ≡ true → has_answer h id ≡ false)
+        → (list_any (Rattle.host_port.specs.Calls.is_request_of id)
+        (filter (λ request. not (has_answer h request.id)) rs) ≡ true → has_answer h id ≡ false)
         → has_answer h id ≡ false
     at true is some' rest = rest some'
     at false is some' rest = first (is_same_call r.id id) refl is some' rest
 
 -- a call ends once at most
-few-push : (plan : HostPlan) (h : List HostEntry) (e : HostEntry) (id : CallId) → IsHostHistory plan (h ++ e ∷ []) → ends_of id (host_items_of h).ends ≤ 1
+few-push : (plan : HostPlan) (h : List HostEntry) (e : HostEntry) (id : CallId)
+    → IsHostHistory plan (h ++ e ∷ []) → ends_of id (host_items_of h).ends ≤ 1
     → ends_of id (host_items_of (h ++ e ∷ [])).ends ≤ 1
 few-push plan h (Ask name to pdu) id legal few =
     subst (λ (a : Items). ends_of id a.ends ≤ 1) (sym (items_with h (Ask name to pdu))) few
 few-push plan h (Served name request reply) id legal few =
-    subst (λ (a : Items). ends_of id a.ends ≤ 1) (sym (items_with h (Served name request reply))) few
+    subst (λ (a : Items). ends_of id a.ends ≤ 1)
+    (sym (items_with h (Served name request reply))) few
 few-push plan h (Answer name result) id legal few =
-    subst (λ (a : Items). ends_of id a.ends ≤ 1) (sym (items_with h (Answer name result))) (at (is_same_call name id) refl)
+    subst (λ (a : Items). ends_of id a.ends ≤ 1) (sym (items_with h (Answer name result)))
+    (at (is_same_call name id) refl)
   where
     ends : List Ended
     ends = (host_items_of h).ends
 
     end : Ended
-    end = record { id = name; kind = kind_in (host_items_of h).calls name; outcome = outcome_of result }
+    end = record {
+      id = name;
+      kind = kind_in (host_items_of h).calls name;
+      outcome = outcome_of result;
+    }
 
-    at : (b : Bool) → is_same_call name id ≡ b → ends_of id (host_item_next (host_items_of h) (Answer name result)).ends ≤ 1
+    at : (b : Bool) → is_same_call name id ≡ b
+        → ends_of id (host_item_next (host_items_of h) (Answer name result)).ends ≤ 1
     at true same =
         let c = count-push (λ (x : Ended). is_same_call x.id id) ends end in
         let fits = legal.each h [] (Answer name result) refl in
-        let none = none-counted name ends (over-answer h name ∙ open-none h (requests_in h) name fits) in
-        let here : ends_of id ends ≡ 0 = ap (λ (x : CallId). ends_of x ends) (sym (same-equal name id same)) ∙ none in
+        let none = none-counted name ends
+        (over-answer h name ∙ open-none h (requests_in h) name fits) in
+        let here : ends_of id ends ≡ 0 =
+        ap (λ (x : CallId). ends_of x ends) (sym (same-equal name id same)) ∙ none in
         let o : cond {A = ℕ} (is_same_call name id) 1 0 ≡ 1 = ap (λ b. cond {A = ℕ} b 1 0) same in
         omega (arith, c, here, o)
     at false same =
@@ -232,40 +278,53 @@ few-push plan h (Answer name result) id legal few =
         let o : cond {A = ℕ} (is_same_call name id) 1 0 ≡ 0 = ap (λ b. cond {A = ℕ} b 1 0) same in
         omega (arith, c, few, o)
 
-few-more : (plan : HostPlan) (h more : List HostEntry) (id : CallId) → IsHostHistory plan (h ++ more) → ends_of id (host_items_of h).ends ≤ 1
+few-more : (plan : HostPlan) (h more : List HostEntry) (id : CallId)
+    → IsHostHistory plan (h ++ more) → ends_of id (host_items_of h).ends ≤ 1
     → ends_of id (host_items_of (h ++ more)).ends ≤ 1
-few-more plan h [] id legal few = subst (λ l. ends_of id (host_items_of l).ends ≤ 1) (sym (append-nil h)) few
+few-more plan h [] id legal few =
+    subst (λ l. ends_of id (host_items_of l).ends ≤ 1) (sym (append-nil h)) few
 few-more plan h (e ∷ more) id legal few =
     let joined = subst (IsHostHistory plan) (sym (append_assoc h (e ∷ []) more)) legal in
     subst (λ l. ends_of id (host_items_of l).ends ≤ 1) (append_assoc h (e ∷ []) more)
-    (few-more plan (h ++ e ∷ []) more id joined (few-push plan h e id (front_of plan (h ++ e ∷ []) more joined) few))
+    (few-more plan (h ++ e ∷ []) more id joined
+    (few-push plan h e id (front_of plan (h ++ e ∷ []) more joined) few))
 
 -- each call was asked for
 abbrev WasAsked : List Frame → Called → Type 0
 WasAsked requests c = list_any (λ (request : Frame). is_same_call request.id c.id) requests ≡ true
 
-each-more : (requests more : List Frame) (cs : List Called) → Each (WasAsked requests) cs → Each (WasAsked (requests ++ more)) cs
+each-more : (requests more : List Frame) (cs : List Called) → Each (WasAsked requests) cs
+    → Each (WasAsked (requests ++ more)) cs
 each-more requests more [] all = tt
-each-more requests more (c ∷ cs) all =
-    (list_any-append (λ (request : Frame). is_same_call request.id c.id) requests more ∙ or-left _ _ all.0, each-more requests more cs all.1)
+each-more requests more (c ∷ cs) all = (
+  list_any-append (λ (request : Frame). is_same_call request.id c.id) requests more
+      ∙ or-left _ _ all.0,
+  each-more requests more cs all.1,
+)
   where
     or-left : (x y : Bool) → x ≡ true → (x || y) ≡ true
     or-left x y is = ap (λ b. b || y) is
 
-each-add : (requests : List Frame) (cs more : List Called) → Each (WasAsked requests) cs → Each (WasAsked requests) more → Each (WasAsked requests) (cs ++ more)
+each-add : (requests : List Frame) (cs more : List Called) → Each (WasAsked requests) cs
+    → Each (WasAsked requests) more → Each (WasAsked requests) (cs ++ more)
 each-add requests [] more a b = b
 each-add requests (c ∷ cs) more a b = (a.0, each-add requests cs more a.1 b)
 
-asked-next : (h : List HostEntry) (e : HostEntry) → Each (WasAsked (requests_in h)) (host_items_of h).calls
+asked-next : (h : List HostEntry) (e : HostEntry)
+    → Each (WasAsked (requests_in h)) (host_items_of h).calls
     → Each (WasAsked (requests_in (h ++ e ∷ []))) (host_items_of (h ++ e ∷ [])).calls
 asked-next h (Ask id to pdu) all =
     let new = Rattle.host_port.specs.Calls.requests_in (Ask id to pdu ∷ []) in
-    subst (λ (a : Items). Each (WasAsked (requests_in (h ++ Ask id to pdu ∷ []))) a.calls) (sym (items_with h (Ask id to pdu)))
-    (subst (λ (l : List Frame). Each (WasAsked l) ((host_items_of h).calls ++ record { id = id; sort = Rattle.tied_lists.specs.Items.OverNet to pdu } ∷ []))
+    subst (λ (a : Items). Each (WasAsked (requests_in (h ++ Ask id to pdu ∷ []))) a.calls)
+    (sym (items_with h (Ask id to pdu)))
+    (subst (λ (l : List Frame). Each (WasAsked l) ((host_items_of h).calls
+    ++ record { id = id; sort = Rattle.tied_lists.specs.Items.OverNet to pdu } ∷ []))
     (sym (requests_ask h id to pdu))
-    (each-add (requests_in h ++ new) (host_items_of h).calls _ (each-more (requests_in h) new (host_items_of h).calls all) (
+    (each-add (requests_in h ++ new) (host_items_of h).calls _
+    (each-more (requests_in h) new (host_items_of h).calls all) (
       list_any-append (λ (request : Frame). is_same_call request.id id) (requests_in h) new
-          ∙ or-right (list_any (λ (request : Frame). is_same_call request.id id) (requests_in h)) _ (ap (λ b. b || false) (same-refl id)),
+          ∙ or-right (list_any (λ (request : Frame). is_same_call request.id id) (requests_in h)) _
+          (ap (λ b. b || false) (same-refl id)),
       tt,
     )))
   where
@@ -273,49 +332,64 @@ asked-next h (Ask id to pdu) all =
     or-right true y is = refl
     or-right false y is = is
 asked-next h (Answer id result) all =
-    subst (λ (a : Items). Each (WasAsked (requests_in (h ++ Answer id result ∷ []))) a.calls) (sym (items_with h (Answer id result)))
-    (subst (λ (l : List Frame). Each (WasAsked l) (host_items_of h).calls) (sym (requests_answer h id result)) all)
+    subst (λ (a : Items). Each (WasAsked (requests_in (h ++ Answer id result ∷ []))) a.calls)
+    (sym (items_with h (Answer id result)))
+    (subst (λ (l : List Frame). Each (WasAsked l) (host_items_of h).calls)
+    (sym (requests_answer h id result)) all)
 asked-next h (Served id request reply) all =
-    subst (λ (a : Items). Each (WasAsked (requests_in (h ++ Served id request reply ∷ []))) a.calls) (sym (items_with h (Served id request reply)))
-    (subst (λ (l : List Frame). Each (WasAsked l) (host_items_of h).calls) (sym (requests_served h id request reply)) all)
+    subst (λ (a : Items). Each (WasAsked (requests_in (h ++ Served id request reply ∷ []))) a.calls)
+    (sym (items_with h (Served id request reply)))
+    (subst (λ (l : List Frame). Each (WasAsked l) (host_items_of h).calls)
+    (sym (requests_served h id request reply)) all)
 
 asked-more : (h more : List HostEntry) → Each (WasAsked (requests_in h)) (host_items_of h).calls
     → Each (WasAsked (requests_in (h ++ more))) (host_items_of (h ++ more)).calls
-asked-more h [] all = subst (λ l. Each (WasAsked (requests_in l)) (host_items_of l).calls) (sym (append-nil h)) all
+asked-more h [] all = subst (λ l. Each (WasAsked (requests_in l)) (host_items_of l).calls)
+    (sym (append-nil h)) all
 asked-more h (e ∷ more) all =
-    subst (λ l. Each (WasAsked (requests_in l)) (host_items_of l).calls) (append_assoc h (e ∷ []) more)
+    subst (λ l. Each (WasAsked (requests_in l)) (host_items_of l).calls)
+    (append_assoc h (e ∷ []) more)
     (asked-more (h ++ e ∷ []) more (asked-next h e all))
 
 -- so each has an answer, where none is without
-none-open : (h : List HostEntry) (requests : List Frame) (id : CallId) → filter (λ (request : Frame). not (has_answer h request.id)) requests ≡ []
-    → list_any (λ (request : Frame). is_same_call request.id id) requests ≡ true → has_answer h id ≡ true
+none-open : (h : List HostEntry) (requests : List Frame) (id : CallId)
+    → filter (λ (request : Frame). not (has_answer h request.id)) requests ≡ []
+    → list_any (λ (request : Frame). is_same_call request.id id) requests ≡ true
+    → has_answer h id ≡ true
 none-open h [] id none some = absurd (let no' : false ≡ true = some in cc)
 none-open h (r ∷ rs) id none some = at (has_answer h r.id) refl none (none-open h rs id)
   where
-    named : (b : Bool) → is_same_call r.id id ≡ b → has_answer h r.id ≡ true → filter (λ (request : Frame). not (has_answer h request.id)) rs ≡ []
+    named : (b : Bool) → is_same_call r.id id ≡ b → has_answer h r.id ≡ true
+        → filter (λ (request : Frame). not (has_answer h request.id)) rs ≡ []
         → (b || list_any (λ (request : Frame). is_same_call request.id id) rs) ≡ true
-        → (filter (λ (request : Frame). not (has_answer h request.id)) rs ≡ [] → list_any (λ (request : Frame). is_same_call request.id id) rs ≡ true
+        → (filter (λ (request : Frame). not (has_answer h request.id)) rs ≡ []
+        → list_any (λ (request : Frame). is_same_call request.id id) rs ≡ true
         → has_answer h id ≡ true) → has_answer h id ≡ true
     named true same is left some' rest = ap (has_answer h) (sym (same-equal r.id id same)) ∙ is
     named false same is left some' rest = rest left some'
 
     at : (b : Bool) → has_answer h r.id ≡ b
-        → cond (not b) (r ∷ filter (λ (request : Frame). not (has_answer h request.id)) rs) (filter (λ (request : Frame). not (has_answer h request.id)) rs) ≡ []
-        → (filter (λ (request : Frame). not (has_answer h request.id)) rs ≡ [] → list_any (λ (request : Frame). is_same_call request.id id) rs ≡ true
+        → cond (not b) (r ∷ filter (λ (request : Frame). not (has_answer h request.id)) rs)
+        (filter (λ (request : Frame). not (has_answer h request.id)) rs) ≡ []
+        → (filter (λ (request : Frame). not (has_answer h request.id)) rs ≡ []
+        → list_any (λ (request : Frame). is_same_call request.id id) rs ≡ true
         → has_answer h id ≡ true) → has_answer h id ≡ true
     at true is left rest = named (is_same_call r.id id) refl is left some rest
     at false is left rest = nil-cons (sym left)
 
-each-at : (P : Called → Type 0) (cs : List Called) (k : ℕ) (d : Called) → Each P cs → k < length cs → P (slice_index_or cs k d)
+each-at : (P : Called → Type 0) (cs : List Called) (k : ℕ) (d : Called) → Each P cs → k < length cs
+    → P (slice_index_or cs k d)
 each-at P [] k d all within = absurd (omega (arith, within))
 each-at P (c ∷ cs) zero d all within = all.0
 each-at P (c ∷ cs) (suc k) d all within = each-at P cs k d all.1 (omega (arith, within))
 
-pub host-ended : (plan : HostPlan) (h : List HostEntry) → IsHostHistory plan h → unanswered_in h ≡ [] → EndsEachCall (host_items_of h)
+pub host-ended : (plan : HostPlan) (h : List HostEntry) → IsHostHistory plan h
+    → unanswered_in h ≡ [] → EndsEachCall (host_items_of h)
 host-ended plan h legal none k d within =
     let a = host_items_of h in
     let c = slice_index_or a.calls k d in
     let asked = each-at (WasAsked (requests_in h)) a.calls k d (asked-more [] h tt) within in
-    let least = some-counted c.id a.ends (over-answer h c.id ∙ none-open h (requests_in h) c.id none asked) in
+    let least = some-counted c.id a.ends
+    (over-answer h c.id ∙ none-open h (requests_in h) c.id none asked) in
     let most = few-more plan [] h c.id legal (omega arith) in
     omega (arith, least, most)

@@ -51,7 +51,8 @@ host-others plan net list ring more left none k =
       gone = λ is_so.
           let g = k.gone is_so in
           record {
-            left = ap (λ (c : NodeIs). c.here) (left-stays net ring more n g.left (none-by n more none)) ∙ g.left;
+            left = ap (λ (c : NodeIs). c.here)
+                (left-stays net ring more n g.left (none-by n more none)) ∙ g.left;
             answered = g.answered;
           };
       timely = host-others-in-time n list ring more none k.timely;
@@ -60,13 +61,18 @@ host-others plan net list ring more left none k =
 pub host-complete : HostsComplete
 host-complete plan net list ring st k =
     let g = k.gone refl in (
-      record { answered = host-ended plan list st.legal g.answered; holds = k.holds; asked = k.asked },
+      record {
+        answered = host-ended plan list st.legal g.answered;
+        holds = k.holds;
+        asked = k.asked;
+      },
       record { left = g.left; replied = k.replied; done = k.stays },
     )
 
 -- ---- all stations
 
-zip-each : {A B : Type 0} (P Q : A → B → Type 0) → ((a : A) (b : B) → P a b → Q a b) → (xs : List A) (ys : List B) → AllZip P xs ys → AllZip Q xs ys
+zip-each : {A B : Type 0} (P Q : A → B → Type 0) → ((a : A) (b : B) → P a b → Q a b)
+    → (xs : List A) (ys : List B) → AllZip P xs ys → AllZip Q xs ys
 zip-each P Q f [] [] all = all
 zip-each P Q f [] (y ∷ ys) all = absurd all
 zip-each P Q f (x ∷ xs) [] all = absurd all
@@ -75,10 +81,12 @@ zip-each P Q f (x ∷ xs) (y ∷ ys) all = (f x y all.0, zip-each P Q f xs ys al
 pub run-complete : ControllersComplete → HostsComplete → RunsComplete
 run-complete controllers hosts plant scans joint one two = record {
   controllers = zip-each (HasFinished plant scans joint.ring) (IsCompleteLog plant scans joint.ring)
-      (λ plan log f. controllers (fixed_of plant scans plan) plant.net log.node log.entries joint.ring f.stands f.keeps f.ended f.collected)
+      (λ plan log f. controllers (fixed_of plant scans plan) plant.net log.node log.entries
+      joint.ring f.stands f.keeps f.ended f.collected)
       plant.controllers joint.controllers one;
   hosts = zip-each (HostHasFinished plant joint.ring) (IsCompleteHostLog plant joint.ring)
-      (λ plan log f. subst (λ n. HostIsComplete plan (host_items_of log.entries) (own n joint.ring) × NodeIsComplete plant.net joint.ring n)
+      (λ plan log f. subst (λ n. HostIsComplete plan (host_items_of log.entries) (own n joint.ring)
+      × NodeIsComplete plant.net joint.ring n)
       (sym f.node) (hosts plan plant.net log.entries joint.ring f.stands f.keeps))
       plant.hosts joint.hosts two;
 }

@@ -40,7 +40,8 @@ clash : {C : Type 0} {b : Bool} → b ≡ true → b ≡ false → C
 clash is no' = let e : true ≡ false = sym is ∙ no' in absurd cc
 
 -- as many Requests were posted as made
-posted-many : (h : List HostEntry) (b : List RingEntry) → Tied AHost (host_items_of h) b → length (asked_by b) ≡ length (requests_in h)
+posted-many : (h : List HostEntry) (b : List RingEntry) → Tied AHost (host_items_of h) b
+    → length (asked_by b) ≡ length (requests_in h)
 posted-many h b t = ap length t.asks ∙ asks-many h
 
 -- entries behind a Pass that said done ask nothing and end nothing
@@ -48,7 +49,8 @@ record Rested (b c : List RingEntry) : Type 0 where
   asks : asked_by c ≡ []
   ends : ended_by AHost ([] ++ asked_by b) c ≡ []
 
-rested : (plan : HostPlan) (h more : List HostEntry) (b c : List RingEntry) → GoesDone plan h (h ++ more) → Tied AHost (host_items_of h) b
+rested : (plan : HostPlan) (h more : List HostEntry) (b c : List RingEntry)
+    → GoesDone plan h (h ++ more) → Tied AHost (host_items_of h) b
     → Tied AHost (host_items_of (h ++ more)) (b ++ c) → Rested b c
 rested plan h more b c r old new = record {
   asks = cancel-none (asked_by b) (asked_by c)
@@ -69,8 +71,10 @@ module _ (plan : HostPlan) where
     said : SaidDone b → DidAll plan h
     asked : AsksAllBeforeDone plan b
 
-  keeps-quiet : (h more : List HostEntry) (b c : List RingEntry) → IsHostHistory plan (h ++ more) → Tied AHost (host_items_of h) b
-      → Tied AHost (host_items_of (h ++ more)) (b ++ c) → Each IsNoPass c → Kept h b → Kept (h ++ more) (b ++ c)
+  keeps-quiet : (h more : List HostEntry) (b c : List RingEntry) → IsHostHistory plan (h ++ more)
+      → Tied AHost (host_items_of h) b
+      → Tied AHost (host_items_of (h ++ more)) (b ++ c) → Each IsNoPass c → Kept h b
+      → Kept (h ++ more) (b ++ c)
   keeps-quiet h more b c legal old new quiet k = record {
     replied = replies-more b c quiet k.replied;
     stays = stays-more b c quiet
@@ -80,21 +84,27 @@ module _ (plan : HostPlan) where
     asked = asked-more plan b c quiet k.asked;
   }
 
-  keeps-pass : (h more : List HostEntry) (b c : List RingEntry) (n : ℕ) (done : Bool) (words : List ℕ) → IsHostHistory plan (h ++ more)
-      → Tied AHost (host_items_of h) b → Tied AHost (host_items_of (h ++ more)) (b ++ (c ++ Pass n done words ∷ [])) → Each IsNoPass c
-      → done ≡ host_is_done (host_at plan (h ++ more)) → Kept h b → Kept (h ++ more) (b ++ (c ++ Pass n done words ∷ []))
-  keeps-pass h more b c n done words legal old new quiet says k = subst (Kept (h ++ more)) joins (record {
-    replied = replies-push (b ++ c) e (replies-more b c quiet k.replied)
-        (λ pass. same-count (b ++ c) (e ∷ []) refl refl (ap length whole.replies ∙ due-length (taken_by ((b ++ c) ++ e ∷ [])) _ _));
-    stays = stays-push (b ++ c) e (stays-more b c quiet of-c k.stays)
-        (λ s. says ∙ all-done plan (h ++ more) (done-more plan h more legal (k.said (said-more b c quiet s))).done);
-    said = λ s. elim (said-push (b ++ c) e s) [
-      | inl before ↦ (done-more plan h more legal (k.said (said-more b c quiet before))).done
-      | inr now ↦ did-all plan (h ++ more) (sym says ∙ says-true now.2)
-    ];
-    asked = asked-push plan (b ++ c) e (asked-more plan b c quiet k.asked)
-        (λ m ws same. posted ∙ (did-all plan (h ++ more) (sym says ∙ says-true same)).asked);
-  })
+  keeps-pass : (h more : List HostEntry) (b c : List RingEntry) (n : ℕ) (done : Bool)
+      (words : List ℕ) → IsHostHistory plan (h ++ more)
+      → Tied AHost (host_items_of h) b → Tied AHost (host_items_of (h ++ more))
+      (b ++ (c ++ Pass n done words ∷ [])) → Each IsNoPass c
+      → done ≡ host_is_done (host_at plan (h ++ more)) → Kept h b
+      → Kept (h ++ more) (b ++ (c ++ Pass n done words ∷ []))
+  keeps-pass h more b c n done words legal old new quiet says k =
+      subst (Kept (h ++ more)) joins (record {
+        replied = replies-push (b ++ c) e (replies-more b c quiet k.replied)
+            (λ pass. same-count (b ++ c) (e ∷ []) refl refl
+            (ap length whole.replies ∙ due-length (taken_by ((b ++ c) ++ e ∷ [])) _ _));
+        stays = stays-push (b ++ c) e (stays-more b c quiet of-c k.stays)
+            (λ s. says ∙ all-done plan (h ++ more)
+            (done-more plan h more legal (k.said (said-more b c quiet s))).done);
+        said = λ s. elim (said-push (b ++ c) e s) [
+          | inl before ↦ (done-more plan h more legal (k.said (said-more b c quiet before))).done
+          | inr now ↦ did-all plan (h ++ more) (sym says ∙ says-true now.2)
+        ];
+        asked = asked-push plan (b ++ c) e (asked-more plan b c quiet k.asked)
+            (λ m ws same. posted ∙ (did-all plan (h ++ more) (sym says ∙ says-true same)).asked);
+      })
     where
       e : RingEntry
       e = Pass n done words
@@ -115,17 +125,27 @@ module _ (plan : HostPlan) where
 
       of-c : SaidDone b → Each IsOfDone c
       of-c s =
-          let r = rested plan h more b (c ++ e ∷ []) (done-more plan h more legal (k.said s)) old new in
+          let r = rested plan h more b (c ++ e ∷ [])
+          (done-more plan h more legal (k.said s)) old new in
           each-of-done AHost ([] ++ asked_by b) c quiet
           (no-left (asked_by c) _ (sym (asked-join c (e ∷ [])) ∙ r.asks))
-          (no-left (ended_by AHost ([] ++ asked_by b) c) _ (sym (ended-join AHost ([] ++ asked_by b) c (e ∷ [])) ∙ r.ends))
+          (no-left (ended_by AHost ([] ++ asked_by b) c) _
+          (sym (ended-join AHost ([] ++ asked_by b) c (e ∷ [])) ∙ r.ends))
 
-  kept-of : (net : NetPlan) (h : List HostEntry) (ring : List RingEntry) (left : Bool) → HostKeepsOn plan net h ring left → Kept h (own plan.node ring)
+  kept-of : (net : NetPlan) (h : List HostEntry) (ring : List RingEntry) (left : Bool)
+      → HostKeepsOn plan net h ring left → Kept h (own plan.node ring)
   kept-of net h ring left k =
-      record { replied = k.replied; stays = k.stays; said = λ s. did-all plan h (k.said s); asked = k.asked }
+      record {
+        replied = k.replied;
+        stays = k.stays;
+        said = λ s. did-all plan h (k.said s);
+        asked = k.asked;
+      }
 
-  module _ (alone : Bool) (net : NetPlan) (budget left : Bool) (list new_list : List HostEntry) (ring new_ring : List RingEntry)
-      (t : HoldsHostTurn alone net plan.node plan budget list new_list ring new_ring left) (old : HostStandsTied plan net list ring)
+  module _ (alone : Bool) (net : NetPlan) (budget left : Bool) (list new_list : List HostEntry)
+      (ring new_ring : List RingEntry)
+      (t : HoldsHostTurn alone net plan.node plan budget list new_list ring new_ring left)
+      (old : HostStandsTied plan net list ring)
       (new : HostStandsTied plan net new_list new_ring) (k : HostKeepsOn plan net list ring false)
       (timely : HostStaysInTime plan.node new_list new_ring) where
     abbrev n : ℕ
@@ -138,7 +158,8 @@ module _ (plan : HostPlan) where
     went = host-went plan alone net n budget left list new_list ring new_ring t
 
     asking : Asking plan hold t.given_list (own n t.given_ring)
-    asking = went.asking (record { agree = posted-many list (own n ring) old.tied; holds = k.holds; passes = refl })
+    asking = went.asking
+        (record { agree = posted-many list (own n ring) old.tied; holds = k.holds; passes = refl })
 
     abbrev cause : Option LeaveCause
     cause = host_cause net n plan budget t.given_list t.given_ring
@@ -160,7 +181,8 @@ module _ (plan : HostPlan) where
     no-asks (Some why) = refl
 
     handed-holds : AsksInItsHolds plan (own n t.ends.handed_ring)
-    handed-holds = subst (AsksInItsHolds plan) (sym handed) (holds-more plan (own n t.given_ring) (e ∷ []) (no-asks cause, tt) asking.holds)
+    handed-holds = subst (AsksInItsHolds plan) (sym handed)
+        (holds-more plan (own n t.given_ring) (e ∷ []) (no-asks cause, tt) asking.holds)
 
     -- a Leave
     leaves : (why : LeaveCause) → cause ≡ Some why → HostKeepsOn plan net new_list new_ring left
@@ -170,7 +192,8 @@ module _ (plan : HostPlan) where
         is_so = t.ends.left_is ∙ ap is_some is
 
         gives : HostWent plan n hold t.given_list new_list t.ends.handed_ring new_ring
-        gives = host-gives plan hold alone net n network_paths t.given_list new_list t.ends.handed_ring new_ring (t.ends.gives_up is_so)
+        gives = host-gives plan hold alone net n network_paths t.given_list new_list
+            t.ends.handed_ring new_ring (t.ends.gives_up is_so)
 
         c : List RingEntry
         c = went.done ++ (e ∷ gives.done)
@@ -179,21 +202,26 @@ module _ (plan : HostPlan) where
         to-new = went.more ++ gives.more
 
         new-is : new_list ≡ list ++ to-new
-        new-is = gives.list_is ∙ ap (λ l. l ++ gives.more) went.list_is ∙ append_assoc list went.more gives.more
+        new-is = gives.list_is ∙ ap (λ l. l ++ gives.more) went.list_is
+            ∙ append_assoc list went.more gives.more
 
         own-new : own n new_ring ≡ own n ring ++ c
         own-new =
             gives.own_is ∙ ap (λ l. l ++ gives.done) (handed ∙ ap (λ l. l ++ e ∷ []) went.own_is)
-            ∙ append_assoc (own n ring ++ went.done) (e ∷ []) gives.done ∙ append_assoc (own n ring) went.done (e ∷ gives.done)
+            ∙ append_assoc (own n ring ++ went.done) (e ∷ []) gives.done
+            ∙ append_assoc (own n ring) went.done (e ∷ gives.done)
 
         quiet : Each IsNoPass c
         quiet = each-join IsNoPass went.done (e ∷ gives.done) (no-pass went.done went.quiet)
             (ap (λ o. is_pass (last_entry n done words o)) is, no-pass gives.done gives.quiet)
 
         kept : Kept new_list (own n new_ring)
-        kept = subst (λ l. Kept l (own n new_ring)) (sym new-is) (subst (Kept (list ++ to-new)) (sym own-new)
-            (keeps-quiet list to-new (own n ring) c (subst (IsHostHistory plan) new-is new.legal) old.tied
-            (subst (λ l. Tied AHost (host_items_of l) (own n ring ++ c)) new-is (subst (Tied AHost (host_items_of new_list)) own-new new.tied))
+        kept = subst (λ l. Kept l (own n new_ring)) (sym new-is)
+            (subst (Kept (list ++ to-new)) (sym own-new)
+            (keeps-quiet list to-new (own n ring) c
+            (subst (IsHostHistory plan) new-is new.legal) old.tied
+            (subst (λ l. Tied AHost (host_items_of l) (own n ring ++ c)) new-is
+            (subst (Tied AHost (host_items_of new_list)) own-new new.tied))
             quiet (kept-of net list ring false k)))
 
         result : HostKeepsOn plan net new_list new_ring left
@@ -201,7 +229,8 @@ module _ (plan : HostPlan) where
           replied = kept.replied;
           stays = kept.stays;
           said = λ s. all-done plan new_list (kept.said s);
-          holds = gave-holds plan alone net n network_paths t.given_list new_list t.ends.handed_ring new_ring (t.ends.gives_up is_so) handed-holds;
+          holds = gave-holds plan alone net n network_paths t.given_list new_list t.ends.handed_ring
+              new_ring (t.ends.gives_up is_so) handed-holds;
           asked = kept.asked;
           gone = λ is'. record {
             left = left-more net n t.ends.handed_ring (t.ends.gives_up is_so).grew.more
@@ -227,22 +256,29 @@ module _ (plan : HostPlan) where
 
         own-new : own n new_ring ≡ own n ring ++ (went.done ++ Pass n done words ∷ [])
         own-new =
-            ap (own n) (t.ends.ends_there not-left).0 ∙ handed ∙ ap (λ o. own n t.given_ring ++ last_entry n done words o ∷ []) is
-            ∙ ap (λ l. l ++ Pass n done words ∷ []) went.own_is ∙ append_assoc (own n ring) went.done (Pass n done words ∷ [])
+            ap (own n) (t.ends.ends_there not-left).0 ∙ handed
+            ∙ ap (λ o. own n t.given_ring ++ last_entry n done words o ∷ []) is
+            ∙ ap (λ l. l ++ Pass n done words ∷ []) went.own_is
+            ∙ append_assoc (own n ring) went.done (Pass n done words ∷ [])
 
         kept : Kept new_list (own n new_ring)
-        kept = subst (λ l. Kept l (own n new_ring)) (sym list-is) (subst (Kept (list ++ went.more)) (sym own-new)
-            (keeps-pass list went.more (own n ring) went.done n done words (subst (IsHostHistory plan) list-is new.legal) old.tied
-            (subst (λ l. Tied AHost (host_items_of l) (own n ring ++ (went.done ++ Pass n done words ∷ []))) list-is
+        kept = subst (λ l. Kept l (own n new_ring)) (sym list-is)
+            (subst (Kept (list ++ went.more)) (sym own-new)
+            (keeps-pass list went.more (own n ring) went.done n done words
+            (subst (IsHostHistory plan) list-is new.legal) old.tied
+            (subst (λ l. Tied AHost (host_items_of l)
+            (own n ring ++ (went.done ++ Pass n done words ∷ []))) list-is
             (subst (Tied AHost (host_items_of new_list)) own-new new.tied))
-            (no-pass went.done went.quiet) (ap (λ l. host_is_done (host_at plan l)) (sym given-is)) (kept-of net list ring false k)))
+            (no-pass went.done went.quiet) (ap (λ l. host_is_done (host_at plan l)) (sym given-is))
+            (kept-of net list ring false k)))
 
         result : HostKeepsOn plan net new_list new_ring left
         result = record {
           replied = kept.replied;
           stays = kept.stays;
           said = λ s. all-done plan new_list (kept.said s);
-          holds = subst (λ l. AsksInItsHolds plan (own n l)) (sym (t.ends.ends_there not-left).0) handed-holds;
+          holds = subst (λ l. AsksInItsHolds plan (own n l))
+              (sym (t.ends.ends_there not-left).0) handed-holds;
           asked = kept.asked;
           gone = λ is_so. clash is_so not-left;
           timely = timely;

@@ -32,7 +32,8 @@ starts fixed net n ring none = record {
   replied = subst RepliesBeforePasses (sym none) no-replies;
   stays = subst StaysDone (sym none) no-stays;
   said = λ s. absurd (none-said (subst SaidDone none s));
-  at_home = λ id op out. let no' : Rattle.std.specs.Prelude.None ≡ Rattle.std.specs.Prelude.Some _ = out.made in cc;
+  at_home = λ id op out.
+      let no' : Rattle.std.specs.Prelude.None ≡ Rattle.std.specs.Prelude.Some _ = out.made in cc;
   gone = λ is_so. absurd (let no' : false ≡ true = is_so in cc);
   timely = starts-in-time n ring none;
 }
@@ -45,11 +46,13 @@ scans fixed net n entries more ring left legal none k = record {
   said = λ s.
       let done = k.said s in
       let same : entries ++ more ≡ entries =
-      ap (λ l. entries ++ l) (ended-alone fixed entries more done.ended legal none) ∙ append-nil entries in
+      ap (λ l. entries ++ l) (ended-alone fixed entries more done.ended legal none)
+      ∙ append-nil entries in
       subst (IsDone fixed) (sym same) done;
   at_home = subst DidAtHome (sym (items-grew entries more [] none)) k.at_home;
   gone = k.gone;
-  timely = subst (StaysInTime n (entries ++ more)) (append-nil ring) (others-in-time n entries more ring [] none refl k.timely);
+  timely = subst (StaysInTime n (entries ++ more)) (append-nil ring)
+      (others-in-time n entries more ring [] none refl k.timely);
 }
 
 -- entries of other nodes
@@ -64,8 +67,10 @@ others fixed net n entries ring more left none k =
       gone = λ is_so.
           let g = k.gone is_so in
           record {
-            left = ap (λ (c : NodeIs). c.here) (left-stays net ring more n g.left (none-by n more none)) ∙ g.left;
+            left = ap (λ (c : NodeIs). c.here)
+                (left-stays net ring more n g.left (none-by n more none)) ∙ g.left;
             idle = (λ i. filter_map (λ path. id_of (waiting path (same i))) network_paths) ∙ g.idle;
           };
-      timely = subst (λ (l : List Entry). StaysInTime n l (ring ++ more)) (append-nil entries) (others-in-time n entries [] ring more refl none k.timely);
+      timely = subst (λ (l : List Entry). StaysInTime n l (ring ++ more)) (append-nil entries)
+          (others-in-time n entries [] ring more refl none k.timely);
     }

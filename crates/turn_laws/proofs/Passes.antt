@@ -33,11 +33,14 @@ pub nil-cons : {X C : Type 0} {x : X} {xs : List X} → [] ≡ x ∷ xs → C
 nil-cons is = absurd cc
 
 -- what stands in a list with one entry more: the last one, or one of the others
-pub data Stands {X : Type 0} (b : List X) (e : X) (before : List X) (x : X) (after : List X) : Type 0 where
+pub data Stands {X : Type 0} (b : List X) (e : X) (before : List X) (x : X)
+    (after : List X) : Type 0 where
   last : before ≡ b → x ≡ e → after ≡ [] → Stands b e before x after
-  earlier : (rest : List X) → b ≡ before ++ x ∷ rest → after ≡ rest ++ e ∷ [] → Stands b e before x after
+  earlier : (rest : List X) → b ≡ before ++ x ∷ rest → after ≡ rest ++ e ∷ []
+      → Stands b e before x after
 
-pub stands-in : {X : Type 0} (b : List X) (e : X) (before : List X) (x : X) (after : List X) → b ++ e ∷ [] ≡ before ++ x ∷ after
+pub stands-in : {X : Type 0} (b : List X) (e : X) (before : List X) (x : X) (after : List X)
+    → b ++ e ∷ [] ≡ before ++ x ∷ after
     → Stands b e before x after
 stands-in [] e [] x after is = last refl (sym (cons-head is)) (sym (cons-tail is))
 stands-in [] e (y ∷ []) x after is = nil-cons (cons-tail is)
@@ -57,15 +60,18 @@ cancel (x ∷ front) one other is = cancel front one other (cons-tail is)
 pub cancel-none : {X : Type 0} (front more : List X) → front ≡ front ++ more → more ≡ []
 cancel-none front more is = cancel front more [] (sym is ∙ sym (append-nil front))
 
-pub each-join : {X : Type 0} (P : X → Type 0) (xs ys : List X) → Each P xs → Each P ys → Each P (xs ++ ys)
+pub each-join : {X : Type 0} (P : X → Type 0) (xs ys : List X) → Each P xs → Each P ys
+    → Each P (xs ++ ys)
 each-join P [] ys a b = b
 each-join P (x ∷ xs) ys a b = (a.0, each-join P xs ys a.1 b)
 
-pub each-map : {X : Type 0} (P Q : X → Type 0) (xs : List X) → ((x : X) → P x → Q x) → Each P xs → Each Q xs
+pub each-map : {X : Type 0} (P Q : X → Type 0) (xs : List X) → ((x : X) → P x → Q x)
+    → Each P xs → Each Q xs
 each-map P Q [] f e = tt
 each-map P Q (x ∷ xs) f e = (f x e.0, each-map P Q xs f e.1)
 
-pub all-push : {X : Type 0} (P : X → Type 0) (xs : List X) (x : X) → All P xs → P x → All P (xs ++ x ∷ [])
+pub all-push : {X : Type 0} (P : X → Type 0) (xs : List X) (x : X) → All P xs → P x
+    → All P (xs ++ x ∷ [])
 all-push P [] x all p zero d within = p
 all-push P [] x all p (suc k) d within = absurd (omega (arith, within))
 all-push P (y ∷ xs) x all p zero d within = all 0 d (omega arith)
@@ -99,16 +105,22 @@ pub no-pass : (c : List RingEntry) → Each IsInner c → Each IsNoPass c
 no-pass c inner = each-map IsInner IsNoPass c inner-one inner
 
 pub replies-push : (b : List RingEntry) (e : RingEntry) → RepliesBeforePasses b
-    → (is_pass e ≡ true → length (replied_by b) ≡ length (taken_by b)) → RepliesBeforePasses (b ++ e ∷ [])
-replies-push b e old new before after n done words is = at (stands-in b e before (Pass n done words) after is)
+    → (is_pass e ≡ true → length (replied_by b) ≡ length (taken_by b))
+    → RepliesBeforePasses (b ++ e ∷ [])
+replies-push b e old new before after n done words is =
+    at (stands-in b e before (Pass n done words) after is)
   where
-    at : Stands b e before (Pass n done words) after → length (replied_by before) ≡ length (taken_by before)
+    at : Stands b e before (Pass n done words) after
+        → length (replied_by before) ≡ length (taken_by before)
     at (last p q r) =
-        subst (λ (l : List RingEntry). length (replied_by l) ≡ length (taken_by l)) (sym p) (new (ap is_pass (sym q)))
+        subst (λ (l : List RingEntry). length (replied_by l) ≡ length (taken_by l)) (sym p)
+        (new (ap is_pass (sym q)))
     at (earlier rest p q) = old before rest n done words p
 
-pub stays-push : (b : List RingEntry) (e : RingEntry) → StaysDone b → (SaidDone b → IsOfDone e) → StaysDone (b ++ e ∷ [])
-stays-push b e old new before after n words is = at (stands-in b e before (Pass n true words) after is)
+pub stays-push : (b : List RingEntry) (e : RingEntry) → StaysDone b → (SaidDone b → IsOfDone e)
+    → StaysDone (b ++ e ∷ [])
+stays-push b e old new before after n words is =
+    at (stands-in b e before (Pass n true words) after is)
   where
     at : Stands b e before (Pass n true words) after → All IsOfDone after
     at (last p q r) = subst (All IsOfDone) (sym r) (λ k d within. absurd (omega (arith, within)))
@@ -121,7 +133,8 @@ pub said-push : (b : List RingEntry) (e : RingEntry) → SaidDone (b ++ e ∷ []
     → SaidDone b ⊎ ((n : ℕ) × (words : List ℕ) × (e ≡ Pass n true words))
 said-push b e s = at (stands-in b e s.before (Pass s.node true s.words) s.after s.stands)
   where
-    at : Stands b e s.before (Pass s.node true s.words) s.after → SaidDone b ⊎ ((n : ℕ) × (words : List ℕ) × (e ≡ Pass n true words))
+    at : Stands b e s.before (Pass s.node true s.words) s.after
+        → SaidDone b ⊎ ((n : ℕ) × (words : List ℕ) × (e ≡ Pass n true words))
     at (last p q r) = inr (s.node, s.words, sym q)
     at (earlier rest p q) =
         inl (record { before = s.before; after = rest; node = s.node; words = s.words; stands = p })
@@ -136,30 +149,37 @@ none-said s = at s.before s.stands
 said-quiet : (b : List RingEntry) (e : RingEntry) → IsNoPass e → SaidDone (b ++ e ∷ []) → SaidDone b
 said-quiet b e quiet_e s = elim (said-push b e s) [
   | inl before ↦ before
-  | inr now ↦ absurd (let is : is_pass e ≡ true = ap is_pass now.2 in let both : true ≡ false = sym is ∙ quiet_e in cc)
+  | inr now ↦ absurd (let is : is_pass e ≡ true = ap is_pass now.2 in let both : true ≡ false =
+      sym is ∙ quiet_e in cc)
 ]
 
 -- entries without a Pass
-shift : {X : Type 0} (P : List X → Type 0) (b : List X) (e : X) (c : List X) → P ((b ++ e ∷ []) ++ c) → P (b ++ e ∷ c)
+shift : {X : Type 0} (P : List X → Type 0) (b : List X) (e : X) (c : List X)
+    → P ((b ++ e ∷ []) ++ c) → P (b ++ e ∷ c)
 shift P b e c = subst P (append_assoc b (e ∷ []) c)
 
-back : {X : Type 0} (P : List X → Type 0) (b : List X) (e : X) (c : List X) → P (b ++ e ∷ c) → P ((b ++ e ∷ []) ++ c)
+back : {X : Type 0} (P : List X → Type 0) (b : List X) (e : X) (c : List X) → P (b ++ e ∷ c)
+    → P ((b ++ e ∷ []) ++ c)
 back P b e c = subst P (sym (append_assoc b (e ∷ []) c))
 
 pub said-more : (b c : List RingEntry) → Each IsNoPass c → SaidDone (b ++ c) → SaidDone b
 said-more b [] quiet_e s = subst SaidDone (append-nil b) s
-said-more b (e ∷ c) quiet_e s = said-quiet b e quiet_e.0 (said-more (b ++ e ∷ []) c quiet_e.1 (back SaidDone b e c s))
+said-more b (e ∷ c) quiet_e s =
+    said-quiet b e quiet_e.0 (said-more (b ++ e ∷ []) c quiet_e.1 (back SaidDone b e c s))
 
-pub replies-more : (b c : List RingEntry) → Each IsNoPass c → RepliesBeforePasses b → RepliesBeforePasses (b ++ c)
+pub replies-more : (b c : List RingEntry) → Each IsNoPass c → RepliesBeforePasses b
+    → RepliesBeforePasses (b ++ c)
 replies-more b [] quiet_e old = subst RepliesBeforePasses (sym (append-nil b)) old
 replies-more b (e ∷ c) quiet_e old =
     shift RepliesBeforePasses b e c (replies-more (b ++ e ∷ []) c quiet_e.1
     (replies-push b e old (λ is. absurd (let both : true ≡ false = sym is ∙ quiet_e.0 in cc))))
 
-pub stays-more : (b c : List RingEntry) → Each IsNoPass c → (SaidDone b → Each IsOfDone c) → StaysDone b → StaysDone (b ++ c)
+pub stays-more : (b c : List RingEntry) → Each IsNoPass c → (SaidDone b → Each IsOfDone c)
+    → StaysDone b → StaysDone (b ++ c)
 stays-more b [] quiet_e of old = subst StaysDone (sym (append-nil b)) old
 stays-more b (e ∷ c) quiet_e of old =
-    shift StaysDone b e c (stays-more (b ++ e ∷ []) c quiet_e.1 (λ s. (of (said-quiet b e quiet_e.0 s)).1)
+    shift StaysDone b e c
+    (stays-more (b ++ e ∷ []) c quiet_e.1 (λ s. (of (said-quiet b e quiet_e.0 s)).1)
     (stays-push b e old (λ s. (of s).0)))
 
 -- ---- an entry that asks nothing and ends nothing
@@ -171,64 +191,83 @@ post-replies : (f : Frame) (kind : FrameKind) → asked_in kind f ≡ None → k
 post-replies f Request is = no-some is
 post-replies f Reply is = refl
 
-home-other : (n : ℕ) (id : CallId) (op : LocalOp) (result : MstrResult) → ended_at_home n id op result ≡ None → id.node ≢ n
+home-other : (n : ℕ) (id : CallId) (op : LocalOp) (result : MstrResult)
+    → ended_at_home n id op result ≡ None → id.node ≢ n
 home-other n id op result none same =
-    no-some (sym (ap (λ b. cond b (Some (record { id = id; kind = Some (LocalCall op); outcome = Came result })) None)
+    no-some (sym (ap (λ b.
+    cond b (Some (record { id = id; kind = Some (LocalCall op); outcome = Came result })) None)
     (eq-eqb id.node n same)) ∙ none)
 
-pub of-done : (station : Station) (asked : List Asked) (e : RingEntry) → IsNoPass e → asked_of e ≡ None → ended_of station asked e ≡ None → IsOfDone e
+pub of-done : (station : Station) (asked : List Asked) (e : RingEntry) → IsNoPass e
+    → asked_of e ≡ None → ended_of station asked e ≡ None → IsOfDone e
 of-done station asked (Post n f) quiet_e asks ends = post-replies f f.kind asks
 of-done station asked (Send n heard) quiet_e asks ends = tt
 of-done station asked (Take n f) quiet_e asks ends = tt
 of-done station asked (Local n id op result) quiet_e asks ends = home-other n id op result ends
 of-done station asked (GiveUp id word) quiet_e asks ends = no-some ends
-of-done station asked (Pass n done words) quiet_e asks ends = absurd (let both : true ≡ false = quiet_e in cc)
+of-done station asked (Pass n done words) quiet_e asks ends =
+    absurd (let both : true ≡ false = quiet_e in cc)
 of-done station asked (Leave n cause) quiet_e asks ends = tt
 
-no-option : {X : Type 0} (o : Option X) (xs : List X) → cons_option o xs ≡ [] → (o ≡ None) × (xs ≡ [])
+no-option : {X : Type 0} (o : Option X) (xs : List X) → cons_option o xs ≡ []
+    → (o ≡ None) × (xs ≡ [])
 no-option None xs is = (refl, is)
 no-option (Some x) xs is = nil-cons (sym is)
 
-pub each-of-done : (station : Station) (asked : List Asked) (c : List RingEntry) → Each IsNoPass c → asked_by c ≡ []
+pub each-of-done : (station : Station) (asked : List Asked) (c : List RingEntry) → Each IsNoPass c
+    → asked_by c ≡ []
     → ended_by station asked c ≡ [] → Each IsOfDone c
 each-of-done station asked [] quiet_e asks ends = tt
 each-of-done station asked (e ∷ c) quiet_e asks ends =
     let a = no-option (asked_of e) (asked_by c) asks in
-    let d = no-option (ended_of station asked e) (ended_by station (asked ++ cons_option (asked_of e) []) c) ends in
-    (of-done station asked e quiet_e.0 a.0 d.0, each-of-done station (asked ++ cons_option (asked_of e) []) c quiet_e.1 a.1 d.1)
+    let d = no-option (ended_of station asked e)
+    (ended_by station (asked ++ cons_option (asked_of e) []) c) ends in (
+      of-done station asked e quiet_e.0 a.0 d.0,
+      each-of-done station (asked ++ cons_option (asked_of e) []) c quiet_e.1 a.1 d.1,
+    )
 
 -- what is asked and what ends in joined lists
 pub asked-join : (b c : List RingEntry) → asked_by (b ++ c) ≡ asked_by b ++ asked_by c
 asked-join b c = filter_map-append asked_of b c
 
-pub ended-join : (station : Station) (asked : List Asked) (b c : List RingEntry) → ended_by station asked (b ++ c) ≡ ended_by station
+pub ended-join : (station : Station) (asked : List Asked) (b c : List RingEntry)
+    → ended_by station asked (b ++ c) ≡ ended_by station
     asked b ++ ended_by station (asked ++ asked_by b) c
 ended-join station asked [] c = ap (λ l. ended_by station l c) (sym (append-nil asked))
 ended-join station asked (x ∷ b) c =
     let more = asked ++ cons_option (asked_of x) [] in
-    let joins : more ++ asked_by b ≡ asked ++ asked_by (x ∷ b) = append_assoc asked (cons_option (asked_of x) []) (asked_by b) ∙
-    ap (λ l. asked ++ l) (cons-join (asked_of x) (asked_by b)) in
-    ap (λ l. cons_option (ended_of station asked x) l) (ended-join station more b c ∙ ap (λ l. ended_by station more b ++ ended_by station l c) joins)
-    ∙ cons-append (ended_of station asked x) (ended_by station more b) (ended_by station (asked ++ asked_by (x ∷ b)) c)
+    let joins : more ++ asked_by b ≡ asked ++ asked_by (x ∷ b) =
+    append_assoc asked (cons_option (asked_of x) []) (asked_by b)
+    ∙ ap (λ l. asked ++ l) (cons-join (asked_of x) (asked_by b)) in
+    ap (λ l. cons_option (ended_of station asked x) l)
+    (ended-join station more b c ∙ ap (λ l. ended_by station more b ++ ended_by station l c) joins)
+    ∙ cons-append (ended_of station asked x) (ended_by station more b)
+    (ended_by station (asked ++ asked_by (x ∷ b)) c)
   where
-    cons-join : {X : Type 0} (o : Option X) (xs : List X) → cons_option o [] ++ xs ≡ cons_option o xs
+    cons-join : {X : Type 0} (o : Option X) (xs : List X)
+        → cons_option o [] ++ xs ≡ cons_option o xs
     cons-join None xs = refl
     cons-join (Some x) xs = refl
 
-    cons-append : {X : Type 0} (o : Option X) (xs ys : List X) → cons_option o (xs ++ ys) ≡ cons_option o xs ++ ys
+    cons-append : {X : Type 0} (o : Option X) (xs ys : List X)
+        → cons_option o (xs ++ ys) ≡ cons_option o xs ++ ys
     cons-append None xs ys = refl
     cons-append (Some x) xs ys = refl
 
 -- ---- Replies that are due
 
-pub due-length : (ts : List Taken) (peers locals : List (List ℕ)) → length (due_replies ts peers locals) ≡ length ts
+pub due-length : (ts : List Taken) (peers locals : List (List ℕ))
+    → length (due_replies ts peers locals) ≡ length ts
 due-length [] peers locals = refl
 due-length (Plain id pdu ∷ ts) peers locals = ap suc (due-length ts (rest_of peers) locals)
 due-length (ForStats id pdu ∷ ts) peers locals = ap suc (due-length ts peers (rest_of locals))
 
 -- entries that take nothing and reply nothing
-pub same-count : (b c : List RingEntry) → replied_by c ≡ [] → taken_by c ≡ [] → length (replied_by (b ++ c)) ≡ length (taken_by (b ++ c))
+pub same-count : (b c : List RingEntry) → replied_by c ≡ [] → taken_by c ≡ []
+    → length (replied_by (b ++ c)) ≡ length (taken_by (b ++ c))
     → length (replied_by b) ≡ length (taken_by b)
 same-count b c replies takes all =
-    sym (ap length (filter_map-append replied_of b c ∙ ap (λ l. replied_by b ++ l) replies ∙ append-nil (replied_by b)))
-    ∙ all ∙ ap length (filter_map-append taken_of b c ∙ ap (λ l. taken_by b ++ l) takes ∙ append-nil (taken_by b))
+    sym (ap length (filter_map-append replied_of b c ∙ ap (λ l. replied_by b ++ l) replies
+    ∙ append-nil (replied_by b)))
+    ∙ all ∙ ap length
+    (filter_map-append taken_of b c ∙ ap (λ l. taken_by b ++ l) takes ∙ append-nil (taken_by b))

@@ -1,7 +1,7 @@
 -- A read of two registers, as its journal tells it, is complete: both nodes left, each replied
 -- before it passed the token on and went on saying that it was done, and the call ended once.
 use Rattle.std.proofs.Common.{◌≡◌, ℕ, zero, suc, true, false, List, [], ◌∷◌, ◌++◌, length, inl}
-use Rattle.std.proofs.Common.{inr, refl, arith}
+use Rattle.std.proofs.Common.{inr, refl, arith, sym, ap, ◌∙◌, subst, append_assoc, set, take, drop}
 use Rattle.mstr_block.specs.declared.call.CallId.{CallId}
 use Rattle.mstr_block.specs.declared.call.MstrResult.TheVariants.{Good}
 use Rattle.plant_types.specs.declared.net.Fate.TheVariants.{D}
@@ -11,23 +11,28 @@ use Rattle.plant_types.specs.declared.plan.Plant.{Plant}
 use Rattle.ring_core.specs.declared.entry.RingEntry.{RingEntry}
 use Rattle.ring_core.specs.declared.entry.RingEntry.TheVariants.{Post, Send, Take, Pass, Leave}
 use Rattle.ring_core.specs.declared.entry.Heard.TheVariants.{Acked}
+use Rattle.ring_core.specs.declared.entry.LeaveCause.{LeaveCause}
 use Rattle.ring_core.specs.declared.entry.LeaveCause.TheVariants.{Ended}
 use Rattle.ring_core.specs.declared.frame.FrameKind.{FrameKind}
 use Rattle.ring_core.specs.declared.frame.FrameKind.TheVariants.{Request, Reply}
 use Rattle.ring_core.specs.declared.frame.Frame.{Frame}
+use Rattle.ring_core.specs.Machine.{NodeIs, RingIs, gone, opening, part_of, ring_after, ring_node}
+use Rattle.ring_core.proofs.Runs.{after_all-push}
 use Rattle.controller_core.specs.declared.call.CallKind.TheVariants.{Net}
 use Rattle.controller_core.specs.declared.entry.Entry.{Entry}
 use Rattle.controller_core.specs.declared.entry.Entry.TheVariants.{Begin, Solve, End, Collect, Peer}
 use Rattle.controller_core.specs.declared.entry.Entry.TheVariants.{Finish}
 use Rattle.tied_lists.specs.Items.{replied_by, taken_by}
 use Rattle.tied_lists.specs.Own.{own}
+use Rattle.tied_lists.specs.Waits.{HasLeft}
 use Rattle.joint_history.specs.declared.joint.ControllerLog.{ControllerLog}
 use Rattle.joint_history.specs.Complete.{EndsEachCall, IsComplete, RepliesBeforePasses, StaysDone}
-use Rattle.joint_history.specs.Complete.{NodeIsComplete, is_pass}
+use Rattle.joint_history.specs.Complete.{NodeIsComplete, StandsIn, is_pass}
 use Rattle.joint_history.specs.Reading.{items_of}
 use Rattle.turn_laws.specs.KeepsOn.{SaidDone}
 use Rattle.turn_laws.proofs.Passes.{none-said, replies-push, said-push, stays-push}
 use Rattle.turn_laws.proofs.Others.{no-replies, no-stays}
+use Rattle.turn_laws.proofs.Holders.{gone-stays}
 
 -- ---- the journal
 
@@ -45,7 +50,8 @@ frame kind to pdu = record { kind = kind; to = to; id = id; pdu = pdu }
 
 abbrev reader : List Entry
 reader =
-    Begin ∷ Solve 1 ∷ End ∷ Collect (record { id = id; kind = Net 5 reads } ∷ []) ∷ Finish id (Good (42 ∷ 43 ∷ []))
+    Begin ∷ Solve 1 ∷ End ∷ Collect (record { id = id; kind = Net 5 reads } ∷ []) ∷ Finish id
+    (Good (42 ∷ 43 ∷ []))
     ∷ Begin ∷ Solve 1 ∷ End ∷ []
 
 abbrev target : List Entry
@@ -55,7 +61,8 @@ abbrev ring : List RingEntry
 ring =
     Post 2 (frame Request 5 reads) ∷ Send 2 Acked ∷ Pass 2 false [] ∷ Take 5 (frame Request 5 reads)
     ∷ Post 5 (frame Reply 2 tells) ∷ Send 5 Acked ∷ Pass 5 false [] ∷ Take 2 (frame Reply 2 tells)
-    ∷ Pass 2 false [] ∷ Pass 5 false [] ∷ Pass 2 true [] ∷ Pass 5 true [] ∷ Leave 2 Ended ∷ Leave 5 Ended ∷ []
+    ∷ Pass 2 false [] ∷ Pass 5 false [] ∷ Pass 2 true [] ∷ Pass 5 true [] ∷ Leave 2 Ended
+    ∷ Leave 5 Ended ∷ []
 
 abbrev both : List ControllerLog
 both = record { node = 2; entries = reader } ∷ record { node = 5; entries = target } ∷ []
@@ -70,7 +77,8 @@ record Front (b : List RingEntry) : Type 0 where
 first : Front []
 first = record { replied = no-replies; stays = no-stays; none = none-said }
 
-next : (b : List RingEntry) (e : RingEntry) → (is_pass e ≡ true → length (replied_by b) ≡ length (taken_by b))
+next : (b : List RingEntry) (e : RingEntry)
+    → (is_pass e ≡ true → length (replied_by b) ≡ length (taken_by b))
     → ((n : ℕ) (words : List ℕ) → e ≡ Pass n true words → ⊥) → Front b → Front (b ++ e ∷ [])
 next b e replies other f = record {
   replied = replies-push b e f.replied replies;
@@ -89,9 +97,11 @@ record Whole (b : List RingEntry) : Type 0 where
 whole : (n : ℕ) (b : List RingEntry) → length (replied_by b) ≡ length (taken_by b) → Front b
     → Whole ((b ++ Pass n true [] ∷ []) ++ Leave n Ended ∷ [])
 whole n b same f = record {
-  replied = replies-push (b ++ Pass n true [] ∷ []) (Leave n Ended) (replies-push b (Pass n true []) f.replied (λ is. same))
+  replied = replies-push (b ++ Pass n true [] ∷ []) (Leave n Ended)
+      (replies-push b (Pass n true []) f.replied (λ is. same))
       (λ is. absurd (let no' : false ≡ true = is in cc));
-  stays = stays-push (b ++ Pass n true [] ∷ []) (Leave n Ended) (stays-push b (Pass n true []) f.stays (λ s. refl)) (λ s. tt);
+  stays = stays-push (b ++ Pass n true [] ∷ []) (Leave n Ended)
+      (stays-push b (Pass n true []) f.stays (λ s. refl)) (λ s. tt);
 }
 
 abbrev asks : RingEntry
@@ -103,7 +113,8 @@ comes = Take 2 (frame Reply 2 tells)
 two : Whole (own 2 ring)
 two =
     whole 2 (asks ∷ Send 2 Acked ∷ Pass 2 false [] ∷ comes ∷ Pass 2 false [] ∷ []) refl
-    (next (asks ∷ Send 2 Acked ∷ Pass 2 false [] ∷ comes ∷ []) (Pass 2 false []) (λ is. refl) (λ n words is. cc)
+    (next (asks ∷ Send 2 Acked ∷ Pass 2 false [] ∷ comes ∷ []) (Pass 2 false []) (λ is. refl)
+    (λ n words is. cc)
     (next (asks ∷ Send 2 Acked ∷ Pass 2 false [] ∷ []) comes (λ is. refl) (λ n words is. cc)
     (next (asks ∷ Send 2 Acked ∷ []) (Pass 2 false []) (λ is. refl) (λ n words is. cc)
     (next (asks ∷ []) (Send 2 Acked) (λ is. refl) (λ n words is. cc)
@@ -118,11 +129,33 @@ answers = Post 5 (frame Reply 2 tells)
 five : Whole (own 5 ring)
 five =
     whole 5 (taken ∷ answers ∷ Send 5 Acked ∷ Pass 5 false [] ∷ Pass 5 false [] ∷ []) refl
-    (next (taken ∷ answers ∷ Send 5 Acked ∷ Pass 5 false [] ∷ []) (Pass 5 false []) (λ is. refl) (λ n words is. cc)
+    (next (taken ∷ answers ∷ Send 5 Acked ∷ Pass 5 false [] ∷ []) (Pass 5 false []) (λ is. refl)
+    (λ n words is. cc)
     (next (taken ∷ answers ∷ Send 5 Acked ∷ []) (Pass 5 false []) (λ is. refl) (λ n words is. cc)
     (next (taken ∷ answers ∷ []) (Send 5 Acked) (λ is. refl) (λ n words is. cc)
     (next (taken ∷ []) answers (λ is. absurd (let no' : false ≡ true = is in cc)) (λ n words is. cc)
     (next [] taken (λ is. refl) (λ n words is. cc) first)))))
+
+-- ---- who has left
+
+-- the part that a Leave writes is no member's
+gone-part : (nodes : List NodeIs) (n : ℕ)
+    → (part_of (set nodes n (gone (part_of nodes n))) n).here ≡ false
+gone-part [] n = refl
+gone-part (c ∷ cs) zero = refl
+gone-part (c ∷ cs) (suc n) = gone-part cs n
+
+-- a node whose Leave stands in a history has left
+has-left : (net : NetPlan) (history before more : List RingEntry) (n : ℕ) (cause : LeaveCause)
+    → StandsIn history before (Leave n cause) more → HasLeft net history n
+has-left net history before more n cause stands =
+    let left : HasLeft net (before ++ Leave n cause ∷ []) n =
+    ap (λ (r : RingIs). (ring_node r n).here)
+    (after_all-push net (opening net) before (Leave n cause))
+    ∙ gone-part (ring_after net before).nodes n in
+    subst (λ (l : List RingEntry). HasLeft net l n)
+    (append_assoc before (Leave n cause ∷ []) more ∙ sym stands)
+    (gone-stays net (before ++ Leave n cause ∷ []) more n left)
 
 -- ---- the run
 
@@ -141,10 +174,23 @@ plan node = record {
 }
 
 abbrev net : NetPlan
-net = record { members = 2 ∷ 5 ∷ []; fates = D ∷ []; answer = 4; rotations = 1; rounds = 1; holds = 100 }
+net = record {
+  members = 2 ∷ 5 ∷ [];
+  fates = D ∷ [];
+  answer = 4;
+  rotations = 1;
+  rounds = 1;
+  holds = 100;
+}
 
 abbrev plant : Plant
-plant = record { scan_time = 1; watchdog = 100; net = net; controllers = plan 2 ∷ plan 5 ∷ []; hosts = [] }
+plant = record {
+  scan_time = 1;
+  watchdog = 100;
+  net = net;
+  controllers = plan 2 ∷ plan 5 ∷ [];
+  hosts = [];
+}
 
 reader-ended : EndsEachCall (items_of reader)
 reader-ended zero d within = refl
@@ -154,10 +200,18 @@ target-ended : EndsEachCall (items_of target)
 target-ended k d within = absurd (omega (arith, within))
 
 two-complete : NodeIsComplete net ring 2
-two-complete = record { left = refl; replied = two.replied; done = two.stays }
+two-complete = record {
+  left = has-left net ring (take 12 ring) (drop 13 ring) 2 Ended refl;
+  replied = two.replied;
+  done = two.stays;
+}
 
 five-complete : NodeIsComplete net ring 5
-five-complete = record { left = refl; replied = five.replied; done = five.stays }
+five-complete = record {
+  left = has-left net ring (take 13 ring) (drop 14 ring) 5 Ended refl;
+  replied = five.replied;
+  done = five.stays;
+}
 
 run-complete : IsComplete plant 2 (record { controllers = both; hosts = []; ring = ring })
 run-complete = record {

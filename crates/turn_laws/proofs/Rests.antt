@@ -6,7 +6,7 @@ use Rattle.std.specs.Prelude.{not, ◌&&◌, ◌||◌, if◌then◌else◌}
 use Rattle.std.specs.List.{All, count_by, list_any, slice_index_or}
 use Rattle.std.proofs.lemmas.Bool.{and_parts, eq-eqb, eqb-true}
 use Rattle.mstr_block.specs.Call.{is_same_call}
-use Rattle.mstr_block.specs.Table.{has_started as has_untaken, is_out as is_taken_out}
+use Rattle.mstr_block.specs.Table.{has_untaken, is_taken_out}
 use Rattle.mstr_block.specs.declared.call.CallId.{CallId}
 use Rattle.scan_order.specs.declared.due.ScanStep.{ScanStep}
 use Rattle.controller_core.specs.declared.entry.Entry.{Entry}
@@ -44,7 +44,8 @@ same-equal a b h =
     λ i. record { node = node i; path = path i; seq = seq i }
 
 pub same-refl : (a : CallId) → is_same_call a a ≡ true
-same-refl a = λ i. eq-eqb a.node a.node refl i && (eq-eqb a.path a.path refl i && eq-eqb a.seq a.seq refl i)
+same-refl a =
+    λ i. eq-eqb a.node a.node refl i && (eq-eqb a.path a.path refl i && eq-eqb a.seq a.seq refl i)
 
 abbrev pub named : CallId → List Called → Bool
 named id calls = list_any (λ (c : Called). is_same_call c.id id) calls
@@ -59,22 +60,27 @@ or-right : (x y : Bool) → y ≡ true → (x || y) ≡ true
 or-right true y is = refl
 or-right false y is = is
 
-named-at : (calls : List Called) (k : ℕ) (d : Called) → k < length calls → named (slice_index_or calls k d).id calls ≡ true
+named-at : (calls : List Called) (k : ℕ) (d : Called) → k < length calls
+    → named (slice_index_or calls k d).id calls ≡ true
 named-at [] k d within = absurd (omega (arith, within))
 named-at (c ∷ cs) zero d within = ap (λ b. b || named c.id cs) (same-refl c.id)
 named-at (c ∷ cs) (suc k) d within =
-    or-right (is_same_call c.id (slice_index_or cs k d).id) (named (slice_index_or cs k d).id cs) (named-at cs k d (omega (arith, within)))
+    or-right (is_same_call c.id (slice_index_or cs k d).id) (named (slice_index_or cs k d).id cs)
+    (named-at cs k d (omega (arith, within)))
 
-pub named-kind : (id : CallId) (calls : List Called) → named id calls ≡ true → (kind : Kind) × (kind_in calls id ≡ Some kind)
+pub named-kind : (id : CallId) (calls : List Called) → named id calls ≡ true
+    → (kind : Kind) × (kind_in calls id ≡ Some kind)
 named-kind id [] is = absurd (let no' : false ≡ true = is in cc)
 named-kind id (c ∷ cs) is = at (is_same_call c.id id) is (named-kind id cs)
   where
-    at : (b : Bool) → (b || named id cs) ≡ true → (named id cs ≡ true → (kind : Kind) × (kind_in cs id ≡ Some kind))
+    at : (b : Bool) → (b || named id cs) ≡ true
+        → (named id cs ≡ true → (kind : Kind) × (kind_in cs id ≡ Some kind))
         → (kind : Kind) × ((if b then Some (kind_of_sort c.sort) else kind_in cs id) ≡ Some kind)
     at true some rest = (kind_of_sort c.sort, refl)
     at false some rest = rest some
 
-pub kind-named : (id : CallId) (calls : List Called) (kind : Kind) → kind_in calls id ≡ Some kind → named id calls ≡ true
+pub kind-named : (id : CallId) (calls : List Called) (kind : Kind) → kind_in calls id ≡ Some kind
+    → named id calls ≡ true
 kind-named id [] kind is = absurd (let no' : None ≡ Some kind = is in cc)
 kind-named id (c ∷ cs) kind is = at (is_same_call c.id id) is (kind-named id cs kind)
   where
@@ -87,7 +93,8 @@ pub no-end : (id : CallId) (ends : List Ended) → over id ends ≡ false → No
 no-end id [] is = tt
 no-end id (e ∷ es) is = at (is_same_call e.id id) refl is (no-end id es)
   where
-    at : (b : Bool) → is_same_call e.id id ≡ b → (b || over id es) ≡ false → (over id es ≡ false → NoEnd id es) → NoEnd id (e ∷ es)
+    at : (b : Bool) → is_same_call e.id id ≡ b → (b || over id es) ≡ false
+        → (over id es ≡ false → NoEnd id es) → NoEnd id (e ∷ es)
     at true same none rest = absurd (let no' : true ≡ false = none in cc)
     at false same none rest = (same, rest none)
 
@@ -100,7 +107,8 @@ pub none-counted : (id : CallId) (ends : List Ended) → over id ends ≡ false 
 none-counted id [] none = refl
 none-counted id (e ∷ es) none = at (is_same_call e.id id) refl none (none-counted id es)
   where
-    at : (b : Bool) → is_same_call e.id id ≡ b → (b || over id es) ≡ false → (over id es ≡ false → ends_of id es ≡ 0) → ends_of id (e ∷ es) ≡ 0
+    at : (b : Bool) → is_same_call e.id id ≡ b → (b || over id es) ≡ false
+        → (over id es ≡ false → ends_of id es ≡ 0) → ends_of id (e ∷ es) ≡ 0
     at true same none' rest = absurd (let no' : true ≡ false = none' in cc)
     at false same none' rest =
         let c = count-cons (λ (x : Ended). is_same_call x.id id) e es in
@@ -111,13 +119,15 @@ pub some-counted : (id : CallId) (ends : List Ended) → over id ends ≡ true �
 some-counted id [] some = absurd (let no' : false ≡ true = some in cc)
 some-counted id (e ∷ es) some = at (is_same_call e.id id) refl some (some-counted id es)
   where
-    at : (b : Bool) → is_same_call e.id id ≡ b → (b || over id es) ≡ true → (over id es ≡ true → 1 ≤ ends_of id es) → 1 ≤ ends_of id (e ∷ es)
+    at : (b : Bool) → is_same_call e.id id ≡ b → (b || over id es) ≡ true
+        → (over id es ≡ true → 1 ≤ ends_of id es) → 1 ≤ ends_of id (e ∷ es)
     at true same some' rest =
         let c = count-cons (λ (x : Ended). is_same_call x.id id) e es in
         let o : cond {A = ℕ} (is_same_call e.id id) 1 0 ≡ 1 = ap (λ b. cond {A = ℕ} b 1 0) same in
         omega (arith, c, o)
     at false same some' rest =
-        let c = count-cons (λ (x : Ended). is_same_call x.id id) e es in let r = rest some' in omega (arith, c, r)
+        let c = count-cons (λ (x : Ended). is_same_call x.id id) e es in
+        let r = rest some' in omega (arith, c, r)
 
 counted-over : (id : CallId) (ends : List Ended) → ends_of id ends ≡ 1 → over id ends ≡ true
 counted-over id ends one = at (over id ends) refl
@@ -135,18 +145,23 @@ NoneOut a = (id : CallId) → IsOut a id → ⊥
 abbrev EndsEach : List Called → List Ended → Type 0
 EndsEach calls ends = All (λ (call : Called). ends_of call.id ends ≡ 1) calls
 
-named-over : (id : CallId) (calls : List Called) (ends : List Ended) → EndsEach calls ends → named id calls ≡ true → over id ends ≡ true
+named-over : (id : CallId) (calls : List Called) (ends : List Ended) → EndsEach calls ends
+    → named id calls ≡ true → over id ends ≡ true
 named-over id [] ends all some = absurd (let no' : false ≡ true = some in cc)
 named-over id (c ∷ cs) ends all some =
-    at (is_same_call c.id id) refl some (named-over id cs ends (λ k d within. all (suc k) d (omega (arith, within))))
+    at (is_same_call c.id id) refl some
+    (named-over id cs ends (λ k d within. all (suc k) d (omega (arith, within))))
   where
-    at : (b : Bool) → is_same_call c.id id ≡ b → (b || named id cs) ≡ true → (named id cs ≡ true → over id ends ≡ true) → over id ends ≡ true
-    at true same some' rest = subst (λ (x : CallId). over x ends ≡ true) (same-equal c.id id same) (counted-over c.id ends (all 0 c (omega arith)))
+    at : (b : Bool) → is_same_call c.id id ≡ b → (b || named id cs) ≡ true
+        → (named id cs ≡ true → over id ends ≡ true) → over id ends ≡ true
+    at true same some' rest = subst (λ (x : CallId). over x ends ≡ true) (same-equal c.id id same)
+        (counted-over c.id ends (all 0 c (omega arith)))
     at false same some' rest = rest some'
 
 pub ended-none : (a : Items) → EndsEachCall a → NoneOut a
 ended-none a all id out =
-    clash (named-over id a.calls a.ends all (kind-named id a.calls out.0 out.1.made)) (end-none id a.ends out.1.unended)
+    clash (named-over id a.calls a.ends all (kind-named id a.calls out.0 out.1.made))
+    (end-none id a.ends out.1.unended)
 
 open-not : (named' over' : Bool) → (named' ≡ true → over' ≡ true) → (named' && not over') ≡ false
 open-not true true f = refl
@@ -164,17 +179,20 @@ items-push h e = items-one true h e (h ++ e ∷ []) (record {
 })
 
 module _ (f : Fixed) where
-  no-step : (h : List Entry) (e : Entry) → has_ended_at f h ≡ true → maker_of e ≡ makers.Scan → IsLegal f (h ++ e ∷ []) → ⊥
+  no-step : (h : List Entry) (e : Entry) → has_ended_at f h ≡ true → maker_of e ≡ makers.Scan
+      → IsLegal f (h ++ e ∷ []) → ⊥
   no-step h e ended of legal =
       let step = scan_step e of in
       none (due_step (controller_at f h)) ended (due_of (controller_at f h) e step.0 step.1 legal)
     where
-      none : (due : Option ScanStep) → is_none due ≡ true → entry_for (controller_at f h) due ≡ Some e → ⊥
+      none : (due : Option ScanStep) → is_none due ≡ true
+          → entry_for (controller_at f h) due ≡ Some e → ⊥
       none None is due = let no' : None ≡ Some e = due in cc
       none (Some step) is due = let no' : false ≡ true = is in cc
 
   -- nobody else goes on where the scans have ended
-  kept-out : (b : Bool) (e : Entry) (rest : List Entry) → cond b (e ∷ rest) rest ≡ [] → (b ≡ false) × (rest ≡ [])
+  kept-out : (b : Bool) (e : Entry) (rest : List Entry) → cond b (e ∷ rest) rest ≡ []
+      → (b ≡ false) × (rest ≡ [])
   kept-out true e rest h = absurd (cc)
   kept-out false e rest h = (refl, h)
 
@@ -188,7 +206,8 @@ module _ (f : Fixed) where
   not-ours (entries.Peer id request reply) is = absurd (let no' : true ≡ false = is in cc)
   not-ours (entries.Finish id result) is = absurd (let no' : true ≡ false = is in cc)
 
-  pub ended-alone : (h more : List Entry) → has_ended_at f h ≡ true → IsLegal f (h ++ more) → filter is_ours more ≡ [] → more ≡ []
+  pub ended-alone : (h more : List Entry) → has_ended_at f h ≡ true → IsLegal f (h ++ more)
+      → filter is_ours more ≡ [] → more ≡ []
   ended-alone h [] ended legal none = refl
   ended-alone h (e ∷ more) ended legal none =
       let k = kept-out (is_ours e) e (filter is_ours more) none in
@@ -196,16 +215,19 @@ module _ (f : Fixed) where
       absurd (no-step h e ended (not-ours e k.0) (front_legal f (h ++ e ∷ []) more joined))
 
 module _ (laws : CallLaws) (f : Fixed) where
-  out-is : (h : List Entry) → IsLegal f h → (id : CallId) → is_taken_out (table_of (replay f h)) id ≡ true → over id (items_of h).ends ≡ false
+  out-is : (h : List Entry) → IsLegal f h → (id : CallId)
+      → is_taken_out (table_of (replay f h)) id ≡ true → over id (items_of h).ends ≡ false
   out-is h legal id is = not-true (over id (items_of h).ends)
-      (and_parts (named id (items_of h).calls) (not (over id (items_of h).ends)) (sym ((history-follows laws f h legal).out id) ∙ is)).1
+      (and_parts (named id (items_of h).calls) (not (over id (items_of h).ends))
+      (sym ((history-follows laws f h legal).out id) ∙ is)).1
     where
       not-true : (b : Bool) → not b ≡ true → b ≡ false
       not-true true is' = absurd (let no' : false ≡ true = is' in cc)
       not-true false is' = refl
 
   -- a call ends once at most
-  few-push : (h : List Entry) (e : Entry) (id : CallId) → IsLegal f (h ++ e ∷ []) → ends_of id (items_of h).ends ≤ 1
+  few-push : (h : List Entry) (e : Entry) (id : CallId) → IsLegal f (h ++ e ∷ [])
+      → ends_of id (items_of h).ends ≤ 1
       → ends_of id (item_next (items_of h) e).ends ≤ 1
   few-push h entries.Begin id legal few = few
   few-push h (entries.Input row) id legal few = few
@@ -219,27 +241,33 @@ module _ (laws : CallLaws) (f : Fixed) where
       e : Ended
       e = record { id = name; kind = kind_in (items_of h).calls name; outcome = Came result }
 
-      c : ends_of id ((items_of h).ends ++ e ∷ []) ≡ ends_of id (items_of h).ends + cond {A = ℕ} (is_same_call name id) 1 0
+      c : ends_of id ((items_of h).ends ++ e ∷ [])
+          ≡ ends_of id (items_of h).ends + cond {A = ℕ} (is_same_call name id) 1 0
       c = count-push (λ (x : Ended). is_same_call x.id id) (items_of h).ends e
 
       at : (b : Bool) → is_same_call name id ≡ b → ends_of id ((items_of h).ends ++ e ∷ []) ≤ 1
       at true same =
           let fits = fits_last (controller_at f h) (entries.Finish name result) legal in
-          let none = none-counted name (items_of h).ends (out-is h (front_legal f h (entries.Finish name result ∷ []) legal) name fits) in
-          let here : ends_of id (items_of h).ends ≡ 0 = ap (λ (x : CallId). ends_of x (items_of h).ends) (sym (same-equal name id same)) ∙ none in
+          let none = none-counted name (items_of h).ends
+          (out-is h (front_legal f h (entries.Finish name result ∷ []) legal) name fits) in
+          let here : ends_of id (items_of h).ends ≡ 0 =
+          ap (λ (x : CallId). ends_of x (items_of h).ends) (sym (same-equal name id same)) ∙ none in
           let o : cond {A = ℕ} (is_same_call name id) 1 0 ≡ 1 = ap (λ b. cond {A = ℕ} b 1 0) same in
           omega (arith, c, here, o)
       at false same =
           let o : cond {A = ℕ} (is_same_call name id) 1 0 ≡ 0 = ap (λ b. cond {A = ℕ} b 1 0) same in
           omega (arith, c, few, o)
 
-  few-more : (h more : List Entry) (id : CallId) → IsLegal f (h ++ more) → ends_of id (items_of h).ends ≤ 1 → ends_of id (items_of (h ++ more)).ends ≤ 1
-  few-more h [] id legal few = subst (λ l. ends_of id (items_of l).ends ≤ 1) (sym (append-nil h)) few
+  few-more : (h more : List Entry) (id : CallId) → IsLegal f (h ++ more)
+      → ends_of id (items_of h).ends ≤ 1 → ends_of id (items_of (h ++ more)).ends ≤ 1
+  few-more h [] id legal few = subst (λ l. ends_of id (items_of l).ends ≤ 1)
+      (sym (append-nil h)) few
   few-more h (e ∷ more) id legal few =
       let joined = subst (IsLegal f) (sym (append_assoc h (e ∷ []) more)) legal in
       let one = few-push h e id (front_legal f (h ++ e ∷ []) more joined) few in
       subst (λ l. ends_of id (items_of l).ends ≤ 1) (append_assoc h (e ∷ []) more)
-      (few-more (h ++ e ∷ []) more id joined (subst (λ (a : Items). ends_of id a.ends ≤ 1) (sym (items-push h e)) one))
+      (few-more (h ++ e ∷ []) more id joined
+      (subst (λ (a : Items). ends_of id a.ends ≤ 1) (sym (items-push h e)) one))
 
   -- and where none is out, once
   pub each-ended : (h : List Entry) → IsLegal f h → NoneOut (items_of h) → EndsEachCall (items_of h)
@@ -262,10 +290,12 @@ module _ (laws : CallLaws) (f : Fixed) where
 
   -- ---- at rest
 
-  rests-out : (h : List Entry) → IsLegal f h → EndsEachCall (items_of h) → (id : CallId) → is_taken_out (table_of (replay f h)) id ≡ false
+  rests-out : (h : List Entry) → IsLegal f h → EndsEachCall (items_of h) → (id : CallId)
+      → is_taken_out (table_of (replay f h)) id ≡ false
   rests-out h legal all id =
       (history-follows laws f h legal).out id
-      ∙ open-not (named id (items_of h).calls) (over id (items_of h).ends) (named-over id (items_of h).calls (items_of h).ends all)
+      ∙ open-not (named id (items_of h).calls) (over id (items_of h).ends)
+      (named-over id (items_of h).calls (items_of h).ends all)
 
   -- what a list keeps that goes on so
   pub record RestsOn (h new : List Entry) : Type 0 where
@@ -273,24 +303,33 @@ module _ (laws : CallLaws) (f : Fixed) where
     pub calls : (items_of new).calls ≡ (items_of h).calls
     pub ends : (items_of new).ends ≡ (items_of h).ends
 
-  rests-push : (h : List Entry) (e : Entry) → IsLegal f (h ++ e ∷ []) → IsDone f h → RestsOn h (h ++ e ∷ [])
+  rests-push : (h : List Entry) (e : Entry) → IsLegal f (h ++ e ∷ []) → IsDone f h
+      → RestsOn h (h ++ e ∷ [])
   rests-push h entries.Begin legal r = absurd (no-step f h entries.Begin r.ended refl legal)
-  rests-push h (entries.Input row) legal r = absurd (no-step f h (entries.Input row) r.ended refl legal)
-  rests-push h (entries.Solve row) legal r = absurd (no-step f h (entries.Solve row) r.ended refl legal)
-  rests-push h (entries.Output row words) legal r = absurd (no-step f h (entries.Output row words) r.ended refl legal)
+  rests-push h (entries.Input row) legal r =
+      absurd (no-step f h (entries.Input row) r.ended refl legal)
+  rests-push h (entries.Solve row) legal r =
+      absurd (no-step f h (entries.Solve row) r.ended refl legal)
+  rests-push h (entries.Output row words) legal r =
+      absurd (no-step f h (entries.Output row words) r.ended refl legal)
   rests-push h entries.End legal r = absurd (no-step f h entries.End r.ended refl legal)
   rests-push h (entries.Collect calls) legal r =
-      let fits = fits_last (controller_at f h) (entries.Collect calls) legal in clash fits.0 r.collected
+      let fits = fits_last (controller_at f h) (entries.Collect calls) legal in
+      clash fits.0 r.collected
   rests-push h (entries.Peer id request reply) legal r =
       let e = entries.Peer id request reply in
       let is = items-push h e in
-      let calls : (items_of (h ++ e ∷ [])).calls ≡ (items_of h).calls = ap (λ (a : Items). a.calls) is in
-      let ends : (items_of (h ++ e ∷ [])).ends ≡ (items_of h).ends = ap (λ (a : Items). a.ends) is in
+      let calls : (items_of (h ++ e ∷ [])).calls ≡ (items_of h).calls =
+      ap (λ (a : Items). a.calls) is in
+      let ends : (items_of (h ++ e ∷ [])).ends ≡ (items_of h).ends =
+      ap (λ (a : Items). a.ends) is in
       record {
         rest = record {
           ended = ended_stays (controller_at f h) (e ∷ []) (refl, tt) ∙ r.ended;
-          collected = ap (λ s. has_untaken (table_of s)) (replay_more f (start f.plan) h e) ∙ r.collected;
-          finished = subst (λ (l : List Called). EndsEach l (items_of (h ++ e ∷ [])).ends) (sym calls)
+          collected = ap (λ s. has_untaken (table_of s)) (replay_more f (start f.plan) h e)
+              ∙ r.collected;
+          finished =
+              subst (λ (l : List Called). EndsEach l (items_of (h ++ e ∷ [])).ends) (sym calls)
               (subst (λ (l : List Ended). EndsEach (items_of h).calls l) (sym ends) r.finished);
         };
         calls = calls;
@@ -298,10 +337,13 @@ module _ (laws : CallLaws) (f : Fixed) where
       }
   rests-push h (entries.Finish id result) legal r =
       let e = entries.Finish id result in
-      clash (fits_last (controller_at f h) e legal) (rests-out h (front_legal f h (e ∷ []) legal) r.finished id)
+      clash (fits_last (controller_at f h) e legal)
+      (rests-out h (front_legal f h (e ∷ []) legal) r.finished id)
 
-  pub rests-more : (h more : List Entry) → IsLegal f (h ++ more) → IsDone f h → RestsOn h (h ++ more)
-  rests-more h [] legal r = subst (RestsOn h) (sym (append-nil h)) (record { rest = r; calls = refl; ends = refl })
+  pub rests-more : (h more : List Entry) → IsLegal f (h ++ more) → IsDone f h
+      → RestsOn h (h ++ more)
+  rests-more h [] legal r = subst (RestsOn h) (sym (append-nil h))
+      (record { rest = r; calls = refl; ends = refl })
   rests-more h (e ∷ more) legal r =
       let joined = subst (IsLegal f) (sym (append_assoc h (e ∷ []) more)) legal in
       let one = rests-push h e (front_legal f (h ++ e ∷ []) more joined) r in

@@ -20,6 +20,7 @@ use Rattle.comm_port.specs.HoldTurn.{IsGivenUp}
 use Rattle.mstr_block.specs.Table.{network_paths}
 use Rattle.host_port.specs.Host.{host_is_done}
 use Rattle.comm_port.specs.HostTurns.{hold_of, host_at}
+use Rattle.comm_port.proofs.Asked.{both-asked}
 use Rattle.turn_laws.specs.KeepsOn.{NoneSpent, leaves_spent}
 use Rattle.turn_laws.specs.Laws.{HostTurnsSpendNothing, LeavesWhenEnded, NobodySpends}
 use Rattle.turn_laws.specs.Laws.{TurnsSpendNothing, VisitsSpendNothing}
@@ -31,23 +32,29 @@ use Rattle.turn_laws.proofs.Went.{went-visit}
 -- ---- why a node leaves without a budget
 
 -- it is done, and all have been for long enough
-ended-due : (done due : Bool) → is_some (if done && due then Some Ended else None) ≡ true → done ≡ true
+ended-due : (done due : Bool)
+    → is_some (if done && due then Some Ended else None) ≡ true → done ≡ true
 ended-due true due is = refl
 ended-due false due is = absurd (let no' : false ≡ true = is in cc)
 
-not-spent : (n : ℕ) (done due : Bool) (words : List ℕ) → leaves_spent (last_entry n done words (if done && due then Some Ended else None)) ≡ false
+not-spent : (n : ℕ) (done due : Bool) (words : List ℕ)
+    → leaves_spent (last_entry n done words (if done && due then Some Ended else None)) ≡ false
 not-spent n true true words = refl
 not-spent n true false words = refl
 not-spent n false due words = refl
 
 pub leaves-ended : LeavesWhenEnded
 leaves-ended alone_ram alone_ring fixed net n known new_known ring new_ring t legal =
-    let done = ended-due t.ends.done (is_due net (ring_after net t.given_ring) n Ended) (sym t.ends.left_is) in
-    let due = subst (λ ids. InOrder IsGivenUp ids t.ends.gives_up.noted t.ends.gives_up.done) (t.ends.asked.idle done) t.ends.gives_up.due in
-    let ended = t.ends.asked.ended done in
-    let still = parts.still fixed alone_ram alone_ring net n false true known new_known ring new_ring t ended due.0 legal in (
+    let done = ended-due t.ends.done (is_due net (ring_after net t.given_ring) n Ended)
+    (sym t.ends.left_is) in
+    let both = both-asked t.ends.asked in
+    let due = subst (λ ids. InOrder IsGivenUp ids t.ends.gives_up.noted t.ends.gives_up.done)
+    (both.idle done) t.ends.gives_up.due in
+    let ended = both.ended done in
+    let still = parts.still fixed alone_ram alone_ring net n false true known new_known ring
+    new_ring t ended due.0 legal in (
       ap (has_ended_at fixed) still.1 ∙ ended,
-      ap (has_started_at fixed) still.0 ∙ t.ends.asked.collected done,
+      ap (has_started_at fixed) still.0 ∙ both.collected done,
     )
 
 -- ---- own lists
@@ -70,7 +77,8 @@ all-inner (e ∷ c) inner = (inner-unspent e inner.0, all-inner c inner.1)
 
 each-of : (xs : List RingEntry) → All IsUnspent xs → Each IsUnspent xs
 each-of [] all = tt
-each-of (x ∷ xs) all = (all 0 x (omega arith), each-of xs (λ k d within. all (suc k) d (omega (arith, within))))
+each-of (x ∷ xs) all =
+    (all 0 x (omega arith), each-of xs (λ k d within. all (suc k) d (omega (arith, within))))
 
 all-of : (xs : List RingEntry) → Each IsUnspent xs → All IsUnspent xs
 all-of [] each k d within = absurd (omega (arith, within))
@@ -82,13 +90,18 @@ more b c old new = all-of (b ++ c) (each-join IsUnspent b c (each-of b old) new)
 
 pub turns-spend : TurnsSpendNothing
 turns-spend alone_ram alone_ring fixed net n left known new_known ring new_ring t old =
-    let w = parts.went fixed alone_ram alone_ring net n false left known new_known ring new_ring t in
-    let g = parts.gives fixed alone_ram alone_ring net n false left known new_known ring new_ring t in
+    let w = parts.went fixed alone_ram alone_ring net n false left known new_known
+    ring new_ring t in
+    let g = parts.gives fixed alone_ram alone_ring net n false left known new_known
+    ring new_ring t in
     let e = parts.e fixed alone_ram alone_ring net n false left known new_known ring new_ring t in
-    subst NoneSpent (sym (parts.own-new fixed alone_ram alone_ring net n false left known new_known ring new_ring t))
+    subst NoneSpent (sym (parts.own-new fixed alone_ram alone_ring net n false left known new_known
+    ring new_ring t))
     (more (own n ring) (w.done ++ (e ∷ g.done)) old
-    (each-join IsUnspent w.done (e ∷ g.done) (all-inner w.done w.quiet)
-    (not-spent n t.ends.done (is_due net (ring_after net t.given_ring) n Ended) _, all-inner g.done g.quiet)))
+    (each-join IsUnspent w.done (e ∷ g.done) (all-inner w.done w.quiet) (
+      not-spent n t.ends.done (is_due net (ring_after net t.given_ring) n Ended) _,
+      all-inner g.done g.quiet,
+    )))
 
 pub visits-spend : VisitsSpendNothing
 visits-spend alone_ram alone_ring fixed net n known new_known ring new_ring v old =
@@ -103,15 +116,22 @@ hosts-spend alone net n plan left list new_list ring new_ring t old = at left re
 
     handed : NoneSpent (own n t.ends.handed_ring)
     handed =
-        subst NoneSpent (sym (host-handed plan alone net n false left list new_list ring new_ring t))
-        (more (own n t.given_ring) _ (subst NoneSpent (sym w.own_is) (more (own n ring) w.done old (all-inner w.done w.quiet)))
-        (not-spent n (host_is_done (host_at plan t.given_list)) (is_due net (ring_after net t.given_ring) n Ended) _, tt))
+        subst NoneSpent
+        (sym (host-handed plan alone net n false left list new_list ring new_ring t))
+        (more (own n t.given_ring) _
+        (subst NoneSpent (sym w.own_is) (more (own n ring) w.done old (all-inner w.done w.quiet))) (
+          not-spent n (host_is_done (host_at plan t.given_list))
+              (is_due net (ring_after net t.given_ring) n Ended) _,
+          tt,
+        ))
 
     at : (b : Bool) → left ≡ b → NoneSpent (own n new_ring)
     at false is = subst (λ l. NoneSpent (own n l)) (sym (t.ends.ends_there is).0) handed
     at true is =
-        let g = host-gives plan (hold_of n ring) alone net n network_paths t.given_list new_list t.ends.handed_ring new_ring (t.ends.gives_up is) in
-        subst NoneSpent (sym g.own_is) (more (own n t.ends.handed_ring) g.done handed (all-inner g.done g.quiet))
+        let g = host-gives plan (hold_of n ring) alone net n network_paths t.given_list new_list
+        t.ends.handed_ring new_ring (t.ends.gives_up is) in
+        subst NoneSpent (sym g.own_is)
+        (more (own n t.ends.handed_ring) g.done handed (all-inner g.done g.quiet))
 
 -- ---- all nodes
 
@@ -124,20 +144,26 @@ member-of net (GiveUp id word) law = law.0
 member-of net (Pass n done words) law = law
 member-of net (Leave n cause) law = law
 
-head-of : (b : Bool) (e : RingEntry) (rest : List RingEntry) → b ≡ true → Each IsUnspent (cond b (e ∷ rest) rest) → IsUnspent e
+head-of : (b : Bool) (e : RingEntry) (rest : List RingEntry) → b ≡ true
+    → Each IsUnspent (cond b (e ∷ rest) rest) → IsUnspent e
 head-of true e rest is each = each.0
 head-of false e rest is each = absurd (let no' : false ≡ true = is in cc)
 
-tail-of : (b : Bool) (e : RingEntry) (rest : List RingEntry) → Each IsUnspent (cond b (e ∷ rest) rest) → Each IsUnspent rest
+tail-of : (b : Bool) (e : RingEntry) (rest : List RingEntry)
+    → Each IsUnspent (cond b (e ∷ rest) rest) → Each IsUnspent rest
 tail-of true e rest each = each.1
 tail-of false e rest each = each
 
-nobody : (net : NetPlan) (past es : List RingEntry) → IsRun net past es → ((n : ℕ) → IsMember net n → Each IsUnspent (own n es)) → Each IsUnspent es
+nobody : (net : NetPlan) (past es : List RingEntry) → IsRun net past es
+    → ((n : ℕ) → IsMember net n → Each IsUnspent (own n es)) → Each IsUnspent es
 nobody net past [] run all = tt
 nobody net past (e ∷ es) run all = (
-  head-of (maker e == maker e) e (own (maker e) es) (eq-eqb (maker e) (maker e) refl) (all (maker e) (member-of net e run.0.0)),
-  nobody net (past ++ e ∷ []) es run.1 (λ n member. tail-of (maker e == n) e (own n es) (all n member)),
+  head-of (maker e == maker e) e (own (maker e) es) (eq-eqb (maker e) (maker e) refl)
+      (all (maker e) (member-of net e run.0.0)),
+  nobody net (past ++ e ∷ []) es run.1
+      (λ n member. tail-of (maker e == n) e (own n es) (all n member)),
 )
 
 pub nobody-spends : NobodySpends
-nobody-spends net ring legal all = all-of ring (nobody net [] ring legal (λ n member. each-of (own n ring) (all n member)))
+nobody-spends net ring legal all =
+    all-of ring (nobody net [] ring legal (λ n member. each-of (own n ring) (all n member)))

@@ -4,7 +4,7 @@ use Rattle.std.proofs.Common.{Some, None}
 use Rattle.plant_types.specs.declared.net.HostPlan.{HostPlan}
 use Rattle.plant_types.specs.declared.net.NetPlan.{NetPlan}
 use Rattle.ring_core.specs.declared.entry.RingEntry.{RingEntry}
-use Rattle.ring_core.specs.Legal.{IsLegal as IsLegalRing}
+use Rattle.ring_core.specs.Legal.{IsLegalRing}
 use Rattle.controller_core.specs.declared.entry.Entry.{Entry}
 use Rattle.controller_core.specs.declared.fixed.Fixed.{Fixed}
 use Rattle.controller_core.specs.Controller.{EachFits, IsLegal}
@@ -25,8 +25,10 @@ use Rattle.comm_port.specs.HostTurns.{HostTies}
 use Rattle.turn_laws.specs.KeepsOn.{HostStandsTied, StandsTied}
 use Rattle.turn_laws.proofs.Went.{items-grew}
 
-pub stands-of : {P Q : Type 0} (w : WorkerIs) (ram : RamSideIs P) (known : List Entry) (side : RingSideIs Q) (ring : List RingEntry)
-    → IsMemberWorker side.net w.node → IsLegal ram.fixed known → Standing w ram known side ring → StandsTied ram.fixed side.net w.node known ring
+pub stands-of : {P Q : Type 0} (w : WorkerIs) (ram : RamSideIs P) (known : List Entry)
+    (side : RingSideIs Q) (ring : List RingEntry)
+    → IsMemberWorker side.net w.node → IsLegal ram.fixed known → Standing w ram known side ring
+    → StandsTied ram.fixed side.net w.node known ring
 stands-of w ram known side ring member legal s = record {
   node = s.node;
   legal = legal;
@@ -35,7 +37,8 @@ stands-of w ram known side ring member legal s = record {
   waits = λ path f is. (NetCall, s.waits.outs path f (s.waits.waits path ∙ is));
 }
 
-pub host-stands-of : {Q : Type 0} (n : ℕ) (host : HostIs) (side : RingSideIs Q) (ring : List RingEntry) → HostTies n host side ring
+pub host-stands-of : {Q : Type 0} (n : ℕ) (host : HostIs) (side : RingSideIs Q)
+    (ring : List RingEntry) → HostTies n host side ring
     → HostStandsTied host.plan side.net host.history ring
 host-stands-of n host side ring t = record {
   legal = t.legal;
@@ -48,19 +51,23 @@ first-fits : (fixed : Fixed) → EachFits fixed (start fixed.plan) []
 unfolding EachFits
 first-fits fixed = tt
 
-pub stands-start : (fixed : Fixed) (net : NetPlan) (n : ℕ) (ring : List RingEntry) → fixed.plan.node ≡ n → IsOnRing net ring n → own n ring ≡ []
+pub stands-start : (fixed : Fixed) (net : NetPlan) (n : ℕ) (ring : List RingEntry)
+    → fixed.plan.node ≡ n → IsOnRing net ring n → own n ring ≡ []
     → StandsTied fixed net n [] ring
 stands-start fixed net n ring node on none = record {
   node = node;
   legal = record { each = first-fits fixed; due = (all_due fixed, refl) };
   on = on;
-  tied = subst (Tied AController no_items) (sym none) (record { asks = refl; peers = refl; port = refl; replies = refl; ends = refl });
+  tied = subst (Tied AController no_items) (sym none)
+      (record { asks = refl; peers = refl; port = refl; replies = refl; ends = refl });
   waits = λ path f is. absurd (let no' : None ≡ Some f = sym (ap (waiting path) none) ∙ is in cc);
 }
 
 -- events of the scan, and entries of other nodes
-pub stands-scans : (fixed : Fixed) (net : NetPlan) (n : ℕ) (entries more : List Entry) (ring : List RingEntry) → IsLegal fixed (entries ++ more)
-    → filter is_ours more ≡ [] → StandsTied fixed net n entries ring → StandsTied fixed net n (entries ++ more) ring
+pub stands-scans : (fixed : Fixed) (net : NetPlan) (n : ℕ) (entries more : List Entry)
+    (ring : List RingEntry) → IsLegal fixed (entries ++ more)
+    → filter is_ours more ≡ [] → StandsTied fixed net n entries ring
+    → StandsTied fixed net n (entries ++ more) ring
 stands-scans fixed net n entries more ring legal none s =
     let same : items_of (entries ++ more) ≡ items_of entries = items-grew entries more [] none in
     record {
@@ -71,8 +78,10 @@ stands-scans fixed net n entries more ring legal none s =
       waits = λ path f is. subst (λ a. IsOut a f.id) (sym same) (s.waits path f is);
     }
 
-pub stands-others : (fixed : Fixed) (net : NetPlan) (n : ℕ) (entries : List Entry) (ring more : List RingEntry) → IsLegalRing net (ring ++ more)
-    → own n more ≡ [] → StandsTied fixed net n entries ring → StandsTied fixed net n entries (ring ++ more)
+pub stands-others : (fixed : Fixed) (net : NetPlan) (n : ℕ) (entries : List Entry)
+    (ring more : List RingEntry) → IsLegalRing net (ring ++ more)
+    → own n more ≡ [] → StandsTied fixed net n entries ring
+    → StandsTied fixed net n entries (ring ++ more)
 stands-others fixed net n entries ring more legal none s =
     let same = own-found n ring more none in
     record {
@@ -83,8 +92,10 @@ stands-others fixed net n entries ring more legal none s =
       waits = λ path f is. s.waits path f (sym (ap (waiting path) same) ∙ is);
     }
 
-pub host-stands-others : (plan : HostPlan) (net : NetPlan) (list : List HostEntry) (ring more : List RingEntry) → IsLegalRing net (ring ++ more)
-    → own plan.node more ≡ [] → HostStandsTied plan net list ring → HostStandsTied plan net list (ring ++ more)
+pub host-stands-others : (plan : HostPlan) (net : NetPlan) (list : List HostEntry)
+    (ring more : List RingEntry) → IsLegalRing net (ring ++ more)
+    → own plan.node more ≡ [] → HostStandsTied plan net list ring
+    → HostStandsTied plan net list (ring ++ more)
 host-stands-others plan net list ring more legal none s = record {
   legal = s.legal;
   on = record { members = s.on.members; legal = legal; member = s.on.member };

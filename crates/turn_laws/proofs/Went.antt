@@ -1,5 +1,5 @@
 -- What the parts of a controller's turn add to its lists.
-use Rattle.std.proofs.Common.{◌≡◌, ℕ, Bool, true, false, cond, List, [], ◌∷◌, ◌++◌, map}
+use Rattle.std.proofs.Common.{◌≡◌, ℕ, Bool, true, false, List, [], ◌∷◌, ◌++◌, map}
 use Rattle.std.proofs.Common.{filter, filter_map, Option, Some, None, refl, sym, ap, subst, ◌∙◌}
 use Rattle.std.proofs.Common.{append_assoc, append-nil}
 use Rattle.std.specs.Prelude.{◌||◌, if◌then◌else◌}
@@ -34,10 +34,11 @@ use Rattle.joint_history.specs.Reading.{called_of, has_started_at, is_ours, item
 use Rattle.joint_history.specs.Reading.{items_of, sort_of}
 use Rattle.comm_port.specs.Parts.{InOrder, PartOf}
 use Rattle.comm_port.specs.HoldTurn.{Collects, CollectsIf, IsEnded, IsGivenUp, IsMade}
-use Rattle.comm_port.specs.HoldTurn.{IsNextSending}
+use Rattle.comm_port.specs.SendsAll.{IsNextSending, each_path}
+use Rattle.comm_port.proofs.Parts.{each-added}
 use Rattle.comm_port.specs.HoldTurn.{IsServed, MadeAs, EndedAs, SendsAll, ServedAs, finish_of}
 use Rattle.turn_laws.specs.KeepsOn.{DidAtHome}
-use Rattle.turn_laws.proofs.Passes.{IsInner, cancel, each-join}
+use Rattle.turn_laws.proofs.Passes.{IsInner, each-join}
 use Rattle.turn_laws.proofs.Rests.{end-none, over}
 
 -- ---- items of what a controller notes
@@ -49,7 +50,8 @@ is_collect _ = false
 abbrev pub IsNoCollect : Entry → Type 0
 IsNoCollect e = is_collect e ≡ false
 
-items-join : (a : Items) (xs ys : List Entry) → items_after a (xs ++ ys) ≡ items_after (items_after a xs) ys
+items-join : (a : Items) (xs ys : List Entry)
+    → items_after a (xs ++ ys) ≡ items_after (items_after a xs) ys
 items-join a [] ys = refl
 items-join a (x ∷ xs) ys = items-join (item_next a x) xs ys
 
@@ -62,11 +64,15 @@ items-ours a (entries.Solve row ∷ xs) = items-ours a xs
 items-ours a (entries.Output row words ∷ xs) = items-ours a xs
 items-ours a (entries.End ∷ xs) = items-ours a xs
 items-ours a (entries.Collect calls ∷ xs) = items-ours (item_next a (entries.Collect calls)) xs
-items-ours a (entries.Peer id request reply ∷ xs) = items-ours (item_next a (entries.Peer id request reply)) xs
-items-ours a (entries.Finish id result ∷ xs) = items-ours (item_next a (entries.Finish id result)) xs
+items-ours a (entries.Peer id request reply ∷ xs) =
+    items-ours (item_next a (entries.Peer id request reply)) xs
+items-ours a (entries.Finish id result ∷ xs) =
+    items-ours (item_next a (entries.Finish id result)) xs
 
-pub items-grew : (h more noted : List Entry) → filter is_ours more ≡ noted → items_of (h ++ more) ≡ items_after (items_of h) noted
-items-grew h more noted are = items-join no_items h more ∙ items-ours (items_of h) more ∙ ap (items_after (items_of h)) are
+pub items-grew : (h more noted : List Entry) → filter is_ours more ≡ noted
+    → items_of (h ++ more) ≡ items_after (items_of h) noted
+items-grew h more noted are = items-join no_items h more ∙ items-ours (items_of h) more
+    ∙ ap (items_after (items_of h)) are
 
 -- ---- operations at home that are done
 
@@ -86,8 +92,10 @@ notes-one a (entries.Solve row) quiet_e = record { calls = refl; ends = λ id no
 notes-one a (entries.Output row words) quiet_e = record { calls = refl; ends = λ id none. none }
 notes-one a entries.End quiet_e = record { calls = refl; ends = λ id none. none }
 notes-one a (entries.Collect calls) quiet_e = absurd (let no' : true ≡ false = quiet_e in cc)
-notes-one a (entries.Peer id request reply) quiet_e = record { calls = refl; ends = λ id none. none }
-notes-one a (entries.Finish id result) quiet_e = record { calls = refl; ends = λ name none. front-none name a.ends _ none }
+notes-one a (entries.Peer id request reply) quiet_e =
+    record { calls = refl; ends = λ id none. none }
+notes-one a (entries.Finish id result) quiet_e =
+    record { calls = refl; ends = λ name none. front-none name a.ends _ none }
 
 notes-all : (a : Items) (xs : List Entry) → Each IsNoCollect xs → Notes a (items_after a xs)
 notes-all a [] quiet_e = record { calls = refl; ends = λ id none. none }
@@ -96,7 +104,8 @@ notes-all a (e ∷ xs) quiet_e =
     let all = notes-all (item_next a e) xs quiet_e.1 in
     record { calls = all.calls ∙ one.calls; ends = λ id none. one.ends id (all.ends id none) }
 
-home-notes : (a : Items) (xs : List Entry) → Each IsNoCollect xs → DidAtHome a → DidAtHome (items_after a xs)
+home-notes : (a : Items) (xs : List Entry) → Each IsNoCollect xs → DidAtHome a
+    → DidAtHome (items_after a xs)
 home-notes a xs quiet_e did id op out =
     let n = notes-all a xs quiet_e in
     did id op (record {
@@ -109,18 +118,25 @@ abbrev finishes : CallId → Entry → Bool
 finishes id (entries.Finish name result) = is_same_call name id
 finishes id _ = false
 
-finish-ends : (id : CallId) (a : Items) (xs : List Entry) → Each IsNoCollect xs → list_any (finishes id) xs ≡ true → NoEnd id (items_after a xs).ends → ⊥
+finish-ends : (id : CallId) (a : Items) (xs : List Entry) → Each IsNoCollect xs
+    → list_any (finishes id) xs ≡ true → NoEnd id (items_after a xs).ends → ⊥
 finish-ends id a [] quiet_e some none = let no' : false ≡ true = some in cc
-finish-ends id a (e ∷ xs) quiet_e some none = at (finishes id e) refl some (λ some'. finish-ends id (item_next a e) xs quiet_e.1 some' none)
+finish-ends id a (e ∷ xs) quiet_e some none =
+    at (finishes id e) refl some (λ some'. finish-ends id (item_next a e) xs quiet_e.1 some' none)
   where
-    at : (b : Bool) → finishes id e ≡ b → (b || list_any (finishes id) xs) ≡ true → (list_any (finishes id) xs ≡ true → ⊥) → ⊥
+    at : (b : Bool) → finishes id e ≡ b → (b || list_any (finishes id) xs) ≡ true
+        → (list_any (finishes id) xs ≡ true → ⊥) → ⊥
     at false is some' rest = rest some'
-    at true is some' rest = ended e is (end-none id (item_next a e).ends ((notes-all (item_next a e) xs quiet_e.1).ends id none))
+    at true is some' rest = ended e is
+        (end-none id (item_next a e).ends ((notes-all (item_next a e) xs quiet_e.1).ends id none))
       where
-        last : (ends : List Ended) (x : Ended) → is_same_call x.id id ≡ true → over id (ends ++ x ∷ []) ≡ false → ⊥
+        last : (ends : List Ended) (x : Ended) → is_same_call x.id id ≡ true
+            → over id (ends ++ x ∷ []) ≡ false → ⊥
         last ends x same none' =
-            let all = sym (list_any-append (λ (y : Ended). is_same_call y.id id) ends (x ∷ [])) ∙ none' in
-            let here : (over id ends || (true || false)) ≡ false = ap (λ y. over id ends || (y || false)) (sym same) ∙ all in
+            let all = sym (list_any-append (λ (y : Ended). is_same_call y.id id) ends (x ∷ []))
+            ∙ none' in
+            let here : (over id ends || (true || false)) ≡ false =
+            ap (λ y. over id ends || (y || false)) (sym same) ∙ all in
             no-or (over id ends) here
           where
             no-or : (x' : Bool) → (x' || (true || false)) ≡ false → ⊥
@@ -144,14 +160,16 @@ pub record IsQuiet (noted : List Entry) (done : List RingEntry) : Type 0 where
   pub notes : Each IsNoCollect noted
   pub does : Each IsInner done
 
-quiet-as : (noted noted' : List Entry) (done done' : List RingEntry) → noted ≡ noted' → done ≡ done' → IsQuiet noted' done' → IsQuiet noted done
+quiet-as : (noted noted' : List Entry) (done done' : List RingEntry) → noted ≡ noted' → done ≡ done'
+    → IsQuiet noted' done' → IsQuiet noted done
 quiet-as noted noted' done done' p q is =
     subst (λ l. IsQuiet l done) (sym p) (subst (IsQuiet noted') (sym q) is)
 
 quiet-none : IsQuiet [] []
 quiet-none = record { notes = tt; does = tt }
 
-quiet-join : (noted noted' : List Entry) (done done' : List RingEntry) → IsQuiet noted done → IsQuiet noted' done' → IsQuiet (noted ++ noted') (done ++ done')
+quiet-join : (noted noted' : List Entry) (done done' : List RingEntry) → IsQuiet noted done
+    → IsQuiet noted' done' → IsQuiet (noted ++ noted') (done ++ done')
 quiet-join noted noted' done done' p q = record {
   notes = each-join IsNoCollect noted noted' p.notes q.notes;
   does = each-join IsInner done done' p.does q.does;
@@ -159,57 +177,73 @@ quiet-join noted noted' done done' p q = record {
 
 in-order : {X : Type 0} (Due : X → List Entry → List RingEntry → Type 0)
     → ((x : X) (noted : List Entry) (done : List RingEntry) → Due x noted done → IsQuiet noted done)
-    → (xs : List X) (noted : List Entry) (done : List RingEntry) → InOrder Due xs noted done → IsQuiet noted done
+    → (xs : List X) (noted : List Entry) (done : List RingEntry) → InOrder Due xs noted done
+    → IsQuiet noted done
 in-order Due quiet [] noted done is = quiet-as noted [] done [] is.0 is.1 quiet-none
 in-order Due quiet (x ∷ xs) noted done is =
     quiet-as noted (is.0 ++ is.1) done (is.2 ++ is.3) is.4 is.5
     (quiet-join is.0 is.1 is.2 is.3 (quiet x is.0 is.2 is.6) (in-order Due quiet xs is.1 is.3 is.7))
 
-served-quiet : (n : ℕ) (f : Frame) (kind : FrameKind) (stats : Bool) (noted : List Entry) (done : List RingEntry)
+served-quiet : (n : ℕ) (f : Frame) (kind : FrameKind) (stats : Bool) (noted : List Entry)
+    (done : List RingEntry)
     → ServedAs kind stats n f noted done → IsQuiet noted done
-served-quiet n f Reply stats noted done is = quiet-as noted _ done _ is.1 is.2 (record { notes = (refl, tt); does = (refl, tt) })
+served-quiet n f Reply stats noted done is =
+    quiet-as noted _ done _ is.1 is.2 (record { notes = (refl, tt); does = (refl, tt) })
 served-quiet n f Request true noted done is =
     quiet-as noted _ done _ is.3 is.4 (record { notes = tt; does = (refl, (refl, (refl, tt))) })
 served-quiet n f Request false noted done is =
     quiet-as noted _ done _ is.1 is.2 (record { notes = (refl, tt); does = (refl, (refl, tt)) })
 
-is_served-quiet : (n : ℕ) (f : Frame) (noted : List Entry) (done : List RingEntry) → IsServed n f noted done → IsQuiet noted done
+is_served-quiet : (n : ℕ) (f : Frame) (noted : List Entry) (done : List RingEntry)
+    → IsServed n f noted done → IsQuiet noted done
 is_served-quiet n f noted done is = served-quiet n f f.kind (is_stats f.pdu) noted done is
 
-given-quiet : (id : CallId) (noted : List Entry) (done : List RingEntry) → IsGivenUp id noted done → IsQuiet noted done
-given-quiet id noted done is = quiet-as noted _ done _ is.1 is.2 (record { notes = (refl, tt); does = (refl, tt) })
+given-quiet : (id : CallId) (noted : List Entry) (done : List RingEntry) → IsGivenUp id noted done
+    → IsQuiet noted done
+given-quiet id noted done is =
+    quiet-as noted _ done _ is.1 is.2 (record { notes = (refl, tt); does = (refl, tt) })
 
 -- a call at home finishes at once
 record MakesCall (call : Call) (noted : List Entry) (done : List RingEntry) : Type 0 where
   quiet : IsQuiet noted done
-  home : (op : LocalOp) → kind_of_sort (sort_of call.kind) ≡ LocalCall op → list_any (finishes call.id) noted ≡ true
+  home : (op : LocalOp) → kind_of_sort (sort_of call.kind) ≡ LocalCall op
+      → list_any (finishes call.id) noted ≡ true
 
-finish-here : (id : CallId) (noted : List Entry) (result : MstrResult) → noted ≡ entries.Finish id result ∷ [] → list_any (finishes id) noted ≡ true
-finish-here id noted result is = ap (list_any (finishes id)) is ∙ ap (λ b. b || false) (Rattle.turn_laws.proofs.Rests.same-refl id)
+finish-here : (id : CallId) (noted : List Entry) (result : MstrResult)
+    → noted ≡ entries.Finish id result ∷ [] → list_any (finishes id) noted ≡ true
+finish-here id noted result is = ap (list_any (finishes id)) is
+    ∙ ap (λ b. b || false) (Rattle.turn_laws.proofs.Rests.same-refl id)
 
-made-call : (n : ℕ) (call : Call) (kind : CallKind) → call.kind ≡ kind → (noted : List Entry) (done : List RingEntry)
+made-call : (n : ℕ) (call : Call) (kind : CallKind) → call.kind ≡ kind
+    → (noted : List Entry) (done : List RingEntry)
     → MadeAs kind n call.id noted done → MakesCall call noted done
 made-call n call (kinds.Net to pdu) kind noted done is = record {
   quiet = quiet-as noted _ done _ is.0 is.1 (record { notes = tt; does = (refl, tt) });
-  home = λ op local. absurd (let no' : NetCall ≡ LocalCall op = ap (λ k. kind_of_sort (sort_of k)) (sym kind) ∙ local in cc);
+  home = λ op local. absurd (let no' : NetCall ≡ LocalCall op =
+      ap (λ k. kind_of_sort (sort_of k)) (sym kind) ∙ local in cc);
 }
 made-call n call (kinds.Local op) kind noted done is = record {
   quiet = quiet-as noted _ done _ is.1 is.2 (record { notes = (refl, tt); does = (refl, tt) });
   home = λ other local. finish-here call.id noted is.0 is.1;
 }
 
-is_made-call : (n : ℕ) (call : Call) (noted : List Entry) (done : List RingEntry) → IsMade n call noted done → MakesCall call noted done
+is_made-call : (n : ℕ) (call : Call) (noted : List Entry) (done : List RingEntry)
+    → IsMade n call noted done → MakesCall call noted done
 is_made-call n call noted done is = made-call n call call.kind refl noted done is
 
-ended-call : (n : ℕ) (call : Call) (kind : CallKind) → call.kind ≡ kind → (noted : List Entry) (done : List RingEntry)
+ended-call : (n : ℕ) (call : Call) (kind : CallKind) → call.kind ≡ kind
+    → (noted : List Entry) (done : List RingEntry)
     → EndedAs kind n call.id noted done → MakesCall call noted done
 ended-call n call (kinds.Net to pdu) kind noted done is = record {
-  quiet = quiet-as noted _ done _ is.1 is.2 (record { notes = (refl, tt); does = (refl, (refl, tt)) });
+  quiet = quiet-as noted _ done _ is.1 is.2
+      (record { notes = (refl, tt); does = (refl, (refl, tt)) });
   home = λ op local. finish-here call.id noted _ is.1;
 }
-ended-call n call (kinds.Local op) kind noted done is = made-call n call (kinds.Local op) kind noted done is
+ended-call n call (kinds.Local op) kind noted done is =
+    made-call n call (kinds.Local op) kind noted done is
 
-is_ended-call : (n : ℕ) (call : Call) (noted : List Entry) (done : List RingEntry) → IsEnded n call noted done → MakesCall call noted done
+is_ended-call : (n : ℕ) (call : Call) (noted : List Entry) (done : List RingEntry)
+    → IsEnded n call noted done → MakesCall call noted done
 is_ended-call n call noted done is = ended-call n call call.kind refl noted done is
 
 -- ---- calls that are collected and made
@@ -222,9 +256,11 @@ or-right true y is = refl
 or-right false y is = is
 
 module _ (Due : Call → List Entry → List RingEntry → Type 0)
-    (makes : (call : Call) (noted : List Entry) (done : List RingEntry) → Due call noted done → MakesCall call noted done) where
+    (makes : (call : Call) (noted : List Entry) (done : List RingEntry) → Due call noted done
+    → MakesCall call noted done) where
   -- a call at home among those collected finishes
-  homes : (id : CallId) (op : LocalOp) (calls : List Call) (noted : List Entry) (done : List RingEntry) → InOrder Due calls noted done
+  homes : (id : CallId) (op : LocalOp) (calls : List Call) (noted : List Entry)
+      (done : List RingEntry) → InOrder Due calls noted done
       → kind_in (map called_of calls) id ≡ Some (LocalCall op) → list_any (finishes id) noted ≡ true
   homes id op [] noted done is kind = absurd (let no' : None ≡ Some (LocalCall op) = kind in cc)
   homes id op (call ∷ calls) noted done is kind =
@@ -235,33 +271,43 @@ module _ (Due : Call → List Entry → List RingEntry → Type 0)
       some same = cc
 
       at : (b : Bool) → is_same_call call.id id ≡ b
-          → (if b then Some (kind_of_sort (sort_of call.kind)) else kind_in (map called_of calls) id) ≡ Some (LocalCall op)
-          → (kind_in (map called_of calls) id ≡ Some (LocalCall op) → list_any (finishes id) is.1 ≡ true)
+          → (if b then Some (kind_of_sort (sort_of call.kind))
+          else kind_in (map called_of calls) id) ≡ Some (LocalCall op)
+          → (kind_in (map called_of calls) id ≡ Some (LocalCall op)
+          → list_any (finishes id) is.1 ≡ true)
           → (list_any (finishes id) is.0 || list_any (finishes id) is.1) ≡ true
       at true same found rest =
           or-left (list_any (finishes id) is.0) (list_any (finishes id) is.1)
-          (ap (λ name. list_any (finishes name) is.0) (sym (Rattle.turn_laws.proofs.Rests.same-equal call.id id same))
+          (ap (λ name. list_any (finishes name) is.0)
+          (sym (Rattle.turn_laws.proofs.Rests.same-equal call.id id same))
           ∙ (makes call is.0 is.2 is.6).home op (some found))
       at false same found rest =
           or-right (list_any (finishes id) is.0) (list_any (finishes id) is.1) (rest found)
 
   -- what is due to a Collect, as far as its node's entries
-  collects-done : (b : Bool) (noted : List Entry) (done : List RingEntry) → CollectsIf b Due noted done → Each IsInner done
-  collects-done true noted done is = (in-order Due (λ x l m d. (makes x l m d).quiet) is.0 is.1 done is.3).does
+  collects-done : (b : Bool) (noted : List Entry) (done : List RingEntry)
+      → CollectsIf b Due noted done → Each IsInner done
+  collects-done true noted done is =
+      (in-order Due (λ x l m d. (makes x l m d).quiet) is.0 is.1 done is.3).does
   collects-done false noted done is = subst (Each IsInner) (sym is.1) tt
 
-  other-kind : (calls more : List Called) (id : CallId) (kind : Kind) → kind_in (calls ++ more) id ≡ Some kind → kind_in calls id ≡ None
+  other-kind : (calls more : List Called) (id : CallId) (kind : Kind)
+      → kind_in (calls ++ more) id ≡ Some kind → kind_in calls id ≡ None
       → kind_in more id ≡ Some kind
   other-kind [] more id kind is none = is
-  other-kind (c ∷ calls) more id kind is none = at (is_same_call c.id id) is none (other-kind calls more id kind)
+  other-kind (c ∷ calls) more id kind is none = at (is_same_call c.id id) is none
+      (other-kind calls more id kind)
     where
-      at : (b : Bool) → (if b then Some (kind_of_sort c.sort) else kind_in (calls ++ more) id) ≡ Some kind
+      at : (b : Bool)
+          → (if b then Some (kind_of_sort c.sort) else kind_in (calls ++ more) id) ≡ Some kind
           → (if b then Some (kind_of_sort c.sort) else kind_in calls id) ≡ None
-          → (kind_in (calls ++ more) id ≡ Some kind → kind_in calls id ≡ None → kind_in more id ≡ Some kind) → kind_in more id ≡ Some kind
+          → (kind_in (calls ++ more) id ≡ Some kind → kind_in calls id ≡ None
+          → kind_in more id ≡ Some kind) → kind_in more id ≡ Some kind
       at true is' none' rest = absurd (let no' : Some (kind_of_sort c.sort) ≡ None = none' in cc)
       at false is' none' rest = rest is' none'
 
-  collects-home : (b : Bool) (a : Items) (noted : List Entry) (done : List RingEntry) → CollectsIf b Due noted done → DidAtHome a
+  collects-home : (b : Bool) (a : Items) (noted : List Entry) (done : List RingEntry)
+      → CollectsIf b Due noted done → DidAtHome a
       → DidAtHome (items_after a noted)
   collects-home false a noted done is did = subst (λ l. DidAtHome (items_after a l)) (sym is.0) did
   collects-home true a noted done is did = subst (λ l. DidAtHome (items_after a l)) (sym is.2) after
@@ -298,12 +344,14 @@ module _ (Due : Call → List Entry → List RingEntry → Type 0)
               })
           at None was =
               finish-ends id middle rest quiet_e
-              (homes id op calls rest done is.3 (other-kind a.calls (map called_of calls) id (LocalCall op) kind was)) out.unended
+              (homes id op calls rest done is.3
+              (other-kind a.calls (map called_of calls) id (LocalCall op) kind was)) out.unended
 
 -- ---- lists that went on
 
 -- a controller's list and its node's own list went on without a Pass
-pub record Went (n : ℕ) (known new_known : List Entry) (ring new_ring : List RingEntry) : Type 0 where
+pub record Went (n : ℕ) (known new_known : List Entry)
+    (ring new_ring : List RingEntry) : Type 0 where
   pub more : List Entry
   pub known_is : new_known ≡ known ++ more
   pub done : List RingEntry
@@ -311,28 +359,33 @@ pub record Went (n : ℕ) (known new_known : List Entry) (ring new_ring : List R
   pub quiet : Each IsInner done
   pub home : DidAtHome (items_of known) → DidAtHome (items_of new_known)
 
-pub went-then : (n : ℕ) (a b c : List Entry) (x y z : List RingEntry) → Went n a b x y → Went n b c y z → Went n a c x z
+pub went-then : (n : ℕ) (a b c : List Entry) (x y z : List RingEntry) → Went n a b x y
+    → Went n b c y z → Went n a c x z
 went-then n a b c x y z one two = record {
   more = one.more ++ two.more;
   known_is = two.known_is ∙ ap (λ l. l ++ two.more) one.known_is ∙ append_assoc a one.more two.more;
   done = one.done ++ two.done;
-  own_is = two.own_is ∙ ap (λ l. l ++ two.done) one.own_is ∙ append_assoc (own n x) one.done two.done;
+  own_is = two.own_is ∙ ap (λ l. l ++ two.done) one.own_is
+      ∙ append_assoc (own n x) one.done two.done;
   quiet = each-join IsInner one.done two.done one.quiet two.quiet;
   home = λ did. two.home (one.home did);
 }
 
-pub went-ask : (n : ℕ) (alone : Bool) (a b : List Entry) (x : List RingEntry) → WentOn alone is_ours a [] b → Went n a b x x
+pub went-ask : (n : ℕ) (alone : Bool) (a b : List Entry) (x : List RingEntry)
+    → WentOn alone is_ours a [] b → Went n a b x x
 went-ask n alone a b x w = record {
   more = w.between;
   known_is = w.after_is ∙ append-nil (a ++ w.between);
   done = [];
   own_is = sym (append-nil (own n x));
   quiet = tt;
-  home = λ did. subst DidAtHome (sym (ap items_of (w.after_is ∙ append-nil (a ++ w.between)) ∙ items-grew a w.between [] w.others)) did;
+  home = λ did. subst DidAtHome (sym (ap items_of (w.after_is ∙ append-nil (a ++ w.between))
+      ∙ items-grew a w.between [] w.others)) did;
 }
 
 -- by what is due
-went-due : (n : ℕ) (alone alone' : Bool) (noted : List Entry) (done : List RingEntry) (a b : List Entry) (x y : List RingEntry)
+went-due : (n : ℕ) (alone alone' : Bool) (noted : List Entry) (done : List RingEntry)
+    (a b : List Entry) (x y : List RingEntry)
     → Grew alone is_ours a noted b → Grew alone' (is_of n) x done y → Each IsInner done
     → (DidAtHome (items_of a) → DidAtHome (items_after (items_of a) noted)) → Went n a b x y
 went-due n alone alone' noted done a b x y g h quiet home = record {
@@ -341,19 +394,27 @@ went-due n alone alone' noted done a b x y g h quiet home = record {
   done = done;
   own_is = grew-ours alone' (is_of n) x done y h;
   quiet = quiet;
-  home = λ did. subst DidAtHome (sym (ap items_of g.after_is ∙ items-grew a g.more noted g.ours_are)) (home did);
+  home = λ did. subst DidAtHome
+      (sym (ap items_of g.after_is ∙ items-grew a g.more noted g.ours_are)) (home did);
 }
 
-pub went-part : {X : Type 0} (n : ℕ) (alone alone' : Bool) (Due : X → List Entry → List RingEntry → Type 0)
-    → ((x : X) (noted : List Entry) (done : List RingEntry) → Due x noted done → IsQuiet noted done) → (xs : List X)
-    (a b : List Entry) (x y : List RingEntry) → PartOf alone alone' is_ours n (InOrder Due xs) a b x y → Went n a b x y
+pub went-part : {X : Type 0} (n : ℕ) (alone alone' : Bool)
+    (Due : X → List Entry → List RingEntry → Type 0)
+    → ((x : X) (noted : List Entry) (done : List RingEntry) → Due x noted done → IsQuiet noted done)
+    → (xs : List X)
+    (a b : List Entry) (x y : List RingEntry)
+    → PartOf alone alone' is_ours n (InOrder Due xs) a b x y → Went n a b x y
 went-part n alone alone' Due quiet xs a b x y p =
     let is = in-order Due quiet xs p.noted p.done p.due in
-    went-due n alone alone' p.noted p.done a b x y p.station p.node is.does (home-notes (items_of a) p.noted is.notes)
+    went-due n alone alone' p.noted p.done a b x y p.station p.node is.does
+    (home-notes (items_of a) p.noted is.notes)
 
-went-collects : (n : ℕ) (alone alone' : Bool) (fixed : Fixed) (Due : Call → List Entry → List RingEntry → Type 0)
-    → ((call : Call) (noted : List Entry) (done : List RingEntry) → Due call noted done → MakesCall call noted done)
-    → (a b : List Entry) (x y : List RingEntry) → Collects alone alone' fixed n Due a b x y → Went n a b x y
+went-collects : (n : ℕ) (alone alone' : Bool) (fixed : Fixed)
+    (Due : Call → List Entry → List RingEntry → Type 0)
+    → ((call : Call) (noted : List Entry) (done : List RingEntry) → Due call noted done
+    → MakesCall call noted done)
+    → (a b : List Entry) (x y : List RingEntry) → Collects alone alone' fixed n Due a b x y
+    → Went n a b x y
 went-collects n alone alone' fixed Due makes a b x y c =
     let p = c.goes in
     let started = has_started_at fixed c.asked in
@@ -364,24 +425,33 @@ went-collects n alone alone' fixed Due makes a b x y c =
 
 -- ---- the parts
 
-pub went-serves : (n : ℕ) (alone alone' : Bool) (fs : List Frame) (a b : List Entry) (x y : List RingEntry)
+pub went-serves : (n : ℕ) (alone alone' : Bool) (fs : List Frame) (a b : List Entry)
+    (x y : List RingEntry)
     → PartOf alone alone' is_ours n (InOrder (IsServed n) fs) a b x y → Went n a b x y
-went-serves n alone alone' fs a b x y p = went-part n alone alone' (IsServed n) (is_served-quiet n) fs a b x y p
+went-serves n alone alone' fs a b x y p =
+    went-part n alone alone' (IsServed n) (is_served-quiet n) fs a b x y p
 
-pub went-calls : (n : ℕ) (alone alone' : Bool) (fixed : Fixed) (a b : List Entry) (x y : List RingEntry)
+pub went-calls : (n : ℕ) (alone alone' : Bool) (fixed : Fixed) (a b : List Entry)
+    (x y : List RingEntry)
     → Collects alone alone' fixed n (IsMade n) a b x y → Went n a b x y
-went-calls n alone alone' fixed a b x y c = went-collects n alone alone' fixed (IsMade n) (is_made-call n) a b x y c
+went-calls n alone alone' fixed a b x y c =
+    went-collects n alone alone' fixed (IsMade n) (is_made-call n) a b x y c
 
-pub went-visit : (n : ℕ) (alone alone' : Bool) (fixed : Fixed) (a b : List Entry) (x y : List RingEntry)
+pub went-visit : (n : ℕ) (alone alone' : Bool) (fixed : Fixed) (a b : List Entry)
+    (x y : List RingEntry)
     → Collects alone alone' fixed n (IsEnded n) a b x y → Went n a b x y
-went-visit n alone alone' fixed a b x y c = went-collects n alone alone' fixed (IsEnded n) (is_ended-call n) a b x y c
+went-visit n alone alone' fixed a b x y c =
+    went-collects n alone alone' fixed (IsEnded n) (is_ended-call n) a b x y c
 
-pub went-gives : (n : ℕ) (alone alone' : Bool) (ids : List CallId) (a b : List Entry) (x y : List RingEntry)
+pub went-gives : (n : ℕ) (alone alone' : Bool) (ids : List CallId) (a b : List Entry)
+    (x y : List RingEntry)
     → PartOf alone alone' is_ours n (InOrder IsGivenUp ids) a b x y → Went n a b x y
-went-gives n alone alone' ids a b x y p = went-part n alone alone' IsGivenUp given-quiet ids a b x y p
+went-gives n alone alone' ids a b x y p =
+    went-part n alone alone' IsGivenUp given-quiet ids a b x y p
 
 -- what is sent
-sending-quiet : (net : NetPlan) (n : ℕ) (past : List RingEntry) (e : RingEntry) → IsNextSending net n past e → IsInner e
+sending-quiet : (net : NetPlan) (n : ℕ) (past : List RingEntry) (e : RingEntry)
+    → IsNextSending net n each_path past e → IsInner e
 sending-quiet net n past (Post m f) is = refl
 sending-quiet net n past (Send m heard) is = refl
 sending-quiet net n past (Take m f) is = refl
@@ -390,21 +460,8 @@ sending-quiet net n past (GiveUp id word) is = refl
 sending-quiet net n past (Pass m done words) is = absurd is
 sending-quiet net n past (Leave m cause) is = absurd is
 
-sends-quiet : (net : NetPlan) (n : ℕ) (ring front rest : List RingEntry)
-    → ((before after : List RingEntry) (e : RingEntry) → front ++ rest ≡ before ++ e ∷ after → is_of n e ≡ true → IsNextSending net n (ring ++ before) e)
-    → Each IsInner (filter (is_of n) rest)
-sends-quiet net n ring front [] each = tt
-sends-quiet net n ring front (e ∷ rest) each =
-    at (is_of n e) refl
-    (sends-quiet net n ring (front ++ e ∷ []) rest
-    (λ before after x is. each before after x (sym (append_assoc front (e ∷ []) rest) ∙ is)))
-  where
-    at : (b : Bool) → is_of n e ≡ b → Each IsInner (filter (is_of n) rest)
-        → Each IsInner (cond b (e ∷ filter (is_of n) rest) (filter (is_of n) rest))
-    at true mine all = (sending-quiet net n (ring ++ front) e (each front rest e refl mine), all)
-    at false mine all = all
-
-finish-notes : (o : Option Entry) (e : RingEntry) → finish_of e ≡ o → (rest : List Entry) → Each IsNoCollect rest → Each IsNoCollect (cons_option o rest)
+finish-notes : (o : Option Entry) (e : RingEntry) → finish_of e ≡ o → (rest : List Entry)
+    → Each IsNoCollect rest → Each IsNoCollect (cons_option o rest)
 finish-notes None e is rest all = all
 finish-notes (Some x) e is rest all = (at e is, all)
   where
@@ -413,19 +470,22 @@ finish-notes (Some x) e is rest all = (at e is, all)
     at (Send m heard) is' = absurd (let no' : None ≡ Some x = is' in cc)
     at (Take m f) is' = absurd (let no' : None ≡ Some x = is' in cc)
     at (Local m id op result) is' = absurd (let no' : None ≡ Some x = is' in cc)
-    at (GiveUp id word) is' = let same : entries.Finish id (Bad word) ≡ x = cc in ap is_collect (sym same)
+    at (GiveUp id word) is' =
+        let same : entries.Finish id (Bad word) ≡ x = cc in ap is_collect (sym same)
     at (Pass m done words) is' = absurd (let no' : None ≡ Some x = is' in cc)
     at (Leave m cause) is' = absurd (let no' : None ≡ Some x = is' in cc)
 
 all-notes : (done : List RingEntry) → Each IsNoCollect (filter_map finish_of done)
 all-notes [] = tt
-all-notes (e ∷ done) = finish-notes (finish_of e) e refl (filter_map finish_of done) (all-notes done)
+all-notes (e ∷ done) =
+    finish-notes (finish_of e) e refl (filter_map finish_of done) (all-notes done)
 
-pub went-sends : (n : ℕ) (alone alone' : Bool) (net : NetPlan) (a b : List Entry) (x y : List RingEntry) → SendsAll alone alone' net n a b x y → Went n a b x y
+pub went-sends : (n : ℕ) (alone alone' : Bool) (net : NetPlan) (a b : List Entry)
+    (x y : List RingEntry) → SendsAll alone alone' net n a b x y → Went n a b x y
 went-sends n alone alone' net a b x y s =
-    went-due n alone alone' (filter_map finish_of s.done) s.done a b x y s.finishes s.grew
-    (subst (Each IsInner) (ap (filter (is_of n)) same ∙ s.grew.ours_are) (sends-quiet net n x [] s.each.more s.each.each))
-    (home-notes (items_of a) (filter_map finish_of s.done) (all-notes s.done))
-  where
-    same : s.each.more ≡ s.grew.more
-    same = cancel x s.each.more s.grew.more (sym s.each.after_is ∙ s.grew.after_is)
+    let frames = s.frames in
+    went-due n alone alone' (filter_map finish_of frames.done) frames.done a b x y s.finishes
+    frames.grew
+    (each-added alone' n (IsNextSending net n each_path) IsInner (sending-quiet net n) x frames.done
+    y frames.grew frames.each)
+    (home-notes (items_of a) (filter_map finish_of frames.done) (all-notes frames.done))

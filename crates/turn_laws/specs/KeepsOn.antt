@@ -113,12 +113,12 @@ pub record HostKeepsOn (plan : HostPlan) (net : NetPlan) (history : List HostEnt
 -- ---- Workers without a budget.
 
 -- A Leave because the Passes of a budget are spent.
-abbrev pub is_spent : LeaveCause → Bool
-is_spent Spent = true
-is_spent Ended = false
+abbrev pub is_spent_cause : LeaveCause → Bool
+is_spent_cause Spent = true
+is_spent_cause Ended = false
 
 abbrev pub leaves_spent : RingEntry → Bool
-leaves_spent (Leave n cause) = is_spent cause
+leaves_spent (Leave n cause) = is_spent_cause cause
 leaves_spent _ = false
 
 -- No node left because its Passes were spent.

@@ -1,5 +1,6 @@
 //! Controllers with a ladder of one segment.
 ghost use Rattle.std.specs.Prelude.{◌≡◌, ◌≤◌, length, replicate, IfOk};
+ghost use Rattle.plant_types.specs.Limits.{most_scans};
 ghost use Rattle.plant_types.specs.Passing.{IsChecked};
 
 use controller_core::Controller;
@@ -125,7 +126,7 @@ fn started(alloc: Global, made: &ControllerPlan, plan: &Plan) -> Result<Controll
     requires segment { length made.now.segments ≡ 1 }
     requires rows { plan.now.rows ≤ 3 }
     requires watchdog { 1 ≤ plan.now.watchdog }
-    requires scans { plan.now.scans ≤ 2000 }
+    requires scans { plan.now.scans ≤ most_scans }
 {
     Controller::new(alloc, made, 10, plan.watchdog, plan.scans)
 }

@@ -19,7 +19,9 @@ returns-in_ok-push_contacts c =
     let coil = c.loop-coil.coil in
     c.in_ok-push_contacts.ensures
     ∙ one_more (λ at. lines_text (network_line (contacts_network made.number made.node at) ∷ []))
-    (string_bytes c.args.text.now) (string_bytes c.loop-coil.text) 1 (coil - 1) (contacts_of made.number) coil
+    (string_bytes c.args.text.now) (string_bytes c.loop-coil.text) 1 (coil - 1)
+    (contacts_of made.number) coil
     (omega arith) (omega arith) c.loop-coil.invariant
     ∙ ap (λ more. string_bytes c.args.text.now ++ more)
-    (lines_of_networks (contacts_network made.number made.node) (range_with_len 1 (contacts_of made.number)))
+    (lines_of_networks (contacts_network made.number made.node)
+    (range_with_len 1 (contacts_of made.number)))

@@ -6,5 +6,6 @@ use Rattle.plant_gen.proofs.push_coils.Given as goal
 abbrev pub invariant-loop-coil : goal.invariant-loop-coil
 invariant-loop-coil l =
     string_bytes l.text ≡ string_bytes l.fn.text
-    ++ flat_map (λ coil. lines_text (network_line (contacts_network l.made.number l.made.node coil) ∷ []))
+    ++ flat_map
+    (λ coil. lines_text (network_line (contacts_network l.made.number l.made.node coil) ∷ []))
     (range_with_len 1 (l.coil - 1))

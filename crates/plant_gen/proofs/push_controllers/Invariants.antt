@@ -6,4 +6,5 @@ use Rattle.plant_gen.proofs.push_controllers.Given as goal
 abbrev pub invariant-loop-node : goal.invariant-loop-node
 invariant-loop-node l =
     string_bytes l.text ≡ string_bytes l.fn.text
-    ++ flat_map (λ node. lines_text (controller_lines l.number node)) (range_with_len 1 (l.node - 1))
+    ++ flat_map (λ node. lines_text (controller_lines l.number node))
+    (range_with_len 1 (l.node - 1))

@@ -6,6 +6,8 @@ use Rattle.plant_gen.proofs.push_script.Given as goal
 abbrev pub invariant-loop-place : goal.invariant-loop-place
 invariant-loop-place l =
     string_bytes l.text
-    ≡ (string_bytes l.fn.text ++ (codes "script = [" ++ quoted (word_text (script_word l.made.number l.made.node 1))))
-    ++ flat_map (λ place. codes ", " ++ quoted (word_text (script_word l.made.number l.made.node place)))
+    ≡ (string_bytes l.fn.text
+    ++ (codes "script = [" ++ quoted (word_text (script_word l.made.number l.made.node 1))))
+    ++ flat_map
+    (λ place. codes ", " ++ quoted (word_text (script_word l.made.number l.made.node place)))
     (range_with_len 2 (l.place - 2))

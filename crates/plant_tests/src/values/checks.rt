@@ -35,11 +35,14 @@ fn message() -> Element {
     }
 }
 
+fn list_of<T: Copy + Drop>(alloc: Global, items: &[T]) -> Result<List<T>, AllocError> {
+    Ok(List::from_vec(Vec::from_slice(alloc, items)?))
+}
+
 fn network(alloc: Global, cells: &[Cell], shorts: &[Short]) -> Result<Network, AllocError> {
-    Ok(Network {
-        cells: List::from_vec(Vec::from_slice(alloc, cells)?),
-        shorts: List::from_vec(Vec::from_slice(alloc, shorts)?),
-    })
+    let cells = list_of(alloc, cells)?;
+    let shorts = list_of(alloc, shorts)?;
+    Ok(Network { cells, shorts })
 }
 
 /// A segment of so many networks that have these cells and shorts.
@@ -71,19 +74,33 @@ fn only(alloc: Global, segment: Result<Segment, AllocError>) -> Result<List<Segm
     Ok(made)
 }
 
-/// 16 coils and 20 registers, and these segments.
-fn plan(alloc: Global, segments: List<Segment>) -> ControllerPlan {
+/// 16 coils and 20 registers, and what a plan has besides.
+fn plan_with(
+    panel: List<Ref>,
+    orders: List<OrderRow>,
+    drops: List<IoDrop>,
+    segments: List<Segment>,
+) -> ControllerPlan {
     ControllerPlan {
         node: 1,
         coils: 16,
         inputs: 0,
         input_registers: 0,
         registers: 20,
-        panel: List::new(alloc),
-        orders: List::new(alloc),
-        drops: List::new(alloc),
+        panel,
+        orders,
+        drops,
         segments,
     }
+}
+
+fn plan(alloc: Global, segments: List<Segment>) -> ControllerPlan {
+    plan_with(
+        List::new(alloc),
+        List::new(alloc),
+        List::new(alloc),
+        segments,
+    )
 }
 
 fn bare(alloc: Global) -> ControllerPlan {
@@ -91,35 +108,31 @@ fn bare(alloc: Global) -> ControllerPlan {
 }
 
 fn with_panel(alloc: Global, panel: &[Ref]) -> Result<ControllerPlan, AllocError> {
-    let panel = List::from_vec(Vec::from_slice(alloc, panel)?);
-    Ok(ControllerPlan {
-        panel,
-        ..bare(alloc)
-    })
+    let panel = list_of(alloc, panel)?;
+    Ok(plan_with(panel, List::new(alloc), List::new(alloc), List::new(alloc)))
 }
 
-/// A plan of one cell, and of order rows.
-fn with_orders(alloc: Global, cell: Cell, rows: &[OrderRow]) -> Result<ControllerPlan, AllocError> {
-    let orders = List::from_vec(Vec::from_slice(alloc, rows)?);
+/// A plan of one cell, of order rows and of drops.
+fn with_orders(
+    alloc: Global,
+    cell: Cell,
+    rows: &[OrderRow],
+    drops: List<IoDrop>,
+) -> Result<ControllerPlan, AllocError> {
+    let orders = list_of(alloc, rows)?;
     let segments = segments(alloc, &[cell])?;
-    Ok(ControllerPlan {
-        orders,
-        ..plan(alloc, segments)
-    })
+    Ok(plan_with(List::new(alloc), orders, drops, segments))
 }
 
-/// A plan of a wire, of an order row, and of drop 3.
-fn with_drop(alloc: Global, row: OrderRow) -> Result<ControllerPlan, AllocError> {
+/// Drop 3 alone.
+fn drop_3(alloc: Global) -> Result<List<IoDrop>, AllocError> {
     let mut drops = List::new(alloc);
     drops.push(IoDrop {
         number: 3,
         modules: List::new(alloc),
         script: List::new(alloc),
     })?;
-    Ok(ControllerPlan {
-        drops,
-        ..with_orders(alloc, cell(1, 1, Element::Wire), &[row])?
-    })
+    Ok(drops)
 }
 
 fn network_fault(alloc: Global, cells: &[Cell], shorts: &[Short]) -> Result<u8, AllocError> {
@@ -142,22 +155,21 @@ fn passes(plan: ControllerPlan) -> bool {
     plan.check().is_ok()
 }
 
+/// The fault of a network of one cell.
+fn cell_fault(alloc: Global, row: u8, element: Element) -> Result<u8, AllocError> {
+    network_fault(alloc, &[cell(row, 1, element)], &[])
+}
+
 #[test]
 fn cells_are_tested_by_themselves(rt: HostRuntime) -> Result<(), AllocError> {
     let alloc = rt.alloc();
-    let mut faults = [0; 5];
-    for (i, cell) in [
-        cell(8, 1, Element::Wire),
-        cell(1, 1, Element::Skip(Operand::Const(10_000))),
-        cell(1, 1, Element::Coil(register(1))),
-        cell(1, 1, Element::Coil(coil(17))),
-        cell(1, 1, Element::Coil(coil(16))),
-    ]
-    .iter()
-    .enumerate()
-    {
-        faults[i] = network_fault(alloc, &[*cell], &[])?;
-    }
+    let faults = [
+        cell_fault(alloc, 8, Element::Wire)?,
+        cell_fault(alloc, 1, Element::Skip(Operand::Const(10_000)))?,
+        cell_fault(alloc, 1, Element::Coil(register(1)))?,
+        cell_fault(alloc, 1, Element::Coil(coil(17)))?,
+        cell_fault(alloc, 1, Element::Coil(coil(16)))?,
+    ];
     assert_eq!(rt; faults, [6, 3, 5, 5, 0]);
     Ok(())
 }
@@ -207,15 +219,11 @@ fn shorts_stand_behind_all_cells(rt: HostRuntime) -> Result<(), AllocError> {
 fn tables_are_tested(rt: HostRuntime) {
     let alloc = rt.alloc();
     let at = [1, 0, 0, 0];
-    let odd = ControllerPlan {
-        coils: 8,
-        ..bare(alloc)
-    };
-    let far = ControllerPlan {
-        node: 65,
-        coils: 8,
-        ..bare(alloc)
-    };
+    let mut odd = bare(alloc);
+    odd.coils = 8;
+    let mut far = bare(alloc);
+    far.coils = 8;
+    far.node = 65;
     let found = [
         passes(bare(alloc)),
         fails(odd, PlantFault::BadValue, Part::Controller, at),
@@ -300,10 +308,11 @@ fn order_rows_are_tested(rt: HostRuntime) -> Result<(), AllocError> {
     let alloc = rt.alloc();
     let wire = cell(1, 1, Element::Wire);
     let nowhere = OrderRow { segment: 2, ..ROW };
-    assert!(rt; passes(with_orders(alloc, wire, &[ROW])?));
-    let made = with_orders(alloc, wire, &[ROW, nowhere])?;
+    let label = cell(1, 1, Element::Label(1));
+    assert!(rt; passes(with_orders(alloc, wire, &[ROW], List::new(alloc))?));
+    let made = with_orders(alloc, wire, &[ROW, nowhere], List::new(alloc))?;
     assert!(rt; fails(made, PlantFault::BadOrder, Part::Order, [1, 2, 0, 0]));
-    let made = with_orders(alloc, cell(1, 1, Element::Label(1)), &[ROW])?;
+    let made = with_orders(alloc, label, &[ROW], List::new(alloc))?;
     assert!(rt; fails(made, PlantFault::BadOrder, Part::Order, [1, 1, 0, 0]));
     Ok(())
 }
@@ -312,20 +321,16 @@ fn order_rows_are_tested(rt: HostRuntime) -> Result<(), AllocError> {
 fn order_rows_name_drops_and_controls(rt: HostRuntime) -> Result<(), AllocError> {
     let alloc = rt.alloc();
     let at = [1, 1, 0, 0];
+    let wire = cell(1, 1, Element::Wire);
     let named = OrderRow {
         control: Some(register(1)),
         input: Some(3),
         ..ROW
     };
-    let made = with_orders(alloc, cell(1, 1, Element::Wire), &[named])?;
+    let made = with_orders(alloc, wire, &[named], List::new(alloc))?;
     assert!(rt; fails(made, PlantFault::BadOrder, Part::Order, at));
-    assert!(rt;
-        fails(
-            with_drop(alloc, named)?,
-            PlantFault::BadRef,
-            Part::Order,
-            at
-        )
-    );
+    let drops = drop_3(alloc)?;
+    let made = with_orders(alloc, wire, &[named], drops)?;
+    assert!(rt; fails(made, PlantFault::BadRef, Part::Order, at));
     Ok(())
 }

@@ -38,34 +38,68 @@ fn pdu(alloc: Global) -> Result<Pdu, AllocError> {
     }
 }
 
-fn drop_of(alloc: Global) -> Result<IoDrop, AllocError> {
+fn script_row(alloc: Global) -> Result<ScriptRow, AllocError> {
+    Ok(ScriptRow::Row(Words::of(alloc, &[7, 65_535])?))
+}
+
+fn script(alloc: Global) -> Result<List<ScriptRow>, AllocError> {
     let mut script = only(alloc, ScriptRow::Silent)?;
-    script.push(ScriptRow::Row(Words::of(alloc, &[7, 65_535])?))?;
+    script.push(script_row(alloc)?)?;
+    Ok(script)
+}
+
+fn drop_of(alloc: Global) -> Result<IoDrop, AllocError> {
+    let modules = only(alloc, MODULE)?;
+    let script = script(alloc)?;
     Ok(IoDrop {
         number: 32,
-        modules: only(alloc, MODULE)?,
+        modules,
         script,
     })
 }
 
-fn controller(alloc: Global) -> Result<ControllerPlan, AllocError> {
+fn rows(alloc: Global) -> Result<(List<Ref>, List<OrderRow>), AllocError> {
+    let panel = only(alloc, COIL_1)?;
+    let orders = only(alloc, ROW)?;
+    Ok((panel, orders))
+}
+
+fn drops(alloc: Global) -> Result<List<IoDrop>, AllocError> {
+    only(alloc, drop_of(alloc)?)
+}
+
+fn segment(alloc: Global) -> Result<Segment, AllocError> {
     let network = Network {
         cells: List::new(alloc),
         shorts: List::new(alloc),
     };
-    let segment = Segment {
-        networks: only(alloc, network)?,
-    };
+    let networks = only(alloc, network)?;
+    Ok(Segment { networks })
+}
+
+fn segments(alloc: Global) -> Result<List<Segment>, AllocError> {
+    only(alloc, segment(alloc)?)
+}
+
+fn field_and_ladder(alloc: Global) -> Result<(List<IoDrop>, List<Segment>), AllocError> {
+    let drops = drops(alloc)?;
+    let segments = segments(alloc)?;
+    Ok((drops, segments))
+}
+
+fn controller(alloc: Global) -> Result<ControllerPlan, AllocError> {
+    let (panel, orders) = rows(alloc)?;
+    let (drops, segments) = field_and_ladder(alloc)?;
     Ok(ControllerPlan {
         node: 64,
         coils: 16,
         inputs: 32,
         input_registers: 3,
         registers: 4,
-        panel: only(alloc, COIL_1)?,
-        orders: only(alloc, ROW)?,
-        drops: only(alloc, drop_of(alloc)?)?,
-        segments: only(alloc, segment)?,
+        panel,
+        orders,
+        drops,
+        segments,
     })
 }
 
@@ -81,28 +115,51 @@ fn net(alloc: Global) -> Result<NetPlan, AllocError> {
 }
 
 fn ask(alloc: Global) -> Result<HostAsk, AllocError> {
+    let pdu = pdu(alloc)?;
     Ok(HostAsk {
         hold: 10_000,
         to: 5,
-        pdu: pdu(alloc)?,
+        pdu,
     })
+}
+
+fn asks(alloc: Global) -> Result<List<HostAsk>, AllocError> {
+    only(alloc, ask(alloc)?)
 }
 
 fn host(alloc: Global) -> Result<HostPlan, AllocError> {
-    Ok(HostPlan {
-        node: 7,
-        requests: only(alloc, ask(alloc)?)?,
-    })
+    let requests = asks(alloc)?;
+    Ok(HostPlan { node: 7, requests })
+}
+
+fn hosts(alloc: Global) -> Result<List<HostPlan>, AllocError> {
+    only(alloc, host(alloc)?)
+}
+
+fn controllers(alloc: Global) -> Result<List<ControllerPlan>, AllocError> {
+    only(alloc, controller(alloc)?)
+}
+
+fn stations(alloc: Global) -> Result<(List<ControllerPlan>, List<HostPlan>), AllocError> {
+    let hosts = hosts(alloc)?;
+    let controllers = controllers(alloc)?;
+    Ok((controllers, hosts))
 }
 
 fn plant(alloc: Global) -> Result<Plant, AllocError> {
+    let net = net(alloc)?;
+    let (controllers, hosts) = stations(alloc)?;
     Ok(Plant {
         scan_time: 10,
         watchdog: 500,
-        net: net(alloc)?,
-        controllers: only(alloc, controller(alloc)?)?,
-        hosts: only(alloc, host(alloc)?)?,
+        net,
+        controllers,
+        hosts,
     })
+}
+
+fn copy_of<T: Copied + Drop>(alloc: Global, value: T) -> Result<T, AllocError> {
+    value.copied(alloc)
 }
 
 /// A value equals its copy.
@@ -158,14 +215,23 @@ fn copies_of_parts_and_faults(rt: HostRuntime) -> Result<(), AllocError> {
 }
 
 #[test]
-fn copies_of_words_and_blocks(rt: HostRuntime) -> Result<(), AllocError> {
-    let alloc = rt.alloc();
-    let words = Words::of(alloc, &[1, 2])?.copied(alloc)?;
-    assert_eq!(rt; words.words(), [1, 2].as_slice());
-    let bytes = pdu(alloc)?.copied(alloc)?;
-    assert_eq!(rt; bytes.bytes(), [3, 0, 0, 0, 2].as_slice());
-    let block = Block::of(&[9, 8]).copied(alloc)?;
-    assert_eq!(rt; block.words(), [9, 8].as_slice());
+fn copies_of_words(rt: HostRuntime) -> Result<(), AllocError> {
+    let copy = copy_of(rt.alloc(), Words::of(rt.alloc(), &[1, 2])?)?;
+    assert!(rt; copy.words() == [1, 2].as_slice());
+    Ok(())
+}
+
+#[test]
+fn copies_of_requests(rt: HostRuntime) -> Result<(), AllocError> {
+    let copy = copy_of(rt.alloc(), pdu(rt.alloc())?)?;
+    assert!(rt; copy.bytes() == [3, 0, 0, 0, 2].as_slice());
+    Ok(())
+}
+
+#[test]
+fn copies_of_blocks(rt: HostRuntime) -> Result<(), AllocError> {
+    let copy = copy_of(rt.alloc(), Block::of(&[9, 8]))?;
+    assert!(rt; copy.words() == [9, 8].as_slice());
     Ok(())
 }
 
@@ -179,16 +245,16 @@ fn has_row(row: &ScriptRow, held: &[u16]) -> bool {
 #[test]
 fn a_script_row_and_its_copy(rt: HostRuntime) -> Result<(), AllocError> {
     let alloc = rt.alloc();
-    let row = ScriptRow::Row(Words::of(alloc, &[7, 65_535])?).copied(alloc)?;
+    let row = copy_of(alloc, script_row(alloc)?)?;
     assert!(rt; has_row(&row, &[7, 65_535]));
-    let silent = ScriptRow::Silent.copied(alloc)?;
+    let silent = copy_of(alloc, ScriptRow::Silent)?;
     assert!(rt; has_row(&silent, &[]));
     Ok(())
 }
 
 #[test]
 fn a_drop_and_its_copy(rt: HostRuntime) -> Result<(), AllocError> {
-    let copy = drop_of(rt.alloc())?.copied(rt.alloc())?;
+    let copy = copy_of(rt.alloc(), drop_of(rt.alloc())?)?;
     assert!(rt;
         copy.number == 32
             && copy.modules.as_slice() == [MODULE].as_slice()
@@ -213,7 +279,7 @@ fn is_the_controller(plan: &ControllerPlan) -> bool {
 
 #[test]
 fn a_controller_and_its_copy(rt: HostRuntime) -> Result<(), AllocError> {
-    let copy = controller(rt.alloc())?.copied(rt.alloc())?;
+    let copy = copy_of(rt.alloc(), controller(rt.alloc())?)?;
     assert!(rt; is_the_controller(&copy));
     Ok(())
 }
@@ -226,7 +292,7 @@ fn is_the_net(net: &NetPlan) -> bool {
 
 #[test]
 fn a_net_and_its_copy(rt: HostRuntime) -> Result<(), AllocError> {
-    let copy = net(rt.alloc())?.copied(rt.alloc())?;
+    let copy = copy_of(rt.alloc(), net(rt.alloc())?)?;
     assert!(rt; is_the_net(&copy));
     Ok(())
 }
@@ -237,14 +303,14 @@ fn is_the_ask(ask: &HostAsk) -> bool {
 
 #[test]
 fn a_host_and_its_copy(rt: HostRuntime) -> Result<(), AllocError> {
-    let copy = host(rt.alloc())?.copied(rt.alloc())?;
+    let copy = copy_of(rt.alloc(), host(rt.alloc())?)?;
     assert!(rt; copy.node == 7 && copy.requests.as_slice().iter().all(is_the_ask));
     Ok(())
 }
 
 #[test]
 fn a_plant_and_its_copy(rt: HostRuntime) -> Result<(), AllocError> {
-    let copy = plant(rt.alloc())?.copied(rt.alloc())?;
+    let copy = copy_of(rt.alloc(), plant(rt.alloc())?)?;
     assert!(rt;
         [copy.scan_time, copy.watchdog] == [10, 500]
             && is_the_net(&copy.net)
@@ -255,11 +321,16 @@ fn a_plant_and_its_copy(rt: HostRuntime) -> Result<(), AllocError> {
 }
 
 #[test]
-fn networks_and_hosts_are_tested(rt: HostRuntime) -> Result<(), AllocError> {
+fn networks_are_tested(rt: HostRuntime) -> Result<(), AllocError> {
     let mut net = net(rt.alloc())?;
     assert!(rt; is_net_plan(&net));
     net.answer = 1;
     assert!(rt; !is_net_plan(&net));
+    Ok(())
+}
+
+#[test]
+fn hosts_are_tested(rt: HostRuntime) -> Result<(), AllocError> {
     let mut host = host(rt.alloc())?;
     assert!(rt; is_host_plan(&host));
     host.node = 5;

@@ -8,5 +8,6 @@ use Rattle.cell_text.proofs.slots.operands_in.Given as goal
 abbrev pub invariant-loop-slot : goal.invariant-loop-slot
 invariant-loop-slot l = record {
   count : length l.operands ≡ l.slot-index;
-  all : operands_in l.slots (text_words l.fn.text) ≡ behind l.operands (operands_in (drop l.slot-index l.slots) (text_words l.rest));
+  all : operands_in l.slots (text_words l.fn.text)
+      ≡ behind l.operands (operands_in (drop l.slot-index l.slots) (text_words l.rest));
 }

@@ -89,7 +89,8 @@ returns-in_ok-do_call-in-Local-clause-owing g c =
     d.step.station.same d.step.node.same (ap sort_of c.in-Local.is) d.step.node.stands.legal d.kept
     did o
 
-pub returns-in_ok-post_call-in-Net-clause-ring_adds : goal.returns-in_ok-post_call-in-Net-clause-ring_adds
+pub returns-in_ok-post_call-in-Net-clause-ring_adds :
+    goal.returns-in_ok-post_call-in-Net-clause-ring_adds
 returns-in_ok-post_call-in-Net-clause-ring_adds g c =
     let n = c.args.node in
     let f = c.request_frame-frame.result in
@@ -99,7 +100,8 @@ returns-in_ok-post_call-in-Net-clause-ring_adds g c =
       tt,
     ) c.in_ok-post_call-in-Net.ensures.grew
 
-pub returns-in_ok-do_call-in-Local-clause-ring_adds : goal.returns-in_ok-do_call-in-Local-clause-ring_adds
+pub returns-in_ok-do_call-in-Local-clause-ring_adds :
+    goal.returns-in_ok-do_call-in-Local-clause-ring_adds
 returns-in_ok-do_call-in-Local-clause-ring_adds g c =
     let call = c.index-calls-at.result in
     let n = c.args.node in

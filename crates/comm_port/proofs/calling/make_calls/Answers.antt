@@ -42,7 +42,8 @@ loop-at-init g c =
           c.requires.turning.own_turn.on.legal;
     }
 
-pub returns-then-not-has_started-clause-ring_adds : goal.returns-then-not-has_started-clause-ring_adds
+pub returns-then-not-has_started-clause-ring_adds :
+    goal.returns-then-not-has_started-clause-ring_adds
 returns-then-not-has_started-clause-ring_adds g c = adds_none g.R.RingSide.alone (is_of c.args.node)
     (IsCalling c.args.node) _
 

@@ -5,7 +5,7 @@ use Rattle.controller_core.specs.declared.entry.Entry.{Entry}
 use Rattle.ring_core.specs.declared.frame.Frame.{Frame}
 use Rattle.ring_core.specs.declared.entry.LeaveCause.{LeaveCause}
 use Rattle.ring_core.specs.declared.entry.RingEntry.{RingEntry}
-use Rattle.ring_core.specs.Legal.{IsLegal}
+use Rattle.ring_core.specs.Legal.{IsLegalRing}
 use Rattle.tied_lists.specs.Own.{is_of}
 use Rattle.tied_lists.specs.Waits.{HasLeft}
 use Rattle.tied_lists.proofs.Growth.{adds-both, adds-weaker}
@@ -143,7 +143,8 @@ returns-then-left-clause-rest g c =
     let o = c.in_ok-left.ensures in
     let e = c.in_ok-give_up_where.ensures in
     let n = c.args.node in
-    let now = net-as (λ (m : NetPlan). IsLegal m (g.R.RingSide.known c.give_up_where.new.ring)) _ _
+    let now = net-as (λ (m : NetPlan). IsLegalRing m
+    (g.R.RingSide.known c.give_up_where.new.ring)) _ _
     (e.step.node.same ∙ o.step.same) e.turning.own_turn.on.legal in
     rest-through g.R.RingSide.alone _ n _ _ c.requires.turning.own_turn.on now
     (adds-both g.R.RingSide.alone (is_of n) IsEnding _ _ _

@@ -1,6 +1,6 @@
 use Rattle.std.proofs.Common.{◌<◌}
 use Rattle.comm_port.specs.Giving.{part_at, MaySend}
-use Rattle.comm_port.specs.HoldTurn.{IsNextSending}
+use Rattle.comm_port.specs.SendsAll.{IsNextSending, each_path}
 use Rattle.comm_port.specs.Parts.{PartOf, EachNext}
 use Rattle.comm_port.proofs.SendsAll.{Finished}
 use Rattle.joint_history.specs.Reading.{is_ours}
@@ -24,7 +24,7 @@ invariant-loop-heard g l = record {
   finished : PartOf g.M.RamSide.alone g.R.RingSide.alone is_ours l.node Finished
       (g.M.RamSide.known l.initial.ram) (g.M.RamSide.known l.ram)
       (g.R.RingSide.known l.initial.ring) (g.R.RingSide.known l.ring);
-  each : EachNext l.node (IsNextSending (g.R.RingSide.side l.initial.ring).net l.node)
+  each : EachNext l.node (IsNextSending (g.R.RingSide.side l.initial.ring).net l.node each_path)
       (g.R.RingSide.known l.initial.ring) (g.R.RingSide.known l.ring);
   step : BothStep g.M.RamSide g.R.RingSide l.node l.initial.ram l.ram l.initial.ring l.ring;
 }

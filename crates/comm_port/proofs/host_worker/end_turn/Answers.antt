@@ -22,7 +22,7 @@ give_up_where-requires g c =
     let gone = gone-with g.R.RingSide.alone _ c.args.node _ _ _ _ _ o.handed
     (sym c.if-not-left.false ∙ o.left) in
     let ties = ties-handed g.R.RingSide.alone c.args.node _ _ _ _ _ _ _ c.requires.turning o.handed
-    o.step.stands.legal in
+    o.step.stands.legal c.requires.wait in
     record {
       turning = turning-side c.args.node _ _ _ _ o.step.same
           (turning-left c.args.node _ _ _ ties gone);
@@ -32,7 +32,7 @@ pub returns-then-not-left-clause-ties : goal.returns-then-not-left-clause-ties
 returns-then-not-left-clause-ties g c =
     let o = c.in_ok-left.ensures in
     ties-handed g.R.RingSide.alone c.args.node _ _ _ _ _ _ _ c.requires.turning o.handed
-    o.step.stands.legal
+    o.step.stands.legal c.requires.wait
 
 pub returns-then-not-left-clause-passed : goal.returns-then-not-left-clause-passed
 returns-then-not-left-clause-passed g c =

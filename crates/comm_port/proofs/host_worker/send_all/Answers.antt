@@ -1,4 +1,6 @@
-use Rattle.std.proofs.Common.{sym}
+use Rattle.std.proofs.Common.{sym, ◌<◌}
+use Rattle.plant_types.specs.declared.net.NetPlan.{NetPlan}
+use Rattle.comm_port.proofs.Parts.{net-as}
 use Rattle.comm_port.proofs.HostAsks.{holds-at}
 use Rattle.comm_port.proofs.HostServes.{grew_not}
 use Rattle.comm_port.proofs.HostSends.{new-at, sends-at, sends-both, sends-none, sends-out-at}
@@ -11,6 +13,7 @@ pub loop-init : goal.loop-init
 loop-init g c = record {
   turning = c.requires.turning;
   holds = c.requires.holds;
+  wait = c.requires.wait;
   new_calls = c.requires.new_calls;
   sends = sends-none g.R.RingSide.alone _ c.args.node _ _ _ _
       (grew_not g.R.RingSide.alone c.args.node _);
@@ -28,6 +31,7 @@ loop-preserved g c =
     record {
       turning = turning-side n _ _ _ _ s.step.node.same s.turning;
       holds = holds-at n _ _ _ s.step.node.same s.holds;
+      wait = net-as (λ (m : NetPlan). 0 < m.answer) there here (sym s.step.node.same) i.wait;
       new_calls = new-at n _ (g.R.RingSide.known c.send_one.new.ring) here there s.step.node.same
           s.new_calls;
       sends = sends-at g.R.RingSide.alone n _ _ _ _ _ here there s.step.node.same
@@ -43,7 +47,7 @@ returns-clause-sends g c =
     let here = g.R.RingSide.side c.loop.ring in
     let before = g.R.RingSide.side c.args.ring.now in
     sends-out-at g.R.RingSide.alone n _ _ _ _ _ here before (sym i.step.node.same)
-    (sent-out g.R.RingSide.alone here.net n _ _ _ _ _
+    (sent-out g.R.RingSide.alone here.net n _ _ _ _ _ s.turning.own_turn.on
     (sends-both g.R.RingSide.alone here.net n _ _ _ _ _ _ _ i.sends s.sends)
     (s.empty c.if-branch.false) s.new_calls)
 

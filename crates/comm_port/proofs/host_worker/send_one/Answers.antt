@@ -35,7 +35,7 @@ returns-clause-sends g c =
     let sent = sent-some g.R.RingSide.alone before.net n c.in-Some.heard _ _ _ c.in-Some.is o.sent
     in
     (sent-step g.R.RingSide.alone before.net n c.in-Some.heard c.args.fresh _ _ _ _ _ _
-    (on-ring before _ _ n c.requires.turning.own_turn o.step.stands.legal)
+    c.requires.wait (on-ring before _ _ n c.requires.turning.own_turn o.step.stands.legal)
     (on-ring before _ _ n c.requires.turning.own_turn
     (legal-at before (g.R.RingSide.side c.send_next.new.ring) _ o.step.same
     w.step.node.stands.legal)) c.requires.holds
@@ -52,7 +52,7 @@ returns-clause-new_calls g c =
     let sent = sent-some g.R.RingSide.alone before.net n c.in-Some.heard _ _ _ c.in-Some.is o.sent
     in
     (sent-step g.R.RingSide.alone before.net n c.in-Some.heard c.args.fresh _ _ _ _ _ _
-    (on-ring before _ _ n c.requires.turning.own_turn o.step.stands.legal)
+    c.requires.wait (on-ring before _ _ n c.requires.turning.own_turn o.step.stands.legal)
     (on-ring before _ _ n c.requires.turning.own_turn
     (legal-at before (g.R.RingSide.side c.send_next.new.ring) _ o.step.same
     w.step.node.stands.legal)) c.requires.holds

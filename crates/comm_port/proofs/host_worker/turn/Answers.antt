@@ -1,10 +1,10 @@
 use Rattle.plant_types.specs.declared.net.NetPlan.{NetPlan}
-use Rattle.ring_core.specs.Legal.{IsLegal}
+use Rattle.ring_core.specs.Legal.{IsLegalRing}
 use Rattle.tied_lists.specs.Waits.{Holds}
 use Rattle.comm_port.specs.Giving.{part_at, BoxesEmpty}
 use Rattle.comm_port.proofs.HostBoxes.{boxes-empty}
 use Rattle.comm_port.proofs.Parts.{net-as}
-use Rattle.std.proofs.Common.{sym, ◌∙◌}
+use Rattle.std.proofs.Common.{sym, ◌∙◌, ◌<◌}
 use Rattle.mstr_block.specs.Table.{network_paths}
 use Rattle.comm_port.specs.HostTurns.{EndsHostTurn, HoldsHostTurn}
 use Rattle.comm_port.proofs.HostAsked.{asked-all-at}
@@ -66,6 +66,19 @@ returns-clause-held g c =
           (side c.give_up_where.new.ring) same4 plan4 ends;
     }) c.end_turn.ensures.ends
 
+pub send_all-requires-clause-wait : goal.send_all-requires-clause-wait
+send_all-requires-clause-wait g c =
+    net-as (λ (m : NetPlan). 0 < m.answer) _ _
+    (sym (c.in_ok-fresh.ensures.step.node.same ∙ c.in_ok-serve_inbox.ensures.step.node.same))
+    c.requires.wait
+
+pub end_turn-requires-clause-wait : goal.end_turn-requires-clause-wait
+end_turn-requires-clause-wait g c =
+    net-as (λ (m : NetPlan). 0 < m.answer) _ _
+    (sym (c.in_ok-give_up_where.ensures.step.node.same ∙ (c.in_ok-send_all.ensures.step.node.same
+    ∙ (c.in_ok-fresh.ensures.step.node.same ∙ c.in_ok-serve_inbox.ensures.step.node.same))))
+    c.requires.wait
+
 pub end_turn-requires-clause-boxes : goal.end_turn-requires-clause-boxes
 end_turn-requires-clause-boxes g c =
     let alone = g.R.RingSide.alone in
@@ -93,11 +106,12 @@ end_turn-requires-clause-boxes g c =
     (boxes-empty alone before.net n _ c.args.hold all.asks _ network_paths _ _ _ _ served asked sent
     given
     (record { members = t.members; legal = a.step.node.stands.legal; member = t.member }) a.holds
-    (net-as (λ (m : NetPlan). IsLegal m asked) _ _ a.step.node.same b.step.node.stands.legal)
+    (net-as (λ (m : NetPlan). IsLegalRing m asked) _ _ a.step.node.same b.step.node.stands.legal)
     (net-as (λ (m : NetPlan). Holds m asked n) _ _ a.step.node.same b.holds)
-    (net-as (λ (m : NetPlan). IsLegal m sent) _ _ same2 d.step.node.stands.legal)
+    (net-as (λ (m : NetPlan). IsLegalRing m sent) _ _ same2 d.step.node.stands.legal)
     (net-as (λ (m : NetPlan). Holds m sent n) _ _ same2 d.holds)
-    (net-as (λ (m : NetPlan). IsLegal m given) _ _ same3 e.step.node.stands.legal) a.served.empty
+    (net-as (λ (m : NetPlan). IsLegalRing m given) _ _ same3 e.step.node.stands.legal)
+    a.served.empty
     all.all out gives)
 
 pub returns-in_err-fresh-clause-step : goal.returns-in_err-fresh-clause-step

@@ -1,6 +1,6 @@
 use Rattle.comm_port.specs.HoldTurn.{inbox_of}
 use Rattle.comm_port.specs.Turns.{KeepsInbox}
-use Rattle.ring_core.specs.Legal.{IsLegal}
+use Rattle.ring_core.specs.Legal.{IsLegalRing}
 use Rattle.plant_types.specs.declared.net.NetPlan.{NetPlan}
 use Rattle.comm_port.proofs.Parts.{part-none, net-as, turn-as}
 use Rattle.comm_port.proofs.Serves.{serves-more, all-served}
@@ -79,7 +79,7 @@ loop-frame-preserved g c =
           refl) went) s.ring_adds);
       served = serves-more g.M.RamSide.alone g.R.RingSide.alone c.args.node f _
           (g.R.RingSide.side c.args.ring.now) _ _ _ _ _ _ _
-          (net-as (λ (m : NetPlan). IsLegal m (g.R.RingSide.known c.take_next.new.ring)) _ _
+          (net-as (λ (m : NetPlan). IsLegalRing m (g.R.RingSide.known c.take_next.new.ring)) _ _
           i.step.node.same o.step.stands.legal) went
           (turn-as _ _ (g.R.RingSide.known c.loop-frame.ring) c.args.node i.step.node.same
           i.turning.own_turn)
@@ -133,7 +133,7 @@ returns-clause-served g c =
     let n = c.args.node in
     all-served g.M.RamSide.alone g.R.RingSide.alone n _ (g.R.RingSide.side c.args.ring.now) _ _ _ _
     _
-    (net-as (λ (m : NetPlan). IsLegal m (g.R.RingSide.known c.take_next.new.ring)) _ _
+    (net-as (λ (m : NetPlan). IsLegalRing m (g.R.RingSide.known c.take_next.new.ring)) _ _
     i.step.node.same o.step.stands.legal)
     (took g.R.RingSide.alone n _ _ _ None c.in_default.is o.went)
     (turn-as _ _ (g.R.RingSide.known c.loop-frame.ring) n i.step.node.same i.turning.own_turn)

@@ -37,7 +37,8 @@ give_up_between-requires-clause-gone g c =
     net-as (λ (k : NetPlan). HasLeft k mid n) _ _ (sym m.step.node.same)
     (gone-posted side.net n _ _ mid c.requires.gone a)
 
-pub returns-in_ok-give_up_between-in-Net-clause-gone : goal.returns-in_ok-give_up_between-in-Net-clause-gone
+pub returns-in_ok-give_up_between-in-Net-clause-gone :
+    goal.returns-in_ok-give_up_between-in-Net-clause-gone
 returns-in_ok-give_up_between-in-Net-clause-gone g c =
     let m = c.in_ok-make_call.ensures in
     let n = c.args.node in
@@ -54,7 +55,8 @@ returns-in_ok-give_up_between-in-Net-clause-gone g c =
     in
     gone-given side.net n call.id mid last (gone-posted side.net n _ _ mid c.requires.gone a) given
 
-pub returns-in_ok-give_up_between-in-Net-clause-rest : goal.returns-in_ok-give_up_between-in-Net-clause-rest
+pub returns-in_ok-give_up_between-in-Net-clause-rest :
+    goal.returns-in_ok-give_up_between-in-Net-clause-rest
 returns-in_ok-give_up_between-in-Net-clause-rest g c =
     let m = c.in_ok-make_call.ensures in
     let n = c.args.node in
@@ -72,7 +74,8 @@ returns-in_ok-give_up_between-in-Net-clause-rest g c =
     rests-again side.net n call.id c.in-Net.to c.in-Net.pdu _ mid last a.part_is given
     c.requires.rest
 
-pub returns-in_ok-give_up_between-in-Net-clause-ended : goal.returns-in_ok-give_up_between-in-Net-clause-ended
+pub returns-in_ok-give_up_between-in-Net-clause-ended :
+    goal.returns-in_ok-give_up_between-in-Net-clause-ended
 returns-in_ok-give_up_between-in-Net-clause-ended g c =
     let m = c.in_ok-make_call.ensures in
     let n = c.args.node in
@@ -81,7 +84,8 @@ returns-in_ok-give_up_between-in-Net-clause-ended g c =
     c.in-Net.pdu _ _ _ _ _ _ c.requires.within
     c.index-calls-at.is c.in-Net.is m.made c.in_ok-give_up_between-in-Net.ensures.given
 
-pub returns-in_ok-give_up_between-in-Net-clause-as_before : goal.returns-in_ok-give_up_between-in-Net-clause-as_before
+pub returns-in_ok-give_up_between-in-Net-clause-as_before :
+    goal.returns-in_ok-give_up_between-in-Net-clause-as_before
 returns-in_ok-give_up_between-in-Net-clause-as_before g c =
     let m = c.in_ok-make_call.ensures in
     let n = c.args.node in
@@ -139,12 +143,14 @@ returns-in-Local-clause-as_before g c =
     m.owing.turning.own_turn.on.legal m.made in
     a.waits
 
-pub returns-in_err-give_up_between-in-Net-clause-step : goal.returns-in_err-give_up_between-in-Net-clause-step
+pub returns-in_err-give_up_between-in-Net-clause-step :
+    goal.returns-in_err-give_up_between-in-Net-clause-step
 returns-in_err-give_up_between-in-Net-clause-step g c =
     both-then g.M.RamSide g.R.RingSide c.args.node c.in_ok-make_call.ensures.step
     c.in_err-give_up_between-in-Net.ensures.step
 
-pub returns-in_ok-give_up_between-in-Net-clause-step : goal.returns-in_ok-give_up_between-in-Net-clause-step
+pub returns-in_ok-give_up_between-in-Net-clause-step :
+    goal.returns-in_ok-give_up_between-in-Net-clause-step
 returns-in_ok-give_up_between-in-Net-clause-step g c =
     both-then g.M.RamSide g.R.RingSide c.args.node c.in_ok-make_call.ensures.step
     c.in_ok-give_up_between-in-Net.ensures.step

@@ -1,10 +1,10 @@
 use Rattle.std.proofs.Common.{◌≡◌, ◌<◌, ◌∙◌, sym, subst, [], List, Bool}
 use Rattle.plant_types.specs.declared.net.NetPlan.{NetPlan}
 use Rattle.controller_core.specs.declared.fixed.Fixed.{Fixed}
-use Rattle.ring_core.specs.Legal.{IsLegal}
+use Rattle.ring_core.specs.Legal.{IsLegalRing}
 use Rattle.tied_lists.specs.Waits.{Holds}
 use Rattle.comm_port.specs.Giving.{due_calls, part_at, IsAtRest, MaySend}
-use Rattle.comm_port.specs.HoldTurn.{inbox_of, IsMade, IsGivenUp, Collects, SendsAll, Ends}
+use Rattle.comm_port.specs.HoldTurn.{inbox_of, IsMade, IsGivenUp, Collects, SendsAll, EndsHoldTurn}
 use Rattle.comm_port.specs.Parts.{InOrder, PartOf}
 use Rattle.mstr_block.specs.Table.{network_paths}
 use Rattle.joint_history.specs.Reading.{is_ours}
@@ -28,7 +28,8 @@ send_all-requires-clause-may g c =
     let b = c.in_ok-make_calls.ensures in
     let n = c.args.node in
     let called = g.R.RingSide.known c.make_calls.new.ring in
-    let legal = net-as (λ (m : NetPlan). IsLegal m called) _ _ (b.step.node.same ∙ a.step.node.same)
+    let legal = net-as (λ (m : NetPlan). IsLegalRing m called) _ _ (b.step.node.same
+    ∙ a.step.node.same)
     b.turning.own_turn.on.legal in
     let t = turn-side n _ _ (g.R.RingSide.side c.args.ring.now) _ _ _ a.step.node.same a.turning in
     let may = sends-next g.R.RingSide.alone n _ _ (g.R.RingSide.side c.args.ring.now) _ _ called _
@@ -52,7 +53,7 @@ end_turn-requires-clause-rest g c =
     let given = g.R.RingSide.known c.give_up_where.new.ring in
     let sent = g.R.RingSide.known c.send_all.new.ring in
     let r = net-as (λ (m : NetPlan). IsAtRest m n sent) _ _ (sym d.step.node.same) q in
-    let legal = net-as (λ (m : NetPlan). IsLegal m given) _ _ e.step.node.same
+    let legal = net-as (λ (m : NetPlan). IsLegalRing m given) _ _ e.step.node.same
     e.turning.own_turn.on.legal in
     net-as (λ (m : NetPlan). IsAtRest m n given) _ _ (sym e.step.node.same)
     (rest-given g.R.RingSide.alone _ n sent given d.turning.own_turn.on legal e.ring_adds r)
@@ -129,13 +130,13 @@ returns-clause-held g c =
           (InOrder IsGivenUp (due_calls m n sent network_paths)) (known
           c.send_all.new.ram) (known c.give_up_where.new.ram) sent (ring c.give_up_where.new.ring))
           _ _ (d.step.node.same ∙ (b.step.node.same ∙ a.step.node.same)) e.given);
-      ends = fixed-as (λ (f : Fixed). Ends g.M.RamSide.alone g.R.RingSide.alone f net n
+      ends = fixed-as (λ (f : Fixed). EndsHoldTurn g.M.RamSide.alone g.R.RingSide.alone f net n
           c.args.budget (known c.give_up_where.new.ram) (known
           c.end_turn.new.ram) (ring c.give_up_where.new.ring) (ring c.end_turn.new.ring)
           c.in_ok-left.left) _ _ (e.step.station.same
           ∙ (d.step.station.same ∙ (b.step.station.same ∙
           a.step.station.same)))
-          (net-as (λ (m : NetPlan). Ends g.M.RamSide.alone g.R.RingSide.alone
+          (net-as (λ (m : NetPlan). EndsHoldTurn g.M.RamSide.alone g.R.RingSide.alone
           (g.M.RamSide.side c.give_up_where.new.ram).fixed m n c.args.budget (known
           c.give_up_where.new.ram) (known c.end_turn.new.ram) (ring c.give_up_where.new.ring)
           (ring c.end_turn.new.ring) c.in_ok-left.left) _ _ (e.step.node.same ∙

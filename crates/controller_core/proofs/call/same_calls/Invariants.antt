@@ -2,4 +2,5 @@ use Rattle.std.proofs.Common.{◌≡◌, length, take}
 use Rattle.controller_core.proofs.call.same_calls.Given as goal
 
 abbrev pub invariant-loop-place : goal.invariant-loop-place
-invariant-loop-place l = (take l.place l.calls ≡ take l.place l.others) × (length l.calls ≡ length l.others)
+invariant-loop-place l = (take l.place l.calls ≡ take l.place l.others)
+    × (length l.calls ≡ length l.others)

@@ -9,7 +9,8 @@ pub returns-clause-writers : goal.returns-clause-writers
 returns-clause-writers c =
     let whole = ap (λ (t : TapeFacts). t.marks) c.into_inner-tape.ensures in
     subst (AreByWriters c.args.crew.writers) (sym whole)
-    (by_writers c.args.gate.name c.args.pass c.requires.opening c.requires.gathered c.args.crew.writers _ c.requires.within c.close.ensures.named
+    (by_writers c.args.gate.name c.args.pass c.requires.opening c.requires.gathered
+    c.args.crew.writers _ c.requires.within c.close.ensures.named
     c.close.ensures.own)
 
 pub returns-clause-full : goal.returns-clause-full

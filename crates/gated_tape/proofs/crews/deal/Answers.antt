@@ -21,14 +21,16 @@ pub split-giver-requires-clause-fresh : goal.split-giver-requires-clause-fresh
 split-giver-requires-clause-fresh g c =
     let index : ℕ = c.loop-index.index in (
       (λ e. omega arith),
-      ap (λ (p : PassFacts Mark). is_among (index + 1) p.given) c.loop-index.invariant.one_is ∙ fresh_above (index + 1) index (omega arith),
+      ap (λ (p : PassFacts Mark). is_among (index + 1) p.given) c.loop-index.invariant.one_is
+          ∙ fresh_above (index + 1) index (omega arith),
     )
 
 pub split-second_giver-requires-clause-fresh : goal.split-second_giver-requires-clause-fresh
 split-second_giver-requires-clause-fresh g c =
     let index : ℕ = c.loop-index.index in (
       (λ e. omega arith),
-      ap (λ (p : PassFacts Mark). is_among (index + 1) p.given) c.loop-index.invariant.two_is ∙ fresh_above (index + 1) index (omega arith),
+      ap (λ (p : PassFacts Mark). is_among (index + 1) p.given) c.loop-index.invariant.two_is
+          ∙ fresh_above (index + 1) index (omega arith),
     )
 
 pub loop-index-preserved : goal.loop-index-preserved
@@ -38,19 +40,27 @@ loop-index-preserved g c =
     let index : ℕ = c.loop-index.index in
     let i = c.loop-index.invariant in
     let first : c.new.result ≡ record { gate = one; number = index + 1; seen = one.name.opening } =
-    c.new.ensures ∙ (ap (λ (q : PassFacts Mark). record { gate = one; number = q.number; seen = q.seen }) c.split-giver.ensures.other
-    ∙ ap (λ (p : PassFacts Mark). record { gate = one; number = index + 1; seen = p.seen }) i.one_is) in
-    let second : c.new-in-loop-index.result ≡ record { gate = two; number = index + 1; seen = two.name.opening } =
-    c.new-in-loop-index.ensures ∙ (ap (λ (q : PassFacts Mark). record { gate = two; number = q.number; seen = q.seen }) c.split-second_giver.ensures.other
-    ∙ ap (λ (p : PassFacts Mark). record { gate = two; number = index + 1; seen = p.seen }) i.two_is) in
+    c.new.ensures ∙ (ap (λ (q : PassFacts Mark).
+    record { gate = one; number = q.number; seen = q.seen }) c.split-giver.ensures.other
+    ∙ ap (λ (p : PassFacts Mark). record { gate = one; number = index + 1; seen = p.seen })
+    i.one_is) in
+    let second : c.new-in-loop-index.result
+    ≡ record { gate = two; number = index + 1; seen = two.name.opening } =
+    c.new-in-loop-index.ensures ∙ (ap (λ (q : PassFacts Mark).
+    record { gate = two; number = q.number; seen = q.seen }) c.split-second_giver.ensures.other
+    ∙ ap (λ (p : PassFacts Mark). record { gate = two; number = index + 1; seen = p.seen })
+    i.two_is) in
     record {
       one_is = c.split-giver.ensures.zero
-          ∙ (ap (λ (p : PassFacts Mark). record p { given = (index + 1) ∷ p.given }) i.one_is ∙ next_given one.name index (index + 1) (add-one index));
+          ∙ (ap (λ (p : PassFacts Mark). record p { given = (index + 1) ∷ p.given }) i.one_is
+          ∙ next_given one.name index (index + 1) (add-one index));
       two_is = c.split-second_giver.ensures.zero
-          ∙ (ap (λ (p : PassFacts Mark). record p { given = (index + 1) ∷ p.given }) i.two_is ∙ next_given two.name index (index + 1) (add-one index));
+          ∙ (ap (λ (p : PassFacts Mark). record p { given = (index + 1) ∷ p.given }) i.two_is
+          ∙ next_given two.name index (index + 1) (add-one index));
       filled = search rules;
       capacity = search rules;
       dealt = subst (AreDealt one two (count_down (index + 1))) (sym c.push_reserved.ensures.items)
-          (dealt_next one two index (index + 1) c.loop-index.room.items _ c.requires.opening.0 c.requires.opening.1
+          (dealt_next one two index (index + 1) c.loop-index.room.items _ c.requires.opening.0
+          c.requires.opening.1
           (add-one index) i.dealt refl first second);
     }

@@ -3,11 +3,13 @@ use Rattle.gated_tape.proofs.workers.write_both.Goals as goal
 
 pub returns-in_err-put_both-clause-one : goal.returns-in_err-put_both-clause-one
 returns-in_err-put_both-clause-one g c =
-    worked-twice g.A.Side.alone c.args.node _ _ _ _ _ _ c.loop-word.invariant.worked_one c.put_both.ensures.one
+    worked-twice g.A.Side.alone c.args.node _ _ _ _ _ _ c.loop-word.invariant.worked_one
+    c.put_both.ensures.one
 
 pub returns-in_err-put_both-clause-two : goal.returns-in_err-put_both-clause-two
 returns-in_err-put_both-clause-two g c =
-    worked-twice g.B.Side.alone c.args.node _ _ _ _ _ _ c.loop-word.invariant.worked_two c.put_both.ensures.two
+    worked-twice g.B.Side.alone c.args.node _ _ _ _ _ _ c.loop-word.invariant.worked_two
+    c.put_both.ensures.two
 
 pub loop-word-preserved : goal.loop-word-preserved
 loop-word-preserved g c =

@@ -7,4 +7,5 @@ abbrev pub invariant-loop-row : goal.invariant-loop-row
 invariant-loop-row l = l.live ≡ swept_down l.shorts l.row (bit_and l.power 127)
 
 abbrev pub invariant-loop-row-2 : goal.invariant-loop-row-2
-invariant-loop-row-2 l = l.live ≡ swept_up l.shorts l.row (swept_down l.shorts 6 (bit_and l.power 127))
+invariant-loop-row-2 l =
+    l.live ≡ swept_up l.shorts l.row (swept_down l.shorts 6 (bit_and l.power 127))

@@ -14,13 +14,17 @@ use Rattle.joint_law.proofs.complete.are_done.Goals as goal
 
 pub controllers_are_done-requires-clause-places : goal.controllers_are_done-requires-clause-places
 controllers_are_done-requires-clause-places c =
-    (of-node c.args.joint.now.ring c.as_slice-ring.result.now c.args.own.now c.places-places.result.now
-    c.args.node c.requires.places (omega arith) c.as_slice-ring.ensures c.places-places.ensures).within
+    (of-node c.args.joint.now.ring c.as_slice-ring.result.now c.args.own.now
+    c.places-places.result.now
+    c.args.node c.requires.places (omega arith) c.as_slice-ring.ensures
+    c.places-places.ensures).within
 
 pub hosts_are_done-requires-clause-places : goal.hosts_are_done-requires-clause-places
 hosts_are_done-requires-clause-places c =
-    (of-node c.args.joint.now.ring c.as_slice-ring.result.now c.args.own.now c.places-places.result.now
-    c.args.node c.requires.places (omega arith) c.as_slice-ring.ensures c.places-places.ensures).within
+    (of-node c.args.joint.now.ring c.as_slice-ring.result.now c.args.own.now
+    c.places-places.result.now
+    c.args.node c.requires.places (omega arith) c.as_slice-ring.ensures
+    c.places-places.ensures).within
 
 pub controllers_are_done-requires-clause-done : goal.controllers_are_done-requires-clause-done
 controllers_are_done-requires-clause-done c =

@@ -11,12 +11,14 @@ use Rattle.joint_law.proofs.law_spots.node_breaks.Goals as goal
 
 pub logs_break-requires : goal.logs_break-requires
 logs_break-requires c =
-    of-node c.args.joint.now.ring c.as_slice-ring.result.now c.args.own.now c.places-places.result.now
+    of-node c.args.joint.now.ring c.as_slice-ring.result.now c.args.own.now
+    c.places-places.result.now
     c.args.node c.requires (omega arith) c.as_slice-ring.ensures c.places-places.ensures
 
 pub host_logs_break-requires : goal.host_logs_break-requires
 host_logs_break-requires c =
-    of-node c.args.joint.now.ring c.as_slice-ring.result.now c.args.own.now c.places-places.result.now
+    of-node c.args.joint.now.ring c.as_slice-ring.result.now c.args.own.now
+    c.places-places.result.now
     c.args.node c.requires (omega arith) c.as_slice-ring.ensures c.places-places.ensures
 
 pub returns : goal.returns

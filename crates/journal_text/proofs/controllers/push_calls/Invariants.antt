@@ -5,4 +5,5 @@ use Rattle.journal_text.proofs.controllers.push_calls.Given as goal
 
 abbrev pub invariant-loop-call : goal.invariant-loop-call
 invariant-loop-call l =
-    string_bytes l.text ++ flat_map call_text (drop l.call-index l.calls) ≡ string_bytes l.fn.text ++ flat_map call_text l.calls
+    string_bytes l.text ++ flat_map call_text (drop l.call-index l.calls)
+    ≡ string_bytes l.fn.text ++ flat_map call_text l.calls

@@ -5,4 +5,5 @@ use Rattle.journal_text.proofs.controllers.push_logs.Given as goal
 
 abbrev pub invariant-loop-log : goal.invariant-loop-log
 invariant-loop-log l =
-    string_bytes l.text ++ flat_map controller_section (drop l.log-index l.logs) ≡ string_bytes l.fn.text ++ flat_map controller_section l.logs
+    string_bytes l.text ++ flat_map controller_section (drop l.log-index l.logs)
+    ≡ string_bytes l.fn.text ++ flat_map controller_section l.logs

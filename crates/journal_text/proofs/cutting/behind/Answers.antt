@@ -5,5 +5,6 @@ use Rattle.journal_text.proofs.cutting.behind.Goals as goal
 
 pub returns : goal.returns
 returns c =
-    stripped c.as_bytes.result.now c.args.text.now c.strip_prefix.result c.strip_prefix.ensures.cases
+    stripped c.as_bytes.result.now c.args.text.now c.strip_prefix.result
+    c.strip_prefix.ensures.cases
     ∙ ap (λ (front : List ℕ). behind front c.args.text.now) c.as_bytes.ensures.value

@@ -5,4 +5,5 @@ use Rattle.journal_text.proofs.fields.push_each_word.Given as goal
 
 abbrev pub invariant-loop-word : goal.invariant-loop-word
 invariant-loop-word l =
-    string_bytes l.text ++ flat_map hex_word (drop l.word-index l.words) ≡ string_bytes l.fn.text ++ flat_map hex_word l.words
+    string_bytes l.text ++ flat_map hex_word (drop l.word-index l.words)
+    ≡ string_bytes l.fn.text ++ flat_map hex_word l.words

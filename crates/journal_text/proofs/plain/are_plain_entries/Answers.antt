@@ -7,9 +7,12 @@ use Rattle.journal_text.proofs.plain.are_plain_entries.Goals as goal
 
 pub loop-at-preserved : goal.loop-at-preserved
 loop-at-preserved c =
-    All-more IsPlainEntry c.args.entries.now c.loop-at.at c.index-entries-at.result c.loop-at-test.true c.loop-at.invariant
-    (subst IsPlainEntry c.index-entries-at.is (c.is_plain_entry.ensures.only c.if-not-is_plain_entry.false))
+    All-more IsPlainEntry c.args.entries.now c.loop-at.at c.index-entries-at.result
+    c.loop-at-test.true c.loop-at.invariant
+    (subst IsPlainEntry c.index-entries-at.is
+    (c.is_plain_entry.ensures.only c.if-not-is_plain_entry.false))
 
 pub returns-clause-only : goal.returns-clause-only
 returns-clause-only c =
-    λ _. subst (λ (entries : List Entry). All IsPlainEntry entries) (take_all _ _ c.loop-at-test.false) c.loop-at.invariant
+    λ _. subst (λ (entries : List Entry). All IsPlainEntry entries)
+    (take_all _ _ c.loop-at-test.false) c.loop-at.invariant

@@ -5,4 +5,5 @@ use Rattle.journal_text.proofs.plain.hosts_rise.Given as goal
 abbrev pub invariant-loop-at : goal.invariant-loop-at
 invariant-loop-at l =
     (k : ℕ) → k + 1 < l.at
-    → slice_index (map (λ (log : HostLog). log.node) l.logs) k < slice_index (map (λ (log : HostLog). log.node) l.logs) (k + 1)
+    → slice_index (map (λ (log : HostLog). log.node) l.logs) k
+    < slice_index (map (λ (log : HostLog). log.node) l.logs) (k + 1)

@@ -7,8 +7,10 @@ use Rattle.journal_text.proofs.sizes.entries.Goals as goal
 
 pub loop-at-preserved : goal.loop-at-preserved
 loop-at-preserved c =
-    All-more FitsEntry c.args.entries.now c.loop-at.at c.index-entries-at.result c.loop-at-test.true c.loop-at.invariant
+    All-more FitsEntry c.args.entries.now c.loop-at.at c.index-entries-at.result c.loop-at-test.true
+    c.loop-at.invariant
     (subst FitsEntry c.index-entries-at.is c.entry.ensures)
 
 pub returns : goal.returns
-returns c = subst (λ (items : List Entry). All FitsEntry items) (take_all _ _ c.loop-at-test.false) c.loop-at.invariant
+returns c = subst (λ (items : List Entry). All FitsEntry items) (take_all _ _ c.loop-at-test.false)
+    c.loop-at.invariant

@@ -7,8 +7,10 @@ use Rattle.journal_text.proofs.sizes.host_entries.Goals as goal
 
 pub loop-at-preserved : goal.loop-at-preserved
 loop-at-preserved c =
-    All-more FitsHostEntry c.args.entries.now c.loop-at.at c.index-entries-at.result c.loop-at-test.true c.loop-at.invariant
+    All-more FitsHostEntry c.args.entries.now c.loop-at.at c.index-entries-at.result
+    c.loop-at-test.true c.loop-at.invariant
     (subst FitsHostEntry c.index-entries-at.is c.host_entry.ensures)
 
 pub returns : goal.returns
-returns c = subst (λ (items : List HostEntry). All FitsHostEntry items) (take_all _ _ c.loop-at-test.false) c.loop-at.invariant
+returns c = subst (λ (items : List HostEntry). All FitsHostEntry items)
+    (take_all _ _ c.loop-at-test.false) c.loop-at.invariant

@@ -7,8 +7,10 @@ use Rattle.journal_text.proofs.sizes.host_logs.Goals as goal
 
 pub loop-at-preserved : goal.loop-at-preserved
 loop-at-preserved c =
-    All-more FitsHostLog c.args.logs.now c.loop-at.at c.index-logs-at.result c.loop-at-test.true c.loop-at.invariant
+    All-more FitsHostLog c.args.logs.now c.loop-at.at c.index-logs-at.result c.loop-at-test.true
+    c.loop-at.invariant
     (subst FitsHostLog c.index-logs-at.is c.host_log.ensures)
 
 pub returns : goal.returns
-returns c = subst (λ (items : List HostLog). All FitsHostLog items) (take_all _ _ c.loop-at-test.false) c.loop-at.invariant
+returns c = subst (λ (items : List HostLog). All FitsHostLog items)
+    (take_all _ _ c.loop-at-test.false) c.loop-at.invariant

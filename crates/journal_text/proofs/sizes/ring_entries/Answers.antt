@@ -7,8 +7,10 @@ use Rattle.journal_text.proofs.sizes.ring_entries.Goals as goal
 
 pub loop-at-preserved : goal.loop-at-preserved
 loop-at-preserved c =
-    All-more FitsRingEntry c.args.entries.now c.loop-at.at c.index-entries-at.result c.loop-at-test.true c.loop-at.invariant
+    All-more FitsRingEntry c.args.entries.now c.loop-at.at c.index-entries-at.result
+    c.loop-at-test.true c.loop-at.invariant
     (subst FitsRingEntry c.index-entries-at.is c.ring_entry.ensures)
 
 pub returns : goal.returns
-returns c = subst (λ (items : List RingEntry). All FitsRingEntry items) (take_all _ _ c.loop-at-test.false) c.loop-at.invariant
+returns c = subst (λ (items : List RingEntry). All FitsRingEntry items)
+    (take_all _ _ c.loop-at-test.false) c.loop-at.invariant

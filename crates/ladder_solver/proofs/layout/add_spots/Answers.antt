@@ -23,12 +23,19 @@ pub loop-op-preserved : goal.loop-op-preserved
 loop-op-preserved c = record {
   spots =
       let had = c.args.spots.now in
-      let some = ops_spots c.args.reaches.now c.args.column c.args.block.now (take c.loop-op.op-index c.args.ops.now) in
-      let again : (had ++ some) ++ c.spot_of.result ∷ [] ≡ had ++ (some ++ c.spot_of.result ∷ []) = rw append_assoc refl in
-      c.in_ok-push.ensures.ok ∙ ap (λ spots. spots ++ c.spot_of.result ∷ []) c.loop-op.invariant.spots ∙ again
+      let some = ops_spots c.args.reaches.now c.args.column c.args.block.now
+      (take c.loop-op.op-index c.args.ops.now) in
+      let again : (had ++ some) ++ c.spot_of.result ∷ [] ≡ had ++ (some ++ c.spot_of.result ∷ []) =
+      rw append_assoc refl in
+      c.in_ok-push.ensures.ok
+      ∙ ap (λ spots. spots ++ c.spot_of.result ∷ []) c.loop-op.invariant.spots ∙ again
       ∙ ap (λ spots. had ++ spots)
-      (sym (numbered-item (λ op. op.element ∷ []) (spot_of c.args.reaches.now c.args.column) c.args.block.now c.args.ops.now c.loop-op.op-index
-      c.loop-op.block c.loop-op.invariant.block c.loop-op-test.true _ c.spot_of.result c.spot_of.ensures));
-  block = behind-item (λ op. op.element ∷ []) (spot_of c.args.reaches.now c.args.column) c.args.block.now c.args.ops.now c.loop-op.op-index
-      c.loop-op.block c.loop-op.invariant.block c.loop-op-test.true _ c.next_block.result c.next_block.ensures;
+      (sym (numbered-item (λ op. op.element ∷ []) (spot_of c.args.reaches.now c.args.column)
+      c.args.block.now c.args.ops.now c.loop-op.op-index
+      c.loop-op.block c.loop-op.invariant.block c.loop-op-test.true _ c.spot_of.result
+      c.spot_of.ensures));
+  block = behind-item (λ op. op.element ∷ []) (spot_of c.args.reaches.now c.args.column)
+      c.args.block.now c.args.ops.now c.loop-op.op-index
+      c.loop-op.block c.loop-op.invariant.block c.loop-op-test.true _ c.next_block.result
+      c.next_block.ensures;
 }

@@ -4,4 +4,5 @@ use Rattle.ladder_solver.proofs.Subroutines.{no_segments}
 use Rattle.ladder_solver.proofs.program.last_spans.Goals as goal
 
 pub returns-then-is_empty : goal.returns-then-is_empty
-returns-then-is_empty c = c.no_spans.ensures ∙ no_segments c.args.segments.now (eqb-true _ _ (sym c.is_empty.ensures ∙ c.if-is_empty.true))
+returns-then-is_empty c = c.new.ensures.items
+    ∙ no_segments c.args.segments.now (eqb-true _ _ (sym c.is_empty.ensures ∙ c.if-is_empty.true))

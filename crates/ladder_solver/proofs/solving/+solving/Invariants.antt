@@ -37,9 +37,11 @@ invariant-solve_network-loop-spot g l =
     record {
       keeps : Keeps (contents l.fn.ram) (contents l.ram);
       scan : KeepsScan l.fn.scan l.scan;
-      solved : InProgram l.lent.program.now l.at.depth (λ segments setting. (network : Network) → l.spots ≡ network_spots setting.numbers l.at.site network →
-          AgreesSolved network.shorts l.live (solving (contents l.ram) past l.scan) GoesOn
-          (spots_after setting network.shorts l.at.site (take l.spot-index l.spots) (begun (solving (contents l.fn.ram) past l.fn.scan))));
+      solved : InProgram l.lent.program.now l.at.depth (λ segments setting. (network : Network)
+          → l.spots ≡ network_spots setting.numbers l.at.site network
+          → AgreesSolved network.shorts l.live (solving (contents l.ram) past l.scan) GoesOn
+          (spots_after setting network.shorts l.at.site (take l.spot-index l.spots)
+          (begun (solving (contents l.fn.ram) past l.fn.scan))));
     }
 
 -- what is left of the run does what the whole run does
@@ -51,9 +53,11 @@ invariant-solve_run-loop-i g l =
       keeps : Keeps (contents l.fn.ram) (contents l.ram);
       scan : KeepsScan l.fn.scan l.scan;
       solved : InProgram l.lent.program.now l.run.depth (λ segments setting.
-          networks_after setting l.run.segment (l.run.span.first + 1) (slice_range (networks_of segments l.run.segment) l.run.span.first l.run.span.end) 0
+          networks_after setting l.run.segment (l.run.span.first + 1)
+          (slice_range (networks_of segments l.run.segment) l.run.span.first l.run.span.end) 0
           (solving (contents l.fn.ram) past l.fn.scan)
-          ≡ networks_after setting l.run.segment (l.i + 1) (slice_range (networks_of segments l.run.segment) l.i l.run.span.end) 0
+          ≡ networks_after setting l.run.segment (l.i + 1)
+          (slice_range (networks_of segments l.run.segment) l.i l.run.span.end) 0
           (solving (contents l.ram) past l.scan));
     }
 

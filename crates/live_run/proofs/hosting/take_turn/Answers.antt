@@ -12,49 +12,74 @@ use Rattle.live_run.proofs.Keeping.{attends-next, attends-others, host-holds-now
 use Rattle.live_run.proofs.hosting.take_turn.Goals as goal
 
 -- a turn that was made, whatever it answered
-made : {Q X : Type 0} (alone : Bool) (w w' : HostWorkerIs) (host host' : HostIs) (side side' : RingSideIs Q) (ring ring' : List RingEntry) (r : Result Bool X)
+made : {Q X : Type 0} (alone : Bool) (w w' : HostWorkerIs) (host host' : HostIs)
+    (side side' : RingSideIs Q) (ring ring' : List RingEntry) (r : Result Bool X)
     → host'.plan ≡ host.plan → side' ≡ side → IfOk r (λ left. w' ≡ after_turn w left)
-    → IfOk r (HoldsHostTurn alone side.net w.node host.plan w.budget host.history host'.history ring ring')
-    → OnOk r (HostTies w'.node host' side' ring') → OnOk r (CountsPasses w' ring') → IfOk r (λ left. left ≡ false → IsHere side'.net ring' w.node)
+    → IfOk r
+    (HoldsHostTurn alone side.net w.node host.plan w.budget host.history host'.history ring ring')
+    → OnOk r (HostTies w'.node host' side' ring') → OnOk r (CountsPasses w' ring')
+    → IfOk r (λ left. left ≡ false → IsHere side'.net ring' w.node)
     → AttendsOn w host side ring false → IfOk r (AttendsOn w' host' side' ring')
-made alone w w' host host' side side' ring ring' (Ok left) plan same worker held ties counts here a =
-    attends-next alone w w' host host' side side' ring ring' left plan same worker held ties counts here a
-made alone w w' host host' side side' ring ring' (Err why) plan same worker held ties counts here a = tt
+made alone w w' host host' side side' ring ring' (Ok left) plan same worker held ties
+    counts here a =
+    attends-next alone w w' host host' side side' ring ring' left plan same worker held
+    ties counts here a
+made alone w w' host host' side side' ring ring' (Err why) plan same worker held ties
+    counts here a = tt
 
 pub returns-then-holder-node-clause-attends : goal.returns-then-holder-node-clause-attends
 returns-then-holder-node-clause-attends g c =
-    attends-others g.G.RingSide.alone c.args.worker.now c.args.host.now (g.G.RingSide.side c.args.ring.now) (g.G.RingSide.side c.holder.new.self)
-    (g.G.RingSide.known c.args.ring.now) (g.G.RingSide.known c.holder.new.self) false c.holder.ensures.same
-    (c.holder.ensures.went _ c.requires.attends.ties.serves).list c.holder.ensures.legal c.requires.attends
+    attends-others g.G.RingSide.alone c.args.worker.now c.args.host.now
+    (g.G.RingSide.side c.args.ring.now) (g.G.RingSide.side c.holder.new.self)
+    (g.G.RingSide.known c.args.ring.now) (g.G.RingSide.known c.holder.new.self) false
+    c.holder.ensures.same
+    (c.holder.ensures.went _ c.requires.attends.ties.serves).list c.holder.ensures.legal
+    c.requires.attends
 
 pub hold_turn-requires-clause-ties : goal.hold_turn-requires-clause-ties
 hold_turn-requires-clause-ties g c =
-    (attends-others g.G.RingSide.alone c.args.worker.now c.args.host.now (g.G.RingSide.side c.args.ring.now) (g.G.RingSide.side c.holder.new.self)
-    (g.G.RingSide.known c.args.ring.now) (g.G.RingSide.known c.holder.new.self) false c.holder.ensures.same
-    (c.holder.ensures.went _ c.requires.attends.ties.serves).list c.holder.ensures.legal c.requires.attends).ties
+    (attends-others g.G.RingSide.alone c.args.worker.now c.args.host.now
+    (g.G.RingSide.side c.args.ring.now) (g.G.RingSide.side c.holder.new.self)
+    (g.G.RingSide.known c.args.ring.now) (g.G.RingSide.known c.holder.new.self) false
+    c.holder.ensures.same
+    (c.holder.ensures.went _ c.requires.attends.ties.serves).list c.holder.ensures.legal
+    c.requires.attends).ties
 
 pub hold_turn-requires-clause-counts : goal.hold_turn-requires-clause-counts
 hold_turn-requires-clause-counts g c =
-    (attends-others g.G.RingSide.alone c.args.worker.now c.args.host.now (g.G.RingSide.side c.args.ring.now) (g.G.RingSide.side c.holder.new.self)
-    (g.G.RingSide.known c.args.ring.now) (g.G.RingSide.known c.holder.new.self) false c.holder.ensures.same
-    (c.holder.ensures.went _ c.requires.attends.ties.serves).list c.holder.ensures.legal c.requires.attends).counts
+    (attends-others g.G.RingSide.alone c.args.worker.now c.args.host.now
+    (g.G.RingSide.side c.args.ring.now) (g.G.RingSide.side c.holder.new.self)
+    (g.G.RingSide.known c.args.ring.now) (g.G.RingSide.known c.holder.new.self) false
+    c.holder.ensures.same
+    (c.holder.ensures.went _ c.requires.attends.ties.serves).list c.holder.ensures.legal
+    c.requires.attends).counts
 
 pub hold_turn-requires-clause-holds : goal.hold_turn-requires-clause-holds
 hold_turn-requires-clause-holds g c =
-    let a = attends-others g.G.RingSide.alone c.args.worker.now c.args.host.now (g.G.RingSide.side c.args.ring.now) (g.G.RingSide.side c.holder.new.self)
-    (g.G.RingSide.known c.args.ring.now) (g.G.RingSide.known c.holder.new.self) false c.holder.ensures.same
-    (c.holder.ensures.went _ c.requires.attends.ties.serves).list c.holder.ensures.legal c.requires.attends in
+    let a = attends-others g.G.RingSide.alone c.args.worker.now c.args.host.now
+    (g.G.RingSide.side c.args.ring.now) (g.G.RingSide.side c.holder.new.self)
+    (g.G.RingSide.known c.args.ring.now) (g.G.RingSide.known c.holder.new.self) false
+    c.holder.ensures.same
+    (c.holder.ensures.went _ c.requires.attends.ties.serves).list c.holder.ensures.legal
+    c.requires.attends in
     let found : c.holder.result ≡ c.args.node = grind (arith, c.if-holder-node.false) in
-    host-holds-now c.args.worker.now c.args.host.now (g.G.RingSide.side c.holder.new.self) (g.G.RingSide.known c.holder.new.self) c.args.node c.requires.node a
-    (ap (λ s. (ring_after s.net (g.G.RingSide.known c.holder.new.self)).holder) c.holder.ensures.same ∙ sym c.holder.ensures.answer ∙ found)
+    host-holds-now c.args.worker.now c.args.host.now (g.G.RingSide.side c.holder.new.self)
+    (g.G.RingSide.known c.holder.new.self) c.args.node c.requires.node a
+    (ap (λ s. (ring_after s.net (g.G.RingSide.known c.holder.new.self)).holder)
+    c.holder.ensures.same ∙ sym c.holder.ensures.answer ∙ found)
 
 pub returns-clause-attends : goal.returns-clause-attends
 returns-clause-attends g c =
-    let a = attends-others g.G.RingSide.alone c.args.worker.now c.args.host.now (g.G.RingSide.side c.args.ring.now) (g.G.RingSide.side c.holder.new.self)
-    (g.G.RingSide.known c.args.ring.now) (g.G.RingSide.known c.holder.new.self) false c.holder.ensures.same
-    (c.holder.ensures.went _ c.requires.attends.ties.serves).list c.holder.ensures.legal c.requires.attends in
-    made g.G.RingSide.alone _ _ _ _ _ _ _ _ c.hold_turn.result c.hold_turn.ensures.step.plan c.hold_turn.ensures.step.node.same c.hold_turn.ensures.worker
-    c.hold_turn.ensures.held c.hold_turn.ensures.ties c.hold_turn.ensures.counts c.hold_turn.ensures.stays a
+    let a = attends-others g.G.RingSide.alone c.args.worker.now c.args.host.now
+    (g.G.RingSide.side c.args.ring.now) (g.G.RingSide.side c.holder.new.self)
+    (g.G.RingSide.known c.args.ring.now) (g.G.RingSide.known c.holder.new.self) false
+    c.holder.ensures.same
+    (c.holder.ensures.went _ c.requires.attends.ties.serves).list c.holder.ensures.legal
+    c.requires.attends in
+    made g.G.RingSide.alone _ _ _ _ _ _ _ _ c.hold_turn.result c.hold_turn.ensures.step.plan
+    c.hold_turn.ensures.step.node.same c.hold_turn.ensures.worker
+    c.hold_turn.ensures.held c.hold_turn.ensures.ties c.hold_turn.ensures.counts
+    c.hold_turn.ensures.stays a
 
 pub returns-clause-plan : goal.returns-clause-plan
 returns-clause-plan g c = c.hold_turn.ensures.step.plan

@@ -8,7 +8,8 @@ abbrev pub invariant-loop-one : goal.invariant-loop-one
 invariant-loop-one l = record {
   along : l.yielded ++ into_iter_items l.one-iterator ≡ l.fn.noted.items;
   left : into_iter_len l.one-iterator ≡ length (into_iter_items l.one-iterator);
-  room : (vec_capacity l.logs ≡ length l.fn.noted.items) × (vec_capacity l.notes ≡ length l.fn.noted.items);
+  room : (vec_capacity l.logs ≡ length l.fn.noted.items)
+      × (vec_capacity l.notes ≡ length l.fn.noted.items);
   filled : (vec_len l.logs ≡ length l.yielded) × (vec_len l.notes ≡ length l.yielded);
   logs_are : l.logs.items ≡ map log_part l.yielded;
   notes_are : l.notes.items ≡ map notes_part l.yielded;

@@ -6,7 +6,7 @@ use Rattle.plant_types.specs.declared.plan.ControllerPlan.{ControllerPlan}
 use Rattle.plant_types.specs.declared.plan.Plant.{Plant}
 use Rattle.plant_types.specs.Plans.{IsPlant}
 use Rattle.ring_core.specs.Kept.{RingLog}
-use Rattle.ring_core.specs.Legal.{IsLegal as IsLegalRing}
+use Rattle.ring_core.specs.Legal.{IsLegalRing}
 use Rattle.ring_core.specs.Words.{maker}
 use Rattle.joint_history.specs.declared.noted.Noted.{Noted}
 use Rattle.joint_history.specs.Complete.{IsComplete}
@@ -88,7 +88,8 @@ returns g c =
     (HostCameToEnd plant) plant.hosts l) (sym m.hosts_are) served) in
     let brought = notes-brought plant scans p.joined p.heard c.notes_ask_no_scans.ensures
     plant.controllers logs ran in
-    let each = λ (Q : Noted → Type 0) (f : (noted : Noted) → IsMadeOf logs hosts ring noted → Q noted).
+    let each =
+    λ (Q : Noted → Type 0) (f : (noted : Noted) → IsMadeOf logs hosts ring noted → Q noted).
     if-ok c.noted_of.result (IsMadeOf logs hosts ring) Q c.noted_of.ensures f in
     record {
       legal = each (λ noted. IsLegalJoint plant scans noted.joint) (λ n m. (closed n m).legal);

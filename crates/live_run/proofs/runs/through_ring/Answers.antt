@@ -9,7 +9,7 @@ use Rattle.ring_core.specs.Legal.{IsMember}
 use Rattle.ring_core.specs.declared.entry.RingEntry.{RingEntry}
 use Rattle.joint_history.specs.declared.joint.HostLog.{HostLog}
 use Rattle.live_run.specs.declared.stations.NotedLog.{NotedLog}
-use Rattle.live_run.specs.Dealing.{AreNew, GatheredInto, HasLog, IsAt, fresh_station}
+use Rattle.live_run.specs.Dealing.{AreNew, GatheredInto, HasLog, IsAtGate, fresh_station}
 use Rattle.live_run.specs.Stations.{AreFresh, CanRunAll, CanServeAll, HasRun, HostHasRun, RanEach}
 use Rattle.live_run.proofs.Dealt.{plant-new}
 use Rattle.live_run.proofs.Ran.{kept-whole, ran-long}
@@ -101,7 +101,7 @@ gather-pass-requires-clause-at g c =
     kept-whole dealt.items old new dealt.len c.as_mut_slice.ensures.value
     (ran-long seat_side (HasRun seat_seen plant scans) plant.controllers old new ran)
     c.as_mut_slice.ensures.len in
-    subst (All (IsAt gate)) (sym whole)
+    subst (All (IsAtGate gate)) (sym whole)
     (controllers-at plant scans gate old new c.requires.plant old-is ran)
 
 pub gather-pass-requires-2-clause-at : goal.gather-pass-requires-2-clause-at
@@ -125,7 +125,7 @@ gather-pass-requires-2-clause-at g c =
     kept-whole host_dealt.items host_old host_new host_dealt.len c.as_mut_slice-2.ensures.value
     (ran-long seat_side (HostHasRun seat_seen plant) plant.hosts host_old host_new served)
     c.as_mut_slice-2.ensures.len in
-    subst (All (IsAt gate)) (sym host-whole)
+    subst (All (IsAtGate gate)) (sym host-whole)
     (hosts-at plant gate host_old host_new c.requires.plant host-old-is served)
 
 pub returns : goal.returns

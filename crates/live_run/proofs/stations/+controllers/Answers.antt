@@ -19,7 +19,8 @@ run_controllers-returns-then-is_empty g t c =
     (HasRun known plant c.args.run.now.scans) c.args.plans.now c.args.stations.now
     c.requires.fresh (eqb-true _ _ (sym c.is_empty.ensures ∙ c.if-is_empty.true))
 
-pub run_controllers-run_one-requires-clause-fresh : goal.run_controllers-run_one-requires-clause-fresh
+pub run_controllers-run_one-requires-clause-fresh :
+    goal.run_controllers-run_one-requires-clause-fresh
 run_controllers-run_one-requires-clause-fresh g t c κs within =
     let plant = c.args.run.now.plant.now in
     let side = g.G.RingSide.side in
@@ -56,21 +57,24 @@ run_controllers-split_at-requires g t c =
     c.requires.fresh in
     omega (arith, long)
 
-pub run_controllers-run_halves-requires-clause-runnable_first : goal.run_controllers-run_halves-requires-clause-runnable_first
+pub run_controllers-run_halves-requires-clause-runnable_first :
+    goal.run_controllers-run_halves-requires-clause-runnable_first
 run_controllers-run_halves-requires-clause-runnable_first g t c κs within =
     let plant = c.args.run.now.plant.now in
     (all-halves (λ (plan : ControllerPlan). IsRunnable (fixed_of plant c.args.run.now.scans plan))
     c.args.plans.now c.split_at.result.0.now c.split_at.result.1.now
     c.split_at.ensures.by_index.0 c.requires.runnable).0
 
-pub run_controllers-run_halves-requires-clause-runnable_second : goal.run_controllers-run_halves-requires-clause-runnable_second
+pub run_controllers-run_halves-requires-clause-runnable_second :
+    goal.run_controllers-run_halves-requires-clause-runnable_second
 run_controllers-run_halves-requires-clause-runnable_second g t c κs within =
     let plant = c.args.run.now.plant.now in
     (all-halves (λ (plan : ControllerPlan). IsRunnable (fixed_of plant c.args.run.now.scans plan))
     c.args.plans.now c.split_at.result.0.now c.split_at.result.1.now
     c.split_at.ensures.by_index.0 c.requires.runnable).1
 
-pub run_controllers-run_halves-requires-clause-fresh_front : goal.run_controllers-run_halves-requires-clause-fresh_front
+pub run_controllers-run_halves-requires-clause-fresh_front :
+    goal.run_controllers-run_halves-requires-clause-fresh_front
 run_controllers-run_halves-requires-clause-fresh_front g t c κs within =
     let plant = c.args.run.now.plant.now in
     let side = g.G.RingSide.side in
@@ -83,7 +87,8 @@ run_controllers-run_halves-requires-clause-fresh_front g t c κs within =
     (c.split_at.ensures.front_len ∙ sym c.split_at_mut-front.ensures.front_len)
     c.requires.fresh).0
 
-pub run_controllers-run_halves-requires-clause-fresh_back : goal.run_controllers-run_halves-requires-clause-fresh_back
+pub run_controllers-run_halves-requires-clause-fresh_back :
+    goal.run_controllers-run_halves-requires-clause-fresh_back
 run_controllers-run_halves-requires-clause-fresh_back g t c κs within =
     let plant = c.args.run.now.plant.now in
     let side = g.G.RingSide.side in

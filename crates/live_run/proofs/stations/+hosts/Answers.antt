@@ -54,12 +54,14 @@ run_hosts-split_at-requires g t c =
     c.requires.fresh in
     omega (arith, long)
 
-pub run_hosts-run_host_halves-requires-clause-runnable : goal.run_hosts-run_host_halves-requires-clause-runnable
+pub run_hosts-run_host_halves-requires-clause-runnable :
+    goal.run_hosts-run_host_halves-requires-clause-runnable
 run_hosts-run_host_halves-requires-clause-runnable g t c κs within =
     all-halves IsHostPlan c.args.plans.now c.split_at.result.0.now c.split_at.result.1.now
     c.split_at.ensures.by_index.0 c.requires.runnable
 
-pub run_hosts-run_host_halves-requires-clause-fresh_front : goal.run_hosts-run_host_halves-requires-clause-fresh_front
+pub run_hosts-run_host_halves-requires-clause-fresh_front :
+    goal.run_hosts-run_host_halves-requires-clause-fresh_front
 run_hosts-run_host_halves-requires-clause-fresh_front g t c κs within =
     let plant = c.args.run.now.plant.now in
     let side = g.G.RingSide.side in
@@ -72,7 +74,8 @@ run_hosts-run_host_halves-requires-clause-fresh_front g t c κs within =
     (c.split_at.ensures.front_len ∙ sym c.split_at_mut-front.ensures.front_len)
     c.requires.fresh).0
 
-pub run_hosts-run_host_halves-requires-clause-fresh_back : goal.run_hosts-run_host_halves-requires-clause-fresh_back
+pub run_hosts-run_host_halves-requires-clause-fresh_back :
+    goal.run_hosts-run_host_halves-requires-clause-fresh_back
 run_hosts-run_host_halves-requires-clause-fresh_back g t c κs within =
     let plant = c.args.run.now.plant.now in
     let side = g.G.RingSide.side in

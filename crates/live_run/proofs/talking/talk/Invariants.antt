@@ -6,7 +6,8 @@ abbrev pub invariant-loop : goal.invariant-loop
 invariant-loop g l = record {
   node : l.worker.node ≡ l.node;
   same_node : l.worker.node ≡ l.fn.worker.node;
-  talks : TalksOn l.worker (g.M.RamSide.side l.ram) (g.M.RamSide.known l.ram) (g.G.RingSide.side l.ring) (g.G.RingSide.known l.ring) false;
+  talks : TalksOn l.worker (g.M.RamSide.side l.ram) (g.M.RamSide.known l.ram)
+      (g.G.RingSide.side l.ring) (g.G.RingSide.known l.ring) false;
   ram_same : g.M.RamSide.side l.ram ≡ g.M.RamSide.side l.fn.ram;
   ring_same : g.G.RingSide.side l.ring ≡ g.G.RingSide.side l.fn.ring;
 }

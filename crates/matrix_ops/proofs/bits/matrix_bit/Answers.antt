@@ -11,5 +11,7 @@ returns c =
     let ws = c.args.words.now in
     let whole : 16 * (place / 16) + place % 16 ≡ place = omega arith in
     let within : place / 16 < length ws = omega arith in
-    c.word_bit.ensures ∙ ap (λ i. get_or (word_bits (get_or ws i 0)) (place % 16) false) c.from.ensures
-    ∙ sym (get_or-matrix_bits ws (place / 16) (place % 16) false within (omega arith)) ∙ ap (λ p. get_or (matrix_bits ws) p false) whole
+    c.word_bit.ensures
+    ∙ ap (λ i. get_or (word_bits (get_or ws i 0)) (place % 16) false) c.from.ensures
+    ∙ sym (get_or-matrix_bits ws (place / 16) (place % 16) false within (omega arith))
+    ∙ ap (λ p. get_or (matrix_bits ws) p false) whole

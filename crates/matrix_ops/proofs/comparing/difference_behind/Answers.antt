@@ -11,8 +11,10 @@ returns-then-matrix_bit-clause-found c =
     let tested =
     ap (λ (b : Bool). is_apart (b, others)) (sym c.matrix_bit.ensures)
     ∙ ap (λ (b : Bool). is_apart (c.matrix_bit.result, b)) (sym c.matrix_bit-in-loop-place.ensures)
-    ∙ sym (apart_test c.matrix_bit.result c.matrix_bit-in-loop-place.result) ∙ c.if-matrix_bit.true in
-    sym (difference-here c.args.words.now c.args.others.now c.loop-place.place c.requires.same (omega arith) tested) ∙ c.loop-place.invariant
+    ∙ sym (apart_test c.matrix_bit.result c.matrix_bit-in-loop-place.result)
+    ∙ c.if-matrix_bit.true in
+    sym (difference-here c.args.words.now c.args.others.now c.loop-place.place c.requires.same
+    (omega arith) tested) ∙ c.loop-place.invariant
 
 pub loop-place-preserved : goal.loop-place-preserved
 loop-place-preserved c =
@@ -20,9 +22,12 @@ loop-place-preserved c =
     let tested =
     ap (λ (b : Bool). is_apart (b, others)) (sym c.matrix_bit.ensures)
     ∙ ap (λ (b : Bool). is_apart (c.matrix_bit.result, b)) (sym c.matrix_bit-in-loop-place.ensures)
-    ∙ sym (apart_test c.matrix_bit.result c.matrix_bit-in-loop-place.result) ∙ c.if-matrix_bit.false in
-    difference-later c.args.words.now c.args.others.now c.loop-place.place c.requires.same (omega arith) tested ∙ c.loop-place.invariant
+    ∙ sym (apart_test c.matrix_bit.result c.matrix_bit-in-loop-place.result)
+    ∙ c.if-matrix_bit.false in
+    difference-later c.args.words.now c.args.others.now c.loop-place.place c.requires.same
+    (omega arith) tested ∙ c.loop-place.invariant
 
 pub returns-clause-found : goal.returns-clause-found
 returns-clause-found c =
-    sym (difference-nowhere c.args.words.now c.args.others.now c.loop-place.place c.requires.same (omega arith)) ∙ c.loop-place.invariant
+    sym (difference-nowhere c.args.words.now c.args.others.now c.loop-place.place c.requires.same
+    (omega arith)) ∙ c.loop-place.invariant

@@ -6,5 +6,6 @@ use Rattle.matrix_ops.proofs.comparing.difference_behind.Given as goal
 
 abbrev pub invariant-loop-place : goal.invariant-loop-place
 invariant-loop-place l =
-    position_from is_apart (l.place + 1) (drop l.place (zip (matrix_bits l.words) (matrix_bits l.others)))
+    position_from is_apart (l.place + 1)
+    (drop l.place (zip (matrix_bits l.words) (matrix_bits l.others)))
     ≡ first_difference l.behind (matrix_bits l.words) (matrix_bits l.others)

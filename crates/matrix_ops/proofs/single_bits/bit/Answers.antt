@@ -18,6 +18,7 @@ returns g c =
     let whole : 16 * (place / 16) + place % 16 ≡ place = omega arith in
     c.word_bit.ensures
     ∙ ap (λ w. get_or (word_bits w) (place % 16) false)
-    (c.word.ensures ∙ ap (word_at m) c.ref_after.ensures ∙ sym (get_or-words_from m c.args.matrix c.args.length (place / 16) 0 inside))
+    (c.word.ensures ∙ ap (word_at m) c.ref_after.ensures
+    ∙ sym (get_or-words_from m c.args.matrix c.args.length (place / 16) 0 inside))
     ∙ sym (get_or-matrix_bits ws (place / 16) (place % 16) false within (omega arith))
     ∙ ap (λ p. get_or (matrix_bits ws) p false) whole

@@ -11,6 +11,9 @@ returns-clause-stored g c =
     let place = (c.args.k - 1) % 16 in
     c.set_word.ensures.stored
     ∙ ap (insert m c.ref_after-at.result) c.with_word_bit-word.ensures
-    ∙ ap (λ w. insert m c.ref_after-at.result (number_of_bits (slice_set (word_bits w) place c.args.on))) c.word.ensures
-    ∙ ap (λ at. insert m at (number_of_bits (slice_set (word_bits (word_at m at)) place c.args.on))) c.ref_after-at.ensures
-    ∙ sym (with_matrix_bit-word m c.args.matrix c.args.length c.args.k c.args.on c.requires.from_one c.requires.within)
+    ∙ ap (λ w. insert m c.ref_after-at.result
+    (number_of_bits (slice_set (word_bits w) place c.args.on))) c.word.ensures
+    ∙ ap (λ at. insert m at (number_of_bits (slice_set (word_bits (word_at m at)) place c.args.on)))
+    c.ref_after-at.ensures
+    ∙ sym (with_matrix_bit-word m c.args.matrix c.args.length c.args.k c.args.on c.requires.from_one
+    c.requires.within)

@@ -13,5 +13,6 @@ returns c =
       | then-place-gt0 w ↦ ap (λ b. bit_or (b * 32768 % 65536) (get_or ws place 0 / 2)) w.first-is
           ∙ right_word-inside ws place c.args.bit_in (omega arith) (omega arith) fits
       | else-place-gt0 w ↦ ap (λ b. bit_or (b * 32768 % 65536) (get_or ws place 0 / 2)) w.first-is
-          ∙ right_word-first ws place w.from-first.result c.args.bit_in (omega arith) (omega arith) fits (w.from-first.ensures ∙ byte_of_bit c.args.bit_in)
+          ∙ right_word-first ws place w.from-first.result c.args.bit_in (omega arith)
+          (omega arith) fits (w.from-first.ensures ∙ byte_of_bit c.args.bit_in)
     ]

@@ -5,4 +5,5 @@ use Rattle.plant_types.specs.Discretes.{number_of_bits}
 use Rattle.matrix_ops.proofs.turning.turn_left.Given as goal
 
 abbrev pub invariant-loop-place : goal.invariant-loop-place
-invariant-loop-place l = (k : ℕ) → k < l.place → get_or l.turned k 0 ≡ number_of_bits (take 16 (drop (16 * k) (left_turned (matrix_bits l.words) l.bit_in)))
+invariant-loop-place l = (k : ℕ) → k < l.place → get_or l.turned k 0
+    ≡ number_of_bits (take 16 (drop (16 * k) (left_turned (matrix_bits l.words) l.bit_in)))

@@ -9,5 +9,6 @@ pub returns : goal.returns
 returns c =
     let ws = c.args.words.now in
     let size = words-right_turned ws c.args.bit_in in
-    matrix_words-by_place c.loop-place.turned (right_turned (16 * length ws) (matrix_bits ws) c.args.bit_in) (omega arith)
+    matrix_words-by_place c.loop-place.turned
+    (right_turned (16 * length ws) (matrix_bits ws) c.args.bit_in) (omega arith)
     (λ k h. let b : k < c.loop-place.place = omega arith in c.loop-place.invariant k b)

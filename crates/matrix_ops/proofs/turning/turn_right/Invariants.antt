@@ -7,4 +7,5 @@ use Rattle.matrix_ops.proofs.turning.turn_right.Given as goal
 abbrev pub invariant-loop-place : goal.invariant-loop-place
 invariant-loop-place l =
     (k : ℕ) → k < l.place
-    → get_or l.turned k 0 ≡ number_of_bits (take 16 (drop (16 * k) (right_turned (16 * length l.words) (matrix_bits l.words) l.bit_in)))
+    → get_or l.turned k 0 ≡ number_of_bits (take 16
+    (drop (16 * k) (right_turned (16 * length l.words) (matrix_bits l.words) l.bit_in)))

@@ -12,15 +12,19 @@ use Rattle.modbus_exec.proofs.GrammarAnswers.{refused_answer, failed_answer, don
 use Rattle.modbus_exec.proofs.answering.prepare.Goals as goal
 
 -- with an exception nothing is left to be written
-nothing_left : (bytes : List ℕ) (m : Contents) (reply : List ℕ) (request : Option Request) → request ≡ None → Answers bytes m m reply
+nothing_left : (bytes : List ℕ) (m : Contents) (reply : List ℕ) (request : Option Request)
+    → request ≡ None → Answers bytes m m reply
     → IsPrepared bytes m reply request
 nothing_left bytes m reply request none answers =
-    subst (IsPrepared bytes m reply) (sym none) (record { answers = answers; has = tt; keeps = λ at there. there })
+    subst (IsPrepared bytes m reply) (sym none)
+    (record { answers = answers; has = tt; keeps = λ at there. there })
 
 exception : {E : Type 0} (bytes : List ℕ) (m : Contents) (code : ℕ) (result : Result Prepared E)
-    → IfOk result (λ prepared. prepared.reply ≡ reply_bytes (replies.Exception (slice_index bytes 0) code))
+    → IfOk result
+    (λ prepared. prepared.reply ≡ reply_bytes (replies.Exception (slice_index bytes 0) code))
     → IfOk result (λ prepared. prepared.request ≡ None)
-    → ((pdu : List ℕ) → pdu ≡ reply_bytes (replies.Exception (slice_index bytes 0) code) → Answers bytes m m pdu)
+    → ((pdu : List ℕ) → pdu ≡ reply_bytes (replies.Exception (slice_index bytes 0) code)
+    → Answers bytes m m pdu)
     → IfOk result (λ prepared. IsPrepared bytes m prepared.reply prepared.request)
 exception bytes m code (Ok prepared) reply request answers =
     nothing_left bytes m prepared.reply prepared.request request (answers prepared.reply reply)
@@ -59,7 +63,8 @@ returns g c =
     let bytes = c.args.bytes.now in
     let found = c.in-Ok-reply_to.ensures in
     record {
-      answers = done_answer bytes m _ c.in-Ok.request _ c.in_ok-reply.reply c.in-Ok.ensures.spelled found c.in_ok-reply.ensures.bytes refl;
+      answers = done_answer bytes m _ c.in-Ok.request _ c.in_ok-reply.reply c.in-Ok.ensures.spelled
+          found c.in_ok-reply.ensures.bytes refl;
       has = answered_has c.in-Ok.request m _ found;
       keeps = answer_keeps c.in-Ok.request m _ found;
     }

@@ -12,5 +12,9 @@ returns-then-not-is_in_map_behind-clause-all g c =
 
 pub returns-clause-all : goal.returns-clause-all
 returns-clause-all g c =
-    sym (all_in_map (g.R.RefStore.contents c.args.ram.now) (reference_at c.args.kind c.args.address) c.args.count
-    record { fits = λ place lt. c.loop-place.invariant.fits place (omega arith); held = λ place lt. c.loop-place.invariant.held place (omega arith) })
+    sym (all_in_map (g.R.RefStore.contents c.args.ram.now)
+    (reference_at c.args.kind c.args.address) c.args.count
+    record {
+      fits = λ place lt. c.loop-place.invariant.fits place (omega arith);
+      held = λ place lt. c.loop-place.invariant.held place (omega arith);
+    })

@@ -6,4 +6,5 @@ use Rattle.modbus_exec.proofs.runs.read_words.Given as goal
 
 abbrev pub invariant-loop-place : goal.invariant-loop-place
 invariant-loop-place g l =
-    (k : ℕ) → k < l.place → get_or l.words k 0 ≡ word_at (g.R.RefStore.contents l.ram) (ref_from (reference_at l.kind l.address) k)
+    (k : ℕ) → k < l.place → get_or l.words k 0
+    ≡ word_at (g.R.RefStore.contents l.ram) (ref_from (reference_at l.kind l.address) k)

@@ -20,7 +20,8 @@ set_bit-requires-clause-held g c =
     let at = reference_at kinds.Coil c.args.address in
     let words = bit_words c.args.bits.now in
     rw (c.reference_behind.ensures, c.loop-place.invariant)
-    (Keeps-with_words m at (take c.loop-place.place words) (ref_from at c.loop-place.place) (c.requires.held c.loop-place.place (omega arith)))
+    (Keeps-with_words m at (take c.loop-place.place words) (ref_from at c.loop-place.place)
+    (c.requires.held c.loop-place.place (omega arith)))
 
 pub loop-place-preserved : goal.loop-place-preserved
 loop-place-preserved g c =
@@ -30,7 +31,10 @@ loop-place-preserved g c =
     let words = bit_words c.args.bits.now in
     let within : place < length words = omega (arith, length-bit_words c.args.bits.now) in
     c.set_bit.ensures.stored
-    ∙ ap (λ r. insert (g.R.RefStore.contents c.loop-place.ram) r (cond (get_or c.args.bits.now place false) 1 0)) c.reference_behind.ensures
-    ∙ ap (λ n. insert n (ref_from at place) (cond (get_or c.args.bits.now place false) 1 0)) c.loop-place.invariant
-    ∙ ap (insert (with_words m at (take place words)) (ref_from at place)) (sym (stored_bit c.args.bits.now place (omega arith)))
+    ∙ ap (λ r. insert (g.R.RefStore.contents c.loop-place.ram) r
+    (cond (get_or c.args.bits.now place false) 1 0)) c.reference_behind.ensures
+    ∙ ap (λ n. insert n (ref_from at place) (cond (get_or c.args.bits.now place false) 1 0))
+    c.loop-place.invariant
+    ∙ ap (insert (with_words m at (take place words)) (ref_from at place))
+    (sym (stored_bit c.args.bits.now place (omega arith)))
     ∙ sym (with_words-more m at words place within)

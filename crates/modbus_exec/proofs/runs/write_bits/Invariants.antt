@@ -7,5 +7,6 @@ use Rattle.modbus_exec.proofs.runs.write_bits.Given as goal
 
 abbrev pub invariant-loop-place : goal.invariant-loop-place
 invariant-loop-place g l =
-    g.R.RefStore.contents l.ram ≡ with_words (g.R.RefStore.contents l.initial.ram) (reference_at kinds.Coil l.address)
+    g.R.RefStore.contents l.ram
+    ≡ with_words (g.R.RefStore.contents l.initial.ram) (reference_at kinds.Coil l.address)
     (take l.place (bit_words l.bits))

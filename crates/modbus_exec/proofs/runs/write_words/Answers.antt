@@ -18,7 +18,8 @@ set_word-requires-clause-held g c =
     let at = reference_at kinds.Register c.args.address in
     let words = c.args.words.now in
     rw (c.reference_behind.ensures, c.loop-place.invariant)
-    (Keeps-with_words m at (take c.loop-place.place words) (ref_from at c.loop-place.place) (c.requires.held c.loop-place.place (omega arith)))
+    (Keeps-with_words m at (take c.loop-place.place words) (ref_from at c.loop-place.place)
+    (c.requires.held c.loop-place.place (omega arith)))
 
 pub loop-place-preserved : goal.loop-place-preserved
 loop-place-preserved g c =
@@ -28,6 +29,8 @@ loop-place-preserved g c =
     let words = c.args.words.now in
     let within : place < length words = omega arith in
     c.set_word.ensures.stored
-    ∙ ap (λ r. insert (g.R.RefStore.contents c.loop-place.ram) r (get_or c.args.words.now place 0)) c.reference_behind.ensures
-    ∙ ap (λ n. insert n (ref_from at place) (get_or c.args.words.now place 0)) c.loop-place.invariant
+    ∙ ap (λ r. insert (g.R.RefStore.contents c.loop-place.ram) r (get_or c.args.words.now place 0))
+    c.reference_behind.ensures
+    ∙ ap (λ n. insert n (ref_from at place) (get_or c.args.words.now place 0))
+    c.loop-place.invariant
     ∙ sym (with_words-more m at words place within)

@@ -13,8 +13,10 @@ returns-then-from-to g c =
     let to = reference_at kinds.Register c.args.write in
     let at = ref_from (reference_at kinds.Register c.args.read) c.args.place in
     let other : (i : ℕ) → i < length c.args.words.now → ref_from to i ≢ at =
-    λ i lt e. let same : c.args.write + 1 + i ≡ c.args.read + 1 + c.args.place = ap (λ (r : Ref). r.number) e in omega arith in
-    c.word.ensures ∙ ap (word_at m) c.reference_behind-at.ensures ∙ sym (word_kept m to c.args.words.now at other)
+    λ i lt e. let same : c.args.write + 1 + i ≡ c.args.read + 1 + c.args.place =
+    ap (λ (r : Ref). r.number) e in omega arith in
+    c.word.ensures ∙ ap (word_at m) c.reference_behind-at.ensures
+    ∙ sym (word_kept m to c.args.words.now at other)
 
 pub returns-in-Some : goal.returns-in-Some
 returns-in-Some g c =
@@ -32,6 +34,8 @@ returns-in-None g c =
     let to = reference_at kinds.Register c.args.write in
     let at = ref_from (reference_at kinds.Register c.args.read) c.args.place in
     let other : (i : ℕ) → i < length c.args.words.now → ref_from to i ≢ at =
-    λ i lt e. let same : c.args.write + 1 + i ≡ c.args.read + 1 + c.args.place = ap (λ (r : Ref). r.number) e in omega
+    λ i lt e. let same : c.args.write + 1 + i ≡ c.args.read + 1 + c.args.place =
+    ap (λ (r : Ref). r.number) e in omega
     (arith, c.in-None.ensures.lookup) in
-    c.word-in-None.ensures ∙ ap (word_at m) c.reference_behind-at.ensures ∙ sym (word_kept m to c.args.words.now at other)
+    c.word-in-None.ensures ∙ ap (word_at m) c.reference_behind-at.ensures
+    ∙ sym (word_kept m to c.args.words.now at other)

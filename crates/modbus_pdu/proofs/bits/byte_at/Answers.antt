@@ -4,4 +4,5 @@ use Rattle.modbus_pdu.proofs.Packing.{first_eight}
 use Rattle.modbus_pdu.proofs.bits.byte_at.Goals as goal
 
 pub returns : goal.returns
-returns c = c.byte_of.ensures.number ∙ ap bits_number (first_eight _ _ c.args.bits.now c.min-end.ensures (omega arith))
+returns c = c.byte_of.ensures.number
+    ∙ ap bits_number (first_eight _ _ c.args.bits.now c.min-end.ensures (omega arith))

@@ -3,4 +3,5 @@ use Rattle.modbus_pdu.specs.Bytes.{unpacked}
 use Rattle.modbus_pdu.proofs.bits.spare_is_clear.Given as goal
 
 abbrev pub invariant-loop-place : goal.invariant-loop-place
-invariant-loop-place l = (place : ℕ) → l.quantity ≤ place → place < l.place → slice_index_or (unpacked l.packed) place false ≡ false
+invariant-loop-place l = (place : ℕ) → l.quantity ≤ place → place < l.place
+    → slice_index_or (unpacked l.packed) place false ≡ false

@@ -10,7 +10,8 @@ returns c =
     let listed : is_listed (slice_index bytes 0) ≡ true = search rules in
     let fields : take (length bytes - 1) (drop 1 bytes) ≡ drop 1 bytes =
     take_all (length bytes - 1) (drop 1 bytes) (omega (arith, length-drop 1 bytes)) in
-    let all = decoded bytes c.decode_listed.result c.requires (rw fields at c.decode_listed.ensures) in
+    let all = decoded bytes c.decode_listed.result c.requires
+    (rw fields at c.decode_listed.ensures) in
     record {
       spelled = all.spelled;
       only = all.only;

@@ -12,12 +12,16 @@ returns-in_err-bits c =
     let p = err_from_is_err_and c.from_residual.result c.from_residual.ensures.1 in
     let fits : IsBytes c.args.fields.now = λ i. omega (arith, c.type_inv.fields i) in
     let at = c.in-Some in
-    rw (p.1, p.2)
-    (_, coils_there c.args.fields.now at.address at.quantity at.packed.now fits at.ensures (omega arith, omega arith) (omega arith))
+    rw (p.1, p.2) (
+      _,
+      coils_there c.args.fields.now at.address at.quantity at.packed.now fits at.ensures
+          (omega arith, omega arith) (omega arith),
+    )
 
 pub returns : goal.returns
 returns c =
     let fits : IsBytes c.args.fields.now = λ i. omega (arith, c.type_inv.fields i) in
     let at = c.in-Some in
     rw c.in_ok-bits.ensures
-    (coils_there c.args.fields.now at.address at.quantity at.packed.now fits at.ensures (omega arith, omega arith) (omega arith))
+    (coils_there c.args.fields.now at.address at.quantity at.packed.now fits at.ensures
+    (omega arith, omega arith) (omega arith))

@@ -12,10 +12,14 @@ returns-in_err-words c =
     let p = err_from_is_err_and c.from_residual.result c.from_residual.ensures.1 in
     let fits : IsBytes c.args.fields.now = λ i. omega (arith, c.type_inv.fields i) in
     let at = c.in-Some in
-    rw (p.1, p.2)
-    (_, registers_there c.args.fields.now at.address at.quantity at.rest.now fits at.ensures (omega arith, omega arith) (omega arith))
+    rw (p.1, p.2) (
+      _,
+      registers_there c.args.fields.now at.address at.quantity at.rest.now fits at.ensures
+          (omega arith, omega arith) (omega arith),
+    )
 
 pub returns : goal.returns
 returns c =
-    registers_read c.args.fields.now c.in-Some.address c.in-Some.quantity c.in-Some.rest.now c.in_ok-words.words c.in-Some.ensures
+    registers_read c.args.fields.now c.in-Some.address c.in-Some.quantity c.in-Some.rest.now
+    c.in_ok-words.words c.in-Some.ensures
     (omega arith, omega arith) (omega arith) c.in_ok-words.ensures

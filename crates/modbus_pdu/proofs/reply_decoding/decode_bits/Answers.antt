@@ -9,7 +9,8 @@ returns-in_default c = no_bits c.args.function c.args.quantity c.args.bytes.now 
 
 pub returns-then-not-spare_is_clear : goal.returns-then-not-spare_is_clear
 returns-then-not-spare_is_clear c =
-    bits_unclear c.args.function c.args.quantity c.args.bytes.now c.in-Some.packed.now c.in-Some.ensures
+    bits_unclear c.args.function c.args.quantity c.args.bytes.now c.in-Some.packed.now
+    c.in-Some.ensures
     (λ clear. absurd (let h = c.if-not-spare_is_clear.ensures.1 clear in cc))
 
 pub returns-in_err-bits : goal.returns-in_err-bits
@@ -19,10 +20,13 @@ returns-in_err-bits c =
     let at = c.in-Some in
     let clear = c.if-not-spare_is_clear.ensures.0 refl in
     rw (p.1, p.2)
-    (bits_there c.args.function c.args.quantity c.args.bytes.now at.packed.now c.requires fits at.ensures (omega arith, omega arith) (omega arith) clear)
+    (bits_there c.args.function c.args.quantity c.args.bytes.now at.packed.now c.requires fits
+    at.ensures (omega arith, omega arith) (omega arith) clear)
 
 pub returns : goal.returns
 returns c =
-    bits_found c.args.function c.args.quantity c.args.bytes.now c.in-Some.packed.now c.in_ok-bits.bits c.requires
-    (λ i. omega (arith, c.type_inv.bytes i)) c.in-Some.ensures (omega arith, omega arith) (omega arith)
+    bits_found c.args.function c.args.quantity c.args.bytes.now c.in-Some.packed.now
+    c.in_ok-bits.bits c.requires
+    (λ i. omega (arith, c.type_inv.bytes i)) c.in-Some.ensures
+    (omega arith, omega arith) (omega arith)
     (c.if-not-spare_is_clear.ensures.0 refl) c.in_ok-bits.ensures

@@ -16,18 +16,24 @@ returns-in_err-words c =
     let at = c.in-Some in
     let operation = c.if-operation-stats_operation.false ∙ c.stats_operation.ensures in
     rw (p.1, p.2)
-    (stats_there c.args.quantity c.args.bytes.now at.operation at.rest.now c.requires fits at.ensures operation (omega arith))
+    (stats_there c.args.quantity c.args.bytes.now at.operation at.rest.now c.requires fits
+    at.ensures operation (omega arith))
 
 pub returns : goal.returns
 returns c =
-    stats_found c.args.quantity c.args.bytes.now c.in-Some.operation c.in-Some.rest.now c.in_ok-words.words c.requires c.in-Some.ensures
-    (c.if-operation-stats_operation.false ∙ c.stats_operation.ensures) (omega arith) c.in_ok-words.ensures
+    stats_found c.args.quantity c.args.bytes.now c.in-Some.operation c.in-Some.rest.now
+    c.in_ok-words.words c.requires c.in-Some.ensures
+    (c.if-operation-stats_operation.false ∙ c.stats_operation.ensures) (omega arith)
+    c.in_ok-words.ensures
 
 pub returns-then-operation-stats_operation : goal.returns-then-operation-stats_operation
 returns-then-operation-stats_operation c =
-    stats_unfit c.args.quantity c.args.bytes.now c.in-Some.operation c.in-Some.rest.now c.in-Some.ensures
+    stats_unfit c.args.quantity c.args.bytes.now c.in-Some.operation c.in-Some.rest.now
+    c.in-Some.ensures
     (λ operation count. elim c.then-operation-stats_operation.branch [
-      | then-operation-stats_operation-via-then-operation-stats_operation w ↦ w.if-operation-stats_operation.true
+      | then-operation-stats_operation-via-then-operation-stats_operation w ↦
+          w.if-operation-stats_operation.true
           (operation ∙ sym c.stats_operation.ensures)
-      | then-operation-stats_operation-via-else-operation-stats_operation+then-rest-quantity w ↦ w.if-rest-quantity.true count
+      | then-operation-stats_operation-via-else-operation-stats_operation+then-rest-quantity w ↦
+          w.if-rest-quantity.true count
     ])

@@ -4,7 +4,8 @@ use Rattle.modbus_pdu.proofs.reply_decoding.reply_in.Goals as goal
 pub returns-in-Some : goal.returns-in-Some
 returns-in-Some c =
     rw c.function_of-function.ensures
-    (exception_found c.in-Some.code c.args.bytes.now c.args.request.now (rw c.function_of-function.ensures at c.in-Some.ensures))
+    (exception_found c.in-Some.code c.args.bytes.now c.args.request.now
+    (rw c.function_of-function.ensures at c.in-Some.ensures))
 
 pub returns-in-None : goal.returns-in-None
 returns-in-None c =

@@ -11,7 +11,8 @@ make_again-requires c =
     let at = c.loop-entry.entry-index in
     let entry = c.entry-item.result in
     let more = one_more_entry log at entry (omega arith) c.entry-item.is in
-    entry_may_follow c.fronts_are_legal.ensures c.loop-entry.controller c.args.controller.now.fixed log at entry more
+    entry_may_follow c.fronts_are_legal.ensures c.loop-entry.controller c.args.controller.now.fixed
+    log at entry more
     c.requires.legal c.loop-entry.invariant.same c.loop-entry.invariant.history
 
 pub loop-entry-preserved : goal.loop-entry-preserved

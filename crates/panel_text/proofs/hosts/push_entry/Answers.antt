@@ -10,5 +10,6 @@ returns-in_ok-push_ask-in-Ask-clause-text c =
     let behind = c.args.behind.now in
     c.in_ok-push_ask-in-Ask.ensures
     ∙ ap (λ result. old ++ ask_line node (number + 1) result) c.result_in.ensures
-    ∙ ap (λ line. old ++ line) (sym (append-nil (ask_line node (number + 1) (result_in behind c.in-Ask.id))))
+    ∙ ap (λ line. old ++ line)
+    (sym (append-nil (ask_line node (number + 1) (result_in behind c.in-Ask.id))))
     ∙ ap (λ entry. old ++ entry_lines node number behind entry) (sym c.in-Ask.is)

@@ -13,7 +13,10 @@ loop-at-preserved c =
     record {
       within = omega (arith, few_requests entry, c.in_ok-number.ensures.number);
       text =
-          host_step c.args.node c.loop-at.number c.loop-at.at c.in_ok-number.number entries _ entry (string_bytes c.loop-at.text)
-          (string_bytes c.push_entry.new.text) (string_bytes c.args.text.now ++ host_lines c.args.node entries) (omega arith)
-          c.index-entries-at.is refl new c.in_ok-number.ensures.number c.loop-at.invariant.text c.in_ok-number.ensures.text;
+          host_step c.args.node c.loop-at.number c.loop-at.at c.in_ok-number.number entries _ entry
+          (string_bytes c.loop-at.text)
+          (string_bytes c.push_entry.new.text)
+          (string_bytes c.args.text.now ++ host_lines c.args.node entries) (omega arith)
+          c.index-entries-at.is refl new c.in_ok-number.ensures.number c.loop-at.invariant.text
+          c.in_ok-number.ensures.text;
     }

@@ -1,4 +1,5 @@
-use Rattle.std.proofs.Common.{◌≡◌, ◌+◌, ◌*◌, ◌++◌, ◌∙◌, ℕ, List, ap, append-nil, arith, drop, length}
+use Rattle.std.proofs.Common.{◌≡◌, ◌+◌, ◌*◌, ◌++◌, ◌∙◌, ℕ, List, ap, append-nil, arith, drop}
+use Rattle.std.proofs.Common.{length}
 use Rattle.std.proofs.Common.{map, sym, string_bytes}
 use Rattle.std.proofs.lemmas.List.{length-map}
 use Rattle.controller_core.specs.NotedLines.{ended_line}

@@ -4,7 +4,7 @@ use Rattle.std.proofs.lemmas.Slice.Zip.{AllZip-long}
 use Rattle.joint_history.specs.declared.joint.ControllerLog.{ControllerLog}
 use Rattle.joint_history.specs.JointLaws.{IsLegalLog, most_scans}
 use Rattle.panel_text.specs.Panel.{CanShow}
-use Rattle.panel_text.proofs.LogLemmas.{controller_logs}
+use Rattle.panel_text.proofs.LogLemmas.{controller_logs, controllers_run}
 use Rattle.panel_text.proofs.panel.panel_text.Goals as goal
 
 pub notes_by_logs-requires-clause-count : goal.notes_by_logs-requires-clause-count
@@ -21,5 +21,5 @@ notes_by_logs-requires-clause-logs c =
     let P : List ControllerLog → Type 0 =
     λ logs. AllByRecursion (CanShow plant) (zip plant.controllers logs) in
     subst P (sym c.as_slice.ensures)
-    (controller_logs plant plant.controllers c.args.joint.now.controllers c.requires.plant
-    c.requires.joint.controllers)
+    (controller_logs plant plant.controllers c.args.joint.now.controllers
+    (controllers_run plant c.requires.plant) c.requires.joint.controllers)

@@ -6,7 +6,8 @@ use Rattle.panel_text.proofs.panel.push_hosts.Given as goal
 
 abbrev pub invariant-loop-log : goal.invariant-loop-log
 invariant-loop-log l = record {
-  text : string_bytes l.text ++ flat_map (λ log. host_lines log.node log.entries) (drop l.log-index l.logs)
+  text : string_bytes l.text
+      ++ flat_map (λ log. host_lines log.node log.entries) (drop l.log-index l.logs)
       ≡ string_bytes l.fn.text ++ flat_map (λ log. host_lines log.node log.entries) l.logs;
   legal : AllByRecursion IsHostLog (drop l.log-index l.logs);
 }

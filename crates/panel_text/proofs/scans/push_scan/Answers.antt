@@ -23,6 +23,7 @@ loop-at-preserved c =
     controller_step c.args.plans.now c.args.notes.now c.loop-at.at c.index-plans-at.result
     c.index-notes-at.result c.args.scan (string_bytes c.loop-at.text)
     (string_bytes c.push_line.new.text)
-    (string_bytes c.args.text.now ++ scan_lines (runs_noted c.args.plans.now c.args.notes.now) c.args.scan)
+    (string_bytes c.args.text.now
+    ++ scan_lines (runs_noted c.args.plans.now c.args.notes.now) c.args.scan)
     (omega arith) (omega arith) c.index-plans-at.is c.index-notes-at.is c.loop-at.invariant
     c.in_ok-push_line.ensures

@@ -1,6 +1,6 @@
 use Rattle.std.proofs.Common.{◌≡◌, [], true, false, map, string_bytes, rules, arith}
-use Rattle.plant984.specs.Words.{SpellsCommand}
-use Rattle.plant984.specs.Due.{IsDue, reads_input}
+use Rattle.command_words.specs.Words.{SpellsCommand}
+use Rattle.command_answers.specs.Due.{IsDue, reads_input}
 use Rattle.plant984.specs.Promise.{side}
 use Rattle.plant984.proofs.DueLemmas.{Found, Keeps-found, in_range, nothing_read, one-command}
 use Rattle.plant984.proofs.DueLemmas.{whole_read}
@@ -8,11 +8,13 @@ use Rattle.plant984.proofs.serial.plant_serial.Goals as goal
 
 pub write_answer-requires : goal.write_answer-requires
 write_answer-requires g c =
-    in_range (map string_bytes c.args.words.now) c.in-Some.command ((c.in-Ok.ensures c.in-Some.command).0 c.in-Some.is)
+    in_range (map string_bytes c.args.words.now) c.in-Some.command
+    ((c.in-Ok.ensures c.in-Some.command).0 c.in-Some.is)
 
 pub write_answer-requires-in-Ok-read_all : goal.write_answer-requires-in-Ok-read_all
 write_answer-requires-in-Ok-read_all g c =
-    in_range (map string_bytes c.args.words.now) c.in-Some.command ((c.in-Ok.ensures c.in-Some.command).0 c.in-Some.is)
+    in_range (map string_bytes c.args.words.now) c.in-Some.command
+    ((c.in-Ok.ensures c.in-Some.command).0 c.in-Some.is)
 
 pub returns-then-not-reads_input-clause-promised : goal.returns-then-not-reads_input-clause-promised
 returns-then-not-reads_input-clause-promised g c =
@@ -26,8 +28,10 @@ returns-then-not-reads_input-clause-promised g c =
       read = nothing_read (reads_input command) source.bytes off;
       later = omega arith;
     } in
-    Keeps-found SpellsCommand reads_input IsDue words source source command [] found (side (g.K.Sink.taken c.args.sink.now) (g.K.Sink.faults c.args.sink.now))
-    (side (g.K.Sink.taken c.write_answer.new.sink) (g.K.Sink.faults c.write_answer.new.sink)) c.write_answer.result
+    Keeps-found SpellsCommand reads_input IsDue words source source command [] found
+    (side (g.K.Sink.taken c.args.sink.now) (g.K.Sink.faults c.args.sink.now))
+    (side (g.K.Sink.taken c.write_answer.new.sink) (g.K.Sink.faults c.write_answer.new.sink))
+    c.write_answer.result
     c.write_answer.ensures.later c.write_answer.ensures.answers
 
 pub returns-in-Ok-read_all-clause-promised : goal.returns-in-Ok-read_all-clause-promised
@@ -35,16 +39,20 @@ returns-in-Ok-read_all-clause-promised g c =
     let words = map string_bytes c.args.words.now in
     let command = c.in-Some.command in
     let source = side (g.S.Source.left c.args.source.now) (g.S.Source.faults c.args.source.now) in
-    let source_now = side (g.S.Source.left c.read_all.new.source) (g.S.Source.faults c.read_all.new.source) in
+    let source_now = side (g.S.Source.left c.read_all.new.source)
+    (g.S.Source.faults c.read_all.new.source) in
     let on : reads_input command ≡ true = search rules in
     let input = c.in-Ok-read_all.input.items in
     let found : Found SpellsCommand reads_input words source source_now command input = record {
       spelled = (c.in-Ok.ensures command).0 c.in-Some.is;
       only = one-command SpellsCommand words c.in-Ok.asked command c.in-Ok.ensures c.in-Some.is;
-      read = whole_read (reads_input command) source.bytes source_now.bytes input on c.in-Ok-read_all.ensures.whole
+      read = whole_read (reads_input command) source.bytes source_now.bytes input on
+          c.in-Ok-read_all.ensures.whole
           c.in-Ok-read_all.ensures.within;
       later = c.read_all.ensures.later;
     } in
-    Keeps-found SpellsCommand reads_input IsDue words source source_now command input found (side (g.K.Sink.taken c.args.sink.now) (g.K.Sink.faults c.args.sink.now))
-    (side (g.K.Sink.taken c.write_answer-in-Ok-read_all.new.sink) (g.K.Sink.faults c.write_answer-in-Ok-read_all.new.sink))
+    Keeps-found SpellsCommand reads_input IsDue words source source_now command input found
+    (side (g.K.Sink.taken c.args.sink.now) (g.K.Sink.faults c.args.sink.now))
+    (side (g.K.Sink.taken c.write_answer-in-Ok-read_all.new.sink)
+    (g.K.Sink.faults c.write_answer-in-Ok-read_all.new.sink))
     c.write_answer-in-Ok-read_all.result c.write_answer-in-Ok-read_all.ensures.later (search rules)

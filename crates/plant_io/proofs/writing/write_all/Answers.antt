@@ -8,7 +8,8 @@ loop-done-preserved g c =
     let text = c.args.text.now in
     let wrote = rw take_rest at c.in_ok-done.ensures.took in
     record {
-      took = Took-front _ _ _ text c.loop-done.done c.in_ok-done.field-0 c.loop-done.invariant.took wrote;
+      took = Took-front _ _ _ text c.loop-done.done c.in_ok-done.field-0
+          c.loop-done.invariant.took wrote;
       within = omega (arith, c.in_ok-done.ensures.within, length-drop c.loop-done.done text);
       later = omega (arith, c.loop-done.invariant.later, c.in_ok-done.ensures.cause.later);
       unused = λ none. absurd (omega (arith, c.in_ok-done.ensures.some));

@@ -8,6 +8,7 @@ use Rattle.plant_loader.proofs.drops.drops_of.Given as goal
 abbrev pub invariant-loop-table : goal.invariant-loop-table
 invariant-loop-table l = record {
   read : each_behind (drop_behind l.owner) l.drops (numbered_from (l.position + 1)
-      (map (λ t. table_view t.now) (drop l.table-index l.tables))) ≡ drops_of l.owner (map (λ t. table_view t.now) l.tables);
+      (map (λ t. table_view t.now) (drop l.table-index l.tables)))
+      ≡ drops_of l.owner (map (λ t. table_view t.now) l.tables);
   position : l.position ≡ l.table-index;
 }

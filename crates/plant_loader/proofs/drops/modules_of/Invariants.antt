@@ -7,6 +7,7 @@ use Rattle.plant_loader.proofs.drops.modules_of.Given as goal
 abbrev pub invariant-loop-text : goal.invariant-loop-text
 invariant-loop-text l = record {
   read : with_front l.modules (each_from (numbered_module l.owner l.drop) (l.number + 1)
-      (map (λ t. t.now) (drop l.text-index l.texts))) ≡ modules_of l.owner l.drop (map (λ t. t.now) l.texts);
+      (map (λ t. t.now) (drop l.text-index l.texts)))
+      ≡ modules_of l.owner l.drop (map (λ t. t.now) l.texts);
   number : l.number ≡ l.text-index;
 }

@@ -8,7 +8,8 @@ use Rattle.plant_loader.proofs.keys.tables_of.Given as goal
 -- the tables so far, before those of the items left; one for each item
 abbrev pub invariant-loop-item : goal.invariant-loop-item
 invariant-loop-item l = record {
-  read : with_front (map (λ t. table_view t.now) l.tables.items) (items_as as_table l.place (items_view (drop l.item-index l.items)))
+  read : with_front (map (λ t. table_view t.now) l.tables.items)
+      (items_as as_table l.place (items_view (drop l.item-index l.items)))
       ≡ items_as as_table l.place (items_view l.items);
   count : length l.tables.items ≡ l.item-index;
 }

@@ -5,4 +5,5 @@ use Rattle.plant_loader.proofs.net.controller_nodes.Given as goal
 
 -- the nodes so far
 abbrev pub invariant-loop-plan : goal.invariant-loop-plan
-invariant-loop-plan l = l.nodes.items ≡ map (λ (plan : ControllerPlan). plan.node) (take l.plan-index l.plans)
+invariant-loop-plan l =
+    l.nodes.items ≡ map (λ (plan : ControllerPlan). plan.node) (take l.plan-index l.plans)

@@ -8,5 +8,7 @@ pub returns : goal.returns
 returns c =
     let node = λ (host : HostPlan). host.node in
     c.from_vec.ensures ∙ sorted-by_node node _ _
-    (IsNonDecreasingBy-from_sort_by_key node _ c.in_ok-sort_by_key.ensures.sorted (λ a r q k. search rules))
-    (c.sort_by_key.ensures.stable node (answers_always _ _ _ (λ f a r g h. search rules))) c.sort_by_key.ensures.permutation c.requires
+    (IsNonDecreasingBy-from_sort_by_key node _ c.in_ok-sort_by_key.ensures.sorted
+    (λ a r q k. search rules))
+    (c.sort_by_key.ensures.stable node (answers_always _ _ _ (λ f a r g h. search rules)))
+    c.sort_by_key.ensures.permutation c.requires

@@ -8,6 +8,7 @@ use Rattle.plant_loader.proofs.numerals.told_value.Given as goal
 -- what is told so far, before the digits left
 abbrev pub invariant-loop-digit : goal.invariant-loop-digit
 invariant-loop-digit l = record {
-  told : min (fold more l.value (drop l.digit-index l.digits)) most_told ≡ min (value_of l.digits) most_told;
+  told : min (fold more l.value (drop l.digit-index l.digits)) most_told
+      ≡ min (value_of l.digits) most_told;
   low : l.value ≤ most_told;
 }

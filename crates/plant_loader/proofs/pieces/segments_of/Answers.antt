@@ -11,9 +11,11 @@ returns-in_err-program-clause-read c =
     let p = err_from_is_err_and c.from_residual.result c.from_residual.ensures.1 in
     rw (p.1, p.2) (segments-stop c.args.owner
     (map (λ t. table_view t.now) c.args.tables.now) c.new.result c.in_err-program.field-0.0
-    (c.new.ensures ∙ ap nothing_read (sym (length-map c.args.tables.now (λ t. table_view t.now)))) c.in_err-program.ensures.read)
+    (c.new.ensures ∙ ap nothing_read (sym (length-map c.args.tables.now (λ t. table_view t.now))))
+    c.in_err-program.ensures.read)
 
 pub returns-clause-read : goal.returns-clause-read
 returns-clause-read c = segments-given c.args.owner
     (map (λ t. table_view t.now) c.args.tables.now) c.new.result c.in_ok-program.program _
-    (c.new.ensures ∙ ap nothing_read (sym (length-map c.args.tables.now (λ t. table_view t.now)))) c.in_ok-program.ensures.read c.into_segments.ensures
+    (c.new.ensures ∙ ap nothing_read (sym (length-map c.args.tables.now (λ t. table_view t.now))))
+    c.in_ok-program.ensures.read c.into_segments.ensures

@@ -8,7 +8,8 @@ pub loop-table-preserved : goal.loop-table-preserved
 unfolding with_segment_tables
 loop-table-preserved c =
     let more = with_segment_table-more
-    c.args.owner _ c.loop-table.program c.in_ok-program.program c.in_ok-program.ensures c.loop-table.invariant.between.cells in
+    c.args.owner _ c.loop-table.program c.in_ok-program.program c.in_ok-program.ensures
+    c.loop-table.invariant.between.cells in
     record {
       read = grind (arith, common_steps);
       count = omega (arith, more.count);

@@ -8,5 +8,6 @@ pub loop-text-preserved : goal.loop-text-preserved
 unfolding with_texts
 loop-text-preserved c = record {
   read = grind (arith, common_steps);
-  count = let more = with_text-more c.args.owner _ c.loop-text.program c.in_ok-program.program c.in_ok-program.ensures in omega (arith, more.count);
+  count = let more = with_text-more c.args.owner _ c.loop-text.program c.in_ok-program.program
+      c.in_ok-program.ensures in omega (arith, more.count);
 }

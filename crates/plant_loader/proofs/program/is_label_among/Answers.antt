@@ -6,4 +6,5 @@ use Rattle.plant_loader.proofs.program.is_label_among.Goals as goal
 
 pub returns : goal.returns
 returns c = c.is_label_in_parts.ensures
-    ∙ any-cells (λ (cell : Cell). is_label_of c.args.number cell.element) c.args.segments.now c.args.networks.now c.args.cells.now
+    ∙ any-cells (λ (cell : Cell). is_label_of c.args.number cell.element) c.args.segments.now
+    c.args.networks.now c.args.cells.now

@@ -7,17 +7,23 @@ use Rattle.plant_loader.proofs.reading.plant_in.Goals as goal
 pub plant_from-requires-clause-nodes : goal.plant_from-requires-clause-nodes
 plant_from-requires-clause-nodes c =
     let tables = map (λ t. table_view t.now) c.as_slice-3.result.now in
-    let hosts = subst (λ plans. hosts_of plans tables ≡ Ok c.in_ok-hosts-2.hosts.items) c.as_slice-2.ensures.value c.in_ok-hosts-2.ensures in
-    (stations-are _ tables c.in_ok-controllers-2.controllers.items c.in_ok-hosts-2.hosts.items c.in_ok-controllers-2.ensures hosts).nodes
+    let hosts = subst (λ plans. hosts_of plans tables ≡ Ok c.in_ok-hosts-2.hosts.items)
+    c.as_slice-2.ensures.value c.in_ok-hosts-2.ensures in
+    (stations-are _ tables c.in_ok-controllers-2.controllers.items c.in_ok-hosts-2.hosts.items
+    c.in_ok-controllers-2.ensures hosts).nodes
 
 pub plant_from-requires-clause-controllers : goal.plant_from-requires-clause-controllers
 plant_from-requires-clause-controllers c =
     let tables = map (λ t. table_view t.now) c.as_slice-3.result.now in
-    let hosts = subst (λ plans. hosts_of plans tables ≡ Ok c.in_ok-hosts-2.hosts.items) c.as_slice-2.ensures.value c.in_ok-hosts-2.ensures in
-    (stations-are _ tables c.in_ok-controllers-2.controllers.items c.in_ok-hosts-2.hosts.items c.in_ok-controllers-2.ensures hosts).controller_nodes_all
+    let hosts = subst (λ plans. hosts_of plans tables ≡ Ok c.in_ok-hosts-2.hosts.items)
+    c.as_slice-2.ensures.value c.in_ok-hosts-2.ensures in
+    (stations-are _ tables c.in_ok-controllers-2.controllers.items c.in_ok-hosts-2.hosts.items
+    c.in_ok-controllers-2.ensures hosts).controller_nodes_all
 
 pub plant_from-requires-clause-hosts : goal.plant_from-requires-clause-hosts
 plant_from-requires-clause-hosts c =
     let tables = map (λ t. table_view t.now) c.as_slice-3.result.now in
-    let hosts = subst (λ plans. hosts_of plans tables ≡ Ok c.in_ok-hosts-2.hosts.items) c.as_slice-2.ensures.value c.in_ok-hosts-2.ensures in
-    (stations-are _ tables c.in_ok-controllers-2.controllers.items c.in_ok-hosts-2.hosts.items c.in_ok-controllers-2.ensures hosts).host_nodes_all
+    let hosts = subst (λ plans. hosts_of plans tables ≡ Ok c.in_ok-hosts-2.hosts.items)
+    c.as_slice-2.ensures.value c.in_ok-hosts-2.ensures in
+    (stations-are _ tables c.in_ok-controllers-2.controllers.items c.in_ok-hosts-2.hosts.items
+    c.in_ok-controllers-2.ensures hosts).host_nodes_all

@@ -6,7 +6,8 @@ use Rattle.plant_loader.proofs.scripts.hex_words.Given as goal
 
 -- the values so far, before those of the words left
 abbrev pub invariant-loop-word : goal.invariant-loop-word
-invariant-loop-word l = with_front l.words.items (each_of (word_spelled l.place) (text_words l.rest)) ≡ each_of (word_spelled l.place) (text_words l.fn.text)
+invariant-loop-word l = with_front l.words.items (each_of (word_spelled l.place)
+    (text_words l.rest)) ≡ each_of (word_spelled l.place) (text_words l.fn.text)
 
 -- each turn takes a word
 abbrev pub decreases-loop-word : goal.decreases-loop-word

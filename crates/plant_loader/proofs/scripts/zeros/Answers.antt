@@ -8,7 +8,9 @@ use Rattle.plant_loader.proofs.scripts.zeros.Goals as goal
 pub returns : goal.returns
 returns c =
     let total = input_total c.args.modules.now in
-    let taken : take c.input_total.result (replicate 64 0) ≡ replicate total 0 = rw c.input_total.ensures (take-replicate total 64 0 c.requires) in
+    let taken : take c.input_total.result (replicate 64 0) ≡ replicate total 0 =
+    rw c.input_total.ensures (take-replicate total 64 0 c.requires) in
     let words : c.in_ok-words.words ≡ replicate total 0 = c.in_ok-words.ensures ∙ taken in
-    c.in_ok-push.ensures.ok ∙ ap (λ (script : List ScriptRow). script ++ Row c.in_ok-words.words ∷ []) c.new-script.ensures
+    c.in_ok-push.ensures.ok
+    ∙ ap (λ (script : List ScriptRow). script ++ Row c.in_ok-words.words ∷ []) c.new-script.ensures
     ∙ ap (λ (w : List ℕ). Row w ∷ []) words

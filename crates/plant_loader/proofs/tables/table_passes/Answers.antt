@@ -6,5 +6,6 @@ use Rattle.plant_loader.proofs.tables.table_passes.Goals as goal
 
 pub returns-in-Controller : goal.returns-in-Controller
 returns-in-Controller c =
-    let passes = λ (kind : TableKind). table_passes c.args.place kind (table_view c.args.table.now) in
+    let passes = λ (kind : TableKind).
+    table_passes c.args.place kind (table_view c.args.table.now) in
     c.keys_pass-in-Controller.ensures ∙ ap passes (sym c.in-Controller.is)

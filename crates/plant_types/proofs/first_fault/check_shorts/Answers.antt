@@ -11,11 +11,13 @@ loop-i-init c = refl
 pub returns-in_err-check : goal.returns-in_err-check
 returns-in_err-check c =
     let p = err_from_is_err_and c.from_residual.result c.from_residual.ensures.1 in
-    rw (p.1, p.2) (items-failed short_tests c.args.shorts.now c.loop-i.i _ c.in_err-check.field-0.0 (omega arith) c.loop-i.invariant
+    rw (p.1, p.2) (items-failed short_tests c.args.shorts.now c.loop-i.i _ c.in_err-check.field-0.0
+    (omega arith) c.loop-i.invariant
     (sym c.in_err-check.was ∙ c.check.ensures))
 
 pub loop-i-preserved : goal.loop-i-preserved
-loop-i-preserved c = items-held short_tests c.args.shorts.now c.loop-i.i _ (omega arith) c.loop-i.invariant (sym c.in_ok-check.was ∙ c.check.ensures)
+loop-i-preserved c = items-held short_tests c.args.shorts.now c.loop-i.i _
+    (omega arith) c.loop-i.invariant (sym c.in_ok-check.was ∙ c.check.ensures)
 
 pub returns : goal.returns
 returns c = items-end short_tests c.args.shorts.now c.loop-i.i (omega arith) c.loop-i.invariant

@@ -5,8 +5,10 @@ use Rattle.plant_types.specs.Plans.{IsNode}
 use Rattle.plant_types.proofs.net.are_nodes.Goals as goal
 
 pub loop-at-preserved : goal.loop-at-preserved
-loop-at-preserved c = All-more IsNode c.args.nodes.now c.loop-at.at 0 c.loop-at-test.true c.loop-at.invariant
+loop-at-preserved c =
+    All-more IsNode c.args.nodes.now c.loop-at.at 0 c.loop-at-test.true c.loop-at.invariant
     (c.is_node.ensures.only c.if-not-is_node.false)
 
 pub returns-clause-only : goal.returns-clause-only
-returns-clause-only c = λ _. subst (λ (l : List ℕ). All IsNode l) (take_all _ _ c.loop-at-test.false) c.loop-at.invariant
+returns-clause-only c = λ _. subst (λ (l : List ℕ). All IsNode l)
+    (take_all _ _ c.loop-at-test.false) c.loop-at.invariant

@@ -13,14 +13,19 @@ pub returns-in_err-check : goal.returns-in_err-check
 returns-in_err-check c =
     let p = err_from_is_err_and c.from_residual.result c.from_residual.ensures.1 in
     rw (p.1, p.2) (item-failed
-    (site_tests_in c.args.plan.now c.args.earlier.now) c.args.networks.now c.loop-i.i c.index-networks-i.result
-    c.in_err-check.field-0.0 c.index-networks-i.is (omega arith) c.loop-i.invariant (sym c.in_err-check.was ∙ rw
+    (site_tests_in c.args.plan.now c.args.earlier.now) c.args.networks.now c.loop-i.i
+    c.index-networks-i.result
+    c.in_err-check.field-0.0 c.index-networks-i.is (omega arith) c.loop-i.invariant
+    (sym c.in_err-check.was ∙ rw
     (c.sizes.ensures, c.as_slice.ensures) at c.check.ensures))
 
 pub loop-i-preserved : goal.loop-i-preserved
 loop-i-preserved c = item-held
-    (site_tests_in c.args.plan.now c.args.earlier.now) c.args.networks.now c.loop-i.i c.index-networks-i.result c.index-networks-i.is
-    (omega arith) c.loop-i.invariant (sym c.in_ok-check.was ∙ rw (c.sizes.ensures, c.as_slice.ensures) at c.check.ensures)
+    (site_tests_in c.args.plan.now c.args.earlier.now) c.args.networks.now c.loop-i.i
+    c.index-networks-i.result c.index-networks-i.is
+    (omega arith) c.loop-i.invariant
+    (sym c.in_ok-check.was ∙ rw (c.sizes.ensures, c.as_slice.ensures) at c.check.ensures)
 
 pub returns : goal.returns
-returns c = items-end (site_tests_in c.args.plan.now c.args.earlier.now) c.args.networks.now c.loop-i.i (omega arith) c.loop-i.invariant
+returns c = items-end (site_tests_in c.args.plan.now c.args.earlier.now) c.args.networks.now
+    c.loop-i.i (omega arith) c.loop-i.invariant

@@ -12,12 +12,15 @@ loop-i-init c = refl
 pub returns-in_err-check_reference : goal.returns-in_err-check_reference
 returns-in_err-check_reference c =
     let p = err_from_is_err_and c.from_residual.result c.from_residual.ensures.1 in
-    rw (p.1, p.2) (items-failed (panel_tests c.args.sizes) c.args.panel.now c.loop-i.i _ c.in_err-check_reference.field-0.0
+    rw (p.1, p.2) (items-failed (panel_tests c.args.sizes) c.args.panel.now c.loop-i.i _
+    c.in_err-check_reference.field-0.0
     (omega arith) c.loop-i.invariant (sym c.in_err-check_reference.was ∙ c.check_reference.ensures))
 
 pub loop-i-preserved : goal.loop-i-preserved
-loop-i-preserved c = items-held (panel_tests c.args.sizes) c.args.panel.now c.loop-i.i _ (omega arith) c.loop-i.invariant
+loop-i-preserved c = items-held (panel_tests c.args.sizes) c.args.panel.now c.loop-i.i _
+    (omega arith) c.loop-i.invariant
     (sym c.in_ok-check_reference.was ∙ c.check_reference.ensures)
 
 pub returns : goal.returns
-returns c = items-end (panel_tests c.args.sizes) c.args.panel.now c.loop-i.i (omega arith) c.loop-i.invariant
+returns c = items-end (panel_tests c.args.sizes) c.args.panel.now c.loop-i.i
+    (omega arith) c.loop-i.invariant

@@ -4,5 +4,6 @@ use Rattle.plant_types.proofs.runs.load_words.Goals as goal
 
 pub returns : goal.returns
 returns g c =
-    words_from-by_place (g.R.RefStore.contents c.args.ram.now) c.args.at (length c.args.words.now) c.loop-i.words (omega arith)
+    words_from-by_place (g.R.RefStore.contents c.args.ram.now) c.args.at
+    (length c.args.words.now) c.loop-i.words (omega arith)
     (λ k l. let b : k < c.loop-i.i = omega arith in c.loop-i.invariant k b)

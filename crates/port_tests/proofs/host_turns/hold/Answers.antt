@@ -9,6 +9,9 @@ returns-clause-theirs c =
     let e = c.in_ok-station.ensures in
     let other = c.args.other.now in
     let w = c.args.station.now.worker in
-    subst (λ (net : NetPlan). HostIsReady c.args.other_node other.host other.worker other.left net c.hold_turn.new.ring.history) (sym (ap (λ s. s.net) e.step.node.same))
-    (stands-on c.args.other_node w.node other.host other.worker other.left c.args.ring.now.net _ _ _ _ _ _ _
-    (λ is. c.requires.apart (is ∙ c.requires.mine.worker_node)) e.step.node.stands.legal e.held c.requires.theirs)
+    subst (λ (net : NetPlan). HostIsReady c.args.other_node other.host other.worker other.left net
+    c.hold_turn.new.ring.history) (sym (ap (λ s. s.net) e.step.node.same))
+    (stands-on c.args.other_node w.node other.host other.worker other.left
+    c.args.ring.now.net _ _ _ _ _ _ _
+    (λ is. c.requires.apart (is ∙ c.requires.mine.worker_node)) e.step.node.stands.legal e.held
+    c.requires.theirs)

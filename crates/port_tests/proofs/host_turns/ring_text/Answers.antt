@@ -1,4 +1,4 @@
-use Rattle.std.proofs.Common.{List, sym, ap, ◌∙◌, subst}
+use Rattle.std.proofs.Common.{List, sym, ap, ◌∙◌, subst, arith}
 use Rattle.plant_types.specs.declared.net.NetPlan.{NetPlan}
 use Rattle.ring_core.specs.declared.entry.RingEntry.{RingEntry}
 use Rattle.comm_port.specs.HostStands.{HostIsReady}
@@ -11,9 +11,11 @@ held_text-text-requires-clause-one g c =
     let e = c.in_ok-one.ensures in
     let ring = c.in_ok-ring.ensures in
     let net = c.in_ok-ring.ring.net in
-    let members = ap (λ (x : NetPlan). x.members) ring.net ∙ c.requires in
+    let members = ap (λ (x : NetPlan). x.members) ring.net ∙ c.requires.members in
+    let answer = ap (λ (x : NetPlan). x.answer) ring.net ∙ c.requires.answer in
     subst (λ (r : List RingEntry). HostIsReady 1 s.host s.worker s.left net r) (sym ring.empty)
-    (stands-one s.host s.worker s.left net members e.node e.history e.worker)
+    (stands-one s.host s.worker s.left net members
+    (omega (arith, answer)) e.node e.history e.worker)
 
 pub held_text-text-requires-clause-two : goal.held_text-text-requires-clause-two
 held_text-text-requires-clause-two g c =
@@ -21,6 +23,8 @@ held_text-text-requires-clause-two g c =
     let e = c.in_ok-two.ensures in
     let ring = c.in_ok-ring.ensures in
     let net = c.in_ok-ring.ring.net in
-    let members = ap (λ (x : NetPlan). x.members) ring.net ∙ c.requires in
+    let members = ap (λ (x : NetPlan). x.members) ring.net ∙ c.requires.members in
+    let answer = ap (λ (x : NetPlan). x.answer) ring.net ∙ c.requires.answer in
     subst (λ (r : List RingEntry). HostIsReady 2 s.host s.worker s.left net r) (sym ring.empty)
-    (stands-two s.host s.worker s.left net members e.node e.history e.worker)
+    (stands-two s.host s.worker s.left net members
+    (omega (arith, answer)) e.node e.history e.worker)

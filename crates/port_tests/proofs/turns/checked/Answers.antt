@@ -12,5 +12,14 @@ returns-in-Ok-clause-runs c =
       passes = checked.passes;
       messages = checked.messages;
       count = let few = ap length c.requires.rows in omega (arith, few);
-      rows = rw c.requires.rows (record { from = omega arith; to = omega (arith, one); control = tt; input = tt; output = tt }, tt);
+      rows = rw c.requires.rows (
+        record {
+          from = omega arith;
+          to = omega (arith, one);
+          control = tt;
+          input = tt;
+          output = tt;
+        },
+        tt,
+      );
     }

@@ -16,20 +16,29 @@ new-requires-clause-member c = rw c.requires.first.is (0, omega arith, refl)
 pub hold_turn-requires-clause-standing : goal.hold_turn-requires-clause-standing
 hold_turn-requires-clause-standing c =
     let ram : RamSideIs (Unit {0}) = record { fixed = c.args.controller.now.fixed; place = tt } in
-    let side : RingSideIs (Unit {0}) = record { net = c.args.ring.now.net; writer = None; place = tt } in
+    let side : RingSideIs (Unit {0}) =
+    record { net = c.args.ring.now.net; writer = None; place = tt } in
     let known = c.args.controller.now.history in
-    subst (λ (w : WorkerIs). Standing w ram known side c.args.ring.now.history) (sym c.in_ok-worker.ensures)
-    (subst (λ (r : List RingEntry). Standing (record { node = 2; net = c.args.net.now; budget = true; waiting = replicate path_places None }) ram known side r) (sym c.requires.empty)
-    (standing-new 2 c.args.net.now true ram known side c.requires.node c.requires.ring tt c.requires.events))
+    subst (λ (w : WorkerIs). Standing w ram known side c.args.ring.now.history)
+    (sym c.in_ok-worker.ensures)
+    (subst (λ (r : List RingEntry). Standing
+    (record { node = 2; net = c.args.net.now; budget = true; waiting = replicate path_places None })
+    ram known side r) (sym c.requires.empty)
+    (standing-new 2 c.args.net.now true ram known side c.requires.node c.requires.ring tt
+    c.requires.events))
 
-here-of : (net : NetPlan) (rest : List ℕ) → net.members ≡ 2 ∷ rest → (ring_node (ring_after net []) 2).here ≡ true
+here-of : (net : NetPlan) (rest : List ℕ) → net.members ≡ 2 ∷ rest
+    → (ring_node (ring_after net []) 2).here ≡ true
 here-of net rest is =
-    ap (λ (l : List ℕ). (part_of (with_members (replicate addresses (fresh false)) l) 2).here) is ∙ first-here 2 rest (omega arith)
+    ap (λ (l : List ℕ). (part_of (with_members (replicate addresses (fresh false)) l) 2).here) is
+    ∙ first-here 2 rest (omega arith)
 
 pub hold_turn-requires-clause-holds : goal.hold_turn-requires-clause-holds
 hold_turn-requires-clause-holds c =
     let net = c.args.ring.now.net in
-    let members : net.members ≡ 2 ∷ c.requires.first.rest = ap (λ (m : NetPlan). m.members) c.requires.ring ∙ c.requires.first.is in
-    subst (λ (n : ℕ). Holds net c.args.ring.now.history n) (sym (ap (λ (w : WorkerIs). w.node) c.in_ok-worker.ensures))
+    let members : net.members ≡ 2 ∷ c.requires.first.rest =
+    ap (λ (m : NetPlan). m.members) c.requires.ring ∙ c.requires.first.is in
+    subst (λ (n : ℕ). Holds net c.args.ring.now.history n)
+    (sym (ap (λ (w : WorkerIs). w.node) c.in_ok-worker.ensures))
     (subst (λ (r : List RingEntry). Holds net r 2) (sym c.requires.empty)
     (record { holder = c.requires.holder; here = here-of net c.requires.first.rest members }))

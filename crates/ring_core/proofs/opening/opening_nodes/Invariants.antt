@@ -7,4 +7,5 @@ invariant-loop l = l.nodes.items ≡ replicate l.counter (fresh false)
 
 abbrev pub invariant-loop-member : goal.invariant-loop-member
 invariant-loop-member l =
-    (length l.nodes.items ≡ addresses) × (with_members l.nodes.items (drop l.member-index l.members) ≡ opening_nodes l.members)
+    (length l.nodes.items ≡ addresses)
+    × (with_members l.nodes.items (drop l.member-index l.members) ≡ opening_nodes l.members)

@@ -14,5 +14,6 @@ pub returns : goal.returns
 returns c =
     let word = c.args.word in
     let k = 15 - c.args.place in
-    subst (λ n. IsWithBit word c.args.place c.args.on (bit_or (bit_and word (65535 - 1 * 2 ^ k % 65536)) (n * 2 ^ k % 65536))) (sym
+    subst (λ n. IsWithBit word c.args.place c.args.on
+    (bit_or (bit_and word (65535 - 1 * 2 ^ k % 65536)) (n * 2 ^ k % 65536))) (sym
     (c.from.ensures ∙ byte_is c.args.on)) (put_bit word c.args.place c.args.on c.requires)

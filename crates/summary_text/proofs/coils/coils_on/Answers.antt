@@ -20,7 +20,8 @@ loop-at-preserved c =
     let is = c.is_on.ensures ∙ ap (λ (at : Ref). on at) c.coil_at.ensures in
     let counted = c.from-on.ensures ∙ byte_is c.is_on.result ∙ ap (λ (b : Bool). cond b 1 0) is in
     record {
-      count = coil_step on c.loop-at.at c.args.plan.now.coils c.loop-at.on (c.loop-at.on + c.from-on.result) _
+      count = coil_step on c.loop-at.at c.args.plan.now.coils c.loop-at.on
+          (c.loop-at.on + c.from-on.result) _
           c.loop-at-test.true c.loop-at.invariant.count (ap (λ n. c.loop-at.on + n) counted);
       few = omega (arith, c.from-on.ensures, at_most_one c.is_on.result, c.loop-at.invariant.few);
     }

@@ -5,11 +5,13 @@ use Rattle.table_ops.proofs.moves.table_to_table.Goals as goal
 
 pub move_word-requires-clause-source : goal.move_word-requires-clause-source
 move_word-requires-clause-source g c =
-    HasRegisters-at (g.R.RefStore.contents c.args.ram.now) c.args.top c.args.length c.place_at_start-place.result 1 c.ref_after.result c.requires.references.0
+    HasRegisters-at (g.R.RefStore.contents c.args.ram.now) c.args.top c.args.length
+    c.place_at_start-place.result 1 c.ref_after.result c.requires.references.0
     (omega arith) c.ref_after.ensures
 
 pub move_word-requires-clause-target : goal.move_word-requires-clause-target
 move_word-requires-clause-target g c =
     let place = c.place_at_start-place.result in
-    HasRegisters-at (g.R.RefStore.contents c.args.ram.now) c.args.mid (c.args.length + 1) (1 + place) 1 c.register_behind.result c.requires.references.1.0
+    HasRegisters-at (g.R.RefStore.contents c.args.ram.now) c.args.mid (c.args.length + 1)
+    (1 + place) 1 c.register_behind.result c.requires.references.1.0
     (omega arith) (c.register_behind.ensures ∙ ref_from-ref_from c.args.mid 1 place)

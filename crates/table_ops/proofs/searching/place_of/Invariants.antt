@@ -6,5 +6,6 @@ use Rattle.table_ops.proofs.searching.place_of.Given as goal
 
 abbrev pub invariant-loop-place : goal.invariant-loop-place
 invariant-loop-place g l =
-    position_from (λ word. word == l.value) l.place (drop l.place (words_from (g.R.RefStore.contents l.ram) l.table l.length))
+    position_from (λ word. word == l.value) l.place
+    (drop l.place (words_from (g.R.RefStore.contents l.ram) l.table l.length))
     ≡ first_place l.start l.value (words_from (g.R.RefStore.contents l.ram) l.table l.length)

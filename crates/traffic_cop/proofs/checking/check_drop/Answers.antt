@@ -13,9 +13,11 @@ returns-in_err-locate c =
     let position = length c.args.earlier.now + 1 in
     let place = drop_place 1 position in
     let tests = number_tests c.args.earlier.now c.args.drop.now in
-    let located = c.locate.ensures ∙ ap (λ q. at_place q c.check_numbers.result) c.drop_place.ensures ∙ ap (at_place place) c.check_numbers.ensures
+    let located = c.locate.ensures ∙ ap (λ q. at_place q c.check_numbers.result)
+    c.drop_place.ensures ∙ ap (at_place place) c.check_numbers.ensures
     ∙ placed-first place tests in
-    rw (p.1, p.2) (parts-failed (placed place tests) (part_tests c.args.sizes position c.args.drop.now) c.in_err-locate.field-0.0
+    rw (p.1, p.2) (parts-failed (placed place tests)
+    (part_tests c.args.sizes position c.args.drop.now) c.in_err-locate.field-0.0
     (sym c.in_err-locate.was ∙ located))
 
 pub returns : goal.returns
@@ -23,6 +25,8 @@ returns c =
     let position = length c.args.earlier.now + 1 in
     let place = drop_place 1 position in
     let tests = number_tests c.args.earlier.now c.args.drop.now in
-    let located = c.locate.ensures ∙ ap (λ q. at_place q c.check_numbers.result) c.drop_place.ensures ∙ ap (at_place place) c.check_numbers.ensures
+    let located = c.locate.ensures ∙ ap (λ q. at_place q c.check_numbers.result)
+    c.drop_place.ensures ∙ ap (at_place place) c.check_numbers.ensures
     ∙ placed-first place tests in
-    c.check_parts.ensures ∙ parts-held (placed place tests) (part_tests c.args.sizes position c.args.drop.now) (sym c.in_ok-locate.was ∙ located)
+    c.check_parts.ensures ∙ parts-held (placed place tests)
+    (part_tests c.args.sizes position c.args.drop.now) (sym c.in_ok-locate.was ∙ located)

@@ -13,15 +13,18 @@ loop-i-init c = refl
 pub returns-in_err-check_drop : goal.returns-in_err-check_drop
 returns-in_err-check_drop c =
     let p = err_from_is_err_and c.from_residual.result c.from_residual.ensures.1 in
-    rw (p.1, p.2) (item-failed (drop_tests c.args.sizes) c.args.drops.now c.loop-i.i c.index-drops-i.result c.in_err-check_drop.field-0.0 c.index-drops-i.is
+    rw (p.1, p.2) (item-failed (drop_tests c.args.sizes) c.args.drops.now c.loop-i.i
+    c.index-drops-i.result c.in_err-check_drop.field-0.0 c.index-drops-i.is
     (omega arith) c.loop-i.invariant (sym c.in_err-check_drop.was ∙ c.check_drop.ensures))
 
 pub loop-i-preserved : goal.loop-i-preserved
-loop-i-preserved c = item-held (drop_tests c.args.sizes) c.args.drops.now c.loop-i.i c.index-drops-i.result c.index-drops-i.is
+loop-i-preserved c = item-held (drop_tests c.args.sizes) c.args.drops.now c.loop-i.i
+    c.index-drops-i.result c.index-drops-i.is
     (omega arith) c.loop-i.invariant (sym c.in_ok-check_drop.was ∙ c.check_drop.ensures)
 
 pub returns : goal.returns
-returns c = items-end (drop_tests c.args.sizes) c.args.drops.now c.loop-i.i (omega arith) c.loop-i.invariant
+returns c =
+    items-end (drop_tests c.args.sizes) c.args.drops.now c.loop-i.i (omega arith) c.loop-i.invariant
 
 pub check_drop-requires : goal.check_drop-requires
 check_drop-requires c =

@@ -10,4 +10,5 @@ returns c =
     let place = module_place 1 c.args.drop (length c.args.earlier.now + 1) in
     let tests = module_tests (held_of c.args.sizes c.args.io_module) c.args.io_module in
     let tested = rw c.held_of.ensures at c.test_module.ensures in
-    c.locate.ensures ∙ ap (λ p. at_place p c.test_module.result) c.module_place-place.ensures ∙ ap (at_place place) tested ∙ placed-first place tests
+    c.locate.ensures ∙ ap (λ p. at_place p c.test_module.result) c.module_place-place.ensures
+    ∙ ap (at_place place) tested ∙ placed-first place tests

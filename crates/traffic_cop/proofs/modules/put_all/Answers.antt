@@ -7,8 +7,10 @@ use Rattle.traffic_cop.proofs.modules.put_all.Goals as goal
 pub loop-io_module-preserved : goal.loop-io_module-preserved
 loop-io_module-preserved g c =
     let so_far = c.loop-io_module.invariant in
-    let next = put_next c.args.modules.now c.loop-io_module.io_module-index _ c.loop-io_module.rest.now c.split_at.result.0.now c.split_at.result.1.now
-    (g.R.RefStore.contents c.loop-io_module.ram) (g.R.RefStore.contents c.put_words.new.ram) c.loop-io_module-test.true
+    let next = put_next c.args.modules.now c.loop-io_module.io_module-index _
+    c.loop-io_module.rest.now c.split_at.result.0.now c.split_at.result.1.now
+    (g.R.RefStore.contents c.loop-io_module.ram) (g.R.RefStore.contents c.put_words.new.ram)
+    c.loop-io_module-test.true
     (c.split_at.ensures.front ∙ ap (λ n. take n c.loop-io_module.rest.now) c.input_count.ensures)
     (c.split_at.ensures.back ∙ ap (λ n. drop n c.loop-io_module.rest.now) c.input_count.ensures)
     c.put_words.ensures.stored so_far.room so_far.words c.put_words.ensures.keeps in
@@ -22,5 +24,7 @@ loop-io_module-preserved g c =
 pub returns-clause-stored : goal.returns-clause-stored
 unfolding put_all
 returns-clause-stored g c =
-    let none : drop c.loop-io_module.io_module-index c.args.modules.now ≡ [] = drop_all c.loop-io_module.io_module-index c.args.modules.now (omega arith) in
-    sym (c.loop-io_module.invariant.stored ∙ ap (λ l. put_all l c.loop-io_module.rest.now (g.R.RefStore.contents c.loop-io_module.ram)) none)
+    let none : drop c.loop-io_module.io_module-index c.args.modules.now ≡ [] =
+    drop_all c.loop-io_module.io_module-index c.args.modules.now (omega arith) in
+    sym (c.loop-io_module.invariant.stored ∙ ap
+    (λ l. put_all l c.loop-io_module.rest.now (g.R.RefStore.contents c.loop-io_module.ram)) none)

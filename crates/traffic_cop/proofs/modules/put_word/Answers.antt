@@ -19,7 +19,8 @@ set_bit-requires-clause-held g c =
     let m = g.R.RefStore.contents c.args.ram.now in
     let front = take c.loop-place.place (bit_words (word_bits c.args.word)) in
     rw (c.ref_after.ensures, c.loop-place.invariant)
-    (Keeps-with_words m c.args.at front (ref_from c.args.at c.loop-place.place) (c.requires.held c.loop-place.place c.loop-place-test.true))
+    (Keeps-with_words m c.args.at front (ref_from c.args.at c.loop-place.place)
+    (c.requires.held c.loop-place.place c.loop-place-test.true))
 
 pub loop-place-preserved : goal.loop-place-preserved
 loop-place-preserved g c =
@@ -27,8 +28,10 @@ loop-place-preserved g c =
     let place = c.loop-place.place in
     let on = bit_at c.args.word (15 - place) == 1 in
     c.set_bit.ensures.stored
-    ∙ ap (λ r. insert (g.R.RefStore.contents c.loop-place.ram) r (cond c.bit_of.result 1 0)) c.ref_after.ensures
-    ∙ ap (λ b. insert (g.R.RefStore.contents c.loop-place.ram) (ref_from c.args.at place) (cond b 1 0)) c.bit_of.ensures
+    ∙ ap (λ r. insert (g.R.RefStore.contents c.loop-place.ram) r (cond c.bit_of.result 1 0))
+    c.ref_after.ensures
+    ∙ ap (λ b. insert (g.R.RefStore.contents c.loop-place.ram) (ref_from c.args.at place)
+    (cond b 1 0)) c.bit_of.ensures
     ∙ ap (λ n. insert n (ref_from c.args.at place) (cond on 1 0)) c.loop-place.invariant
     ∙ sym (stored_more m c.args.at c.args.word place c.loop-place-test.true)
 
@@ -37,9 +40,11 @@ returns-clause-stored g c =
     let words = bit_words (word_bits c.args.word) in
     let size = length-bit_words (word_bits c.args.word) ∙ length-bits_high_first 16 c.args.word in
     c.loop-place.invariant
-    ∙ ap (with_words (g.R.RefStore.contents c.args.ram.now) c.args.at) (take_all c.loop-place.place words (omega arith))
+    ∙ ap (with_words (g.R.RefStore.contents c.args.ram.now) c.args.at)
+    (take_all c.loop-place.place words (omega arith))
 
 pub returns-clause-keeps : goal.returns-clause-keeps
 returns-clause-keeps g c =
     let m = g.R.RefStore.contents c.args.ram.now in
-    subst (Keeps m) (sym c.loop-place.invariant) (Keeps-with_words m c.args.at (take c.loop-place.place (bit_words (word_bits c.args.word))))
+    subst (Keeps m) (sym c.loop-place.invariant)
+    (Keeps-with_words m c.args.at (take c.loop-place.place (bit_words (word_bits c.args.word))))

@@ -6,4 +6,5 @@ use Rattle.traffic_cop.proofs.modules.put_word.Given as goal
 abbrev pub invariant-loop-place : goal.invariant-loop-place
 invariant-loop-place g l =
     g.R.RefStore.contents l.ram
-    ≡ with_words (g.R.RefStore.contents l.initial.ram) l.at (take l.place (bit_words (word_bits l.word)))
+    ≡ with_words (g.R.RefStore.contents l.initial.ram) l.at
+    (take l.place (bit_words (word_bits l.word)))

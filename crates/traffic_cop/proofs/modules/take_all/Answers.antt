@@ -17,13 +17,18 @@ loop-io_module-preserved g c =
     let so_far = c.loop-io_module.invariant in
     let fits : count ≤ length words = omega arith in
     let next = take_next m modules i _ count got words part c.loop-io_module-test.true fits
-    c.take_words-count.ensures.count c.take_words-count.ensures.taken so_far.count so_far.taken so_far.room in
-    let behind : drop (length words - count) (drop count words) ≡ [] = drop_all (length words - count) (drop count words) (omega
+    c.take_words-count.ensures.count c.take_words-count.ensures.taken so_far.count so_far.taken
+    so_far.room in
+    let behind : drop (length words - count) (drop count words) ≡ [] =
+    drop_all (length words - count) (drop count words) (omega
     (arith, length-drop count words)) in
-    let whole : take count words ++ (part ++ drop (length words - count) (drop count words)) ≡ take count words ++ part =
-    ap (λ (l : List ℕ). take count words ++ (part ++ l)) behind ∙ ap (λ (l : List ℕ). take count words ++ l) (append-nil part) in
+    let whole : take count words ++ (part ++ drop (length words - count) (drop count words))
+    ≡ take count words ++ part =
+    ap (λ (l : List ℕ). take count words ++ (part ++ l)) behind
+    ∙ ap (λ (l : List ℕ). take count words ++ l) (append-nil part) in
     record {
       count = next.count;
-      taken = subst (λ (w : List ℕ). take (count + got) w ++ output_words m (drop (i + 1) modules) ≡ output_words m modules) (sym whole) next.taken;
+      taken = subst (λ (w : List ℕ). take (count + got) w ++ output_words m (drop (i + 1) modules)
+          ≡ output_words m modules) (sym whole) next.taken;
       room = next.room;
     }

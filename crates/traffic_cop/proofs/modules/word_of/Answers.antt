@@ -43,4 +43,5 @@ returns g c =
     let m = g.R.RefStore.contents c.args.ram.now in
     let bits = bits_from m c.args.at 16 in
     let size = length-bits_from m c.args.at 16 in
-    c.loop-place.invariant.number ∙ ap number_of_bits (take_all c.loop-place.place bits (omega arith))
+    c.loop-place.invariant.number
+    ∙ ap number_of_bits (take_all c.loop-place.place bits (omega arith))

@@ -4,4 +4,5 @@ use Rattle.traffic_cop.proofs.testing.gives_few_words.Given as goal
 
 -- what is left of the most words, and the words of the modules left
 abbrev pub invariant-loop-io_module : goal.invariant-loop-io_module
-invariant-loop-io_module l = l.left + output_total l.modules ≡ 64 + output_total (drop l.io_module-index l.modules)
+invariant-loop-io_module l =
+    l.left + output_total l.modules ≡ 64 + output_total (drop l.io_module-index l.modules)

@@ -11,5 +11,7 @@ returns c =
       tables = c.stays_table.ensures;
     } in
     λ alone_ram alone_ring fixed net n budget left known new_known ring new_ring t old new k.
-    turn-keeps laws fixed alone_ram alone_ring net n budget left known new_known ring new_ring t old new k
-    (c.turns_stay_in_time.ensures.turns alone_ram alone_ring fixed net n budget left known new_known ring new_ring old.node old.on new.legal t k.timely)
+    turn-keeps laws fixed alone_ram alone_ring net n budget left known new_known ring
+    new_ring t old new k
+    (c.turns_stay_in_time.ensures.turns alone_ram alone_ring fixed net n budget left known new_known
+    ring new_ring old.node old.on new.legal t k.timely)

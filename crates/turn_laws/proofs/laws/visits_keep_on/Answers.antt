@@ -12,4 +12,5 @@ returns c =
     } in
     λ alone_ram alone_ring fixed net n known new_known ring new_ring v old new k.
     visit-keeps laws fixed alone_ram alone_ring net n known new_known ring new_ring v old new k
-    (c.turns_stay_in_time.ensures.visits alone_ram alone_ring fixed net n known new_known ring new_ring old.node new.legal v k.timely)
+    (c.turns_stay_in_time.ensures.visits alone_ram alone_ring fixed net n known new_known ring
+    new_ring old.node new.legal v k.timely)

@@ -18,6 +18,8 @@ returns-clause-legal c =
     let both = c.same_calls.ensures in
     collect_may c.args.self.now c.args.calls.now c.in_ok-made.made told.calls
     (legal_went _ _ c.args.self.now c.collect.new.self told.went_on) c.same_calls.result (
-      λ yes. let is : IsTrue c.same_calls.result = search rules in sym c.as_slice.ensures ∙ both.0 is ∙ c.as_slice-2.ensures,
-      λ same. let is = both.1 (c.as_slice.ensures ∙ same ∙ sym c.as_slice-2.ensures) in search rules,
+      λ yes. let is : IsTrue c.same_calls.result = search rules in sym c.as_slice.ensures
+          ∙ both.0 is ∙ c.as_slice-2.ensures,
+      λ same.
+          let is = both.1 (c.as_slice.ensures ∙ same ∙ sym c.as_slice-2.ensures) in search rules,
     )

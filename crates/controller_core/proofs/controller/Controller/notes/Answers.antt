@@ -5,4 +5,5 @@ use Rattle.controller_core.proofs.controller.Controller.notes.Goals as goal
 
 pub returns : goal.returns
 returns c =
-    c.as_slice.ensures.value ∙ c.self.invariant.noted.are ∙ ap (λ (v : ControllerIs). noted_values v.fixed v.history) c.self.view_is
+    c.as_slice.ensures.value ∙ c.self.invariant.noted.are
+    ∙ ap (λ (v : ControllerIs). noted_values v.fixed v.history) c.self.view_is

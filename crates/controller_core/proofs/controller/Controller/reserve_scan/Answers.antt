@@ -9,12 +9,14 @@ use Rattle.controller_core.proofs.controller.Controller.reserve_scan.Goals as go
 pub invariant_of-self-2 : goal.invariant_of-self-2
 invariant_of-self-2 c =
     let i = c.self.inside in
-    let fits = fits_room i.machine.fixed.plan (i.machine.ended + 1) i.at c.self.invariant.kept.place in
+    let fits = fits_room i.machine.fixed.plan
+    (i.machine.ended + 1) i.at c.self.invariant.kept.place in
     record {
       kept = kept_same i.machine _ _ i.at c.try_reserve.ensures.items c.self.invariant.kept;
       room = λ is. grind (arith, common_steps, fits);
       noted = record {
-        are = c.try_reserve-2.ensures.items ∙ (noted_same i.machine.fixed _ _ _ c.try_reserve.ensures.items c.self.invariant.noted.are);
+        are = c.try_reserve-2.ensures.items ∙ (noted_same i.machine.fixed _ _ _
+            c.try_reserve.ensures.items c.self.invariant.noted.are);
         room = λ is. grind (arith, common_steps);
       };
     }
@@ -24,5 +26,6 @@ returns-then-self-clause-went_on c = record {
   fixed = refl;
   history = sym (append-nil _);
   made = tt;
-  legal = subst (λ (v : ControllerIs). IsLegal v.fixed v.history) c.self.view_is (legal_of _ _ _ _ c.self.invariant.kept);
+  legal = subst (λ (v : ControllerIs). IsLegal v.fixed v.history) c.self.view_is
+      (legal_of _ _ _ _ c.self.invariant.kept);
 }

@@ -1,4 +1,5 @@
-use Rattle.std.proofs.Common.{◌≡◌, ◌+◌, rules, true, ◌&&◌, ◌++◌, ◌∷◌, [], length, sym, ap, ◌∙◌, arith}
+use Rattle.std.proofs.Common.{◌≡◌, ◌+◌, rules, true, ◌&&◌, ◌++◌, ◌∷◌, [], length, sym, ap, ◌∙◌}
+use Rattle.std.proofs.Common.{arith}
 use Rattle.std.specs.Prelude.{not}
 use Rattle.std.proofs.lemmas.Grind.{common_steps}
 use Rattle.scan_order.specs.declared.due.ScanPlace.{ScanPlace}
@@ -7,7 +8,7 @@ use Rattle.controller_core.specs.declared.fixed.Fixed.{Fixed}
 use Rattle.controller_core.specs.declared.entry.Entry.{Entry}
 use Rattle.controller_core.specs.Event.{entry_of}
 use Rattle.controller_core.specs.Machine.{state_is}
-use Rattle.controller_core.specs.Replay.{State}
+use Rattle.controller_core.specs.Replay.{ControllerState}
 use Rattle.controller_core.specs.Scans.{closes_scan, ended_after}
 use Rattle.controller_core.specs.Controller.{ControllerIs}
 use Rattle.controller_core.proofs.Keeping.{can_solve, ended_made, kept_made, not_done, room_step}
@@ -26,7 +27,8 @@ pub overflow_add-scan : goal.overflow_add-scan
 overflow_add-scan c =
     let i = c.self.inside in
     let runs = c.self.invariant.kept.sound.runs in
-    let timely = timely_enough i.machine.fixed i.machine i.history.items i.at c.self.invariant.kept runs.scans runs.plan.count in
+    let timely = timely_enough i.machine.fixed i.machine i.history.items i.at c.self.invariant.kept
+    runs.scans runs.plan.count in
     let few = timely.ended in
     omega arith
 
@@ -34,12 +36,14 @@ pub perform-entry-requires-clause-timely : goal.perform-entry-requires-clause-ti
 perform-entry-requires-clause-timely c =
     let i = c.self.inside in
     let runs = c.self.invariant.kept.sound.runs in
-    timely_enough i.machine.fixed i.machine i.history.items i.at c.self.invariant.kept runs.scans runs.plan.count
+    timely_enough i.machine.fixed i.machine i.history.items i.at c.self.invariant.kept runs.scans
+    runs.plan.count
 
 pub perform-entry-requires-clause-watch : goal.perform-entry-requires-clause-watch
 perform-entry-requires-clause-watch c =
     let i = c.self.inside in
-    can_solve i.machine.fixed i.machine i.at c.next_due-step.result c.next_due-step.ensures.next (search rules) c.self.invariant.kept.watched
+    can_solve i.machine.fixed i.machine i.at c.next_due-step.result c.next_due-step.ensures.next
+    (search rules) c.self.invariant.kept.watched
 
 -- what is noted has room where a step is made
 pub note_panel-requires-clause-room : goal.note_panel-requires-clause-room
@@ -49,10 +53,13 @@ note_panel-requires-clause-room c =
     let kept = c.self.invariant.kept in
     let step = c.next_due-step.result in
     let goes : i.machine.stop ≡ 0 = search rules in
-    let lt = not_done i.machine.fixed.scans i.at i.machine.ended kept.within (sym c.if-is_done.ensures) in
-    let got = step_made i.machine.fixed i.machine c.perform-entry.new.self i.history.items i.at i.reserved step
+    let lt = not_done i.machine.fixed.scans i.at i.machine.ended kept.within
+    (sym c.if-is_done.ensures) in
+    let got = step_made i.machine.fixed i.machine c.perform-entry.new.self i.history.items i.at
+    i.reserved step
     c.args.self.now c.self.view_is kept goes lt c.next_due-step.ensures.next does.state in
-    let has : i.reserved ≡ true = ap (λ (v : ControllerIs). v.reserved) c.self.view_is ∙ c.requires got.2 in
+    let has : i.reserved ≡ true = ap (λ (v : ControllerIs). v.reserved) c.self.view_is
+    ∙ c.requires got.2 in
     let room = c.self.invariant.noted.room has in
     let panel = ap (λ (f : Fixed). length f.plan.panel) does.fixed in
     grind (arith, common_steps, room, panel)
@@ -67,10 +74,13 @@ note-requires c =
     let kept = c.self.invariant.kept in
     let step = c.next_due-step.result in
     let goes : i.machine.stop ≡ 0 = search rules in
-    let lt = not_done i.machine.fixed.scans i.at i.machine.ended kept.within (sym c.if-is_done.ensures) in
-    let got = step_made i.machine.fixed i.machine c.perform-entry.new.self i.history.items i.at i.reserved step
+    let lt = not_done i.machine.fixed.scans i.at i.machine.ended kept.within
+    (sym c.if-is_done.ensures) in
+    let got = step_made i.machine.fixed i.machine c.perform-entry.new.self i.history.items i.at
+    i.reserved step
     c.args.self.now c.self.view_is kept goes lt c.next_due-step.ensures.next does.state in
-    let has : i.reserved ≡ true = ap (λ (v : ControllerIs). v.reserved) c.self.view_is ∙ c.requires got.2 in
+    let has : i.reserved ≡ true = ap (λ (v : ControllerIs). v.reserved) c.self.view_is
+    ∙ c.requires got.2 in
     let room = c.self.invariant.room has in
     let some = ap length c.next_due-step.ensures.next in
     grind (arith, common_steps, room, some)
@@ -78,13 +88,15 @@ note-requires c =
 pub returns-then-is_done-clause-grows : goal.returns-then-is_done-clause-grows
 returns-then-is_done-clause-grows c =
     let i = c.self.inside in
-    sym (step_none i.machine.fixed i.machine i.history.items i.at i.reserved c.args.self.now c.self.view_is c.self.invariant.kept
+    sym (step_none i.machine.fixed i.machine i.history.items i.at i.reserved c.args.self.now
+    c.self.view_is c.self.invariant.kept
     (search rules) (sym c.if-is_done.ensures)).0
 
 pub returns-then-is_done-clause-answer : goal.returns-then-is_done-clause-answer
 returns-then-is_done-clause-answer c =
     let i = c.self.inside in
-    sym (step_none i.machine.fixed i.machine i.history.items i.at i.reserved c.args.self.now c.self.view_is c.self.invariant.kept
+    sym (step_none i.machine.fixed i.machine i.history.items i.at i.reserved c.args.self.now
+    c.self.view_is c.self.invariant.kept
     (search rules) (sym c.if-is_done.ensures)).1
 
 pub returns-clause-went_on : goal.returns-clause-went_on
@@ -97,12 +109,16 @@ returns-clause-went_on c =
     let l = c.note.new.history.items in
     let to = c.place_after-at.result in
     let goes : i.machine.stop ≡ 0 = search rules in
-    let lt = not_done i.machine.fixed.scans i.at i.machine.ended kept.within (sym c.if-is_done.ensures) in
+    let lt = not_done i.machine.fixed.scans i.at i.machine.ended kept.within
+    (sym c.if-is_done.ensures) in
     let h : l ≡ i.history.items ++ entry_of i.machine.fixed (state_is i.machine) step ∷ [] =
-    c.note.ensures.items ∙ ap (λ (x : Entry). i.history.items ++ x ∷ []) c.perform-entry.ensures.entry in
+    c.note.ensures.items
+    ∙ ap (λ (x : Entry). i.history.items ++ x ∷ []) c.perform-entry.ensures.entry in
     let new = kept_made i.machine.fixed i.machine n i.history.items l i.at to step
-    kept goes lt c.next_due-step.ensures.next c.next_due-step.ensures.step does h c.place_after-at.ensures in
-    went_on_step i.machine.fixed i.machine n i.history.items l i.at to i.reserved c.keeps_room-reserved.result step
+    kept goes lt c.next_due-step.ensures.next c.next_due-step.ensures.step does h
+    c.place_after-at.ensures in
+    went_on_step i.machine.fixed i.machine n i.history.items l i.at to i.reserved
+    c.keeps_room-reserved.result step
     c.args.self.now c.self.view_is kept new does.fixed h
 
 pub invariant_of-self : goal.invariant_of-self
@@ -114,22 +130,28 @@ invariant_of-self c =
     let does = c.perform-entry.ensures.does in
     let n = c.perform-entry.new.self in
     let goes : i.machine.stop ≡ 0 = search rules in
-    let lt = not_done i.machine.fixed.scans i.at i.machine.ended kept.within (sym c.if-is_done.ensures) in
-    let h : c.note.new.history.items ≡ i.history.items ++ entry_of i.machine.fixed (state_is i.machine) step ∷ [] =
-    c.note.ensures.items ∙ ap (λ (x : Entry). i.history.items ++ x ∷ []) c.perform-entry.ensures.entry in
-    let new = kept_made i.machine.fixed i.machine n i.history.items c.note.new.history.items i.at c.place_after-at.result step
+    let lt = not_done i.machine.fixed.scans i.at i.machine.ended kept.within
+    (sym c.if-is_done.ensures) in
+    let h : c.note.new.history.items
+    ≡ i.history.items ++ entry_of i.machine.fixed (state_is i.machine) step ∷ [] =
+    c.note.ensures.items
+    ∙ ap (λ (x : Entry). i.history.items ++ x ∷ []) c.perform-entry.ensures.entry in
+    let new = kept_made i.machine.fixed i.machine n i.history.items c.note.new.history.items i.at
+    c.place_after-at.result step
     kept goes lt next c.next_due-step.ensures.step does h c.place_after-at.ensures in
     record {
       kept = new;
-      noted = noted_step i.machine.fixed (state_is i.machine) n i.history.items c.note.new.history.items step i.reserved
-          c.keeps_room-reserved.result i.values.items c.note_panel.new.values.items _ _ does.fixed h new.state c.keeps_room-reserved.ensures
+      noted = noted_step i.machine.fixed (state_is i.machine) n i.history.items
+          c.note.new.history.items step i.reserved
+          c.keeps_room-reserved.result i.values.items c.note_panel.new.values.items _ _ does.fixed h
+          new.state c.keeps_room-reserved.ensures
           c.note_panel.ensures.values c.note_panel.ensures.capacity c.self.invariant.noted;
       room = λ is.
           let two = room_step i.reserved i.machine.fixed i.machine i.at step n.stop
           (sym c.keeps_room-reserved.ensures ∙ is) next in
           let before = c.self.invariant.room two.0 in
           let less = two.1 in
-          let ended = ap (λ (t : State). t.ended) does.state
+          let ended = ap (λ (t : ControllerState). t.ended) does.state
           ∙ ended_made i.machine.fixed (state_is i.machine) step in
           let to = c.place_after-at.result in
           let plan = ap (λ (f : Fixed). length (due_after f.plan (n.ended + 1) to)) does.fixed in
@@ -146,13 +168,22 @@ returns-clause-grows c =
     let step = c.next_due-step.result in
     let does = c.perform-entry.ensures.does in
     let goes : i.machine.stop ≡ 0 = search rules in
-    let lt = not_done i.machine.fixed.scans i.at i.machine.ended kept.within (sym c.if-is_done.ensures) in
-    let got = step_made i.machine.fixed i.machine c.perform-entry.new.self i.history.items i.at i.reserved step
+    let lt = not_done i.machine.fixed.scans i.at i.machine.ended kept.within
+    (sym c.if-is_done.ensures) in
+    let got = step_made i.machine.fixed i.machine c.perform-entry.new.self i.history.items i.at
+    i.reserved step
     c.args.self.now c.self.view_is kept goes lt c.next_due-step.ensures.next does.state in
-    let h : c.note.new.history.items ≡ i.history.items ++ entry_of i.machine.fixed (state_is i.machine) step ∷ [] =
-    c.note.ensures.items ∙ ap (λ (x : Entry). i.history.items ++ x ∷ []) c.perform-entry.ensures.entry in
-    let r : c.keeps_room-reserved.result ≡ (i.reserved && not (closes_scan step c.perform-entry.new.self.stop)) = c.keeps_room-reserved.ensures in
-    let made : record { fixed = c.perform-entry.new.self.fixed; history = c.note.new.history.items; reserved = c.keeps_room-reserved.result }
+    let h : c.note.new.history.items
+    ≡ i.history.items ++ entry_of i.machine.fixed (state_is i.machine) step ∷ [] =
+    c.note.ensures.items
+    ∙ ap (λ (x : Entry). i.history.items ++ x ∷ []) c.perform-entry.ensures.entry in
+    let r : c.keeps_room-reserved.result ≡ (i.reserved
+    && not (closes_scan step c.perform-entry.new.self.stop)) = c.keeps_room-reserved.ensures in
+    let made : record {
+      fixed = c.perform-entry.new.self.fixed;
+      history = c.note.new.history.items;
+      reserved = c.keeps_room-reserved.result;
+    }
     ≡ record {
       fixed = i.machine.fixed;
       history = i.history.items ++ entry_of i.machine.fixed
@@ -168,7 +199,9 @@ returns-clause-answer c =
     let does = c.perform-entry.ensures.does in
     let kept = c.self.invariant.kept in
     let goes : i.machine.stop ≡ 0 = search rules in
-    let lt = not_done i.machine.fixed.scans i.at i.machine.ended kept.within (sym c.if-is_done.ensures) in
-    let got = step_made i.machine.fixed i.machine c.perform-entry.new.self i.history.items i.at i.reserved c.next_due-step.result
+    let lt = not_done i.machine.fixed.scans i.at i.machine.ended kept.within
+    (sym c.if-is_done.ensures) in
+    let got = step_made i.machine.fixed i.machine c.perform-entry.new.self i.history.items i.at
+    i.reserved c.next_due-step.result
     c.args.self.now c.self.view_is kept goes lt c.next_due-step.ensures.next does.state in
     sym got.1

@@ -19,7 +19,8 @@ returns c =
         exchanges = sound.exchanges;
       };
       timely = λ steps timely. record {
-        clock = let h = timely.clock in let t = sound.runs.scan_time in omega (arith, c.from.ensures);
+        clock = let h = timely.clock in let t = sound.runs.scan_time in omega
+            (arith, c.from.ensures);
         exchanges = λ i. let h = timely.exchanges i in omega arith;
         ended = let h = timely.ended in omega arith;
       };

@@ -1,7 +1,7 @@
 use Rattle.std.proofs.Common.{◌≡◌, refl, sym, ap, subst, ◌∙◌, arith}
 use Rattle.plant_types.specs.Checks.{sizes_of}
 use Rattle.plant_types.specs.Sizes.{discretes}
-use Rattle.plant_types.specs.Store.{Contents, Keeps, part_at}
+use Rattle.plant_types.specs.Store.{Contents, Keeps, part_within}
 use Rattle.controller_core.proofs.machine.Machine.end.Goals as goal
 
 pub copy_from-requires : goal.copy_from-requires
@@ -9,7 +9,8 @@ copy_from-requires c =
     let machine = c.args.self.now in
     let sound = c.requires.sound in
     subst (λ (past : Contents). Keeps past machine.ram) (sym sound.past.is)
-    (c.discretes_follow.ensures.held (sizes_of machine.fixed.plan) sound.past.store machine.ram sound.keeps)
+    (c.discretes_follow.ensures.held (sizes_of machine.fixed.plan) sound.past.store
+    machine.ram sound.keeps)
 
 pub returns : goal.returns
 returns c =
@@ -17,7 +18,7 @@ returns c =
     let sound = c.requires.sound in
     let sizes = sizes_of machine.fixed.plan in
     let past : c.copy_from.new.self ≡ discretes sizes machine.ram =
-    c.copy_from.ensures.copied ∙ ap (λ (m : Contents). part_at m machine.ram) sound.past.is
+    c.copy_from.ensures.copied ∙ ap (λ (m : Contents). part_within m machine.ram) sound.past.is
     ∙ c.discretes_follow.ensures.copied sizes sound.past.store machine.ram sound.past.keeps in
     record {
       fixed = refl;

@@ -20,9 +20,11 @@ returns c =
     let place = c.from-place.result - 1 in
     let here : place ≡ drop - 1 = ap (λ n. n - 1) c.from-place.ensures in
     let within : place < length xs = omega (arith, c.from-place.ensures) in
-    let count : c.index.result.now ≡ get_or xs place 0 = c.index.ensures ∙ get_or_default xs place c.index.result.now 0 within in
+    let count : c.index.result.now ≡ get_or xs place 0 = c.index.ensures
+    ∙ get_or_default xs place c.index.result.now 0 within in
     let next = get_or xs (drop - 1) 0 + 1 in
-    let k : c.index.result.now + 1 ≡ next = ap (λ n. n + 1) (count ∙ ap (λ p. get_or xs p 0) here) in
+    let k : c.index.result.now + 1 ≡ next =
+    ap (λ n. n + 1) (count ∙ ap (λ p. get_or xs p 0) here) in
     let map : c.input.new.ram ≡ input_after machine.fixed.plan.drops drop next machine.ram =
     c.input.ensures.stored ∙ ap (λ n. input_after machine.cop drop n machine.ram) k
     ∙ ap (λ (d : List IoDrop). input_after d drop next machine.ram) sound.drops in
@@ -31,7 +33,8 @@ returns c =
     record {
       fixed = refl;
       state = λ i. record {
-        solving = solve_state (map i) (discretes_on machine.past) machine.ladder.edges machine.bank machine.clock machine.watch.left;
+        solving = solve_state (map i) (discretes_on machine.past) machine.ladder.edges machine.bank
+            machine.clock machine.watch.left;
         exchanges = counts i;
         ended = machine.ended;
         stop = machine.stop;

@@ -23,7 +23,8 @@ returns-clause-sound c =
     let sizes = sizes_of plan in
     let made = c.in_ok-parts.ensures in
     let blocks : length c.in_ok-parts.parts.solver.bank.blocks ≡ mstr_blocks plan.segments =
-    ap (λ (t : BlockTable). length t.blocks) made.solver.bank ∙ length-replicate (mstr_blocks plan.segments) Idle in
+    ap (λ (t : BlockTable). length t.blocks) made.solver.bank
+    ∙ length-replicate (mstr_blocks plan.segments) Idle in
     record {
       runs = c.requires;
       grids = sym (ap (λ (l : LadderState). l.grids) made.solver.ladder);
@@ -48,7 +49,8 @@ returns-clause-state c =
     ap discretes_on made.stores.past ∙ c.discretes_are_on.ensures.fresh (discretes_of sizes) in
     let edges = ap (λ (l : LadderState). l.edges) made.solver.ladder in
     λ i. record {
-      solving = solve_state (made.stores.ram i) (past i) (edges i) (made.solver.bank i) (record { before = 0; now = 0 }) 0;
+      solving = solve_state (made.stores.ram i) (past i) (edges i) (made.solver.bank i)
+          (record { before = 0; now = 0 }) 0;
       exchanges = made.exchanges i;
       ended = 0;
       stop = 0;
@@ -59,6 +61,7 @@ returns-clause-timely c =
     let items = c.in_ok-parts.ensures.exchanges in
     record {
       clock = omega arith;
-      exchanges = λ i. let e : get_or c.in_ok-parts.parts.exchanges.items i 0 ≡ 0 = ap (λ (l : List ℕ). get_or l i 0) items ∙ zero_at 32 i in omega arith;
+      exchanges = λ i. let e : get_or c.in_ok-parts.parts.exchanges.items i 0 ≡ 0 =
+          ap (λ (l : List ℕ). get_or l i 0) items ∙ zero_at 32 i in omega arith;
       ended = omega arith;
     }

@@ -10,5 +10,6 @@ push_values-requires-clause-there c =
     let plan = m.fixed.plan in
     let sound = c.requires.sound in
     let found = c.checked_plans_find_all.ensures plan sound.runs.plan.passes in
-    let there = c.kept_stores_find_all.ensures.panel (cleared (sizes_of plan)) m.ram plan.panel sound.keeps found.panel in
+    let there = c.kept_stores_find_all.ensures.panel (cleared (sizes_of plan)) m.ram plan.panel
+    sound.keeps found.panel in
     subst (λ (panel : List Ref). HasPanel m.ram panel) (sym c.panel.ensures) there

@@ -4,7 +4,7 @@ use Rattle.grid_compile.specs.Layout.{grids_of}
 use Rattle.std.specs.Prelude.{if◌then◌else◌}
 use Rattle.ladder_solver.specs.declared.watch.SolveEnd.{SolveEnd}
 use Rattle.ladder_solver.specs.declared.watch.SolveEnd.TheVariants as ends
-use Rattle.ladder_solver.specs.State.{solve_state, State as Solving}
+use Rattle.ladder_solver.specs.State.{solve_state, SolveState}
 use Rattle.ladder_solver.specs.Segment.{segment_after}
 use Rattle.controller_core.specs.Machine.{state_is, stop_by}
 use Rattle.controller_core.specs.Replay.{watchdog_stop}
@@ -33,24 +33,31 @@ solve-end-requires c =
     }
 
 -- a solve ends by the watchdog exactly where it has no network left
-stop_is : (end : SolveEnd) (left stop : ℕ) → (end ≡ ends.Watchdog) ↔ (left ≡ 0) → stop_by end stop ≡ (if left == 0 then watchdog_stop else stop)
+stop_is : (end : SolveEnd) (left stop : ℕ) → (end ≡ ends.Watchdog) ↔ (left ≡ 0)
+    → stop_by end stop ≡ (if left == 0 then watchdog_stop else stop)
 stop_is ends.Done left stop both =
     let some : (left == 0) ≡ false = grind (arith, both) in
     sym (ap (λ b. if b then watchdog_stop else stop) some)
-stop_is ends.Watchdog left stop both = sym (ap (λ n. if n == 0 then watchdog_stop else stop) (both.0 refl))
+stop_is ends.Watchdog left stop both =
+    sym (ap (λ n. if n == 0 then watchdog_stop else stop) (both.0 refl))
 
 pub returns : goal.returns
 returns c =
     let machine = c.args.self.now in
     let sound = c.requires.sound in
-    let after = segment_after machine.fixed.plan.segments c.args.segment (state_is machine).solving in
-    let done : solve_state c.solve-end.new.ram (discretes_on machine.past) c.solve-end.new.self.edges c.solve-end.new.bank
+    let after = segment_after machine.fixed.plan.segments c.args.segment
+    (state_is machine).solving in
+    let done : solve_state c.solve-end.new.ram
+    (discretes_on machine.past) c.solve-end.new.self.edges c.solve-end.new.bank
     machine.clock c.solve-end.new.watch.left ≡ after =
     c.solve-end.ensures.solved.solved machine.fixed.plan.segments sound.grids in
-    let calls = c.segments_keep_calls.ensures.calls machine.fixed.plan.segments c.args.segment (state_is machine).solving in
-    let code : c.stop_behind-self.result ≡ (if after.left == 0 then watchdog_stop else machine.stop) =
-    c.stop_behind-self.ensures ∙ stop_is c.solve-end.result c.solve-end.new.watch.left machine.stop c.solve-end.ensures.stopped
-    ∙ ap (λ (s : Solving). if s.left == 0 then watchdog_stop else machine.stop) done in
+    let calls = c.segments_keep_calls.ensures.calls machine.fixed.plan.segments c.args.segment
+    (state_is machine).solving in
+    let code : c.stop_behind-self.result
+    ≡ (if after.left == 0 then watchdog_stop else machine.stop) =
+    c.stop_behind-self.ensures
+    ∙ stop_is c.solve-end.result c.solve-end.new.watch.left machine.stop c.solve-end.ensures.stopped
+    ∙ ap (λ (s : SolveState). if s.left == 0 then watchdog_stop else machine.stop) done in
     record {
       fixed = refl;
       state = λ i. record {
@@ -66,9 +73,10 @@ returns c =
         drops = sound.drops;
         keeps = λ at h. c.solve-end.ensures.solved.keeps at (sound.keeps at h);
         past = sound.past;
-        node = ap (λ (s : Solving). s.table.node) done ∙ calls.node ∙ sound.node;
+        node = ap (λ (s : SolveState). s.table.node) done ∙ calls.node ∙ sound.node;
         blocks = c.solve-end.ensures.solved.blocks ∙ sound.blocks;
-        few = let same = c.solve-end.ensures.solved.blocks in let few = sound.few in omega (arith, same, few);
+        few = let same = c.solve-end.ensures.solved.blocks in let few = sound.few in omega
+            (arith, same, few);
         exchanges = sound.exchanges;
       };
     }

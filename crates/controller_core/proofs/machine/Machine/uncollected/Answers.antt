@@ -16,20 +16,25 @@ overflow_add-next c =
 
 pub loop-call-smaller : goal.loop-call-smaller
 loop-call-smaller c =
-    let next = next_item (started_calls c.args.self.now.bank) c.loop-call.next c.in-Some.call c.loop-call.invariant.0 c.in-Some.ensures.call in
+    let next = next_item (started_calls c.args.self.now.bank) c.loop-call.next c.in-Some.call
+    c.loop-call.invariant.0 c.in-Some.ensures.call in
     let within = next.within in
     omega arith
 
 pub loop-call-preserved : goal.loop-call-preserved
 loop-call-preserved c =
     let xs = started_calls c.args.self.now.bank in
-    let next = next_item xs c.loop-call.next c.in-Some.call c.loop-call.invariant.0 c.in-Some.ensures.call in
+    let next = next_item xs c.loop-call.next c.in-Some.call c.loop-call.invariant.0
+    c.in-Some.ensures.call in
     let within = next.within in (
       omega arith,
       omega arith,
-      c.in_ok-push.ensures.ok ∙ ap (λ (l : List Call). l ++ c.in_ok-of.field-0 ∷ []) c.loop-call.invariant.2
-          ∙ ap (λ (x : Call). map call_of (take (c.loop-call.next - 1) xs) ++ x ∷ []) c.in_ok-of.ensures
-          ∙ sym (ap (λ (l : List MstrCall). map call_of l) next.more ∙ map_push call_of (take (c.loop-call.next - 1) xs) c.in-Some.call),
+      c.in_ok-push.ensures.ok
+          ∙ ap (λ (l : List Call). l ++ c.in_ok-of.field-0 ∷ []) c.loop-call.invariant.2
+          ∙ ap (λ (x : Call). map call_of (take (c.loop-call.next - 1) xs) ++ x ∷ [])
+          c.in_ok-of.ensures
+          ∙ sym (ap (λ (l : List MstrCall). map call_of l) next.more
+          ∙ map_push call_of (take (c.loop-call.next - 1) xs) c.in-Some.call),
     )
 
 pub returns : goal.returns

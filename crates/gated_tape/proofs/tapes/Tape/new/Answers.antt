@@ -4,4 +4,5 @@ use Rattle.gated_tape.proofs.Marking.{legal-nil}
 use Rattle.gated_tape.proofs.tapes.Tape.new.Goals as goal
 
 pub invariant_of-result : goal.invariant_of-result
-invariant_of-result c = subst (IsLegalTape c.args.limit) (sym c.new.ensures.items) (legal-nil c.args.limit)
+invariant_of-result c =
+    subst (IsLegalTape c.args.limit) (sym c.new.ensures.items) (legal-nil c.args.limit)

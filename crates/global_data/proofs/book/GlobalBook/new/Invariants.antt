@@ -1,5 +1,7 @@
 use Rattle.std.proofs.Common.{◌≡◌, drop, replicate, length, None}
-use Rattle.global_data.specs.Book.{new_book, with_places, book_places}
+use Rattle.global_data.specs.Book.{new_book}
+use Rattle.global_data.specs.Places.{filled, book_places}
+use Rattle.global_data.proofs.Members.{joined}
 use Rattle.global_data.proofs.book.GlobalBook.new.Given as goal
 
 abbrev pub invariant-loop : goal.invariant-loop
@@ -7,4 +9,6 @@ invariant-loop l = l.places.items ≡ replicate l.counter None
 
 abbrev pub invariant-loop-member : goal.invariant-loop-member
 invariant-loop-member l =
-    (length l.places.items ≡ book_places) × (with_places l.places.items (drop l.member-index l.members) ≡ new_book l.members)
+    (length l.places.items ≡ book_places)
+    × (joined (filled (λ node. node) l.places.items) (drop l.member-index l.members)
+    ≡ new_book l.members)

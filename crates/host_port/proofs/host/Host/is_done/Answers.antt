@@ -9,7 +9,10 @@ pub returns-then-self-as_slice : goal.returns-then-self-as_slice
 returns-then-self-as_slice c =
     let i = c.self.inside in
     let h = i.history.items in
-    let free = all_free i.plan h i.paths c.self.invariant.kept.unanswered c.self.invariant.kept.state in
+    let free = all_free i.plan h i.paths c.self.invariant.kept.unanswered
+    c.self.invariant.kept.state in
     let made : (length (requests_in h) == length i.plan.requests) ≡ true =
-    eq-eqb _ _ (sym c.self.invariant.kept.count ∙ c.if-self-as_slice.true ∙ ap length c.as_slice.ensures) in
-    c.are_free.ensures ∙ free ∙ ap (λ b. b && (length (unanswered_in h) == 0)) (sym made) ∙ ap host_is_done c.self.view_is
+    eq-eqb _ _
+    (sym c.self.invariant.kept.count ∙ c.if-self-as_slice.true ∙ ap length c.as_slice.ensures) in
+    c.are_free.ensures ∙ free ∙ ap (λ b. b && (length (unanswered_in h) == 0)) (sym made)
+    ∙ ap host_is_done c.self.view_is

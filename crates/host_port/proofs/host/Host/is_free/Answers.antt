@@ -9,5 +9,7 @@ pub returns : goal.returns
 returns c =
     let h = c.self.inside.history.items in
     ap (λ (p : Path). not p.is_open)
-    (path_read h c.self.inside.paths c.args.path c.from.result _ c.self.invariant.kept.state c.requires c.from.ensures)
-    ∙ not_not (path_is_free h c.args.path) ∙ ap (λ (v : HostIs). path_is_free v.history c.args.path) c.self.view_is
+    (path_read h c.self.inside.paths c.args.path c.from.result _ c.self.invariant.kept.state
+    c.requires c.from.ensures)
+    ∙ not_not (path_is_free h c.args.path)
+    ∙ ap (λ (v : HostIs). path_is_free v.history c.args.path) c.self.view_is

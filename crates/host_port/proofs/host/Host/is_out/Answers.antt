@@ -15,7 +15,8 @@ returns-then-id-self c =
     let here = ap (λ (v : HostIs). is_unanswered v.history c.args.id) c.self.view_is in
     elim (cases_Bool (is_unanswered h c.args.id)) [
       | inl out ↦
-          let last = out_last c.self.inside.plan h (unanswered_in h) c.args.id c.self.invariant.kept.unanswered out in
+          let last = out_last c.self.inside.plan h
+          (unanswered_in h) c.args.id c.self.invariant.kept.unanswered out in
           let node = ap (λ (i : CallId). i.node) last.name in
           elim c.then-id-self.branch [
             | then-id-self-via-then-id-self w ↦ absurd (omega (arith, node))
@@ -30,8 +31,10 @@ returns-then-path c =
     let i = c.self.inside in
     let h = i.history.items in
     let path = c.is_path.ensures.only c.if-not-is_path.false in
-    let read = path_read h i.paths c.args.id.path c.from.result _ c.self.invariant.kept.state path c.from.ensures in
-    out_where i.plan h c.args.id _ c.self.invariant.kept.unanswered c.if-id-self.false read c.if-path.true
+    let read = path_read h i.paths c.args.id.path c.from.result _ c.self.invariant.kept.state path
+    c.from.ensures in
+    out_where i.plan h c.args.id _ c.self.invariant.kept.unanswered c.if-id-self.false read
+    c.if-path.true
     ∙ ap (λ (v : HostIs). is_unanswered v.history c.args.id) c.self.view_is
 
 pub returns-else-path : goal.returns-else-path
@@ -39,6 +42,8 @@ returns-else-path c =
     let i = c.self.inside in
     let h = i.history.items in
     let path = c.is_path.ensures.only c.if-not-is_path.false in
-    let read = path_read h i.paths c.args.id.path c.from.result _ c.self.invariant.kept.state path c.from.ensures in
-    out_nowhere i.plan h c.args.id _ c.self.invariant.kept.unanswered c.if-id-self.false read c.if-path.false
+    let read = path_read h i.paths c.args.id.path c.from.result _ c.self.invariant.kept.state path
+    c.from.ensures in
+    out_nowhere i.plan h c.args.id _ c.self.invariant.kept.unanswered c.if-id-self.false read
+    c.if-path.false
     ∙ ap (λ (v : HostIs). is_unanswered v.history c.args.id) c.self.view_is

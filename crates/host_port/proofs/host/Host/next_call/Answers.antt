@@ -11,7 +11,9 @@ returns c =
     let i = c.self.inside in
     let h = i.history.items in
     let p = c.in-Some.path in
-    let read = path_read h i.paths p c.from.result _ c.self.invariant.kept.state c.in-Some.ensures.path c.from.ensures in
+    let read = path_read h i.paths p c.from.result _ c.self.invariant.kept.state
+    c.in-Some.ensures.path c.from.ensures in
     let named = λ (q : Path). Some (record { node = i.plan.node; path = p; seq = q.asked + 1 }) in
     let here = ap (λ (v : HostIs). Some (call_on v.plan v.history p)) c.self.view_is in
-    ap named read ∙ here ∙ ap (option_map (call_on c.args.self.now.plan c.args.self.now.history)) c.in-Some.ensures.free
+    ap named read ∙ here
+    ∙ ap (option_map (call_on c.args.self.now.plan c.args.self.now.history)) c.in-Some.ensures.free

@@ -7,8 +7,10 @@ use Rattle.ladder_solver.proofs.edges.Edges.cleared.Goals as goal
 
 pub returns : goal.returns
 returns c =
-    let bits : map (λ networks. networks.items) c.loop-segment.edges.items ≡ cleared_bits c.args.segments.now =
-    c.loop-segment.invariant ∙ ap cleared_bits (take_all c.loop-segment.segment-index c.args.segments.now c.loop-segment-test.false) in
+    let bits : map (λ networks. networks.items) c.loop-segment.edges.items
+    ≡ cleared_bits c.args.segments.now =
+    c.loop-segment.invariant ∙ ap cleared_bits
+    (take_all c.loop-segment.segment-index c.args.segments.now c.loop-segment-test.false) in
     λ i. record {
       counts = (ap (map length) bits ∙ counts-cleared c.args.segments.now) i;
       on = (ap edges_of bits ∙ edges_of-cleared c.args.segments.now) i;

@@ -16,10 +16,12 @@ solve-end-requires g c =
     record {
       first = omega arith;
       last = grind (arith, common_steps);
-      operands = subst (HasGridOperands plant.ram) (sym c.requires.laid) (law.operands plant.ram segments
+      operands = subst (HasGridOperands plant.ram) (sym c.requires.laid)
+          (law.operands plant.ram segments
           (kept.operands (cleared sizes) plant.ram segments c.requires.stored found.operands));
       past = subst (HasGridPast plant.past) (sym c.requires.laid) (law.past plant.past segments
-          (kept.past (cleared (discretes_of sizes)) plant.past segments c.requires.discretes found.past));
+          (kept.past (cleared (discretes_of sizes)) plant.past segments
+          c.requires.discretes found.past));
       blocks = c.requires.blocks;
       left = grind (arith, common_steps);
     }

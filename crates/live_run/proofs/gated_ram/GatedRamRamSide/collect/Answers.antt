@@ -34,20 +34,26 @@ returns-clause-went g c =
 pub collect-answer-requires : goal.collect-answer-requires
 collect-answer-requires g c =
     let found = c.get_mut-controller.ensures.value ∙ ap controller_in c.value.ensures.value in
-    let w = found-went c.self.inside.pass c.args.self.now.seen _ c.get_mut-controller.result.now.history c.self.invariant.number_is
+    let w = found-went c.self.inside.pass c.args.self.now.seen _
+    c.get_mut-controller.result.now.history c.self.invariant.number_is
     c.enter-held.ensures.found (ap (λ (s : GatedRamIs). s.seen) c.self.view_is)
     (ap (λ (v : ControllerIs). v.history) found) in
-    started-found c.conditions_stay.ensures c.args.self.now.gate.fixed c.get_mut-controller.result.now.fixed _ _
-    (ap (λ (v : ControllerIs). v.fixed) found ∙ (c.enter-held.ensures.fixed ∙ ap (λ (s : GatedRamIs). s.gate.fixed) c.self.view_is))
+    started-found c.conditions_stay.ensures c.args.self.now.gate.fixed
+    c.get_mut-controller.result.now.fixed _ _
+    (ap (λ (v : ControllerIs). v.fixed) found
+    ∙ (c.enter-held.ensures.fixed ∙ ap (λ (s : GatedRamIs). s.gate.fixed) c.self.view_is))
     w c.requires
 
 pub returns-clause-fresh : goal.returns-clause-fresh
 returns-clause-fresh g c =
     let found = c.get_mut-controller.ensures.value ∙ ap controller_in c.value.ensures.value in
-    let w = found-went c.self.inside.pass c.args.self.now.seen _ c.get_mut-controller.result.now.history c.self.invariant.number_is
+    let w = found-went c.self.inside.pass c.args.self.now.seen _
+    c.get_mut-controller.result.now.history c.self.invariant.number_is
     c.enter-held.ensures.found (ap (λ (s : GatedRamIs). s.seen) c.self.view_is)
     (ap (λ (v : ControllerIs). v.history) found) in
-    fresh-as c.collect-answer.result c.get_mut-controller.result.now.fixed c.args.self.now.gate.fixed c.args.self.now.seen
+    fresh-as c.collect-answer.result c.get_mut-controller.result.now.fixed
+    c.args.self.now.gate.fixed c.args.self.now.seen
     c.get_mut-controller.result.now.history
-    (ap (λ (v : ControllerIs). v.fixed) found ∙ (c.enter-held.ensures.fixed ∙ ap (λ (s : GatedRamIs). s.gate.fixed) c.self.view_is))
+    (ap (λ (v : ControllerIs). v.fixed) found
+    ∙ (c.enter-held.ensures.fixed ∙ ap (λ (s : GatedRamIs). s.gate.fixed) c.self.view_is))
     w c.collect-answer.ensures.fresh

@@ -16,7 +16,8 @@ leave-requires-clause-added g c =
     (ap (λ (p : PassFacts Entry). p.number) c.enter-held.ensures.pass ∙ c.self.invariant.number_is)
     (ap (λ (p : PassFacts Entry). p.seen) c.enter-held.ensures.pass)
     (ap (λ (v : ControllerIs). v.history) found) c.finish-answer.ensures.went.list
-    (all_if maker_number 2 c.finish-answer.result (λ _. Finish c.args.id c.args.outcome) (λ _. refl))
+    (all_if maker_number 2 c.finish-answer.result
+    (λ _. Finish c.args.id c.args.outcome) (λ _. refl))
 
 pub returns-clause-went : goal.returns-clause-went
 returns-clause-went g c =
@@ -33,7 +34,8 @@ returns-clause-went g c =
 pub finish-answer-requires : goal.finish-answer-requires
 finish-answer-requires g c =
     let found = c.get_mut-controller.ensures.value ∙ ap controller_in c.value.ensures.value in
-    let w = found-went c.self.inside.pass c.args.self.now.seen _ c.get_mut-controller.result.now.history c.self.invariant.number_is
+    let w = found-went c.self.inside.pass c.args.self.now.seen _
+    c.get_mut-controller.result.now.history c.self.invariant.number_is
     c.enter-held.ensures.found (ap (λ (s : GatedRamIs). s.seen) c.self.view_is)
     (ap (λ (v : ControllerIs). v.history) found) in
     out-as c.args.id c.args.self.now.seen c.get_mut-controller.result.now.history w c.requires

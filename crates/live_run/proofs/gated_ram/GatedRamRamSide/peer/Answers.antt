@@ -16,7 +16,8 @@ leave-requires-clause-added g c =
     (ap (λ (p : PassFacts Entry). p.number) c.enter-held.ensures.pass ∙ c.self.invariant.number_is)
     (ap (λ (p : PassFacts Entry). p.seen) c.enter-held.ensures.pass)
     (ap (λ (v : ControllerIs). v.history) found) c.peer-answer.ensures.went.list
-    (all_if maker_number 2 c.peer-answer.result (λ reply. Peer c.args.id c.args.request.now reply) (λ _. refl))
+    (all_if maker_number 2 c.peer-answer.result
+    (λ reply. Peer c.args.id c.args.request.now reply) (λ _. refl))
 
 pub returns-clause-went : goal.returns-clause-went
 returns-clause-went g c =

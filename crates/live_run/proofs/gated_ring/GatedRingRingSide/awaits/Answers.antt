@@ -13,8 +13,10 @@ pub returns-clause-went : goal.returns-clause-went
 returns-clause-went g c =
     let found = c.get_mut-ring.ensures.value ∙ ap ring_in c.value.ensures.value in
     record {
-      list = stay-went maker (is_of c.args.node) c.args.node (none-own c.args.node) c.self.inside.pass _ _ _ _ _ _
-          (ap (λ (s : GatedRingIs). s.number) c.self.view_is ∙ c.requires.serves) c.enter-held.ensures.found
+      list = stay-went maker (is_of c.args.node) c.args.node
+          (none-own c.args.node) c.self.inside.pass _ _ _ _ _ _
+          (ap (λ (s : GatedRingIs). s.number) c.self.view_is
+          ∙ c.requires.serves) c.enter-held.ensures.found
           (ap (λ (s : GatedRingIs). s.seen) c.self.view_is)
           (ap (λ (v : RingLog). v.history) found) (c.awaits-answer.ensures.went.list)
           (ap (λ (p : PassFacts RingEntry). p.seen) c.leave.ensures.pass);

@@ -28,4 +28,5 @@ leave-requires-clause-added g c =
     stay-adds maker (is_of n) c.enter-held.new.pass n _ _ [] _
     (ap (λ (p : PassFacts RingEntry). p.number) c.enter-held.ensures.pass)
     (ap (λ (p : PassFacts RingEntry). p.seen) c.enter-held.ensures.pass)
-    (ap (λ (v : RingLog). v.history) found) (c.holder-answer.ensures.went n tt).list (all_none maker n)
+    (ap (λ (v : RingLog). v.history) found) (c.holder-answer.ensures.went n tt).list
+    (all_none maker n)

@@ -21,6 +21,7 @@ loop-index-preserved c =
       bytes = c.byte.ensures.bytes
           ∙ ap (λ (s : List ℕ). s ++ byte ∷ []) c.loop-index.invariant.bytes
           ∙ append_assoc old before (byte ∷ [])
-          ∙ ap (λ (p : List ℕ). old ++ p) (ap (λ (b : ℕ). before ++ b ∷ []) c.byte_at.ensures ∙ sym more);
+          ∙ ap (λ (p : List ℕ). old ++ p)
+          (ap (λ (b : ℕ). before ++ b ∷ []) c.byte_at.ensures ∙ sym more);
       length = omega (arith, c.byte.ensures.length);
     }

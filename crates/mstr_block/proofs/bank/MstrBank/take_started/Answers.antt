@@ -7,10 +7,12 @@ use Rattle.mstr_block.proofs.Launching.{stays-table}
 use Rattle.mstr_block.proofs.bank.MstrBank.take_started.Goals as goal
 
 pub invariant_of-self : goal.invariant_of-self
-invariant_of-self c = subst IsTable (sym c.take_started.ensures.taken) (stays-table.taken _ c.self.invariant)
+invariant_of-self c =
+    subst IsTable (sym c.take_started.ensures.taken) (stays-table.taken _ c.self.invariant)
 
 pub returns-clause-table : goal.returns-clause-table
-returns-clause-table c = subst IsTable (sym c.take_started.ensures.taken) (stays-table.taken _ c.self.invariant)
+returns-clause-table c =
+    subst IsTable (sym c.take_started.ensures.taken) (stays-table.taken _ c.self.invariant)
 
 pub returns-clause-named : goal.returns-clause-named
 returns-clause-named c =

@@ -5,4 +5,5 @@ use Rattle.mstr_block.specs.Table.{with_result}
 use Rattle.mstr_block.proofs.blocks.Blocks.finish.Goals as goal
 
 pub loop-block-preserved : goal.loop-block-preserved
-loop-block-preserved c = grind (arith, common_steps, map_over_more (with_result c.args.id c.args.outcome))
+loop-block-preserved c =
+    grind (arith, common_steps, map_over_more (with_result c.args.id c.args.outcome))

@@ -6,5 +6,6 @@ use Rattle.mstr_block.proofs.blocks.Blocks.free_path.Given as goal
 abbrev pub invariant-loop-path : goal.invariant-loop-path
 invariant-loop-path l = record {
   paths : l.path-items ≡ network_paths;
-  rest : find (is_free l.self) network_paths ≡ find (is_free l.self) (drop l.path-index network_paths);
+  rest : find (is_free l.self) network_paths
+      ≡ find (is_free l.self) (drop l.path-index network_paths);
 }

@@ -5,4 +5,5 @@ use Rattle.mstr_block.proofs.blocks.Blocks.started.Given as goal
 
 abbrev pub invariant-loop-block : goal.invariant-loop-block
 invariant-loop-block l =
-    slice_get (filter_map untaken l.block-items) (l.k - 1) ≡ slice_get (filter_map untaken (drop l.block-index l.block-items)) l.left
+    slice_get (filter_map untaken l.block-items) (l.k - 1)
+    ≡ slice_get (filter_map untaken (drop l.block-index l.block-items)) l.left

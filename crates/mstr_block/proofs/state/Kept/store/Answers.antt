@@ -10,5 +10,6 @@ store_words-requires g c =
     let after = g.R.RefStore.contents c.set_word.new.self in
     let count = length c.available-available.result.now in
     subst (λ (at : Ref). HasRegisters after at count) (sym c.start_register.ensures)
-    (HasRegisters-part after c.args.site.control 9 3 count (HasRegisters-kept m after c.args.site.control 9 c.set_word.ensures.keeps c.requires.control)
+    (HasRegisters-part after c.args.site.control 9 3 count
+    (HasRegisters-kept m after c.args.site.control 9 c.set_word.ensures.keeps c.requires.control)
     (let one = c.available-available.ensures.one in omega arith))

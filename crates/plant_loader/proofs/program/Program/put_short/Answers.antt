@@ -13,5 +13,7 @@ invariant_of-result c =
       cells = c.self.inside.cells;
       shorts = c.self.inside.shorts;
     } in
-    let passes = subst (λ (r : ReadProgram). first_failed (short_tests r.shorts c.args.short) ≡ Ok tt) (sym c.self.view_is) c.requires in
-    rw c.in_ok-push.ensures.ok (KeepsProgram-short c.self.inside.driven.keys c.self.inside.messages read c.args.short passes c.self.invariant)
+    let passes = subst (λ (r : ReadProgram). first_failed (short_tests r.shorts c.args.short)
+    ≡ Ok tt) (sym c.self.view_is) c.requires in
+    rw c.in_ok-push.ensures.ok (KeepsProgram-short c.self.inside.driven.keys c.self.inside.messages
+    read c.args.short passes c.self.invariant)

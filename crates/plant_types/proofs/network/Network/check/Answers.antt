@@ -10,13 +10,17 @@ returns-in_err-check_cells c =
     let p = err_from_is_err_and c.from_residual.result c.from_residual.ensures.1 in
     let network = c.args.self.now in
     let cells = tests_of_each (cell_tests (sizes_of c.args.plan.now)) network.cells in
-    rw (p.1, p.2) (parts-failed cells (tests_of_each short_tests network.shorts) c.in_err-check_cells.field-0.0
-    (sym c.in_err-check_cells.was ∙ rw (c.sizes.ensures, c.as_slice.ensures) at c.check_cells.ensures))
+    rw (p.1, p.2)
+    (parts-failed cells (tests_of_each short_tests network.shorts) c.in_err-check_cells.field-0.0
+    (sym c.in_err-check_cells.was
+    ∙ rw (c.sizes.ensures, c.as_slice.ensures) at c.check_cells.ensures))
 
 pub returns : goal.returns
 returns c =
     let network = c.args.self.now in
     let cells = tests_of_each (cell_tests (sizes_of c.args.plan.now)) network.cells in
-    c.check_shorts.ensures ∙ ap (λ shorts. first_failed (tests_of_each short_tests shorts)) c.as_slice-2.ensures
+    c.check_shorts.ensures
+    ∙ ap (λ shorts. first_failed (tests_of_each short_tests shorts)) c.as_slice-2.ensures
     ∙ parts-held cells (tests_of_each short_tests network.shorts)
-    (sym c.in_ok-check_cells.was ∙ rw (c.sizes.ensures, c.as_slice.ensures) at c.check_cells.ensures)
+    (sym c.in_ok-check_cells.was
+    ∙ rw (c.sizes.ensures, c.as_slice.ensures) at c.check_cells.ensures)

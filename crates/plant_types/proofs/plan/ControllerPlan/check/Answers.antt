@@ -11,31 +11,40 @@ use Rattle.plant_types.proofs.plan.ControllerPlan.check.Goals as goal
 
 pub returns-in_err-check_segments : goal.returns-in_err-check_segments
 returns-in_err-check_segments c =
-    let p = err_from_is_err_and c.from_residual-in_err-check_segments.result c.from_residual-in_err-check_segments.ensures.1 in
+    let p = err_from_is_err_and c.from_residual-in_err-check_segments.result
+    c.from_residual-in_err-check_segments.ensures.1 in
     let plan = c.args.self.now in
     let table = placed (controller_place 1) (table_tests plan) in
     let segments = tests_of_each (segment_tests plan) plan.segments in
-    let rest = tests_of_each (order_tests plan) plan.orders ++ tests_of_each (panel_tests (sizes_of plan)) plan.panel in
+    let rest = tests_of_each (order_tests plan) plan.orders
+    ++ tests_of_each (panel_tests (sizes_of plan)) plan.panel in
     let front : Ok tt ≡ first_failed table = sym c.in_ok-locate.was ∙ c.locate.ensures
-    ∙ ap (λ place. at_place place c.check_table.result) c.controller.ensures ∙ ap (at_place (controller_place 1)) c.check_table.ensures
+    ∙ ap (λ place. at_place place c.check_table.result) c.controller.ensures
+    ∙ ap (at_place (controller_place 1)) c.check_table.ensures
     ∙ placed-first (controller_place 1) (table_tests plan) in
     rw (p.1, p.2) (parts-failed segments rest c.in_err-check_segments.field-0.0
-    (sym c.in_err-check_segments.was ∙ rw c.as_slice.ensures at c.check_segments.ensures) ∙ parts-held table (segments ++ rest) front)
+    (sym c.in_err-check_segments.was ∙ rw c.as_slice.ensures at c.check_segments.ensures)
+    ∙ parts-held table (segments ++ rest) front)
 
 pub returns-in_err-check_orders : goal.returns-in_err-check_orders
 returns-in_err-check_orders c =
-    let p = err_from_is_err_and c.from_residual-in_err-check_orders.result c.from_residual-in_err-check_orders.ensures.1 in
+    let p = err_from_is_err_and c.from_residual-in_err-check_orders.result
+    c.from_residual-in_err-check_orders.ensures.1 in
     let plan = c.args.self.now in
     let table = placed (controller_place 1) (table_tests plan) in
     let segments = tests_of_each (segment_tests plan) plan.segments in
     let orders = tests_of_each (order_tests plan) plan.orders in
     let panel = tests_of_each (panel_tests (sizes_of plan)) plan.panel in
     let front : Ok tt ≡ first_failed table = sym c.in_ok-locate.was ∙ c.locate.ensures
-    ∙ ap (λ place. at_place place c.check_table.result) c.controller.ensures ∙ ap (at_place (controller_place 1)) c.check_table.ensures
+    ∙ ap (λ place. at_place place c.check_table.result) c.controller.ensures
+    ∙ ap (at_place (controller_place 1)) c.check_table.ensures
     ∙ placed-first (controller_place 1) (table_tests plan) in
-    let held : Ok tt ≡ first_failed segments = sym c.in_ok-check_segments.was ∙ rw c.as_slice.ensures at c.check_segments.ensures in
-    rw (p.1, p.2) (parts-failed orders panel c.in_err-check_orders.field-0.0 (sym c.in_err-check_orders.was ∙ rw c.as_slice-2.ensures at c.check_orders.ensures)
-    ∙ parts-held segments (orders ++ panel) held ∙ parts-held table (segments ++ (orders ++ panel)) front)
+    let held : Ok tt ≡ first_failed segments = sym c.in_ok-check_segments.was
+    ∙ rw c.as_slice.ensures at c.check_segments.ensures in
+    rw (p.1, p.2) (parts-failed orders panel c.in_err-check_orders.field-0.0
+    (sym c.in_err-check_orders.was ∙ rw c.as_slice-2.ensures at c.check_orders.ensures)
+    ∙ parts-held segments (orders ++ panel) held
+    ∙ parts-held table (segments ++ (orders ++ panel)) front)
 
 pub returns : goal.returns
 returns c =
@@ -45,9 +54,13 @@ returns c =
     let orders = tests_of_each (order_tests plan) plan.orders in
     let panel = tests_of_each (panel_tests (sizes_of plan)) plan.panel in
     let front : Ok tt ≡ first_failed table = sym c.in_ok-locate.was ∙ c.locate.ensures
-    ∙ ap (λ place. at_place place c.check_table.result) c.controller.ensures ∙ ap (at_place (controller_place 1)) c.check_table.ensures
+    ∙ ap (λ place. at_place place c.check_table.result) c.controller.ensures
+    ∙ ap (at_place (controller_place 1)) c.check_table.ensures
     ∙ placed-first (controller_place 1) (table_tests plan) in
-    let held : Ok tt ≡ first_failed segments = sym c.in_ok-check_segments.was ∙ rw c.as_slice.ensures at c.check_segments.ensures in
-    let solved : Ok tt ≡ first_failed orders = sym c.in_ok-check_orders.was ∙ rw c.as_slice-2.ensures at c.check_orders.ensures in
+    let held : Ok tt ≡ first_failed segments = sym c.in_ok-check_segments.was
+    ∙ rw c.as_slice.ensures at c.check_segments.ensures in
+    let solved : Ok tt ≡ first_failed orders = sym c.in_ok-check_orders.was
+    ∙ rw c.as_slice-2.ensures at c.check_orders.ensures in
     rw (c.sizes.ensures, c.as_slice-3.ensures) at c.check_panel.ensures
-    ∙ parts-held orders panel solved ∙ parts-held segments (orders ++ panel) held ∙ parts-held table (segments ++ (orders ++ panel)) front
+    ∙ parts-held orders panel solved ∙ parts-held segments (orders ++ panel) held
+    ∙ parts-held table (segments ++ (orders ++ panel)) front

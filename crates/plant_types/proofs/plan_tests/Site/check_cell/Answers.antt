@@ -10,4 +10,5 @@ returns c =
     let earlier = c.args.earlier.now in
     let tests = site_cell_tests site earlier c.args.cell in
     c.locate.ensures ∙ ap (λ place. at_place place c.test_cell.result) c.piece-place.ensures
-    ∙ ap (at_place (piece_place site (length earlier + 1))) c.test_cell.ensures ∙ placed-first (piece_place site (length earlier + 1)) tests
+    ∙ ap (at_place (piece_place site (length earlier + 1))) c.test_cell.ensures
+    ∙ placed-first (piece_place site (length earlier + 1)) tests

@@ -13,15 +13,18 @@ loop-i-init c = refl
 pub returns-in_err-check_cell : goal.returns-in_err-check_cell
 returns-in_err-check_cell c =
     let p = err_from_is_err_and c.from_residual.result c.from_residual.ensures.1 in
-    rw (p.1, p.2) (items-failed (placed_cell_tests c.args.self.now) c.args.cells.now c.loop-i.i _ c.in_err-check_cell.field-0.0
+    rw (p.1, p.2) (items-failed (placed_cell_tests c.args.self.now) c.args.cells.now c.loop-i.i _
+    c.in_err-check_cell.field-0.0
     (omega arith) c.loop-i.invariant (sym c.in_err-check_cell.was ∙ c.check_cell.ensures))
 
 pub loop-i-preserved : goal.loop-i-preserved
-loop-i-preserved c = items-held (placed_cell_tests c.args.self.now) c.args.cells.now c.loop-i.i _ (omega arith) c.loop-i.invariant
+loop-i-preserved c = items-held (placed_cell_tests c.args.self.now) c.args.cells.now c.loop-i.i _
+    (omega arith) c.loop-i.invariant
     (sym c.in_ok-check_cell.was ∙ c.check_cell.ensures)
 
 pub returns : goal.returns
-returns c = items-end (placed_cell_tests c.args.self.now) c.args.cells.now c.loop-i.i (omega arith) c.loop-i.invariant
+returns c = items-end (placed_cell_tests c.args.self.now) c.args.cells.now c.loop-i.i
+    (omega arith) c.loop-i.invariant
 
 pub check_cell-requires : goal.check_cell-requires
 check_cell-requires c =

@@ -13,17 +13,21 @@ loop-i-init c = refl
 pub returns-in_err-check_short : goal.returns-in_err-check_short
 returns-in_err-check_short c =
     let p = err_from_is_err_and c.from_residual.result c.from_residual.ensures.1 in
-    rw (p.1, p.2) (items-failed (placed_short_tests c.args.self.now c.args.cells) c.args.shorts.now c.loop-i.i _ c.in_err-check_short.field-0.0
+    rw (p.1, p.2) (items-failed (placed_short_tests c.args.self.now c.args.cells) c.args.shorts.now
+    c.loop-i.i _ c.in_err-check_short.field-0.0
     (omega arith) c.loop-i.invariant (sym c.in_err-check_short.was ∙ c.check_short.ensures))
 
 pub loop-i-preserved : goal.loop-i-preserved
-loop-i-preserved c = items-held (placed_short_tests c.args.self.now c.args.cells) c.args.shorts.now c.loop-i.i _ (omega arith) c.loop-i.invariant
+loop-i-preserved c = items-held (placed_short_tests c.args.self.now c.args.cells) c.args.shorts.now
+    c.loop-i.i _ (omega arith) c.loop-i.invariant
     (sym c.in_ok-check_short.was ∙ c.check_short.ensures)
 
 pub returns : goal.returns
-returns c = items-end (placed_short_tests c.args.self.now c.args.cells) c.args.shorts.now c.loop-i.i (omega arith) c.loop-i.invariant
+returns c = items-end (placed_short_tests c.args.self.now c.args.cells) c.args.shorts.now c.loop-i.i
+    (omega arith) c.loop-i.invariant
 
 pub check_short-requires-clause-shorts : goal.check_short-requires-clause-shorts
 check_short-requires-clause-shorts c =
-    let few = shorts-few c.args.self.now c.args.cells (take c.loop-i.i c.args.shorts.now) c.loop-i.invariant in
+    let few = shorts-few c.args.self.now c.args.cells (take c.loop-i.i c.args.shorts.now)
+    c.loop-i.invariant in
     omega (arith, few)

@@ -16,8 +16,10 @@ returns-in_err-check c =
       networks = c.self.inside.networks.now;
     } in
     let tests = cell_tests site.sizes c.args.earlier.now c.args.cell in
-    let standing = standing_tests (standing_of site.is_last (cells_before site.segments site.networks ++ c.args.earlier.now) c.args.cell.element) in
-    rw (p.1, p.2, ← c.self.view_is) (parts-failed tests standing c.in_err-check.field-0.0 (sym c.in_err-check.was ∙ c.check.ensures))
+    let standing = standing_tests (standing_of site.is_last
+    (cells_before site.segments site.networks ++ c.args.earlier.now) c.args.cell.element) in
+    rw (p.1, p.2, ← c.self.view_is) (parts-failed tests standing c.in_err-check.field-0.0
+    (sym c.in_err-check.was ∙ c.check.ensures))
 
 pub returns : goal.returns
 returns c =
@@ -28,6 +30,8 @@ returns c =
       networks = c.self.inside.networks.now;
     } in
     let tests = cell_tests site.sizes c.args.earlier.now c.args.cell in
-    let standing = standing_of site.is_last (cells_before site.segments site.networks ++ c.args.earlier.now) c.args.cell.element in
-    rw (← c.self.view_is) (c.check-2.ensures ∙ ap (λ s. first_failed (standing_tests s)) c.standing.ensures
+    let standing = standing_of site.is_last
+    (cells_before site.segments site.networks ++ c.args.earlier.now) c.args.cell.element in
+    rw (← c.self.view_is)
+    (c.check-2.ensures ∙ ap (λ s. first_failed (standing_tests s)) c.standing.ensures
     ∙ parts-held tests (standing_tests standing) (sym c.in_ok-check.was ∙ c.check.ensures))

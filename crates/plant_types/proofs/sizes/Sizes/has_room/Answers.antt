@@ -8,5 +8,13 @@ use Rattle.plant_types.proofs.sizes.Sizes.has_room.Goals as goal
 pub returns : goal.returns
 returns c =
     let element = c.args.element in
-    rw (c.has_slots.ensures, c.length.ensures, c.slots_of.ensures.slots, c.name.ensures, c.as_slice.ensures, c.operands-operands.ensures)
-    (named_by-each (λ (named : Named). has_run c.args.self named.at named.count) (length_of element) (slots_of (name_of element)) (operands_of element))
+    rw (
+      c.has_slots.ensures,
+      c.length.ensures,
+      c.slots_of.ensures.slots,
+      c.name.ensures,
+      c.as_slice.ensures,
+      c.operands-operands.ensures,
+    )
+    (named_by-each (λ (named : Named). has_run c.args.self named.at named.count) (length_of element)
+    (slots_of (name_of element)) (operands_of element))

@@ -9,14 +9,18 @@ returns-then-is_in_segments c =
     let claim = c.args.self in
     let segments = cells_of_segments c.args.segments.now in
     let networks = cells_of_networks c.args.networks.now in
-    let here = sym (claimed_in_segments claim c.args.segments.now) ∙ sym c.is_in_segments.ensures ∙ c.if-is_in_segments.true in
-    c.if-is_in_segments.true ∙ or_true (is_claimed segments claim) (is_claimed networks claim) here ∙ sym (claimed-append claim segments networks)
+    let here = sym (claimed_in_segments claim c.args.segments.now) ∙ sym c.is_in_segments.ensures
+    ∙ c.if-is_in_segments.true in
+    c.if-is_in_segments.true ∙ or_true (is_claimed segments claim) (is_claimed networks claim) here
+    ∙ sym (claimed-append claim segments networks)
 
 pub returns-else-is_in_segments : goal.returns-else-is_in_segments
 returns-else-is_in_segments c =
     let claim = c.args.self in
     let segments = cells_of_segments c.args.segments.now in
     let networks = cells_of_networks c.args.networks.now in
-    let here = sym (claimed_in_segments claim c.args.segments.now) ∙ sym c.is_in_segments.ensures ∙ c.if-is_in_segments.false in
-    c.is_in_networks.ensures ∙ claimed_in_networks claim c.args.networks.now ∙ or_false (is_claimed segments claim) (is_claimed networks claim) here
+    let here = sym (claimed_in_segments claim c.args.segments.now) ∙ sym c.is_in_segments.ensures
+    ∙ c.if-is_in_segments.false in
+    c.is_in_networks.ensures ∙ claimed_in_networks claim c.args.networks.now
+    ∙ or_false (is_claimed segments claim) (is_claimed networks claim) here
     ∙ sym (claimed-append claim segments networks)

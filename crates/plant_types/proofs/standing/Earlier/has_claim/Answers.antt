@@ -8,7 +8,8 @@ returns-then-is_before c =
     let claim = c.args.claim in
     let before = cells_before c.self.inside.segments.now c.self.inside.networks.now in
     let cells = c.self.inside.cells.now in
-    rw (← c.self.view_is) (c.if-is_before.true ∙ or_true (is_claimed before claim) (is_claimed cells claim)
+    rw (← c.self.view_is)
+    (c.if-is_before.true ∙ or_true (is_claimed before claim) (is_claimed cells claim)
     (sym c.is_before.ensures ∙ c.if-is_before.true) ∙ sym (claimed-append claim before cells))
 
 pub returns-else-is_before : goal.returns-else-is_before
@@ -16,5 +17,6 @@ returns-else-is_before c =
     let claim = c.args.claim in
     let before = cells_before c.self.inside.segments.now c.self.inside.networks.now in
     let cells = c.self.inside.cells.now in
-    rw (← c.self.view_is) (c.is_in_cells.ensures ∙ or_false (is_claimed before claim) (is_claimed cells claim)
+    rw (← c.self.view_is)
+    (c.is_in_cells.ensures ∙ or_false (is_claimed before claim) (is_claimed cells claim)
     (sym c.is_before.ensures ∙ c.if-is_before.false) ∙ sym (claimed-append claim before cells))

@@ -4,8 +4,9 @@ use Rattle.ring_core.proofs.node.Node.new.Goals as goal
 
 pub returns : goal.returns
 returns c =
-    let paths = c.in_ok-vec.ensures.items_if_clones_equal (λ y e. e) ∙ ap (λ (p : Path). replicate 5 p) c.no_path.ensures in
-    let accepted = c.in_ok-vec-2.ensures.items_if_clones_equal (λ y e. e) in
+    let paths = c.in_ok-vec.ensures.items_if_clones_equal (λ y e. e)
+    ∙ ap (λ (p : Path). replicate 5 p) c.no_path.ensures in
+    let accepted = c.in_ok-new.ensures in
     λ i. record {
       here = c.args.here;
       outbox = c.new.ensures.items i;

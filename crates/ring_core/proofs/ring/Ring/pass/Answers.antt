@@ -13,7 +13,11 @@ invariant_of-self-2 c =
     let n = c.args.node in
     let d = c.args.done in
     let e = Pass n d c.in_ok-words.words in
-    let r : RingIs = record { holder = c.self.inside.holder; sent = c.self.inside.sent; nodes = c.self.inside.nodes.items } in
+    let r : RingIs = record {
+      holder = c.self.inside.holder;
+      sent = c.self.inside.sent;
+      nodes = c.self.inside.nodes.items;
+    } in
     let k = c.self.invariant.kept in
     let read = part _ _ _ _ _ n _ c.self.view_is k c.requires c.index_mut-part.ensures.value in
     let next = c.successor-next.ensures ∙ ap (λ l. successor l n) c.deref.ensures.value in

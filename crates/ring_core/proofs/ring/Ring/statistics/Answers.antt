@@ -13,8 +13,14 @@ station_words-requires c =
 
 pub returns : goal.returns
 returns c =
-    let r : RingIs = record { holder = c.self.inside.holder; sent = c.self.inside.sent; nodes = c.self.inside.nodes.items } in
+    let r : RingIs = record {
+      holder = c.self.inside.holder;
+      sent = c.self.inside.sent;
+      nodes = c.self.inside.nodes.items;
+    } in
     c.station_words.ensures
-    ∙ (ap (λ (l : List StatsIs). stats_words (stats_at l c.args.node) c.members_now-members.result c.passed-passed.result) c.deref-2.ensures.value
+    ∙ (ap (λ (l : List StatsIs). stats_words (stats_at l c.args.node) c.members_now-members.result
+    c.passed-passed.result) c.deref-2.ensures.value
     ∙ statistics-are _ _ r _ _ c.args.node _ _ c.self.view_is c.self.invariant.kept c.requires
-    (c.members_now-members.ensures.count ∙ ap count_members c.deref.ensures.value) c.passed-passed.ensures)
+    (c.members_now-members.ensures.count
+    ∙ ap count_members c.deref.ensures.value) c.passed-passed.ensures)

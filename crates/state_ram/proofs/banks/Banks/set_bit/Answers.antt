@@ -9,6 +9,7 @@ pub returns : goal.returns
 returns c =
     let w = bank_words c.args.self.now in
     let p = (c.args.at.number - 1) % 16 in
-    let changed = subst (λ word. IsWithBit word p c.args.on c.with_bit-word.result) c.group.ensures c.with_bit-word.ensures in
+    let changed = subst (λ word. IsWithBit word p c.args.on c.with_bit-word.result) c.group.ensures
+    c.with_bit-word.ensures in
     subst (λ v. Sets w v c.args.at (cond c.args.on 1 0)) (sym c.set_group.ensures)
     (sets_bit w c.args.at c.args.on c.with_bit-word.result c.requires.kind c.requires.place changed)

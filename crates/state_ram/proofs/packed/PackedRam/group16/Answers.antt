@@ -5,7 +5,8 @@ use Rattle.state_ram.proofs.Banked.{held_place, group_bits}
 use Rattle.state_ram.proofs.packed.PackedRam.group16.Goals as goal
 
 pub group-requires-clause-place : goal.group-requires-clause-place
-group-requires-clause-place c = held_place (bank_words c.self.inside.banks) c.args.self.now c.args.at c.self.view_is c.requires.held
+group-requires-clause-place c = held_place (bank_words c.self.inside.banks) c.args.self.now
+    c.args.at c.self.view_is c.requires.held
 
 pub returns : goal.returns
 returns c =

@@ -8,7 +8,8 @@ use Rattle.state_ram.proofs.Banked.{held_place, packed-group}
 use Rattle.state_ram.proofs.packed.PackedRam.set_group16.Goals as goal
 
 pub set_group-requires-clause-place : goal.set_group-requires-clause-place
-set_group-requires-clause-place c = held_place (bank_words c.self.inside.banks) c.args.self.now c.args.at c.self.view_is c.requires.held
+set_group-requires-clause-place c = held_place (bank_words c.self.inside.banks) c.args.self.now
+    c.args.at c.self.view_is c.requires.held
 
 pub returns-clause-stored : goal.returns-clause-stored
 returns-clause-stored c =
@@ -18,5 +19,6 @@ returns-clause-stored c =
     (held_place w c.args.self.now c.args.at c.self.view_is c.requires.held) c.requires.first
 
 pub returns-clause-keeps : goal.returns-clause-keeps
-returns-clause-keeps c = subst (Keeps c.args.self.now) (sym (returns-clause-stored c)) (Keeps-with_words c.args.self.now c.args.at (bit_words
+returns-clause-keeps c = subst (Keeps c.args.self.now) (sym (returns-clause-stored c))
+    (Keeps-with_words c.args.self.now c.args.at (bit_words
     (word_bits c.args.value)))

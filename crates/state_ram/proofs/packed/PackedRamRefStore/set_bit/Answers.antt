@@ -6,13 +6,16 @@ use Rattle.state_ram.proofs.Banked.{held_place, packed-insert}
 use Rattle.state_ram.proofs.packed.PackedRamRefStore.set_bit.Goals as goal
 
 pub set_bit-requires-clause-place : goal.set_bit-requires-clause-place
-set_bit-requires-clause-place c = held_place (bank_words c.self.inside.banks) c.args.self.now c.args.at c.self.view_is c.requires.held
+set_bit-requires-clause-place c = held_place (bank_words c.self.inside.banks) c.args.self.now
+    c.args.at c.self.view_is c.requires.held
 
 pub returns-clause-stored : goal.returns-clause-stored
 returns-clause-stored c =
     let w = bank_words c.self.inside.banks in
-    packed-insert w (bank_words c.set_bit.new.self) c.args.self.now c.args.at (cond c.args.on 1 0) c.self.view_is
+    packed-insert w (bank_words c.set_bit.new.self) c.args.self.now c.args.at
+    (cond c.args.on 1 0) c.self.view_is
     (held_place w c.args.self.now c.args.at c.self.view_is c.requires.held) c.set_bit.ensures
 
 pub returns-clause-keeps : goal.returns-clause-keeps
-returns-clause-keeps c = subst (Keeps c.args.self.now) (sym (returns-clause-stored c)) (Keeps-insert c.args.self.now c.args.at (cond c.args.on 1 0))
+returns-clause-keeps c = subst (Keeps c.args.self.now) (sym (returns-clause-stored c))
+    (Keeps-insert c.args.self.now c.args.at (cond c.args.on 1 0))

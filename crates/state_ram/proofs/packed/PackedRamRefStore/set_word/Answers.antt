@@ -6,13 +6,16 @@ use Rattle.state_ram.proofs.Banked.{held_place, packed-insert}
 use Rattle.state_ram.proofs.packed.PackedRamRefStore.set_word.Goals as goal
 
 pub set_word-requires-clause-place : goal.set_word-requires-clause-place
-set_word-requires-clause-place c = held_place (bank_words c.self.inside.banks) c.args.self.now c.args.at c.self.view_is c.requires.held
+set_word-requires-clause-place c = held_place (bank_words c.self.inside.banks) c.args.self.now
+    c.args.at c.self.view_is c.requires.held
 
 pub returns-clause-stored : goal.returns-clause-stored
 returns-clause-stored c =
     let w = bank_words c.self.inside.banks in
-    packed-insert w (bank_words c.set_word.new.self) c.args.self.now c.args.at c.args.value c.self.view_is
+    packed-insert w (bank_words c.set_word.new.self) c.args.self.now c.args.at c.args.value
+    c.self.view_is
     (held_place w c.args.self.now c.args.at c.self.view_is c.requires.held) c.set_word.ensures
 
 pub returns-clause-keeps : goal.returns-clause-keeps
-returns-clause-keeps c = subst (Keeps c.args.self.now) (sym (returns-clause-stored c)) (Keeps-insert c.args.self.now c.args.at c.args.value)
+returns-clause-keeps c = subst (Keeps c.args.self.now) (sym (returns-clause-stored c))
+    (Keeps-insert c.args.self.now c.args.at c.args.value)

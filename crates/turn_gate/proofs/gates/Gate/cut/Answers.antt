@@ -14,6 +14,8 @@ split_seat-requires g c =
     let below : n < 2 ^ 32 = fits in (
       c.requires.gate ∙ ap (λ v. v.name.table) (sym c.self.view_is),
       search rules,
-      splits g.V.Journal.entries g.V.Journal.fixed g.V.Journal.maker _ _ _ g.N.Numbering.number z (subst (λ (k : ℕ). 0 < k) p above)
-          (subst (λ (k : ℕ). k < 2 ^ 32) p below) (subst (λ (k : ℕ). is_among k c.args.seat.now.me.0.given ≡ false) p c.requires.fresh.1),
+      splits g.V.Journal.entries g.V.Journal.fixed g.V.Journal.maker _ _ _ g.N.Numbering.number z
+          (subst (λ (k : ℕ). 0 < k) p above)
+          (subst (λ (k : ℕ). k < 2 ^ 32) p below)
+          (subst (λ (k : ℕ). is_among k c.args.seat.now.me.0.given ≡ false) p c.requires.fresh.1),
     )

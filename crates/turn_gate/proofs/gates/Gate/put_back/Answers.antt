@@ -12,6 +12,8 @@ fetch_add-requires g c =
     let e = c.exchange.ensures.3 ∙ ap (λ l. (c.args.seat.now.me.0, (0, Some x) ∷ rest l)) i.1 in (
       c.exchange.ensures.0 ∙ (c.requires.gate ∙ ap (λ v. v.name.table) (sym c.self.view_is)),
       search rules,
-      releases J.entries J.fixed J.maker c.self.inside.table.shared.key.value _ _ _ i.0.0 x (ap (λ m. m.0.phase) e ∙ i.0.1) (ap (λ m. m.1) e)
-          (c.requires.fixed ∙ ap (λ v. v.fixed) (sym c.self.view_is)) (subst (λ v. MayLeave J.entries J.maker v x) (sym (ap (λ m. m.0) e)) c.requires.may),
+      releases J.entries J.fixed J.maker c.self.inside.table.shared.key.value _ _ _ i.0.0 x
+          (ap (λ m. m.0.phase) e ∙ i.0.1) (ap (λ m. m.1) e)
+          (c.requires.fixed ∙ ap (λ v. v.fixed) (sym c.self.view_is))
+          (subst (λ v. MayLeave J.entries J.maker v x) (sym (ap (λ m. m.0) e)) c.requires.may),
     )

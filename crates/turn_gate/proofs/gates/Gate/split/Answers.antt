@@ -8,7 +8,8 @@ use Rattle.turn_gate.proofs.gates.Gate.split.Goals as goal
 
 pub cut-seat-requires-clause-zero : goal.cut-seat-requires-clause-zero
 cut-seat-requires-clause-zero g c =
-    subst (λ n. KeepsNumber c.pass.inside.seat.me.0 n) (ap (λ p. p.number) c.pass.view_is ∙ c.requires.zero)
+    subst (λ n. KeepsNumber c.pass.inside.seat.me.0 n)
+    (ap (λ p. p.number) c.pass.view_is ∙ c.requires.zero)
     (keeps_own c.pass.inside.seat.me c.pass.invariant.keeps_one)
 
 pub heed-requires-clause-keeps : goal.heed-requires-clause-keeps
@@ -22,8 +23,10 @@ returns-clause-ready g c =
     let same = c.heed.ensures.same ∙ c.cut-seat.ensures.newcomer in
     let alone = ap (λ k. k.0.kept) same in
     let one = subst (λ l. l ≡ first_kept l ∷ later_kept l) (sym alone) refl in
-    let exact = subst (λ k. Exact J.maker k.0 k.0.seen) (sym c.heed.ensures.same) c.heed.ensures.exact in
+    let exact = subst (λ k. Exact J.maker k.0 k.0.seen)
+    (sym c.heed.ensures.same) c.heed.ensures.exact in
     let gate = ap (λ p. p.gate) c.pass.view_is ∙ c.requires.gate in
     ready m one J.maker c.heed.new.seat.table_id c.args.number c.args.self.now.name
-    (c.heed.ensures.gate ∙ (c.cut-seat.ensures.new_gate ∙ ap (λ n. n.table) gate)) (ap (λ k. k.0.opening) same ∙ ap (λ n. n.opening) gate)
+    (c.heed.ensures.gate ∙ (c.cut-seat.ensures.new_gate ∙ ap (λ n. n.table) gate))
+    (ap (λ k. k.0.opening) same ∙ ap (λ n. n.opening) gate)
     alone (ap (λ k. k.0.heard) same) (ap (λ k. k.0.phase) same) exact

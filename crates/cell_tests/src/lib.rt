@@ -1,0 +1,5 @@
+//! Tests of the texts of cells.
+#![tactic(auto)]
+
+#[cfg(test)]
+mod pieces;

@@ -1,0 +1,5 @@
+mod CutLemmas
+mod MoreScans
+mod OneDue
+mod Runs
+mod Written

@@ -1,0 +1,302 @@
+-- No two answers are due for a command and an input.
+use Rattle.std.proofs.Common.{◌≡◌, ◌≢◌, ℕ, ◌-◌, ◌^◌, ◌<◌, ◌≤◌, Bool, true, false, List, []}
+use Rattle.std.proofs.Common.{◌∷◌, ◌++◌, length, take, drop, All, inl, inr, ⊎_elim}
+use Rattle.std.proofs.Common.{refl, sym, ap, ap₂, subst, ◌∙◌, arith, append_assoc, length-append}
+use Rattle.std.specs.Prelude.{min, Result, Ok, Err}
+use Rattle.std.specs.List.{flat_map}
+use Rattle.std.proofs.Math.Seq.{drop-append_seam, take-append_seam}
+use Rattle.std.proofs.lemmas.Bool.{cases_eq, cases_lt}
+use Rattle.std.proofs.lemmas.List.Concat.{flat_map-cons}
+use Rattle.std.proofs.lemmas.List.Elements.{All-head, All-tail}
+use Rattle.plant_types.specs.declared.plan.Plant.{Plant}
+use Rattle.plant_types.specs.Plans.{IsPlant}
+use Rattle.plant_loader.specs.Refusals.{Refusal}
+use Rattle.plant_loader.specs.Plant.{plant_of}
+use Rattle.plant_loader.proofs.LoadedLemmas.{IsLoaded, gives-loaded}
+use Rattle.joint_history.specs.declared.joint.Joint.{Joint}
+use Rattle.journal_text.specs.Fronts.{IsFront, IsJournal, IsLine, IsText, IsWrongLine, with_feed}
+use Rattle.journal_text.specs.Laws.{OneHistoryOfAText}
+use Rattle.journal_text.proofs.StepGoes.{line_is}
+use Rattle.joint_law.specs.Agreement.{VerdictsAgree}
+use Rattle.joint_law.specs.Spots.{IsSpot}
+use Rattle.joint_law.specs.declared.verdict.Spot.{Spot}
+use Rattle.joint_law.specs.declared.verdict.Verdict.TheVariants.{Legal, Illegal}
+use Rattle.one_run.specs.OneRun.{IsRunOf, OneSerialRun}
+use Rattle.command_answers.specs.declared.status.Status.{Status}
+use Rattle.command_words.specs.declared.words.Command.{Command}
+use Rattle.command_words.specs.declared.words.Command.TheVariants.{Do, Gen}
+use Rattle.command_answers.specs.Cut.{CanBegin, IsCut}
+use Rattle.command_answers.specs.Judged.{IsIllegalAt, IsNoRun, IsRunRead, wrong_line_text}
+use Rattle.command_answers.specs.Judged.{spot_text}
+use Rattle.command_answers.specs.Due.{Due, IsDueOf, IsDueWith, IsFile, IsHistory, IsWholeSerialRun}
+use Rattle.command_answers.specs.Due.{IsTaskFile, illegal_text, judges, reads_journal, scans_of}
+use Rattle.command_answers.specs.Due.{text_of}
+use Rattle.command_answers.specs.OneDue.{OneDue}
+
+-- ---- where an input is cut
+
+-- of two cuts of an input neither is before the other
+cut-not_before : (input file journal file' journal' : List ℕ) → IsCut input file journal
+    → IsCut input file' journal'
+    → length file < length file' → ⊥
+cut-not_before input file journal file' journal' cut cut' less =
+    ⊎_elim (λ (none : journal ≡ []).
+    let size = ap length (cut.whole ∙ sym cut'.whole) in
+    let one = length-append file journal in
+    let other = length-append file' journal' in
+    let empty : length journal ≡ 0 = ap length none in
+    absurd (omega (arith, less, size, one, other, empty)))
+    (λ (can : CanBegin file journal). cut'.first file journal cut.whole less can) cut.begins
+
+cut-size : (input file journal file' journal' : List ℕ) → IsCut input file journal
+    → IsCut input file' journal'
+    → length file ≡ length file'
+cut-size input file journal file' journal' cut cut' =
+    ⊎_elim (λ (same : length file ≡ length file'). same)
+    (λ (apart : length file ≢ length file'). absurd (⊎_elim
+    (λ (less : length file < length file').
+    cut-not_before input file journal file' journal' cut cut' less)
+    (λ (more : length file' ≤ length file).
+    cut-not_before input file' journal' file journal cut' cut (omega (arith, apart, more)))
+    (cases_lt (length file) (length file'))))
+    (cases_eq (length file) (length file'))
+
+-- so an input is cut in one place
+cut-one : (input file journal file' journal' : List ℕ) → IsCut input file journal
+    → IsCut input file' journal'
+    → (file ≡ file') × (journal ≡ journal')
+cut-one input file journal file' journal' cut cut' =
+    let size = cut-size input file journal file' journal' cut cut' in
+    let whole = cut.whole ∙ sym cut'.whole in (
+      sym (take-append_seam file journal) ∙ ap (λ n. take n (file ++ journal)) size
+          ∙ ap (take (length file')) whole
+          ∙ take-append_seam file' journal',
+      sym (drop-append_seam file journal) ∙ ap (λ n. drop n (file ++ journal)) size
+          ∙ ap (drop (length file')) whole
+          ∙ drop-append_seam file' journal',
+    )
+
+task_file-one : (cuts : Bool) (input file behind file' behind' : List ℕ)
+    → IsTaskFile cuts input file behind → IsTaskFile cuts input file' behind'
+    → (file ≡ file') × (behind ≡ behind')
+task_file-one true input file behind file' behind' is is' =
+    cut-one input file behind file' behind' is is'
+task_file-one false input file behind file' behind' is is' = (is.0 ∙ sym is'.0, is.1 ∙ sym is'.1)
+
+-- and a command has one plant file, and one journal behind it
+file-one : (command : Command) (input file behind file' behind' : List ℕ)
+    → IsFile command input file behind → IsFile command input file' behind'
+    → (file ≡ file') × (behind ≡ behind')
+file-one (Do task scans) input file behind file' behind' is is' =
+    task_file-one (judges task) input file behind file' behind' is is'
+file-one (Gen number scans) input file behind file' behind' is is' =
+    (is.0 ∙ sym is'.0, is.1 ∙ sym is'.1)
+
+-- ---- the first wrong line
+
+-- lines and what stands behind them, from the end of the first one on
+lines-first : (line : List ℕ) (lines : List (List ℕ)) (rest : List ℕ)
+    → flat_map with_feed (line ∷ lines) ++ rest ≡ line ++ 10 ∷ (flat_map with_feed lines ++ rest)
+lines-first line lines rest =
+    ap (λ bytes. bytes ++ rest) (flat_map-cons with_feed line lines)
+    ∙ append_assoc (with_feed line) (flat_map with_feed lines) rest
+    ∙ append_assoc line (10 ∷ []) (flat_map with_feed lines ++ rest)
+
+-- one line before both, what more lines begin with stays so
+lines-next : (line line' : List ℕ) (lines lines' : List (List ℕ)) (next more : List ℕ)
+    → line ≡ line'
+    → flat_map with_feed lines' ≡ (flat_map with_feed lines ++ with_feed next) ++ more
+    → flat_map with_feed (line' ∷ lines')
+    ≡ (flat_map with_feed (line ∷ lines) ++ with_feed next) ++ more
+lines-next line line' lines lines' next more same first =
+    flat_map-cons with_feed line' lines'
+    ∙ ap (λ l. with_feed l ++ flat_map with_feed lines') (sym same)
+    ∙ ap (λ bytes. with_feed line ++ bytes) first
+    ∙ sym (append_assoc (with_feed line) (flat_map with_feed lines ++ with_feed next) more)
+    ∙ ap (λ bytes. bytes ++ more)
+    (sym (append_assoc (with_feed line) (flat_map with_feed lines) (with_feed next)))
+    ∙ ap (λ bytes. (bytes ++ with_feed next) ++ more) (sym (flat_map-cons with_feed line lines))
+
+-- behind some lines stands the next of more lines
+record NextLine (lines lines' : List (List ℕ)) (rest : List ℕ) : Type 0 where
+  line : List ℕ
+  behind : List ℕ
+  more : List ℕ
+  is : IsLine line
+  there : rest ≡ with_feed line ++ behind
+  first : flat_map with_feed lines' ≡ (flat_map with_feed lines ++ with_feed line) ++ more
+
+next-line : (lines lines' : List (List ℕ)) (rest rest' : List ℕ) → All IsLine lines
+    → All IsLine lines'
+    → flat_map with_feed lines ++ rest ≡ flat_map with_feed lines' ++ rest'
+    → length lines < length lines' → NextLine lines lines' rest
+next-line [] [] rest rest' each each' same less = absurd (omega (arith, less))
+next-line (line ∷ lines) [] rest rest' each each' same less = absurd (omega (arith, less))
+next-line [] (line ∷ lines') rest rest' each each' same less = record {
+  line = line;
+  behind = flat_map with_feed lines' ++ rest';
+  more = flat_map with_feed lines';
+  is = All-head IsLine line lines' each';
+  there = same ∙ ap (λ bytes. bytes ++ rest') (flat_map-cons with_feed line lines')
+      ∙ append_assoc (with_feed line) (flat_map with_feed lines') rest';
+  first = flat_map-cons with_feed line lines';
+}
+next-line (line ∷ lines) (line' ∷ lines') rest rest' each each' same less =
+    let here = line_is line line' (flat_map with_feed lines ++ rest)
+    (flat_map with_feed lines' ++ rest') (All-head IsLine line lines each)
+    (All-head IsLine line' lines' each')
+    (sym (lines-first line lines rest) ∙ same ∙ lines-first line' lines' rest') in
+    let next = next-line lines lines' rest rest' (All-tail IsLine line lines each)
+    (All-tail IsLine line' lines' each') here.1 (omega (arith, less)) in
+    record {
+      line = next.line;
+      behind = next.behind;
+      more = next.more;
+      is = next.is;
+      there = next.there;
+      first = lines-next line line' lines lines' next.line next.more here.0 next.first;
+    }
+
+-- a front of what a journal begins with is one too
+front-front : (bytes more : List ℕ) → IsFront (bytes ++ more) → IsFront bytes
+front-front bytes more front =
+    (more ++ front.0, subst IsJournal (append_assoc bytes more front.0) front.1)
+
+-- no line before the first wrong one is wrong
+wrong-not_before : (bytes : List ℕ) (number number' : ℕ) (one : IsWrongLine bytes number)
+    (other : IsWrongLine bytes number')
+    → length one.lines < length other.lines → ⊥
+wrong-not_before bytes number number' one other less =
+    let next = next-line one.lines other.lines one.rest other.rest one.each other.each
+    (sym one.parts ∙ other.parts) less in
+    one.wrong next.line next.behind next.is next.there
+    (front-front (flat_map with_feed one.lines ++ with_feed next.line) next.more
+    (subst IsFront next.first other.begins))
+
+-- so there is one
+wrong-one : (bytes : List ℕ) (number number' : ℕ) → IsWrongLine bytes number
+    → IsWrongLine bytes number' → number ≡ number'
+wrong-one bytes number number' one other =
+    let count = one.count in
+    let count' = other.count in
+    ⊎_elim (λ (same : length one.lines ≡ length other.lines). omega (arith, same, count, count'))
+    (λ (apart : length one.lines ≢ length other.lines). absurd (⊎_elim
+    (λ (less : length one.lines < length other.lines).
+    wrong-not_before bytes number number' one other less)
+    (λ (more : length other.lines ≤ length one.lines).
+    wrong-not_before bytes number' number other one (omega (arith, apart, more)))
+    (cases_lt (length one.lines) (length other.lines))))
+    (cases_eq (length one.lines) (length other.lines))
+
+-- and one number is told of it
+text-one : (bytes : List ℕ) (number number' : ℕ) → IsText bytes number → IsText bytes number'
+    → number ≡ number'
+text-one bytes number number' one other =
+    one.told ∙ ap (λ line. min line (2 ^ 32 - 1))
+    (wrong-one bytes one.line other.line one.first other.first) ∙ sym other.told
+
+-- ---- what a journal comes to
+
+-- what is known of runs, of journals and of verdicts
+pub record DueLaws : Type 0 where
+  pub runs : OneSerialRun
+  pub texts : OneHistoryOfAText
+  pub verdicts : VerdictsAgree
+
+spot-is : (one other : Spot) → Illegal one ≡ Illegal other → one ≡ other
+spot-is one other same = cc
+
+module _ (laws : DueLaws) (plant : Plant) (sound : IsPlant plant) (scans : ℕ) (bytes : List ℕ) where
+  -- the spots of two readings of one text are one
+  run-spots : (spot spot' : List ℕ) → IsNoRun plant scans bytes spot
+      → IsNoRun plant scans bytes spot' → spot ≡ spot'
+  run-spots spot spot' one other =
+      let same = laws.texts one.joint other.joint bytes one.read other.read in
+      let breaks = subst (λ (joint : Joint). IsSpot plant scans joint other.there)
+      (sym same) other.breaks in
+      let there = laws.verdicts plant scans one.joint (Illegal one.there)
+      (Illegal other.there) sound one.breaks breaks in
+      one.text ∙ ap spot_text (spot-is one.there other.there there) ∙ sym other.text
+
+  -- one spot shows that bytes are no journal of a whole run
+  illegal-one : (spot spot' : List ℕ) → IsIllegalAt plant scans bytes spot
+      → IsIllegalAt plant scans bytes spot' → spot ≡ spot'
+  illegal-one spot spot' (inl one) (inl other) =
+      one.text ∙ ap wrong_line_text (text-one bytes one.line other.line one.wrong other.wrong)
+      ∙ sym other.text
+  illegal-one spot spot' (inl one) (inr other) = absurd (one.wrong.none (other.joint, other.read))
+  illegal-one spot spot' (inr one) (inl other) = absurd (other.wrong.none (one.joint, one.read))
+  illegal-one spot spot' (inr one) (inr other) = run-spots spot spot' one other
+
+  -- and none shows it where they are one
+  whole-or_illegal : (joint : Joint) (spot : List ℕ) → IsRunRead plant scans bytes joint
+      → IsIllegalAt plant scans bytes spot → ⊥
+  whole-or_illegal joint spot read (inl none) = none.wrong.none (joint, read.read)
+  whole-or_illegal joint spot read (inr none) =
+      let same = laws.texts joint none.joint bytes read.read none.read in
+      let breaks = subst (λ (other : Joint). IsSpot plant scans other none.there)
+      (sym same) none.breaks in
+      let both = laws.verdicts plant scans joint Legal
+      (Illegal none.there) sound read.whole breaks in
+      absurd (cc)
+
+  -- a command is about one joint history
+  history-one : (reads : Bool) (joint joint' : Joint) → IsHistory reads plant scans bytes joint
+      → IsHistory reads plant scans bytes joint'
+      → joint ≡ joint'
+  history-one true joint joint' one other = laws.texts joint joint' bytes one.read other.read
+  history-one false joint joint' one other =
+      laws.runs plant scans joint joint' sound one.serial (run-of joint one) other.serial
+      (run-of joint' other)
+    where
+      run-of : (some : Joint) → IsWholeSerialRun plant scans some → IsRunOf plant scans some
+      run-of some run = record { legal = run.whole.legal; ties = run.whole.tied }
+
+-- ---- what is due
+
+abbrev due-of : Status → List ℕ → Due
+due-of status text = record { status = status; text = text }
+
+due-is : (one other : Due) → one.status ≡ other.status → one.text ≡ other.text → one ≡ other
+due-is one other status text = ap₂ due-of status text
+
+-- with a plant one thing is due
+with-one : DueLaws → (command : Command) (plant : Plant) (behind : List ℕ) (one other : Due)
+    → IsPlant plant
+    → IsDueWith command plant behind one → IsDueWith command plant behind other → one ≡ other
+with-one laws command plant behind one other sound (inl shown) (inl also) =
+    let same = history-one laws plant sound (scans_of command) behind
+    (reads_journal command) shown.joint also.joint shown.history also.history in
+    due-is one other (shown.status ∙ sym also.status)
+    (shown.text ∙ ap (text_of command plant) same ∙ sym also.text)
+with-one laws command plant behind one other sound (inl shown) (inr illegal) =
+    absurd (whole-or_illegal laws plant sound (scans_of command) behind shown.joint illegal.spot
+    (subst (λ reads. IsHistory reads plant (scans_of command) behind shown.joint) illegal.reads
+    shown.history) illegal.breaks)
+with-one laws command plant behind one other sound (inr illegal) (inl shown) =
+    absurd (whole-or_illegal laws plant sound (scans_of command) behind shown.joint illegal.spot
+    (subst (λ reads. IsHistory reads plant (scans_of command) behind shown.joint) illegal.reads
+    shown.history) illegal.breaks)
+with-one laws command plant behind one other sound (inr illegal) (inr also) =
+    let same = illegal-one laws plant sound (scans_of command) behind illegal.spot also.spot
+    illegal.breaks also.breaks in
+    due-is one other (illegal.status ∙ sym also.status)
+    (illegal.text ∙ ap illegal_text same ∙ sym also.text)
+
+-- and so it is with a plant file
+of-one : DueLaws → (command : Command) (file behind : List ℕ) (read : Result Plant Refusal)
+    (one other : Due) → plant_of file ≡ read
+    → IsDueOf command behind read one → IsDueOf command behind read other → one ≡ other
+of-one laws command file behind (Ok plant) one other is due due' =
+    let loaded : IsLoaded plant = gives-loaded file (Ok plant) is in
+    with-one laws command plant behind one other loaded.checked due due'
+of-one laws command file behind (Err fault) one other is due due' = due ∙ sym due'
+
+-- so there is one answer
+pub due-one : DueLaws → OneDue
+due-one laws command input one other due due' =
+    let same = file-one command input due.file due.behind due'.file due'.behind
+    due.parts due'.parts in
+    of-one laws command due.file due.behind (plant_of due.file) one other refl due.due
+    (subst (λ behind. IsDueOf command behind (plant_of due.file) other) (sym same.1)
+    (subst (λ file. IsDueOf command due'.behind (plant_of file) other) (sym same.0) due'.due))

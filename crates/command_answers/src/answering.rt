@@ -1,0 +1,269 @@
+//! What is due for a command and an input.
+ghost use Rattle.std.specs.Prelude.{◌≡◌, ℕ, List, IfOk, string_bytes};
+ghost use Rattle.plant_loader.specs.Plant.{plant_of};
+ghost use Rattle.joint_history.specs.JointLaws.{IsLegalJoint, most_scans};
+ghost use Rattle.joint_history.specs.Noted.{IsNoted};
+ghost use Rattle.joint_history.specs.Runnable.{CanRunPlant};
+ghost use Rattle.journal_text.specs.Fronts.{IsJournalOf};
+ghost use Rattle.journal_text.specs.Journal.{journal};
+ghost use Rattle.panel_text.specs.Panel.{panel};
+ghost use Rattle.command_words.specs.Words.{IsCommandInRange, IsNumberOfScans};
+ghost use Rattle.command_answers.specs.Due.{IsDue, IsDueOf, IsDueWith, IsFound, illegal_text, judges};
+ghost use Rattle.command_answers.specs.Due.{refusal_text, refused, task_text, as_due};
+
+use crate::cutting::cut;
+use crate::judging::{Judged, judge_journal};
+use crate::status::Status;
+use command_words::{Command, Task};
+use effect_laws::effects_are_right;
+use joint_history::{Joint, Noted};
+use journal_text::{fits_its_types, journal_text, legal_is_plain};
+use panel_text::panel_from_notes;
+use plant_gen::plant_from;
+use plant_loader::{LoadEnd, load};
+use plant_types::{Place, Plant, PlantFault};
+use serial_run::{run_counted, run_noted};
+use std::alloc::{AllocError, Global};
+use summary_text::summary_text;
+
+/// A status, and the text that goes with it.
+#[derive(Drop)]
+pub struct Answer {
+    pub status: Status,
+    pub text: Vec<u8>,
+}
+
+fn refusal_text(alloc: Global, fault: PlantFault, place: Place) -> Result<String, AllocError>
+    ensures { IfOk result (λ text. string_bytes text ≡ refusal_text fault place) }
+{
+    format!(in alloc; "refused {fault} {place}\n")
+}
+
+/// The line that names a fault and its place, with the status Refused.
+pub fn refused(alloc: Global, fault: PlantFault, place: Place) -> Result<Answer, AllocError>
+    ensures { IfOk result (λ answer. as_due answer ≡ refused (fault, place)) }
+{
+    let text = refusal_text(alloc, fault, place)?;
+    Ok(Answer {
+        status: Status::Refused,
+        text: text.into_bytes(),
+    })
+}
+
+fn illegal(alloc: Global, spot: &str) -> Result<Answer, AllocError>
+    ensures { IfOk result (λ answer. as_due answer
+        ≡ record { status = Status.Illegal; text = illegal_text spot.now }) }
+{
+    let text = format!(in alloc; "illegal {spot}")?;
+    Ok(Answer {
+        status: Status::Illegal,
+        text: text.into_bytes(),
+    })
+}
+
+/// The journal of a joint history tells all of it. A call made for the prover alone.
+fn journal_tells_all(plant: &Plant, joint: &Joint)
+    requires plant { CanRunPlant plant.now }
+    requires joint { IsLegalJoint plant.now most_scans joint.now }
+    ensures { IsJournalOf joint.now (journal joint.now) }
+{
+    legal_is_plain();
+    fits_its_types(joint);
+}
+
+/// The panel of a joint history, by the notes beside it.
+fn panel_of(alloc: Global, plant: &Plant, noted: &Noted) -> Result<Vec<u8>, AllocError>
+    requires joint { IsLegalJoint plant.now most_scans noted.now.joint }
+    requires notes { IsNoted plant.now noted.now }
+    ensures { IfOk result (λ text. text.items ≡ panel plant.now noted.now.joint) }
+{
+    panel_from_notes(alloc, plant, &noted.joint, noted.notes.as_slice())
+}
+
+/// The journal, and behind it the panel.
+fn trace_text(alloc: Global, plant: &Plant, noted: &Noted) -> Result<Vec<u8>, AllocError>
+    requires plant { CanRunPlant plant.now }
+    requires joint { IsLegalJoint plant.now most_scans noted.now.joint }
+    requires notes { IsNoted plant.now noted.now }
+    ensures { IfOk result (λ text. text.items ≡ task_text Task.Trace plant.now noted.now.joint) }
+{
+    legal_is_plain();
+    let mut text = journal_text(alloc, &noted.joint)?;
+    let panel = panel_of(alloc, plant, noted)?;
+    text.extend_from_slice(panel.as_slice())?;
+    Ok(text)
+}
+
+/// The journal of a run that was made, and behind it the panel, with the status Ok.
+pub fn traced(alloc: Global, plant: &Plant, scans: u32, noted: &Noted) -> Result<Answer, AllocError>
+    requires scans { IsNumberOfScans scans }
+    requires plant { CanRunPlant plant.now }
+    requires joint { IsLegalJoint plant.now scans noted.now.joint }
+    requires notes { IsNoted plant.now noted.now }
+    ensures told { IfOk result (λ answer. IsJournalOf noted.now.joint (journal noted.now.joint)) }
+    ensures status { IfOk result (λ answer. answer.status ≡ Status.Ok) }
+    ensures text { IfOk result (λ answer.
+        answer.text.items ≡ task_text Task.Trace plant.now noted.now.joint) }
+{
+    journal_tells_all(plant, &noted.joint);
+    let text = trace_text(alloc, plant, noted)?;
+    Ok(Answer {
+        status: Status::Ok,
+        text,
+    })
+}
+
+/// What a task writes of a joint history.
+fn task_text(alloc: Global, task: Task, plant: &Plant, noted: &Noted) -> Result<Vec<u8>, AllocError>
+    requires plant { CanRunPlant plant.now }
+    requires joint { IsLegalJoint plant.now most_scans noted.now.joint }
+    requires notes { IsNoted plant.now noted.now }
+    ensures { IfOk result (λ text. text.items ≡ task_text task plant.now noted.now.joint) }
+{
+    match task {
+        Task::Run => panel_of(alloc, plant, noted),
+        Task::Trace => trace_text(alloc, plant, noted),
+        Task::Check => Vec::from_slice(alloc, b"legal\n"),
+        Task::Replay => panel_of(alloc, plant, noted),
+    }
+}
+
+/// Whether a task takes the joint history of a journal.
+fn judges(task: Task) -> bool
+    ensures { result ≡ judges task }
+{
+    match task {
+        Task::Run | Task::Trace => false,
+        Task::Check | Task::Replay => true,
+    }
+}
+
+/// The joint history that a task is about: that of the journal, or of a run.
+fn history_of(
+    alloc: Global,
+    task: Task,
+    scans: u32,
+    plant: &Plant,
+    behind: &[u8],
+) -> Result<Judged, AllocError>
+    requires scans { IsNumberOfScans scans }
+    requires plant { CanRunPlant plant.now }
+    ensures { IfOk result (IsFound (judges task) plant.now scans behind.now) }
+{
+    if judges(task) {
+        judge_journal(alloc, plant, scans, behind)
+    } else {
+        Ok(Judged::Whole(run_noted(alloc, plant, scans)?))
+    }
+}
+
+/// The answer to a task with a plant that is accepted, by what its joint history came to.
+fn answer_task(
+    alloc: Global,
+    task: Task,
+    scans: u32,
+    plant: &Plant,
+    behind: &[u8],
+) -> Result<Answer, AllocError>
+    requires scans { IsNumberOfScans scans }
+    requires plant { CanRunPlant plant.now }
+    ensures { IfOk result (λ answer.
+        IsDueWith (Command.Do task scans) plant.now behind.now (as_due answer)) }
+{
+    effects_are_right();
+    match history_of(alloc, task, scans, plant, behind)? {
+        Judged::Whole(noted) => {
+            journal_tells_all(plant, &noted.joint);
+            let text = task_text(alloc, task, plant, &noted)?;
+            Ok(Answer {
+                status: Status::Ok,
+                text,
+            })
+        }
+        Judged::Illegal(spot) => illegal(alloc, spot.as_str()),
+    }
+}
+
+/// The summary of a run of a plant, whatever number it stands for.
+fn answer_summary(alloc: Global, scans: u32, plant: &Plant) -> Result<Answer, AllocError>
+    requires scans { IsNumberOfScans scans }
+    requires plant { CanRunPlant plant.now }
+    ensures { IfOk result (λ answer. (number : ℕ) (behind : List ℕ)
+        → IsDueWith (Command.Gen number scans) plant.now behind (as_due answer)) }
+{
+    let counted = run_counted(alloc, plant, scans)?;
+    let joint = &counted.noted.joint;
+    journal_tells_all(plant, joint);
+    let text = summary_text(alloc, joint, counted.coils)?;
+    Ok(Answer {
+        status: Status::Ok,
+        text,
+    })
+}
+
+/// The answer to a command with a plant that is accepted.
+fn answer_with(
+    alloc: Global,
+    command: Command,
+    plant: &Plant,
+    behind: &[u8],
+) -> Result<Answer, AllocError>
+    requires command { IsCommandInRange command }
+    requires plant { CanRunPlant plant.now }
+    ensures { IfOk result (λ answer. IsDueWith command plant.now behind.now (as_due answer)) }
+{
+    match command {
+        Command::Do { task, scans } => answer_task(alloc, task, scans, plant, behind),
+        Command::Gen { scans, .. } => {
+            let answer = answer_summary(alloc, scans, plant)?;
+            Ok(answer)
+        }
+    }
+}
+
+/// The answer to a command with the plant of a file.
+fn answer_over(
+    alloc: Global,
+    command: Command,
+    file: &[u8],
+    behind: &[u8],
+) -> Result<Answer, AllocError>
+    requires { IsCommandInRange command }
+    ensures { IfOk result (λ answer.
+        IsDueOf command behind.now (plant_of file.now) (as_due answer)) }
+{
+    match load(alloc, file) {
+        Ok(plant) => answer_with(alloc, command, &plant, behind),
+        Err(LoadEnd::Refused(fault, place)) => refused(alloc, fault, place),
+        Err(LoadEnd::NoMemory) => Err(AllocError),
+    }
+}
+
+/// The answer to a task over an input.
+fn answer_to_task(alloc: Global, task: Task, scans: u32, input: &[u8]) -> Result<Answer, AllocError>
+    requires { IsNumberOfScans scans }
+    ensures { IfOk result (λ answer.
+        IsDue (Command.Do task scans) input.now (as_due answer)) }
+{
+    let command = Command::Do { task, scans };
+    if judges(task) {
+        let (file, journal) = cut(input);
+        answer_over(alloc, command, file, journal)
+    } else {
+        answer_over(alloc, command, input, &[])
+    }
+}
+
+/// The answer to a command over an input.
+pub fn answer_to(alloc: Global, command: Command, input: &[u8]) -> Result<Answer, AllocError>
+    requires { IsCommandInRange command }
+    ensures { IfOk result (λ answer. IsDue command input.now (as_due answer)) }
+{
+    match command {
+        Command::Do { task, scans } => answer_to_task(alloc, task, scans, input),
+        Command::Gen { number, .. } => {
+            let file = plant_from(alloc, number)?;
+            answer_over(alloc, command, file.as_slice(), &[])
+        }
+    }
+}

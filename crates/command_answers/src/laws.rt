@@ -1,0 +1,26 @@
+//! What holds of all that is due.
+ghost use Rattle.command_answers.specs.OneDue.{OneDue};
+ghost use Rattle.command_answers.specs.Written.{WrittenIsLegal};
+
+use joint_law::verdicts_agree;
+use journal_text::{one_history_of_a_text, one_journal_in_front};
+use one_run::one_serial_run;
+
+/// For each command but that of a live run, and each input, at most one text and status is due.
+pub fn one_due()
+    ensures { OneDue }
+{
+    one_serial_run();
+    one_history_of_a_text();
+    verdicts_agree();
+}
+
+/// What `trace` and `live` write for a plant file is the journal and the panel of one joint
+/// history: `check` of that file and that journal can answer legal alone, and `replay` that panel
+/// alone.
+pub fn written_is_legal()
+    ensures { WrittenIsLegal }
+{
+    one_due();
+    one_journal_in_front();
+}

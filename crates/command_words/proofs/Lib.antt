@@ -1,0 +1,4 @@
+mod OneNumber
+mod Positionals
+mod Spelled
+mod TwoNumbers

@@ -1,0 +1,65 @@
+-- The words of the command line, as bytes. This project's own.
+use Rattle.std.specs.Prelude.{◌≡◌, ℕ, if◌then◌else◌, List, [], ◌∷◌, bytes_eq, codes}
+use Rattle.std.specs.Fmt.{decimal}
+use Rattle.plant_types.specs.Limits.{most_scans}
+use Rattle.plant_types.specs.Plans.{IsFromTo}
+use Rattle.plant_gen.specs.Text.{IsPlantNumber}
+use Rattle.command_words.specs.declared.words.Command.{Command}
+use Rattle.command_words.specs.declared.words.Command.TheVariants.{Do, Gen}
+use Rattle.command_words.specs.declared.words.Task.{Task}
+use Rattle.command_words.specs.declared.words.Task.TheVariants.{Run, Trace, Check, Replay}
+
+-- The words without the first that is exactly `--`, wherever it stands.
+abbrev pub without_dashes : List (List ℕ) → List (List ℕ)
+without_dashes [] = []
+without_dashes (word ∷ words) =
+    if bytes_eq word (codes "--") then words else word ∷ without_dashes words
+
+-- The word that names a task.
+abbrev pub task_name : Task → List ℕ
+task_name Run = codes "run"
+task_name Trace = codes "trace"
+task_name Check = codes "check"
+task_name Replay = codes "replay"
+
+-- The word that names a command.
+abbrev pub command_name : Command → List ℕ
+command_name (Do task scans) = task_name task
+command_name (Gen number scans) = codes "gen"
+
+-- The numbers of a command, in decimal digits with no sign and no leading zero.
+abbrev pub command_numbers : Command → List (List ℕ)
+command_numbers (Do task scans) = decimal scans ∷ []
+command_numbers (Gen number scans) = decimal number ∷ decimal scans ∷ []
+
+-- A run has 1 to 2000 scans.
+abbrev pub IsNumberOfScans : ℕ → Type 0
+IsNumberOfScans scans = IsFromTo 1 most_scans scans
+
+-- The numbers of a command are in their ranges.
+abbrev pub IsCommandInRange : Command → Type 0
+IsCommandInRange (Do task scans) = IsNumberOfScans scans
+IsCommandInRange (Gen number scans) = IsPlantNumber number × IsNumberOfScans scans
+
+-- A command of this name, and behind the name its numbers, among which one `--` may stand.
+pub record SpellsBehind (name : List ℕ) (behind : List (List ℕ)) (command : Command)
+    : Type 0 where
+  pub named : command_name command ≡ name
+  pub numbers : without_dashes behind ≡ command_numbers command
+  pub in_range : IsCommandInRange command
+
+-- The words are those of this command: its name, and what stands behind it.
+abbrev pub SpellsCommand : List (List ℕ) → Command → Type 0
+SpellsCommand [] command = ⊥
+SpellsCommand (name ∷ behind) command = SpellsBehind name behind command
+
+-- The words are those of a live run of so many scans.
+pub record SpellsLiveBehind (name : List ℕ) (behind : List (List ℕ)) (scans : ℕ) : Type 0 where
+  pub named : codes "live" ≡ name
+  pub numbers : without_dashes behind ≡ decimal scans ∷ []
+  pub in_range : IsNumberOfScans scans
+
+-- The words are those of a live run: its name, and what stands behind it.
+abbrev pub SpellsLive : List (List ℕ) → ℕ → Type 0
+SpellsLive [] scans = ⊥
+SpellsLive (name ∷ behind) scans = SpellsLiveBehind name behind scans

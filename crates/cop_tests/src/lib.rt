@@ -1,0 +1,5 @@
+//! Tests of drops and of their tests.
+#![tactic(auto)]
+
+#[cfg(test)]
+mod drops;

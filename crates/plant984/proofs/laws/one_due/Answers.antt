@@ -1,9 +1,0 @@
-use Rattle.plant984.proofs.OneDue.{due-one}
-use Rattle.plant984.proofs.laws.one_due.Goals as goal
-
-pub returns : goal.returns
-returns c = due-one (record {
-  runs = c.one_serial_run.ensures;
-  texts = c.one_history_of_a_text.ensures;
-  verdicts = c.verdicts_agree.ensures;
-})

@@ -1,0 +1,45 @@
+-- Where the array of accepted numbers has its places. This project's own.
+use Rattle.std.specs.Prelude.{ℕ, ◌/◌, ◌%◌, Bool, List, refl}
+use Rattle.std.specs.Coded.{Coded, code_by, coded×, coded_ℕ, coded_bool, coded_list}
+use Rattle.std.specs.FinMap.{code}
+use Rattle.ring_core.specs.Words.{Frame, Path}
+use Rattle.ring_core.specs.contracts.frame.Frame as frame
+use Rattle.ring_core.specs.contracts.path.Path as path
+use Rattle.ring_core.specs.Machine.{NodeIs, AcceptedIs, Source}
+
+-- A place for each path of each address, 0 to 64.
+abbrev pub sources : ℕ
+sources = 325
+
+-- The source of a place.
+abbrev pub source_at : ℕ → Source
+source_at place = (place / 5, place % 5)
+
+-- The code by which a proof tells the numbers of two nodes apart.
+abbrev pub coded_accepted : Coded AcceptedIs
+coded_accepted = code (coded× coded_ℕ coded_ℕ) coded_ℕ
+
+-- The code by which a proof tells two nodes' parts apart.
+abbrev pub coded_node : Coded NodeIs
+coded_node =
+    code_by
+    (((Bool × List Frame) × (ℕ × List Frame)) × ((ℕ × ℕ) × (List Path × AcceptedIs)))
+    (coded×
+    (coded× (coded× coded_bool (coded_list frame.the_row.coded))
+    (coded× coded_ℕ (coded_list frame.the_row.coded)))
+    (coded× (coded× coded_ℕ coded_ℕ) (coded× (coded_list path.the_row.coded) coded_accepted)))
+    (λ n. (
+      ((n.here, n.outbox), (n.tries, n.inbox)),
+      ((n.passes, n.done_run), (n.paths, n.accepted)),
+    ))
+    (λ p. record {
+      here = p.0.0.0;
+      outbox = p.0.0.1;
+      tries = p.0.1.0;
+      inbox = p.0.1.1;
+      passes = p.1.0.0;
+      done_run = p.1.0.1;
+      paths = p.1.1.0;
+      accepted = p.1.1.1;
+    })
+    (λ _. refl)

@@ -1,0 +1,5 @@
+//! Tests of the order of events within a scan.
+#![tactic(auto)]
+
+#[cfg(test)]
+mod rows;
