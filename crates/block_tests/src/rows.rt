@@ -1,9 +1,9 @@
 //! Rows of blocks, and what they share.
 //!
-//! A row has a block with its numbers, the registers before, what the block tells, and the registers
-//! after, as `R>T 40001 40002 3 1 : 7 0 1 2 3 => 1 : 7 1 7 2 3`. Registers count from 40001; `@9`
-//! goes on at 40009. A number behind an `x` is hexadecimal. Of the bits of inputs and outputs 1 is
-//! the top node, 2 the middle one and 4 the bottom one.
+//! A row has a block with its numbers, the registers before, what the block tells, and the
+//! registers after, as `R>T 40001 40002 3 1 : 7 0 1 2 3 => 1 : 7 1 7 2 3`. Registers count from
+//! 40001; `@9` goes on at 40009. A number behind an `x` is hexadecimal. Of the bits of inputs and
+//! outputs 1 is the top node, 2 the middle one and 4 the bottom one.
 ghost use Rattle.std.specs.Prelude.{◌≡◌};
 ghost use Rattle.std.specs.Bool.{OnTrue};
 ghost use Rattle.plant_types.specs.Store.{HasRegisters};

@@ -7,8 +7,8 @@ use std::alloc::Global;
 use std::process::Abort;
 use std::test::Fail;
 
-/// Texts, and what is read of each: contacts, coils and shorts; timers and counters; blocks of three
-/// nodes; control flow and a message; spaces and tabs.
+/// Texts, and what is read of each: contacts, coils and shorts; timers and counters; blocks of
+/// three nodes; control flow and a message; spaces and tabs.
 const PIECES: &str = "\
 1,1 H => Ok(Cell(Cell { row: 1, column: 1, element: Wire }))
 1,2 NO 00001 => Ok(Cell(Cell { row: 1, column: 2, element: Open(Ref { kind: Coil, number: 1 }) }))
@@ -21,25 +21,54 @@ const PIECES: &str = "\
 7,1 H => Ok(Cell(Cell { row: 7, column: 1, element: Wire }))
 7,2 H => Ok(Cell(Cell { row: 7, column: 2, element: Wire }))
 7,3 CO 00001 => Ok(Cell(Cell { row: 7, column: 3, element: Coil(Ref { kind: Coil, number: 1 }) }))
-7,11 NC 19984 => Ok(Cell(Cell { row: 7, column: 11, element: Closed(Ref { kind: Input, number: 9984 }) }))
+7,11 NC 19984 => \
+    Ok(Cell(Cell { row: 7, column: 11, \
+    element: Closed(Ref { kind: Input, number: 9984 }) }))
 2,1 PT 00007 => Ok(Cell(Cell { row: 2, column: 1, element: Rise(Ref { kind: Coil, number: 7 }) }))
 2,2 NT 00008 => Ok(Cell(Cell { row: 2, column: 2, element: Fall(Ref { kind: Coil, number: 8 }) }))
 2,3 CL 00009 => Ok(Cell(Cell { row: 2, column: 3, element: Latch(Ref { kind: Coil, number: 9 }) }))
 6,10 V => Ok(Short(Short { row: 6, column: 10 }))
 1,1 V => Ok(Short(Short { row: 1, column: 1 }))
-1,2 T1.0 7 40001 => Ok(Cell(Cell { row: 1, column: 2, element: Timer { unit: Second, preset: Const(7), acc: Ref { kind: Register, number: 1 } } }))
-6,11 DCTR 30001 40002 => Ok(Cell(Cell { row: 6, column: 11, element: Counter { up: false, preset: At(Ref { kind: InputRegister, number: 1 }), acc: Ref { kind: Register, number: 2 } } }))
-4,1 ADD 300 0 40012 => Ok(Cell(Cell { row: 4, column: 1, element: Math { op: Add, top: Const(300), mid: Const(0), low: Ref { kind: Register, number: 12 } } }))
-1,1 FOUT 40001 40012 10 => Ok(Cell(Cell { row: 1, column: 1, element: Move { op: FirstOut, top: Ref { kind: Register, number: 1 }, mid: Ref { kind: Register, number: 12 }, length: 10 } }))
-1,2 MBIT 5 40011 1 => Ok(Cell(Cell { row: 1, column: 2, element: Matrix { op: Mbit, top: Const(5), mid: Ref { kind: Register, number: 11 }, length: 1 } }))
-1,1 SENS 1 30001 100 => Ok(Cell(Cell { row: 1, column: 1, element: Matrix { op: Sens, top: Const(1), mid: Ref { kind: InputRegister, number: 1 }, length: 100 } }))
-5,3 XOR 30001 40002 3 => Ok(Cell(Cell { row: 5, column: 3, element: Matrix { op: Xor, top: At(Ref { kind: InputRegister, number: 1 }), mid: Ref { kind: Register, number: 2 }, length: 3 } }))
-1,1 SKP 30001 => Ok(Cell(Cell { row: 1, column: 1, element: Skip(At(Ref { kind: InputRegister, number: 1 })) }))
+1,2 T1.0 7 40001 => \
+    Ok(Cell(Cell { row: 1, column: 2, \
+    element: Timer { unit: Second, preset: Const(7), acc: Ref { kind: Register, number: 1 } } }))
+6,11 DCTR 30001 40002 => \
+    Ok(Cell(Cell { row: 6, column: 11, \
+    element: Counter { up: false, preset: At(Ref { kind: InputRegister, number: 1 }), \
+    acc: Ref { kind: Register, number: 2 } } }))
+4,1 ADD 300 0 40012 => \
+    Ok(Cell(Cell { row: 4, column: 1, \
+    element: Math { op: Add, top: Const(300), mid: Const(0), \
+    low: Ref { kind: Register, number: 12 } } }))
+1,1 FOUT 40001 40012 10 => \
+    Ok(Cell(Cell { row: 1, column: 1, \
+    element: Move { op: FirstOut, top: Ref { kind: Register, number: 1 }, \
+    mid: Ref { kind: Register, number: 12 }, length: 10 } }))
+1,2 MBIT 5 40011 1 => \
+    Ok(Cell(Cell { row: 1, column: 2, \
+    element: Matrix { op: Mbit, top: Const(5), mid: Ref { kind: Register, number: 11 }, \
+    length: 1 } }))
+1,1 SENS 1 30001 100 => \
+    Ok(Cell(Cell { row: 1, column: 1, \
+    element: Matrix { op: Sens, top: Const(1), mid: Ref { kind: InputRegister, number: 1 }, \
+    length: 100 } }))
+5,3 XOR 30001 40002 3 => \
+    Ok(Cell(Cell { row: 5, column: 3, \
+    element: Matrix { op: Xor, top: At(Ref { kind: InputRegister, number: 1 }), \
+    mid: Ref { kind: Register, number: 2 }, length: 3 } }))
+1,1 SKP 30001 => \
+    Ok(Cell(Cell { row: 1, column: 1, \
+    element: Skip(At(Ref { kind: InputRegister, number: 1 })) }))
 1,1 LAB 255 => Ok(Cell(Cell { row: 1, column: 1, element: Label(255) }))
 6,11 JSR 7 => Ok(Cell(Cell { row: 6, column: 11, element: Call(Const(7)) }))
 7,2 RET => Ok(Cell(Cell { row: 7, column: 2, element: Return }))
-1,2 MSTR 40001 40011 100 => Ok(Cell(Cell { row: 1, column: 2, element: Mstr { control: Ref { kind: Register, number: 1 }, area: Ref { kind: Register, number: 11 }, length: 100 } }))
-\t 1,2\tNO   00001  => Ok(Cell(Cell { row: 1, column: 2, element: Open(Ref { kind: Coil, number: 1 }) }))
+1,2 MSTR 40001 40011 100 => \
+    Ok(Cell(Cell { row: 1, column: 2, \
+    element: Mstr { control: Ref { kind: Register, number: 1 }, \
+    area: Ref { kind: Register, number: 11 }, length: 100 } }))
+\t 1,2\tNO   00001  => \
+    Ok(Cell(Cell { row: 1, column: 2, \
+    element: Open(Ref { kind: Coil, number: 1 }) }))
 ";
 
 /// Texts that do not read: position, name, number of operands, their forms; the second is empty.

@@ -38,8 +38,8 @@ use Rattle.cell_text.specs.Numbers.{is_reference_word, reference_of}
 use Rattle.cell_text.specs.Names.{spelled_name}
 use Rattle.cell_text.specs.Slots.{slots_of_piece, takes_form, takes_value, takes_kind}
 use Rattle.cell_text.specs.Slots.{taken_reference, operand_in, operands_in, read_operands}
-use Rattle.cell_text.specs.Pieces.{short_at, piece_at, piece_of, name_in_piece}
-use Rattle.cell_text.specs.Texts.{has_number, has_numbers, has_text, piece_name}
+use Rattle.cell_text.specs.Pieces.{short_at, piece_at, piece_of}
+use Rattle.cell_text.specs.Texts.{has_number, has_numbers, has_text}
 use Rattle.cell_text.proofs.StepLemmas.{step-ok, or_fault-ok, unless-ok, some-step, some-map}
 use Rattle.cell_text.proofs.StepLemmas.{some-guard, or_fault-some}
 use Rattle.cell_text.proofs.FitLemmas.{fits, pointwise-fits}
@@ -312,40 +312,3 @@ pub gives-has_text : (words : List (List ℕ)) (r : Result Piece CellFault) → 
     → IfOk r (λ piece. has_text piece ≡ true)
 gives-has_text words (Ok piece) e = piece_of-has words piece (sym e)
 gives-has_text words (Err fault) e = tt
-
--- a piece has the name that it was read by
-piece_at-named : (row column : ℕ) (name : PieceName) (operands : List Operand) (piece : Piece)
-    → piece_at row column name operands ≡ Some piece → name ≡ piece_name piece
-piece_at-named row column names.Short operands piece h =
-    let (low, some) = some-guard (nat_le row 6)
-    (Some (pieces.Short (record { row = row; column = column }))) piece h in
-    let same : pieces.Short (record { row = row; column = column }) ≡ piece = some_value _ _ some in
-    rw (← same) refl
-piece_at-named row column (names.Element name) operands piece h =
-    let found = some-map
-    (λ element. pieces.Cell (record { row = row; column = column; element = element }))
-    (element_of name operands) piece h in
-    let same : pieces.Cell (record { row = row; column = column; element = found.0 }) ≡ piece =
-    found.1.1 in
-    let made = element_of-made name operands found.0 found.1.0 in
-    rw (← same) (ap names.Element (sym made.names))
-
--- the second word of a piece that reads names it
-pub piece_of-named : (words : List (List ℕ)) (piece : Piece) → piece_of words ≡ Ok piece
-    → name_in_piece words ≡ Some (piece_name piece)
-unfolding piece_of
-piece_of-named [] piece h = cc
-piece_of-named (position ∷ []) piece h = cc
-piece_of-named (position ∷ word ∷ words) piece h =
-    let place = or_fault-ok BadCell (position_of position)
-    (λ place. or_fault BadCell (spelled_name word) >>= λ name. read_operands
-    (slots_of_piece name) words
-    >>= λ operands. or_fault BadCell (piece_at place.0 place.1 name operands)) piece h in
-    let name = or_fault-ok BadCell (spelled_name word)
-    (λ name. read_operands (slots_of_piece name) words >>= λ operands. or_fault BadCell
-    (piece_at place.0.0 place.0.1 name operands)) piece place.1.1 in
-    let operands = step-ok (read_operands (slots_of_piece name.0) words)
-    (λ operands. or_fault BadCell (piece_at place.0.0 place.0.1 name.0 operands)) piece name.1.1 in
-    let same = piece_at-named place.0.0 place.0.1 name.0 operands.0 piece
-    (or_fault-some BadCell (piece_at place.0.0 place.0.1 name.0 operands.0) piece operands.1.1) in
-    name.1.0 ∙ ap Some same

@@ -186,13 +186,6 @@ sent-lead {P} {Q} alone n heard ram known side side' ring ring' w same legal sen
           (λ p. waiting-push p (own n ring) e) (λ id out. out) t.waits);
     }
 
--- counts at one node
-pub less-at : {Q : Type 0} (side : RingSideIs Q) (n m : ℕ) (ring ring' : List RingEntry) → m ≡ n
-    → sends_left side.net ring' m ≤
-    sends_left side.net ring m → sends_left side.net ring' n ≤ sends_left side.net ring n
-less-at side n m ring ring' is le = subst
-    (λ (k : ℕ). sends_left side.net ring' k ≤ sends_left side.net ring k) is le
-
 pub holds-at : {Q : Type 0} (side side' : RingSideIs Q) (ring : List RingEntry) (n : ℕ)
     → side' ≡ side → Holds side.net ring n → Holds side'.net ring n
 holds-at {Q} side side' ring n same h = subst (λ (s : RingSideIs Q). Holds s.net ring n) (sym same)

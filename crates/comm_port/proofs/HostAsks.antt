@@ -39,6 +39,7 @@ use Rattle.tied_lists.proofs.Steps.{tied-quiet}
 use Rattle.tied_lists.proofs.Turns.{unmoved}
 use Rattle.comm_port.specs.Sides.{RingSideIs}
 use Rattle.joint_history.specs.Reading.{host_items_of}
+use Rattle.comm_port.specs.Giving.{IsAtRest}
 use Rattle.comm_port.specs.Turns.{IsOwnTurn, KeepsInbox}
 use Rattle.comm_port.specs.Sending.{AllSent, GaveUp, SentNext, SentOrAll, sends_left, sends_of}
 use Rattle.comm_port.specs.Leaving.{HandedOn, IsHere, last_entry}
@@ -46,7 +47,9 @@ use Rattle.comm_port.specs.HostTurns.{asks_left, EndsWithPass, HostTies, HostTur
 use Rattle.comm_port.proofs.HostLists.{agree_asked, agree_given_up, agree_still}
 use Rattle.comm_port.proofs.HostLists.{made_net}
 use Rattle.comm_port.proofs.HostTurning.{items-now, legal-with, own-turn, turning-still}
+use Rattle.comm_port.proofs.Leaves.{handed-ends}
 use Rattle.comm_port.proofs.Sends.{kept-found}
+use Rattle.comm_port.proofs.Through.{rest-through}
 use Rattle.comm_port.proofs.RingTurns.{kept-both, kept-post, on-ring, own-moved}
 
 -- ---- an Ask
@@ -144,12 +147,6 @@ fewer-asks old new f hold is w =
     let plan : length new.plan.requests ≡ length old.plan.requests = ap
     (λ (p : HostPlan). length p.requests) w.plan in
     omega arith
-
--- nothing was due
-pub host-same : (old new : HostIs) → HostWentOn [] old new → new ≡ old
-host-same old new w =
-    let history : new.history ≡ old.history = w.history ∙ append-nil old.history in
-    λ i. record { plan = w.plan i; history = history i }
 
 -- ---- a GiveUp
 
@@ -347,8 +344,8 @@ pub ties-handed : {Q : Type 0} (alone : Bool) (n : ℕ) (done : Bool) (words : L
     (cause : Option LeaveCause) (host : HostIs)
     (side : RingSideIs Q) (ring ring' : List RingEntry) → HostTurning n host side ring
     → HandedOn alone side.net n done words cause ring ring' → IsLegalRing side.net ring'
-    → 0 < side.net.answer → HostTies n host side ring'
-ties-handed alone n done words cause host side ring ring' t handed legal wait =
+    → 0 < side.net.answer → IsAtRest side.net n ring → HostTies n host side ring'
+ties-handed alone n done words cause host side ring ring' t handed legal wait rest =
     let own_is = grew-ours alone (is_of n) ring (last_entry n done words cause ∷ []) ring'
     handed.grew in
     record {
@@ -361,6 +358,8 @@ ties-handed alone n done words cause host side ring ring' t handed legal wait =
           (tied-all AHost _ _ (last-quiet n done words cause _ _ (tied-none AHost _ _ t.tied)));
       paths = subst (PathsAgree host.history) (sym own_is)
           (last-still n done words cause host.history (own n ring) t.paths);
+      rest = rest-through alone side.net n ring ring' t.own_turn.on legal
+          (handed-ends alone side.net n done words cause ring ring' handed) rest;
     }
 
 pub turning-left : {Q : Type 0} (n : ℕ) (host : HostIs) (side : RingSideIs Q)

@@ -1,4 +1,4 @@
--- Nothing is left in a host's boxes where its turn ends.
+-- Nothing is left in a host's boxes where its turn ends, and none of its calls has failed.
 use Rattle.std.proofs.Common.{◌≡◌, ℕ, Bool, true, false, cond, not, List, [], ◌∷◌, ◌++◌, map}
 use Rattle.std.proofs.Common.{filter, sym, ap, ◌∙◌, subst, inl, ⊎_elim}
 use Rattle.std.proofs.Common.{append-nil, append_assoc}
@@ -6,6 +6,7 @@ use Rattle.std.specs.List.{AllByRecursion as Each}
 use Rattle.std.proofs.lemmas.Bool.{cases_Bool, eqb-true}
 use Rattle.plant_types.specs.declared.net.NetPlan.{NetPlan}
 use Rattle.plant_types.specs.declared.net.HostPlan.{HostPlan}
+use Rattle.mstr_block.specs.Table.{network_paths}
 use Rattle.host_port.specs.declared.entry.HostEntry.{HostEntry}
 use Rattle.ring_core.specs.declared.frame.Frame.{Frame}
 use Rattle.ring_core.specs.declared.entry.RingEntry.{RingEntry}
@@ -15,14 +16,15 @@ use Rattle.ring_core.specs.Words.{maker, asks_for}
 use Rattle.ring_core.specs.Machine.{NodeIs}
 use Rattle.ring_core.specs.Legal.{IsLegalRing}
 use Rattle.tied_lists.specs.Own.{is_of, own, Adds}
-use Rattle.tied_lists.specs.Waits.{IsOnRing, Holds}
+use Rattle.tied_lists.specs.Waits.{Holds, IsOnRing}
 use Rattle.tied_lists.proofs.Histories.{heard-inbox}
 use Rattle.tied_lists.proofs.Turns.{Moved, after-post, after-give_up, found-at, legal-parts}
-use Rattle.comm_port.specs.Giving.{part_at, BoxesEmpty}
+use Rattle.comm_port.specs.Giving.{part_at, IsAtRest}
 use Rattle.comm_port.specs.HostTurns.{AsksAllDue, GivesUpDue, GivenUp}
 use Rattle.comm_port.specs.HostTurns.{SendsOut, give_up_of}
 use Rattle.comm_port.specs.SendsAll.{IsNextSending}
 use Rattle.comm_port.specs.Order.{IsGivingUp}
+use Rattle.comm_port.proofs.HostSends.{none-failed-due}
 use Rattle.comm_port.proofs.Parts.{each-added}
 use Rattle.comm_port.proofs.Sends.{sent-one}
 use Rattle.comm_port.proofs.Through.{own-moves}
@@ -101,16 +103,16 @@ inbox-keeps net n past after' (Local m id op result) mine move sort h q = absurd
 inbox-keeps net n past after' (Pass m done words) mine move sort h q = absurd sort
 inbox-keeps net n past after' (Leave m cause) mine move sort h q = absurd sort
 
-boxes-keep : (net : NetPlan) (n : ℕ) → HolderKeeps net n IsGivingUp BoxesEmpty
-boxes-keep net n past after' (GiveUp id word) mine move sort h q =
+outbox-keeps : (net : NetPlan) (n : ℕ) → HolderKeeps net n IsGivingUp (λ c. c.outbox ≡ [])
+outbox-keeps net n past after' (GiveUp id word) mine move sort h q =
     let w = after-give_up net n past id word after' mine move in
-    (w.holds h, subst BoxesEmpty (sym w.part_is) (ap (filter (λ f. not (asks_for id f))) q.0, q.1))
-boxes-keep net n past after' (Post m f) mine move sort h q = absurd sort
-boxes-keep net n past after' (Send m heard) mine move sort h q = absurd sort
-boxes-keep net n past after' (Take m f) mine move sort h q = absurd sort
-boxes-keep net n past after' (Local m id op result) mine move sort h q = absurd sort
-boxes-keep net n past after' (Pass m done words) mine move sort h q = absurd sort
-boxes-keep net n past after' (Leave m cause) mine move sort h q = absurd sort
+    (w.holds h, ap (λ (c : NodeIs). c.outbox) w.part_is ∙ ap (filter (λ f. not (asks_for id f))) q)
+outbox-keeps net n past after' (Post m f) mine move sort h q = absurd sort
+outbox-keeps net n past after' (Send m heard) mine move sort h q = absurd sort
+outbox-keeps net n past after' (Take m f) mine move sort h q = absurd sort
+outbox-keeps net n past after' (Local m id op result) mine move sort h q = absurd sort
+outbox-keeps net n past after' (Pass m done words) mine move sort h q = absurd sort
+outbox-keeps net n past after' (Leave m cause) mine move sort h q = absurd sort
 
 -- ---- what a host's parts add
 
@@ -118,9 +120,13 @@ posts-sort : (n : ℕ) (asks : List Frame) → Each KeepsBox (map (Post n) asks)
 posts-sort n [] = tt
 posts-sort n (f ∷ asks) = (tt, posts-sort n asks)
 
-gives-sort : (ends : List GivenUp) → Each IsGivingUp (map give_up_of ends)
+pub gives-sort : (ends : List GivenUp) → Each IsGivingUp (map give_up_of ends)
 gives-sort [] = tt
 gives-sort (e ∷ ends) = (tt, gives-sort ends)
+
+gives-keep : (ends : List GivenUp) → Each KeepsBox (map give_up_of ends)
+gives-keep [] = tt
+gives-keep (e ∷ ends) = (tt, gives-keep ends)
 
 step-sort : (net : NetPlan) (n : ℕ) (on : ℕ → Bool) (past : List RingEntry) (e : RingEntry)
     → IsNextSending net n on past e → KeepsBox e
@@ -132,16 +138,16 @@ step-sort net n on past (Local m id op result) it = absurd it
 step-sort net n on past (Pass m done words) it = absurd it
 step-sort net n on past (Leave m cause) it = absurd it
 
--- both boxes of a host that served, asked, sent and gave up are empty
-pub boxes-empty : (alone : Bool) (net : NetPlan) (n : ℕ) (plan : HostPlan) (hold : ℕ)
+-- the inbox of a host that served, asked, sent and gave up is empty
+pub inbox-empty : (alone : Bool) (net : NetPlan) (n : ℕ) (plan : HostPlan) (hold : ℕ)
     (asks : List Frame) (on : ℕ → Bool) (paths : List ℕ) (k1 k2 k3 k4 : List HostEntry)
     (served asked sent
     given : List RingEntry) → IsOnRing net served n → Holds net served n → IsLegalRing net asked
     → Holds net asked n → IsLegalRing net sent → Holds net sent n → IsLegalRing net given
     → (part_at net n served).inbox ≡ [] → AsksAllDue alone n plan hold asks k1 k2 served asked
     → SendsOut alone net n on k2 k3 asked sent → GivesUpDue alone net n paths k3 k4 sent given
-    → BoxesEmpty (part_at net n given)
-boxes-empty alone net n plan hold asks on paths k1 k2 k3 k4 served asked sent given ring h1 legal2
+    → (part_at net n given).inbox ≡ []
+inbox-empty alone net n plan hold asks on paths k1 k2 k3 k4 served asked sent given ring h1 legal2
     h2 legal3 h3 legal4 empty a s u =
     let on2 : IsOnRing net asked n = record
     { members = ring.members; legal = legal2; member = ring.member } in
@@ -159,6 +165,20 @@ boxes-empty alone net n plan hold asks on paths k1 k2 k3 k4 served asked sent gi
           s.frames.done sent s.frames.grew s.frames.each;
       grew = s.frames.grew;
     }) one in
-    holder-through alone net n IsGivingUp BoxesEmpty sent given (boxes-keep net n) on3 legal4 h3
-    (record { added = map give_up_of u.ends; sort = gives-sort u.ends; grew = u.grew })
-    (s.frames.all_sent, two)
+    holder-through alone net n KeepsBox (λ c. c.inbox ≡ []) sent given (inbox-keeps net n) on3
+    legal4 h3
+    (record { added = map give_up_of u.ends; sort = gives-keep u.ends; grew = u.grew }) two
+
+-- a host that sent all and gave up what was due is at rest
+pub rest-due : (alone : Bool) (net : NetPlan) (n : ℕ) (on : ℕ → Bool) (k2 k3 k4 : List HostEntry)
+    (asked sent given : List RingEntry) → IsOnRing net sent n → Holds net sent n
+    → IsLegalRing net given → SendsOut alone net n on k2 k3 asked sent
+    → GivesUpDue alone net n network_paths k3 k4 sent given → IsAtRest net n given
+rest-due alone net n on k2 k3 k4 asked sent given ring h legal s u = record {
+  all_sent = holder-through alone net n IsGivingUp (λ c. c.outbox ≡ []) sent given
+      (outbox-keeps net n) ring legal h
+      (record { added = map give_up_of u.ends; sort = gives-sort u.ends; grew = u.grew })
+      s.frames.all_sent;
+  none_failed = λ path chosen. none-failed-due net n given
+      (record { members = ring.members; legal = legal; member = ring.member }) u.none_left path;
+}

@@ -32,10 +32,10 @@ use Rattle.tied_lists.specs.Waits.{HasLeft, Holds, IsFree, IsOnRing}
 use Rattle.tied_lists.proofs.Histories.{legal-follows}
 use Rattle.tied_lists.proofs.Turns.{after-give_up, Found, found-at, legal-parts, Moved, moved, part}
 use Rattle.comm_port.specs.Sides.{RingSideIs}
-use Rattle.comm_port.specs.Giving.{due_by, due_calls, due_on, part_at}
+use Rattle.comm_port.specs.Giving.{due_by, due_calls, due_on, part_at, HasFailed}
 use Rattle.comm_port.specs.HostTurns.{GivenUp, give_up_of}
 use Rattle.comm_port.specs.Parts.{EachNext}
-use Rattle.comm_port.specs.SendsAll.{HasFailed, IsNextSending}
+use Rattle.comm_port.specs.SendsAll.{IsNextSending}
 use Rattle.comm_port.proofs.Parts.{each-both, each-others, one-each}
 
 -- ---- one entry behind a history

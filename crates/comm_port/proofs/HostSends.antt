@@ -35,11 +35,12 @@ use Rattle.tied_lists.proofs.Histories.{legal-follows}
 use Rattle.tied_lists.proofs.Turns.{Found, found-at, part}
 use Rattle.comm_port.specs.Sides.{RingSideIs}
 use Rattle.comm_port.specs.Giving.{due_calls, due_on, part_at, chosen_paths, is_chosen, outbox_of}
+use Rattle.comm_port.specs.Giving.{HasFailed, NoneFailed}
 use Rattle.comm_port.specs.HostTurns.{AreRecent, bad_answer_of, bad_answer_to}
 use Rattle.comm_port.specs.HostTurns.{GivenUp, GivesUpDue, give_up_of, IsRecent}
 use Rattle.comm_port.specs.HostTurns.{looked_at, Sends, SendsOut}
 use Rattle.comm_port.specs.Parts.{EachNext}
-use Rattle.comm_port.specs.SendsAll.{HasFailed, IsNextSending, NoneFailed}
+use Rattle.comm_port.specs.SendsAll.{IsNextSending}
 use Rattle.comm_port.proofs.Parts.{each-both, each-grew, each-others, one-each}
 use Rattle.comm_port.proofs.Dues.{named-by}
 use Rattle.comm_port.proofs.HostGives.{none-ids}
@@ -311,6 +312,17 @@ failed-goes answer here n p (Failed s word) is none =
     let wrong : id ∷ [] ≡ [] = sym (ap (λ (o : Option RingNo). cond (is_none o) (id ∷ []) [])
     (failed-kept answer here s word)) ∙ none in
     cc
+
+-- where no call may be given up, none has failed
+pub none-failed-due : (net : NetPlan) (n : ℕ) (ring : List RingEntry) → IsOnRing net ring n
+    → due_calls net n ring network_paths ≡ [] → (p : ℕ)
+    → HasFailed (path_of (part net ring n) p).awaits → ⊥
+none-failed-due net n ring on none p failed =
+    let each = none-due net ring n network_paths none in
+    failed-goes net.answer (part net ring n).here n p (path_of (part net ring n) p).awaits failed
+    (sym (due-one net ring n p)
+    ∙ at_path (λ (q : ℕ). due_calls net n ring (q ∷ []) ≡ []) p
+    (failed-path-is net ring n p on failed) each.0 each.1.0 each.1.1.0 each.1.1.1.0)
 
 filter-each : {A : Type 0} (P : A → Type 0) (test : A → Bool) (xs : List A)
     → Each P (filter test xs) → Each (λ x. test x ≡ true → P x) xs

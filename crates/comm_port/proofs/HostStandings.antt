@@ -9,18 +9,15 @@ use Rattle.plant_types.specs.declared.net.HostPlan.{HostPlan}
 use Rattle.ring_core.specs.Words.{maker}
 use Rattle.ring_core.specs.Legal.{IsLegalRing, IsMember}
 use Rattle.ring_core.specs.Machine.{addresses, fresh, opening_nodes, ring_after, ring_node}
-use Rattle.ring_core.specs.Stability.{IsLeave, NoLeave}
 use Rattle.ring_core.specs.declared.entry.RingEntry.{RingEntry}
-use Rattle.ring_core.specs.declared.entry.RingEntry.TheVariants.{Post, Send, Take, Local, GiveUp}
-use Rattle.ring_core.specs.declared.entry.RingEntry.TheVariants.{Pass, Leave}
-use Rattle.ring_core.proofs.Stability.{member-stays}
 use Rattle.host_port.specs.declared.entry.HostEntry.{HostEntry}
 use Rattle.host_port.specs.Host.{HostIs}
 use Rattle.tied_lists.specs.Own.{own, is_of}
+use Rattle.tied_lists.proofs.Turns.{membership-kept}
 use Rattle.comm_port.specs.HostStands.{own_side, HostIsReady}
-use Rattle.comm_port.specs.HostTurns.{HoldsHostTurn, HostTies}
-use Rattle.comm_port.specs.HostTurns.{HostWorkerIs}
-use Rattle.comm_port.proofs.HostTurnLaws.{counts-others, host-ties-others, host-turn-grew}
+use Rattle.comm_port.specs.HostTurns.{HoldsHostTurn, HostTies, HostWorkerIs, host_at}
+use Rattle.comm_port.proofs.HostTurnLaws.{counts-others, host-ties-new, host-ties-others}
+use Rattle.comm_port.proofs.HostTurnLaws.{host-turn-grew}
 
 -- ---- entries of one node alone
 
@@ -57,20 +54,6 @@ none-made m n (e ∷ xs) apart each =
     ap (λ (b : Bool). cond b (e ∷ own m xs) (own m xs))
     (ne_eqb (maker e) m (λ is. apart (sym is ∙ each.0))) ∙ none-made m n xs apart each.1
 
-not-leave : (m n : ℕ) (e : RingEntry) → m ≢ n → maker e ≡ n → IsLeave m e → ⊥
-not-leave m n (Post k f) apart made is = is
-not-leave m n (Send k heard) apart made is = is
-not-leave m n (Take k f) apart made is = is
-not-leave m n (Local k id op result) apart made is = is
-not-leave m n (GiveUp id word) apart made is = is
-not-leave m n (Pass k done words) apart made is = is
-not-leave m n (Leave k cause) apart made is = apart (sym is ∙ made)
-
-no-leave : (m n : ℕ) (xs : List RingEntry) → m ≢ n → Each (λ (e : RingEntry). maker e ≡ n) xs
-    → NoLeave m xs
-no-leave m n [] apart each = tt
-no-leave m n (e ∷ xs) apart each = (not-leave m n e apart each.0, no-leave m n xs apart each.1)
-
 -- ---- the other host, while one has its turn
 
 pub stands-on : (m n : ℕ) (host : HostIs) (w : HostWorkerIs) (left : Bool) (net : NetPlan)
@@ -89,7 +72,7 @@ stands-on m n host w left net plan budget l l' a b gone' apart legal turn t =
       ties = host-ties-others m host (own_side net) a g.more none legal' t.ties;
       counts = counts-others w a g.more (ap (λ (k : ℕ). own k g.more) t.worker_node ∙ none)
           t.counts;
-      here = λ stays. member-stays net a g.more m (t.here stays) (no-leave m n g.more apart made);
+      here = λ stays. membership-kept net m a g.more none ∙ t.here stays;
     })
 
 -- ---- at the start, on a ring of nodes 1 and 2
@@ -106,24 +89,21 @@ pub stands-first : (n : ℕ) (host : HostIs) (w : HostWorkerIs) (left : Bool) (n
     → HostIsReady n host w left net []
 stands-first n host w left net members wait member here node empty is = record {
   worker_node = ap (λ (x : HostWorkerIs). x.node) is;
-  ties = subst (λ (h : List HostEntry). HostTies n (record { plan = host.plan; history = h })
-      (own_side net) []) (sym empty) (record {
-        node = node;
-        legal = record {
-          order = (_, refl);
-          each = λ before after' entry k. absurd
-              (not-there before after' entry k);
-        };
-        serves = tt;
-        on = record {
-          members = subst (All (λ m. m < addresses)) (sym members) low-two;
-          legal = tt;
-          member = member;
-        };
-        answer = wait;
-        tied = record { asks = refl; peers = refl; port = refl; replies = refl; ends = refl };
-        paths = record { waits = λ p. refl; numbers = λ p. refl };
-      });
+  ties = subst (λ (h : List HostEntry). HostTies n (host_at host.plan h) (own_side net) [])
+      (sym empty)
+      (subst (λ (m : ℕ). HostTies m (host_at host.plan []) (own_side net) []) node
+      (host-ties-new host.plan (own_side net)
+      (record {
+        order = (_, refl);
+        each = λ before after' entry k. absurd (not-there before after' entry k);
+      })
+      tt
+      (record {
+        members = subst (All (λ m. m < addresses)) (sym members) low-two;
+        legal = tt;
+        member = subst (IsMember net) (sym node) member;
+      })
+      wait));
   counts = ap (λ (x : HostWorkerIs). x.passes) is;
   here = λ stays. here;
 }

@@ -1,5 +1,5 @@
 -- What a host's turn tells those above: by whose entries the ring went on, and what others leave.
-use Rattle.std.proofs.Common.{◌≡◌, ℕ, Bool, true, false, List, [], ◌++◌, map, refl, sym, ap}
+use Rattle.std.proofs.Common.{◌≡◌, ℕ, ◌<◌, Bool, true, false, List, [], ◌++◌, map, refl, sym, ap}
 use Rattle.std.proofs.Common.{◌∙◌, subst}
 use Rattle.std.specs.Prelude.{flat_map, min, count_by}
 use Rattle.plant_types.specs.declared.net.NetPlan.{NetPlan}
@@ -9,17 +9,20 @@ use Rattle.ring_core.specs.declared.entry.RingEntry.{RingEntry}
 use Rattle.ring_core.specs.declared.entry.RingEntry.TheVariants.{Post}
 use Rattle.host_port.specs.declared.entry.HostEntry.{HostEntry}
 use Rattle.host_port.specs.Host.{HostIs}
+use Rattle.host_port.specs.Legal.{IsHostHistory}
 use Rattle.tied_lists.specs.Own.{Grew, is_of, own}
 use Rattle.tied_lists.specs.Items.{AHost}
 use Rattle.tied_lists.specs.Tied.{Tied}
+use Rattle.tied_lists.specs.Waits.{IsOnRing}
 use Rattle.tied_lists.proofs.Growth.{grew-more}
 use Rattle.tied_lists.proofs.Turns.{own-found}
 use Rattle.joint_history.specs.Complete.{is_pass}
 use Rattle.joint_history.specs.Reading.{host_items_of}
-use Rattle.comm_port.specs.Sides.{RingSideIs}
+use Rattle.comm_port.specs.Sides.{MayWrite, RingSideIs}
 use Rattle.comm_port.specs.HostTurns.{CountsPasses, EndsHostTurn, give_up_of, HoldsHostTurn}
-use Rattle.comm_port.specs.HostTurns.{HostTies}
-use Rattle.comm_port.specs.HostTurns.{HostWorkerIs, PathsAgree}
+use Rattle.comm_port.specs.HostTurns.{HostTies, HostWorkerIs, PathsAgree, host_at}
+use Rattle.comm_port.proofs.Standings.{start-rests}
+use Rattle.comm_port.proofs.Through.{rest-others}
 
 -- a list went on by these entries of a node
 pub record GrewBy (alone : Bool) (n : ℕ) (ring new_ring : List RingEntry) : Type 0 where
@@ -60,6 +63,22 @@ host-turn-grew alone net n plan budget l l' a b left t =
     (record { added = map give_up_of t.gives_up.ends; grew = t.gives_up.grew }))
     (end-grew alone net n plan budget t.given_list l' t.given_ring b left t.ends)
 
+-- ---- at the start
+
+pub host-ties-new : {Q : Type 0} (plan : HostPlan) (side : RingSideIs Q) → IsHostHistory plan []
+    → MayWrite side.writer plan.node → IsOnRing side.net [] plan.node → 0 < side.net.answer
+    → HostTies plan.node (host_at plan []) side []
+host-ties-new plan side legal serves on wait = record {
+  node = refl;
+  legal = legal;
+  serves = serves;
+  on = on;
+  answer = wait;
+  tied = record { asks = refl; peers = refl; port = refl; replies = refl; ends = refl };
+  paths = record { waits = λ p. refl; numbers = λ p. refl };
+  rest = start-rests side.net plan.node;
+}
+
 -- ---- what others leave
 
 pub host-ties-others : {Q : Type 0} (n : ℕ) (host : HostIs) (side : RingSideIs Q)
@@ -76,6 +95,7 @@ host-ties-others n host side ring more none legal t =
       answer = t.answer;
       tied = subst (Tied AHost (host_items_of host.history)) (sym same) t.tied;
       paths = subst (PathsAgree host.history) (sym same) t.paths;
+      rest = rest-others side.net n ring more t.on legal none t.rest;
     }
 
 pub counts-others : (w : HostWorkerIs) (ring more : List RingEntry) → own w.node more ≡ []

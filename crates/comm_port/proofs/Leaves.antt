@@ -30,10 +30,9 @@ use Rattle.ring_core.specs.declared.entry.LeaveCause.{LeaveCause}
 use Rattle.comm_port.specs.Leaving.{last_entry, HandedOn}
 use Rattle.tied_lists.proofs.Histories.{legal-follows}
 use Rattle.comm_port.specs.Ending.{AsksIfDone}
-use Rattle.comm_port.specs.Giving.{part_at, due_by, due_on, due_calls, is_chosen, NonePathFailed}
-use Rattle.comm_port.specs.Giving.{MaySend, GivesWhere}
+use Rattle.comm_port.specs.Giving.{part_at, due_by, due_on, due_calls, is_chosen}
+use Rattle.comm_port.specs.Giving.{MaySend, GivesWhere, HasFailed, NoneFailed, each_path}
 use Rattle.comm_port.specs.HoldTurn.{overdue_by, overdue_on, overdue}
-use Rattle.comm_port.specs.SendsAll.{HasFailed, NoneFailed, each_path}
 use Rattle.comm_port.specs.Order.{IsGivingUp}
 use Rattle.comm_port.specs.Parts.{calls_waiting}
 use Rattle.mstr_block.specs.Table.{network_paths}
@@ -201,15 +200,15 @@ none-left n rest chosen ram known side ring ring' w all gone g t =
 
 -- ---- what is due of a member is overdue, where nothing has failed
 
-due-over : (answer n p : ℕ) (a : Await) → ((seq word : ℕ) → a ≡ Failed seq word → ⊥)
+due-over : (answer n p : ℕ) (a : Await) → (HasFailed a → ⊥)
     → due_by answer true n p a ≡ overdue_by answer n p a
 due-over answer n p Nothing none = refl
 due-over answer n p (Out seq to passes) none = refl
 due-over answer n p (Arrived seq) none = refl
-due-over answer n p (Failed seq word) none = absurd (none seq word refl)
+due-over answer n p (Failed seq word) none = absurd (none tt)
 
 pub overdue-is : (net : NetPlan) (n : ℕ) (ring : List RingEntry) → (part_at net n ring).here ≡ true
-    → NonePathFailed (part_at net n ring) → due_calls net n ring
+    → NoneFailed each_path (part_at net n ring) → due_calls net n ring
     network_paths ≡ overdue net n ring
 overdue-is net n ring here none = four-same (due_on net n c) (overdue_on net n c) (at 1) (at 2)
     (at 3) (at 4)
@@ -219,10 +218,7 @@ overdue-is net n ring here none = four-same (due_on net n c) (overdue_on net n c
 
     at : (p : ℕ) → due_on net n c p ≡ overdue_on net n c p
     at p = ap (λ (b : Bool). due_by net.answer b n p (path_of c p).awaits) here ∙ due-over
-        net.answer n p (path_of c p).awaits (none p)
-
-pub paths-of-none : (c : NodeIs) → NoneFailed each_path c → NonePathFailed c
-paths-of-none c none p seq word is = none p refl (subst HasFailed (sym is) tt)
+        net.answer n p (path_of c p).awaits (none p refl)
 
 -- ---- the paths that are free before the calls are made
 

@@ -28,15 +28,35 @@ use Rattle.tied_lists.specs.Own.{is_of, Grew}
 use Rattle.tied_lists.specs.Waits.{IsOnRing}
 use Rattle.tied_lists.proofs.Boxes.{each-drop}
 use Rattle.tied_lists.proofs.Histories.{IsOwn, legal-follows}
-use Rattle.comm_port.specs.Giving.{part_at, due_by, due_on, is_chosen, AsksAreOn, NonePathFailed}
+use Rattle.comm_port.specs.Giving.{part_at, due_by, due_on, is_chosen, AsksAreOn}
 use Rattle.comm_port.specs.Giving.{MaySend, HasSent, GivesWhere, IsDueNext, IsOtherPath}
+use Rattle.comm_port.specs.Giving.{HasFailed, NoneFailed, each_path}
 use Rattle.comm_port.specs.HoldTurn.{IsGivenUp, SendsAll, finish_of}
-use Rattle.comm_port.specs.SendsAll.{HasFailed, IsNextSending, NoneFailed, each_path}
+use Rattle.comm_port.specs.SendsAll.{IsNextSending}
 use Rattle.comm_port.specs.Parts.{InOrder, PartOf, EachNext}
 use Rattle.joint_history.specs.Reading.{is_ours}
 use Rattle.comm_port.specs.Sending.{SentNext, AllSent, IsThis}
 use Rattle.comm_port.proofs.Parts.{grew-none, part-as, part-both, each-as, each-both, each-grew}
 use Rattle.comm_port.proofs.Dues.{noted-of}
+
+-- ---- which paths have failed
+
+-- a path that failed
+pub failed-is : (a : Await) → HasFailed a → (seq word : ℕ) × (a ≡ Failed seq word)
+failed-is Nothing f = absurd f
+failed-is (Out seq to passes) f = absurd f
+failed-is (Arrived seq) f = absurd f
+failed-is (Failed seq word) f = (seq, word, refl)
+
+-- a path that failed with a word has failed
+has-failed : (a : Await) (seq word : ℕ) → a ≡ Failed seq word → HasFailed a
+has-failed a seq word is = subst HasFailed (sym is) tt
+
+-- none failed where none did with a number and a word
+none-of : (c : NodeIs) → ((path seq word : ℕ) → (path_of c path).awaits ≡ Failed seq word → ⊥)
+    → NoneFailed each_path c
+none-of c none p on f =
+    let is = failed-is (path_of c p).awaits f in none p is.0 is.1 is.2
 
 -- ---- a Send, by the node's part
 
@@ -49,10 +69,10 @@ after-fail net n chosen c Request id word wait on m = record {
       (λ (e : q ≡ id.path). subst (λ (x : ℕ). (is_chosen chosen x ≡ true) × IsPath x) (sym e)
       (on refl))
       (λ (o : q ≡ id.path → ⊥). absurd
-      (m.none_failed q seq w (sym (ap (λ (x : Path). x.awaits)
+      (m.none_failed q refl (has-failed (path_of c q).awaits seq w (sym (ap (λ (x : Path). x.awaits)
       (get_or-set_other c.paths id.path q
       (record { awaits = Failed id.seq word; posted = (path_of c id.path).posted }) no_path o))
-      ∙ is)))
+      ∙ is))))
       (cases_eq q id.path);
   young = λ q is. either c.paths id.path q
       (record { awaits = Failed id.seq word; posted = (path_of c id.path).posted }) net.answer wait
@@ -69,7 +89,8 @@ after-fail net n chosen c Request id word wait on m = record {
     either (x ∷ ps) (suc p) zero v answer new old = old
     either (x ∷ ps) (suc p) (suc q) v answer new old = either ps p q v answer new old
 after-fail net n chosen c Reply id word wait on m = record {
-  failed_on = λ q seq w is. absurd (m.none_failed q seq w is);
+  failed_on = λ q seq w is.
+      absurd (m.none_failed q refl (has-failed (path_of c q).awaits seq w is));
   young = m.young;
   asks = each-drop _ c.outbox m.asks;
 }
@@ -82,7 +103,8 @@ after-silence : (net : NetPlan) (n : ℕ) (chosen : List Bool) (c : NodeIs) (kin
 after-silence net n chosen c kind id there true wait on m = after-fail net n chosen c kind id
     (silence_word there) wait on m
 after-silence net n chosen c kind id there false wait on m = record {
-  failed_on = λ q seq w is. absurd (m.none_failed q seq w is);
+  failed_on = λ q seq w is.
+      absurd (m.none_failed q refl (has-failed (path_of c q).awaits seq w is));
   young = m.young;
   asks = m.asks;
 }
@@ -92,7 +114,8 @@ after-heard : (net : NetPlan) (n : ℕ) (chosen : List Bool) (c : NodeIs) (kind 
     (kind ≡ Request → (is_chosen chosen id.path ≡ true) × IsPath id.path) → MaySend net n chosen c
     → HasSent net n chosen (heard_by c kind id there heard)
 after-heard net n chosen c kind id there Acked wait on m = record {
-  failed_on = λ q seq w is. absurd (m.none_failed q seq w is);
+  failed_on = λ q seq w is.
+      absurd (m.none_failed q refl (has-failed (path_of c q).awaits seq w is));
   young = m.young;
   asks = each-drop _ c.outbox m.asks;
 }
@@ -180,7 +203,7 @@ pub may-again : (net : NetPlan) (n : ℕ) (chosen : List Bool) (ring ring' : Lis
     → 0 < net.answer → HasSent net n chosen (part_at net n
     ring) → GivesWhere net n chosen 5 ring ring' → MaySend net n chosen (part_at net n ring')
 may-again net n chosen ring ring' wait s g = record {
-  none_failed = λ q seq word is. ⊎_elim
+  none_failed = none-of new (λ q seq word is. ⊎_elim
       (λ (low : q < 1). let k = s.failed_on q seq word (sym (same q (inl low)) ∙ is) in absurd
       (let p = k.1.0 in omega (arith, p, low)))
       (λ (from : 1 ≤ q). ⊎_elim
@@ -199,7 +222,7 @@ may-again net n chosen ring ring' wait s g = record {
       (sym (same q (inr (inr off))) ∙ is) in
       let bad : true ≡ false = sym k.0 ∙ off in absurd cc)
       (cases_Bool (is_chosen chosen q)))
-      (below q 5)) (first q);
+      (below q 5)) (first q));
   young = λ q on. young-at q on (first q);
   asks = g.part.asks chosen s.asks;
 }
@@ -238,17 +261,6 @@ may-again net n chosen ring ring' wait s g = record {
 
 -- ---- each entry
 
--- a path that failed
-pub failed-is : (a : Await) → HasFailed a → (seq word : ℕ) × (a ≡ Failed seq word)
-failed-is Nothing f = absurd f
-failed-is (Out seq to passes) f = absurd f
-failed-is (Arrived seq) f = absurd f
-failed-is (Failed seq word) f = (seq, word, refl)
-
-none-of : (c : NodeIs) → NonePathFailed c → NoneFailed each_path c
-none-of c none p on f =
-    let is = failed-is (path_of c p).awaits f in none p is.0 is.1 is.2
-
 pub send-each : (alone : Bool) (net : NetPlan) (n : ℕ) (chosen : List Bool) (heard : Heard)
     (ring ring' : List RingEntry) → SentNext alone net n heard ring
     ring' → MaySend net n chosen (part_at net n ring)
@@ -256,7 +268,7 @@ pub send-each : (alone : Bool) (net : NetPlan) (n : ℕ) (chosen : List Bool) (h
 send-each alone net n chosen heard ring ring' s m =
     each-as n (IsThis net n (Send n heard) ring) (IsNextSending net n each_path) ring ring'
     (λ past e it. subst (IsNextSending net n each_path past) (sym it.0)
-    (none-of (part_at net n past) (subst NonePathFailed (sym it.1) m.none_failed))) s.each
+    (subst (NoneFailed each_path) (sym it.1) m.none_failed)) s.each
 
 pub given-each : (net : NetPlan) (n : ℕ) (chosen : List Bool) (ring ring' : List RingEntry)
     → (part_at net n ring).here ≡ true → HasSent net n chosen
@@ -273,7 +285,7 @@ given-each net n chosen ring ring' here s g =
         let f = due-failed net n id.path (part_at net n ring) id here (s.young id.path it.0) it.2 in
         let is : (path_of (part_at net n past) id.path).awaits ≡ Failed id.seq f.0 =
         ap (λ (x : Path). x.awaits) it.1 ∙ f.1 in
-        (refl, subst HasFailed (sym is) tt, ap awaited_number is)
+        (refl, has-failed _ id.seq f.0 is, ap awaited_number is)
     then-failed past (Post m f) it = absurd it
     then-failed past (Send m heard) it = absurd it
     then-failed past (Take m f) it = absurd it
@@ -335,8 +347,7 @@ sent-all alone alone' net n chosen known known' ring0 ring ring' s m p each =
         each = each-both n (IsNextSending net n each_path) ring0 ring ring' each
             (each-grew alone' n (IsNextSending net n each_path) ring ring' s.grew);
         all_sent = s.empty;
-        none_failed = none-of (part_at net n ring')
-            (subst NonePathFailed (sym s.part_is) m.none_failed);
+        none_failed = subst (NoneFailed each_path) (sym s.part_is) m.none_failed;
       };
       finishes = subst (λ (l : List Entry). Grew alone is_ours known l known') q.due q.station;
     }

@@ -11,7 +11,7 @@ use Rattle.ring_core.specs.declared.path.Path.{Path}
 use Rattle.ring_core.specs.declared.entry.RingEntry.{RingEntry}
 use Rattle.ring_core.specs.Machine.{NodeIs, addresses, path_places, no_path, fresh, part_of}
 use Rattle.ring_core.specs.Machine.{with_members}
-use Rattle.tied_lists.specs.Own.{is_of, own, Adds}
+use Rattle.tied_lists.specs.Own.{own}
 use Rattle.tied_lists.specs.Items.{AController, Items, no_items}
 use Rattle.tied_lists.specs.Tied.{Tied}
 use Rattle.tied_lists.specs.Waits.{IsOnRing}
@@ -22,7 +22,7 @@ use Rattle.comm_port.specs.Sides.{RingSideIs, RamSideIs, MayWrite}
 use Rattle.comm_port.specs.Turns.{AreWaiting}
 use Rattle.comm_port.specs.Worker.{WorkerIs, Standing}
 use Rattle.joint_history.proofs.Items.{items-same}
-use Rattle.comm_port.proofs.Through.{RestsIn, NotFailed, nothing-not-failed, IsEnding, rest-through}
+use Rattle.comm_port.proofs.Through.{NotFailed, RestsIn, nothing-not-failed, rest-others}
 
 -- ---- at the start
 
@@ -35,7 +35,7 @@ fresh-path : (p : ℕ) → NotFailed (get_or (replicate path_places no_path) p n
 fresh-path p = each-same (λ (x : Path). NotFailed x.awaits) path_places p no_path nothing-not-failed
 
 fresh-rests : (here : Bool) → RestsIn (fresh here)
-fresh-rests here = (refl, fresh-path)
+fresh-rests here = (refl, λ p on. fresh-path p)
 
 pub put-each : (P : NodeIs → Type 0) (nodes : List NodeIs) (m k : ℕ) (c : NodeIs) → P c
     → P (part_of nodes k) → P (part_of (set nodes m c) k)
@@ -135,17 +135,6 @@ pub standing-others : {P Q : Type 0} (w : WorkerIs) (ram : RamSideIs P) (known :
     → Standing w ram known side (ring ++ more)
 standing-others w ram known side ring more on none s =
     let is : own w.node (ring ++ more) ≡ own w.node ring = own-found w.node ring more none in
-    let adds : Adds false (is_of w.node) IsEnding ring (ring ++ more) = record {
-      added = [];
-      sort = tt;
-      grew = record {
-        more = more;
-        after_is = refl;
-        ours_are = none;
-        all_alone = λ e. absurd
-            (let bad : false ≡ true = e in cc);
-      };
-    } in
     record {
       node = s.node;
       net = s.net;
@@ -154,8 +143,8 @@ standing-others w ram known side ring more on none s =
       tied = subst (Tied AController (items_of known)) (sym is) s.tied;
       waits = subst (λ (b : List RingEntry). AreWaiting w.node (items_of known) b w.waiting)
           (sym is) s.waits;
-      rest = rest-through false side.net w.node ring (ring ++ more)
-          (record { members = on.members; legal = s.legal; member = on.member }) on.legal adds
+      rest = rest-others side.net w.node ring more
+          (record { members = on.members; legal = s.legal; member = on.member }) on.legal none
           s.rest;
     }
 

@@ -33,7 +33,8 @@ use Rattle.tied_lists.proofs.Boxes.{each-push}
 use Rattle.tied_lists.proofs.Histories.{own-mine, legal-follows, at-same, arrived-part}
 use Rattle.tied_lists.proofs.Turns.{found-at, legal-parts, next-ring, Moved, after-post, after-take}
 use Rattle.tied_lists.proofs.Turns.{after-local}
-use Rattle.comm_port.specs.Giving.{part_at, is_chosen, AsksAreOn, NonePathFailed, IsAtRest}
+use Rattle.comm_port.specs.Giving.{part_at, is_chosen, AsksAreOn, HasFailed, NoneFailed}
+use Rattle.comm_port.specs.Giving.{each_path, IsAtRest}
 use Rattle.comm_port.specs.Order.{IsServing, IsCalling}
 
 -- a path of the paths after a write
@@ -46,20 +47,20 @@ paths-put P (x ∷ ps) (suc p) zero v new old = old
 paths-put P (x ∷ ps) (suc p) (suc q) v new old = paths-put P ps p q v new old
 
 abbrev pub NotFailed : Await → Type 0
-NotFailed a = (seq word : ℕ) → a ≡ Failed seq word → ⊥
+NotFailed a = HasFailed a → ⊥
 
 pub not-failed-put : (ps : List Path) (p q : ℕ) (v : Path) → NotFailed v.awaits
     → NotFailed (get_or ps q no_path).awaits → NotFailed (get_or (set ps p v) q no_path).awaits
 not-failed-put ps p q v new old = paths-put NotFailed ps p q v new old
 
 pub nothing-not-failed : NotFailed Nothing
-nothing-not-failed seq word e = cc
+nothing-not-failed f = f
 
 pub out-not-failed : (s to k : ℕ) → NotFailed (Out s to k)
-out-not-failed s to k seq word e = cc
+out-not-failed s to k f = f
 
 pub arrived-not-failed : (s : ℕ) → NotFailed (Arrived s)
-arrived-not-failed s seq word e = cc
+arrived-not-failed s f = f
 
 -- a node's own entry, whatever is known before it
 pub own-moves : (net : NetPlan) (n : ℕ) (past : List RingEntry) (e : RingEntry) → maker e ≡ n
@@ -124,18 +125,20 @@ through alone net n Sort Q ring ring' keeps on legal free adds it =
 -- ---- serving leaves no Request in the outbox and no path failed
 
 abbrev pub NoAsks : NodeIs → Type 0
-NoAsks c = NonePathFailed c × Each (λ (f : Frame). f.kind ≡ Reply) c.outbox
+NoAsks c = NoneFailed each_path c × Each (λ (f : Frame). f.kind ≡ Reply) c.outbox
 
 take-none : (c : NodeIs) (kind : FrameKind) (id : CallId) → NoAsks c → NoAsks (took c kind id)
 take-none c Request id q = q
 take-none c Reply id q = (
-  λ p. not-failed-put c.paths id.path p
-      (record { awaits = Nothing; posted = (path_of c id.path).posted }) nothing-not-failed (q.0 p),
+  λ p on. not-failed-put c.paths id.path p
+      (record { awaits = Nothing; posted = (path_of c id.path).posted }) nothing-not-failed
+      (q.0 p on),
   q.1,
 )
 
 post-none : (c : NodeIs) (f : Frame) (kind : FrameKind) → f.kind ≡ kind → kind ≡ Reply → NoAsks c
-    → NonePathFailed (record c { paths = asked c kind f.id f.to; outbox = c.outbox ++ f ∷ [] })
+    → NoneFailed each_path
+    (record c { paths = asked c kind f.id f.to; outbox = c.outbox ++ f ∷ [] })
     × Each (λ (f : Frame). f.kind ≡ Reply) (c.outbox ++ f ∷ [])
 post-none c f Request is reply q = absurd (let bad : Request ≡ Reply = reply in cc)
 post-none c f Reply is reply q = (q.0, each-push (λ (g : Frame). g.kind ≡ Reply) c.outbox f q.1 is)
@@ -162,7 +165,7 @@ serving-keeps net n past after' (Leave m cause) mine move sort q = absurd sort
 
 -- these paths alone may be asked on; each of the others awaits something
 pub record Asks (chosen : List Bool) (answer : ℕ) (c : NodeIs) : Type 0 where
-  pub none_failed : NonePathFailed c
+  pub none_failed : NoneFailed each_path c
   pub young : (path : ℕ) → is_chosen chosen path ≡ true → passes_of (path_of c path).awaits < answer
   pub asks : AsksAreOn chosen c.outbox
   pub taken : (path : ℕ) → path < 5 → is_chosen chosen path ≡ false
@@ -202,8 +205,8 @@ calls-more chosen answer n c f Request wait is ask from free q =
     (λ (off : is_chosen chosen p ≡ false). absurd
     (q.taken p low off none)) (cases_Bool (is_chosen chosen p)) in
     record {
-      none_failed = λ k. not-failed-put c.paths p k v (out-not-failed f.id.seq f.to 0)
-          (q.none_failed k);
+      none_failed = λ k each. not-failed-put c.paths p k v (out-not-failed f.id.seq f.to 0)
+          (q.none_failed k each);
       young = λ k y. young-put answer c.paths p k v wait (q.young k y);
       asks = each-push (λ (g : Frame). g.kind ≡ Request → is_chosen chosen g.id.path ≡ true)
           c.outbox f q.asks (λ _. on);
@@ -242,7 +245,7 @@ calling-keeps net n chosen wait past after' (Leave m cause) mine move sort q = a
 -- ---- what is at rest stays so while others go on
 
 abbrev pub RestsIn : NodeIs → Type 0
-RestsIn c = (c.outbox ≡ []) × NonePathFailed c
+RestsIn c = (c.outbox ≡ []) × NoneFailed each_path c
 
 rest-came : (c : NodeIs) (f : Frame) (kind : FrameKind) → RestsIn c
     → RestsIn (with_frame c (fell c kind f.id) f)
@@ -253,10 +256,10 @@ rest-came c f Reply q = cond_both (waits_for (path_of c f.id.path).awaits f.id.s
     (λ x. RestsIn (with_frame c x f))
     (λ _. (
       q.0,
-      λ p. not-failed-put c.paths f.id.path p (record {
+      λ p on. not-failed-put c.paths f.id.path p (record {
         awaits = Arrived f.id.seq;
         posted = (path_of c f.id.path).posted;
-      }) (arrived-not-failed f.id.seq) (q.1 p),
+      }) (arrived-not-failed f.id.seq) (q.1 p on),
     )) (λ _. q)
 
 at-other : (nodes : List NodeIs) (m n : ℕ) (c : NodeIs) → (m ≡ n → ⊥)
@@ -294,15 +297,16 @@ rest-other net n r (Leave m cause) other q = subst RestsIn (sym (at-other r.node
 rest-given : (c : NodeIs) (id : CallId) → RestsIn c → RestsIn (gave_up c id)
 rest-given c id q = (
   ap (filter (λ f. not (asks_for id f))) q.0,
-  λ p. not-failed-put c.paths id.path p
-      (record { awaits = Nothing; posted = (path_of c id.path).posted }) nothing-not-failed (q.1 p),
+  λ p on. not-failed-put c.paths id.path p
+      (record { awaits = Nothing; posted = (path_of c id.path).posted }) nothing-not-failed
+      (q.1 p on),
 )
 
 aged-fails : (a : Await) → NotFailed a → NotFailed (aged_await a)
-aged-fails Nothing q seq word e = q seq word e
-aged-fails (Out s to k) q seq word e = out-not-failed s to (k + 1) seq word e
-aged-fails (Arrived s) q seq word e = q seq word e
-aged-fails (Failed s w) q seq word e = q seq word e
+aged-fails Nothing q = q
+aged-fails (Out s to k) q = out-not-failed s to (k + 1)
+aged-fails (Arrived s) q = q
+aged-fails (Failed s w) q = q
 
 aged-rest : (ps : List Path) (p : ℕ) → NotFailed (get_or ps p no_path).awaits
     → NotFailed (get_or (map aged ps) p no_path).awaits
@@ -329,7 +333,7 @@ rest-own net n r (GiveUp id word) size low mine sort q = put-rest r n id.node _ 
     (rest-given (ring_node r id.node) id (subst (λ (k : ℕ). RestsIn (ring_node r k)) (sym mine) q))
 rest-own net n r (Pass m done words) size low mine sort q =
     let q' : RestsIn (ring_node r m) = subst (λ (k : ℕ). RestsIn (ring_node r k)) (sym mine) q in
-    put-rest r n m _ size low mine (q'.0, λ p. aged-rest (ring_node r m).paths p (q'.1 p))
+    put-rest r n m _ size low mine (q'.0, λ p on. aged-rest (ring_node r m).paths p (q'.1 p on))
 rest-own net n r (Leave m cause) size low mine sort q = put-rest r n m _ size low mine
     (subst (λ (k : ℕ). RestsIn (ring_node r k)) (sym mine) q)
 rest-own net n r (Post m f) size low mine sort q = absurd sort
@@ -369,6 +373,15 @@ rest-run net n past (e ∷ es) on legal sorts q =
     (subst RestsIn to (rest-other net n r e
     (λ is. let bad : true ≡ false = sym (eq-eqb (maker e) n is) ∙ other in absurd cc) q)))
     (cases_Bool (is_of n e)))
+
+-- entries of others leave a node at rest
+pub rest-others : (net : NetPlan) (n : ℕ) (ring more : List RingEntry) → IsOnRing net ring n
+    → IsLegalRing net (ring ++ more) → own n more ≡ [] → IsAtRest net n ring
+    → IsAtRest net n (ring ++ more)
+rest-others net n ring more on legal none q =
+    let k = rest-run net n ring more on legal (subst (Each IsEnding) (sym none) tt)
+    (q.all_sent, q.none_failed) in
+    record { all_sent = k.0; none_failed = k.1 }
 
 pub rest-through : (alone : Bool) (net : NetPlan) (n : ℕ) (ring ring' : List RingEntry)
     → IsOnRing net ring n → IsLegalRing net ring' → Adds alone (is_of n) IsEnding

@@ -24,7 +24,7 @@ use Rattle.ring_core.specs.Refusals.{cause_held, needed_of, quiet_for}
 use Rattle.ring_core.specs.Scratch.{put_after, put_with, words_put}
 use Rattle.ring_core.specs.Legal.{IsLegalRing}
 use Rattle.ring_core.specs.Stability.{Stays}
-use Rattle.ring_core.proofs.Stability.{holder-stays}
+use Rattle.ring_core.proofs.Stability.{holders-keep}
 use Rattle.tied_lists.specs.Own.{is_of, own, WentOn, Grew}
 use Rattle.tied_lists.specs.Waits.{IsOnRing, Holds}
 use Rattle.tied_lists.proofs.Turns.{moved, after-leave, after-pass, legal-parts, none-by}
@@ -44,8 +44,8 @@ pub stays-between : (net : NetPlan) (n : ℕ) (alone : Bool) (before added after
 stays-between net n alone before added after' legal w holds =
     let all = subst (IsLegalRing net) w.after_is legal in
     let front = (legal-parts net (before ++ w.between) added all).0 in
-    holder-stays net before w.between n (legal-parts net before w.between front).1 holds.holder
-    (none-by n w.between w.others)
+    holders-keep net before w.between n (legal-parts net before w.between front).1 holds.here
+    holds.holder (none-by n w.between w.others)
 
 pub stood-still : (net : NetPlan) (n : ℕ) (alone : Bool) (before after' : List RingEntry)
     → IsLegalRing net after' → WentOn alone (is_of n) before [] after'

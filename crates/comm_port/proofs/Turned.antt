@@ -12,7 +12,7 @@ use Rattle.std.specs.List.{AllByRecursion as Each}
 use Rattle.tied_lists.specs.Own.{is_of, Adds}
 use Rattle.tied_lists.specs.Waits.{IsOnRing, IsFree, Holds}
 use Rattle.tied_lists.proofs.Growth.{adds-weaker}
-use Rattle.comm_port.specs.Giving.{part_at, due_calls, NonePathFailed, IsAtRest, MaySend}
+use Rattle.comm_port.specs.Giving.{part_at, due_calls, NoneFailed, each_path, IsAtRest, MaySend}
 use Rattle.comm_port.specs.HoldTurn.{inbox_of, overdue, IsGivenUp, SendsAll}
 use Rattle.comm_port.specs.Order.{IsServing, IsCalling, IsGivingUp}
 use Rattle.comm_port.specs.Parts.{InOrder, PartOf}
@@ -21,12 +21,12 @@ use Rattle.joint_history.specs.Reading.{is_ours}
 use Rattle.comm_port.specs.Sides.{RingSideIs, RamSideIs}
 use Rattle.comm_port.specs.Turns.{KeepsInbox, Turning}
 use Rattle.comm_port.specs.Waiting.{free_paths}
-use Rattle.comm_port.proofs.Leaves.{asks-start, may-send, overdue-is, paths-of-none, ending-too}
+use Rattle.comm_port.proofs.Leaves.{asks-start, may-send, overdue-is, ending-too}
 use Rattle.comm_port.proofs.Through.{through, rest-through, NoAsks, Asks, IsEnding, serving-keeps}
 use Rattle.comm_port.proofs.Through.{calling-keeps}
 
 -- what is served asks nothing
-no-asks : (c : NodeIs) → c.outbox ≡ [] → NonePathFailed c → NoAsks c
+no-asks : (c : NodeIs) → c.outbox ≡ [] → NoneFailed each_path c → NoAsks c
 no-asks c sent none = (none, subst (Each _) (sym sent) tt)
 
 -- after the first two parts the node may send
@@ -53,7 +53,7 @@ pub rest-sent : (alone alone' : Bool) (net : NetPlan) (n : ℕ) (known known' : 
     ring' → IsAtRest net n ring'
 rest-sent alone alone' net n known known' ring ring' s = record {
   all_sent = s.frames.all_sent;
-  none_failed = paths-of-none (part_at net n ring') s.frames.none_failed;
+  none_failed = s.frames.none_failed;
 }
 
 -- and so after the fourth

@@ -34,7 +34,7 @@ use Rattle.tied_lists.proofs.Paths.{waiting-push}
 use Rattle.tied_lists.proofs.Turns.{found-at, legal-parts, next-ring, Moved, after-post}
 use Rattle.tied_lists.proofs.Turns.{after-local}
 use Rattle.comm_port.specs.Calling.{IsDueAt}
-use Rattle.comm_port.specs.Giving.{part_at, NonePathFailed, IsAtRest}
+use Rattle.comm_port.specs.Giving.{part_at, NoneFailed, each_path, IsAtRest}
 use Rattle.comm_port.specs.HoldTurn.{MadeAs, EndedAs, IsMade, IsEnded, IsGivenUp}
 use Rattle.comm_port.specs.Making.{request_frame}
 use Rattle.comm_port.specs.Parts.{PartOf, calls_waiting}
@@ -242,12 +242,12 @@ rests c id to pdu q =
     let drop' : filter (λ g. not (asks_for id g)) (f ∷ []) ≡ [] = cond-false (not (asks_for id f))
     (f ∷ []) [] (ap not (is_itself id)) in (
       ap (λ (l : List Frame). filter (λ g. not (asks_for id g)) (l ++ f ∷ [])) q.0 ∙ drop',
-      λ p. not-failed-put (set c.paths id.path
+      λ p on. not-failed-put (set c.paths id.path
           (record { awaits = Out id.seq to 0; posted = id.seq })) id.path p
           (record { awaits = Nothing; posted = (path_of (posted c f) id.path).posted })
           nothing-not-failed
           (not-failed-put c.paths id.path p (record { awaits = Out id.seq to 0; posted = id.seq })
-          (out-not-failed id.seq to 0) (q.1 p)),
+          (out-not-failed id.seq to 0) (q.1 p on)),
     )
 
 pub rests-again : (net : NetPlan) (n : ℕ) (id : CallId) (to : ℕ) (pdu : List ℕ)
@@ -263,7 +263,7 @@ pub rests-same : (net : NetPlan) (n : ℕ) (ring ring' : List RingEntry)
     → part_at net n ring' ≡ part_at net n ring → IsAtRest net n ring → IsAtRest net n ring'
 rests-same net n ring ring' is q = record {
   all_sent = ap (λ (c : NodeIs). c.outbox) is ∙ q.all_sent;
-  none_failed = subst NonePathFailed
+  none_failed = subst (NoneFailed each_path)
       (sym is) q.none_failed;
 }
 

@@ -5,7 +5,8 @@ use Rattle.std.specs.Prelude.{None}
 use Rattle.std.specs.List.{AllByRecursion}
 use Rattle.plant_types.specs.declared.net.NetPlan.{NetPlan}
 use Rattle.mstr_block.specs.declared.call.CallId.{CallId}
-use Rattle.ring_core.specs.Machine.{NodeIs, ring_node, ring_after, path_of, passes_of, gave_up}
+use Rattle.ring_core.specs.Machine.{NodeIs, ring_node, ring_after, is_here, path_of, passes_of}
+use Rattle.ring_core.specs.Machine.{gave_up}
 use Rattle.ring_core.specs.Refusals.{or_no, awaited_no, answer_after}
 use Rattle.ring_core.specs.declared.refusal.RingNo.{RingNo}
 use Rattle.ring_core.specs.declared.path.Await.{Await}
@@ -41,7 +42,7 @@ due_by answer here n path (Arrived seq) =
 due_by answer here n path (Failed seq word) = Some (record { node = n; path = path; seq = seq })
 
 abbrev pub due_on : NetPlan → ℕ → NodeIs → ℕ → Option CallId
-due_on net n c path = due_by net.answer c.here n path (path_of c path).awaits
+due_on net n c path = due_by net.answer (is_here c) n path (path_of c path).awaits
 
 -- The calls of these paths that may be given up.
 abbrev pub due_calls : NetPlan → ℕ → List RingEntry → List ℕ → List CallId
@@ -61,7 +62,7 @@ chosen_paths chosen = filter (is_chosen chosen) network_paths
 abbrev pub part_no : NetPlan → NodeIs → CallId → Option RingNo
 part_no net c id =
     let awaits = (path_of c id.path).awaits in
-    or_no (awaited_no awaits id.seq) (if c.here then answer_after net.answer awaits else None)
+    or_no (awaited_no awaits id.seq) (if is_here c then answer_after net.answer awaits else None)
 
 -- A node's part after a call was given up with a word, or was not.
 abbrev pub given_part : NodeIs → CallId → Option ℕ → NodeIs
@@ -91,7 +92,7 @@ IsOtherPath chosen below path =
 -- All calls of a node that were due on chosen paths below a number were given up, and no others.
 pub record GaveUpBelow (net : NetPlan) (n : ℕ) (chosen : List Bool) (below : ℕ) (old new : NodeIs)
     : Type 0 where
-  pub here : new.here ≡ old.here
+  pub here : is_here new ≡ is_here old
   pub settled : (path : ℕ) → 1 ≤ path → path < below → is_chosen chosen path ≡ true
       → IsPathSettled net n old new path
   pub others : (path : ℕ) → IsOtherPath chosen below path → path_of new path ≡ path_of old path
@@ -105,23 +106,28 @@ IsDueNext net n On old past (GiveUp id word) = On id.path
     × (due_on net n old id.path ≡ Some id)
 IsDueNext net n On old past _ = ⊥
 
--- No path of a node's part has failed.
-abbrev pub NonePathFailed : NodeIs → Type 0
-NonePathFailed c = (path seq word : ℕ) → (path_of c path).awaits ≡ Failed seq word → ⊥
+-- A path's call has failed.
+abbrev pub HasFailed : Await → Type 0
+HasFailed (Failed seq word) = Unit {0}
+HasFailed _ = ⊥
 
--- Nothing is to be sent, and nothing to be taken.
-abbrev pub BoxesEmpty : NodeIs → Type 0
-BoxesEmpty c = (c.outbox ≡ []) × (c.inbox ≡ [])
+-- None of the calls on these paths has failed.
+abbrev pub NoneFailed : (ℕ → Bool) → NodeIs → Type 0
+NoneFailed on part = (path : ℕ) → on path ≡ true → HasFailed (path_of part path).awaits → ⊥
+
+-- Each path: a controller gives up what failed on any.
+abbrev pub each_path : ℕ → Bool
+each_path path = true
 
 -- Nothing of a node is to be sent, and none of its calls has failed.
 pub record IsAtRest (net : NetPlan) (n : ℕ) (ring : List RingEntry) : Type 0 where
   pub all_sent : (part_at net n ring).outbox ≡ []
-  pub none_failed : NonePathFailed (part_at net n ring)
+  pub none_failed : NoneFailed each_path (part_at net n ring)
 
 -- A node may send: no call has failed, those on chosen paths were posted in this turn, and the
 -- outbox has none of another path.
 pub record MaySend (net : NetPlan) (n : ℕ) (chosen : List Bool) (c : NodeIs) : Type 0 where
-  pub none_failed : NonePathFailed c
+  pub none_failed : NoneFailed each_path c
   pub young : (path : ℕ) → is_chosen chosen path ≡ true
       → passes_of (path_of c path).awaits < net.answer
   pub asks : AsksAreOn chosen c.outbox

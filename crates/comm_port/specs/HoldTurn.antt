@@ -26,14 +26,14 @@ use Rattle.ring_core.specs.declared.entry.RingEntry.TheVariants.{Post, Take, Loc
 use Rattle.tied_lists.specs.Own.{WentOn, Grew}
 use Rattle.tied_lists.specs.Items.{request_of, reply_of}
 pub use Rattle.comm_port.specs.Giving.{inbox_of}
-use Rattle.comm_port.specs.Giving.{due_by}
+use Rattle.comm_port.specs.Giving.{due_by, each_path}
 use Rattle.comm_port.specs.Ending.{AsksIfDone}
 use Rattle.comm_port.specs.Leaving.{cause_due, HandedOn}
 use Rattle.comm_port.specs.Making.{request_frame}
 use Rattle.comm_port.specs.Parts.{InOrder, PartOf, calls_waiting}
 use Rattle.joint_history.specs.Reading.{is_ours, has_started_at}
 use Rattle.comm_port.specs.Replies.{reply_frame}
-use Rattle.comm_port.specs.SendsAll.{SendsFrames, each_path}
+use Rattle.comm_port.specs.SendsAll.{SendsFrames}
 
 -- ---- First: what lies in the inbox is served.
 

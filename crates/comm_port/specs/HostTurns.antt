@@ -40,7 +40,7 @@ use Rattle.comm_port.specs.Sides.{RingSideIs, MayWrite}
 use Rattle.joint_history.specs.Reading.{host_items_of}
 use Rattle.comm_port.specs.Turns.{IsOwnTurn}
 use Rattle.comm_port.specs.Leaving.{cause_due, HandedOn}
-use Rattle.comm_port.specs.Giving.{due_calls, inbox_of, is_chosen}
+use Rattle.comm_port.specs.Giving.{due_calls, inbox_of, is_chosen, IsAtRest}
 use Rattle.comm_port.specs.Parts.{EachNext}
 use Rattle.comm_port.specs.SendsAll.{IsNextSending, SendsFrames}
 use Rattle.comm_port.specs.Replies.{reply_frame}
@@ -62,7 +62,7 @@ pub record HostTurning {Q : Type 0} (n : ℕ) (host : HostIs) (side : RingSideIs
   pub paths : PathsAgree host.history (own n ring)
 
 -- A worker's host and the ring agree, whichever node holds the token; a call waits for its answer
--- for one Pass at least.
+-- for one Pass at least; and nothing of the node is to be sent or has failed.
 pub record HostTies {Q : Type 0} (n : ℕ) (host : HostIs) (side : RingSideIs Q)
     (ring : List RingEntry) : Type 0 where
   pub node : host.plan.node ≡ n
@@ -72,6 +72,7 @@ pub record HostTies {Q : Type 0} (n : ℕ) (host : HostIs) (side : RingSideIs Q)
   pub answer : 0 < side.net.answer
   pub tied : Tied AHost (host_items_of host.history) (own n ring)
   pub paths : PathsAgree host.history (own n ring)
+  pub rest : IsAtRest side.net n ring
 
 -- The last entry of a node is a Pass that says this.
 pub record EndsWithPass (n : ℕ) (done : Bool) (b : List RingEntry) : Type 0 where

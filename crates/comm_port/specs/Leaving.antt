@@ -2,8 +2,8 @@
 use Rattle.std.specs.Prelude.{◌≡◌, ℕ, nat_le, Bool, true, false, ◌&&◌, if◌then◌else◌, List, [], ◌∷◌}
 use Rattle.std.specs.Prelude.{Option, Some, None}
 use Rattle.plant_types.specs.declared.net.NetPlan.{NetPlan}
-use Rattle.ring_core.specs.Machine.{RingIs, ring_after, ring_node}
-use Rattle.ring_core.specs.Refusals.{cause_held, needed_of, quiet_for}
+use Rattle.ring_core.specs.Machine.{RingIs, ring_after, ring_node, is_here}
+use Rattle.ring_core.specs.Refusals.{leave_due, quiet_for}
 use Rattle.ring_core.specs.declared.entry.LeaveCause.{LeaveCause}
 use Rattle.ring_core.specs.declared.entry.LeaveCause.TheVariants.{Ended, Spent}
 use Rattle.ring_core.specs.declared.entry.RingEntry.{RingEntry}
@@ -13,7 +13,9 @@ use Rattle.tied_lists.specs.Waits.{Holds, HasLeft}
 
 -- A node has had a cause to leave for as long as it needs.
 abbrev pub is_due : NetPlan → RingIs → ℕ → LeaveCause → Bool
-is_due net r n cause = nat_le (needed_of net cause) (cause_held r n cause)
+is_due net r n cause =
+    let due = leave_due net r n cause in
+    nat_le due.needed due.held
 
 -- Why a node leaves at the end of its turn, if it does: its Passes are spent, and it keeps to a
 -- budget; or it is done, and all members have been for long enough.
@@ -37,7 +39,7 @@ pub record StoodStill (alone : Bool) (net : NetPlan) (n : ℕ) (old new : List R
 
 -- A node has not left.
 abbrev pub IsHere : NetPlan → List RingEntry → ℕ → Type 0
-IsHere net history n = (ring_node (ring_after net history) n).here ≡ true
+IsHere net history n = is_here (ring_node (ring_after net history) n) ≡ true
 
 -- A node left.
 pub record LeftRing (alone : Bool) (net : NetPlan) (n : ℕ) (cause : LeaveCause)

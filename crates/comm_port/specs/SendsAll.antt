@@ -1,27 +1,12 @@
 -- How a node sends until its outbox is empty. This project's own.
 use Rattle.std.specs.Prelude.{◌≡◌, ℕ, Bool, true, List, []}
 use Rattle.plant_types.specs.declared.net.NetPlan.{NetPlan}
-use Rattle.ring_core.specs.Machine.{NodeIs, awaited_number, path_of}
-use Rattle.ring_core.specs.declared.path.Await.{Await}
-use Rattle.ring_core.specs.declared.path.Await.TheVariants.{Failed}
+use Rattle.ring_core.specs.Machine.{awaited_number, path_of}
 use Rattle.ring_core.specs.declared.entry.RingEntry.{RingEntry}
 use Rattle.ring_core.specs.declared.entry.RingEntry.TheVariants.{Send, GiveUp}
 use Rattle.tied_lists.specs.Own.{is_of, Grew}
-use Rattle.comm_port.specs.Giving.{part_at, outbox_of}
+use Rattle.comm_port.specs.Giving.{part_at, outbox_of, HasFailed, NoneFailed}
 use Rattle.comm_port.specs.Parts.{EachNext}
-
--- A path's call has failed.
-abbrev pub HasFailed : Await → Type 0
-HasFailed (Failed seq word) = Unit {0}
-HasFailed _ = ⊥
-
--- None of the calls on these paths has failed.
-abbrev pub NoneFailed : (ℕ → Bool) → NodeIs → Type 0
-NoneFailed on part = (path : ℕ) → on path ≡ true → HasFailed (path_of part path).awaits → ⊥
-
--- A controller gives up what failed on each path.
-abbrev pub each_path : ℕ → Bool
-each_path path = true
 
 -- What a node does next while it sends and gives up the calls on these paths that failed: it sends
 -- where none of them has, and gives up one that has.

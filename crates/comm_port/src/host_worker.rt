@@ -3,7 +3,7 @@ ghost use Rattle.std.specs.Prelude.{◌≡◌, ◌<◌, min, true, false, [], �
 ghost use Rattle.ring_core.specs.Legal.{IsLegalRing, IsPath};
 ghost use Rattle.ring_core.specs.Statistics.{is_stats};
 ghost use Rattle.host_port.specs.Legal.{IsHostHistory};
-ghost use Rattle.comm_port.specs.Giving.{BoxesEmpty, is_chosen};
+ghost use Rattle.comm_port.specs.Giving.{is_chosen};
 ghost use Rattle.comm_port.specs.HostTurns.{after_turn, CountsPasses, AreRecent, hold_of};
 ghost use Rattle.comm_port.specs.HostTurns.{looked_at};
 ghost use Rattle.comm_port.specs.HostSteps.{AskedAllOver, AskedNextOver, EndsHostOver, GivesUpBy};
@@ -14,6 +14,7 @@ ghost use Rattle.comm_port.specs.HostSteps.{SendsOutOver, SendsOver, ServesInbox
 ghost use Rattle.comm_port.specs.RingSteps.{HasLeftAfter, HasLeftAt, HoldsAfter, HoldsAt};
 ghost use Rattle.comm_port.specs.RingSteps.{IsHereAfter, KeepsInboxOver, SendsFewer, SendsNoMore};
 ghost use Rattle.comm_port.specs.RingSteps.{StaysAway, node_after, node_at, outbox_after, IsHereAt};
+ghost use Rattle.comm_port.specs.RingSteps.{RestsAt};
 
 use crate::leaving::hand_on;
 use crate::paths::ALL_PATHS;
@@ -321,7 +322,8 @@ fn end_turn<R: RingSide>(
     requires turning { HostTurningAt R.RingSide node host.old ring.old }
     requires holds { HoldsAt R.RingSide node ring.old }
     requires wait { 0 < (R.side ring.old).net.answer }
-    requires boxes { BoxesEmpty (node_at R.RingSide node ring.old) }
+    requires rest { RestsAt R.RingSide node ring.old }
+    requires empty { (node_at R.RingSide node ring.old).inbox ≡ [] }
     ensures ties { OnOk result (HostTiesAfter R.RingSide node host.new ring.old ring.new) }
     ensures passed { IfOk result
         (λ left. left ≡ false → PassedAt R.RingSide node host.new ring.new) }

@@ -20,7 +20,7 @@ use Rattle.journal_text.specs.Fronts.{IsJournalOf}
 use Rattle.journal_text.specs.Journal.{journal}
 use Rattle.panel_text.specs.Panel.{panel}
 use Rattle.summary_text.specs.Summary.{summary}
-use Rattle.command_answers.specs.declared.answering.Answer.{Answer}
+use Rattle.command_answers.specs.declared.answered.Answer.{Answer}
 use Rattle.command_answers.specs.declared.judging.Judged.{Judged}
 use Rattle.command_answers.specs.declared.judging.Judged.TheVariants.{Whole, Illegal}
 use Rattle.command_answers.specs.declared.status.Status.{Status}

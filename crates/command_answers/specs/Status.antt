@@ -1,5 +1,5 @@
 -- How the program ends.
-use Rattle.std.specs.Prelude.{ℕ}
+use Rattle.std.specs.Prelude.{ℕ, Bool, true, false}
 use Rattle.command_answers.specs.declared.status.Status.{Status}
 use Rattle.command_answers.specs.declared.status.Status.TheVariants as ends
 
@@ -13,3 +13,15 @@ exit_number ends.WriteFault = 4
 exit_number ends.Refused = 5
 exit_number ends.TooLong = 6
 exit_number ends.Illegal = 7
+
+-- Whether a status goes with a text: what was asked for, a refusal, or the spot of a journal. This
+-- project's own.
+abbrev pub goes_with_text : Status → Bool
+goes_with_text ends.Ok = true
+goes_with_text ends.NoMemory = false
+goes_with_text ends.Usage = false
+goes_with_text ends.ReadFault = false
+goes_with_text ends.WriteFault = false
+goes_with_text ends.Refused = true
+goes_with_text ends.TooLong = false
+goes_with_text ends.Illegal = true

@@ -11,6 +11,7 @@ ghost use Rattle.command_words.specs.Words.{IsCommandInRange, IsNumberOfScans};
 ghost use Rattle.command_answers.specs.Due.{IsDue, IsDueOf, IsDueWith, IsFound, illegal_text, judges};
 ghost use Rattle.command_answers.specs.Due.{refusal_text, refused, task_text, as_due};
 
+use crate::answered::Answer;
 use crate::cutting::cut;
 use crate::judging::{Judged, judge_journal};
 use crate::status::Status;
@@ -25,13 +26,6 @@ use plant_types::{Place, Plant, PlantFault};
 use serial_run::{run_counted, run_noted};
 use std::alloc::{AllocError, Global};
 use summary_text::summary_text;
-
-/// A status, and the text that goes with it.
-#[derive(Drop)]
-pub struct Answer {
-    pub status: Status,
-    pub text: Vec<u8>,
-}
 
 fn refusal_text(alloc: Global, fault: PlantFault, place: Place) -> Result<String, AllocError>
     ensures { IfOk result (λ text. string_bytes text ≡ refusal_text fault place) }

@@ -16,8 +16,8 @@ pub fn one_due()
 }
 
 /// What `trace` and `live` write for a plant file is the journal and the panel of one joint
-/// history: `check` of that file and that journal can answer legal alone, and `replay` that panel
-/// alone.
+/// history: of that file and that journal `check` can answer only legal, and `replay` only that
+/// panel.
 pub fn written_is_legal()
     ensures { WrittenIsLegal }
 {

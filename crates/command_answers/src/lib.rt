@@ -1,12 +1,14 @@
 //! What is due for a command and an input, and the answer that gives it.
 #![tactic(auto)]
 
+mod answered;
 mod answering;
 mod cutting;
 mod judging;
 mod laws;
 mod status;
 
-pub use answering::{Answer, answer_to, refused, traced};
+pub use answered::Answer;
+pub use answering::{answer_to, refused, traced};
 pub use laws::{one_due, written_is_legal};
 pub use status::Status;

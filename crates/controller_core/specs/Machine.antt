@@ -113,6 +113,6 @@ pub record Tells (entry : Entry) (old new : Machine) : Type 0 where
   pub timely : (steps : ℕ) → IsTimely old steps → IsTimely new steps
 
 -- A call answers a request, whoever asked, and whatever is told as its reply. This project's own.
-abbrev pub ServesRequest : List ℕ → Machine → Machine → Type 0
-ServesRequest request old new =
+abbrev pub AnswersRequest : List ℕ → Machine → Machine → Type 0
+AnswersRequest request old new =
     (id : CallId) (reply : List ℕ) → Tells (entries.Peer id request reply) old new

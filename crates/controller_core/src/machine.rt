@@ -11,7 +11,7 @@ ghost use Rattle.controller_core.specs.Machine.{state_is, DoesEntry, Exchanges};
 ghost use Rattle.controller_core.specs.Machine.{CanSolve, IsRunnable, IsSound, IsTimely};
 ghost use Rattle.controller_core.specs.Machine.{most_steps};
 ghost use Rattle.controller_core.specs.Calls.{calls_of};
-ghost use Rattle.controller_core.specs.Machine.{ServesRequest, Solves, Tells, stop_by};
+ghost use Rattle.controller_core.specs.Machine.{AnswersRequest, Solves, Tells, stop_by};
 ghost use Rattle.mstr_block.specs.Laws.{collected};
 ghost use Rattle.mstr_block.specs.Table.{has_untaken, is_taken_out};
 
@@ -295,7 +295,7 @@ impl Machine {
     /// is taken before anything changes.
     pub(crate) fn serve(&mut self, alloc: Global, request: &Pdu) -> Result<(Pdu, Pdu), AllocError>
         requires { IsSound self.old }
-        ensures serves { OnOk result (ServesRequest request.now self.old self.new) }
+        ensures serves { OnOk result (AnswersRequest request.now self.old self.new) }
         ensures reply { IfOk result (λ pair.
             pair.0 ≡ (answer_of request.now self.old.ram).reply) }
         ensures same { IfOk result (λ pair. pair.1 ≡ pair.0) }

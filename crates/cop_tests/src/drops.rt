@@ -59,6 +59,7 @@ fn answer_to(alloc: Global, drops: List<IoDrop>) -> Result<String, AllocError> {
         registers: 40,
         panel: List::new(alloc),
         orders: List::new(alloc),
+        power: List::new(alloc),
         drops,
         segments: List::new(alloc),
     };

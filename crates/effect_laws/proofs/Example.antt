@@ -68,6 +68,7 @@ controller = record {
   registers = 1;
   panel = [];
   orders = [];
+  power = [];
   drops = [];
   segments = [];
 }

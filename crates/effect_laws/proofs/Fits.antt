@@ -155,7 +155,10 @@ write-answer address words m some few =
     ask = spelling_of request
 
     spells : Spells ask request
-    spells = record { range = ((some, omega (arith, few)), tt); form = refl }
+    spells = record {
+      range = (record { from = some; to = omega (arith, few) }, tt);
+      form = refl;
+    }
 
     at : (b : Bool) → Fitting ask
         (answer_with 16 (if b then Ok
@@ -177,7 +180,10 @@ read-answer address count m some few =
     ask = spelling_of request
 
     spells : Spells ask request
-    spells = record { range = ((some, omega (arith, few)), tt); form = refl }
+    spells = record {
+      range = (record { from = some; to = omega (arith, few) }, tt);
+      form = refl;
+    }
 
     at : (b : Bool) → Fitting ask
         (answer_with 3 (if b then Ok (record

@@ -4,12 +4,12 @@ use Rattle.plant_types.specs.declared.plan.Plant.{Plant}
 use Rattle.plant_types.specs.Plans.{IsPlant}
 use Rattle.mstr_block.specs.declared.call.CallId.{CallId}
 use Rattle.mstr_block.specs.declared.call.MstrResult.{MstrResult}
-use Rattle.mstr_block.specs.declared.call.MstrResult.TheVariants.{Bad}
 use Rattle.controller_core.specs.declared.entry.Entry.TheVariants.{Finish}
 use Rattle.joint_history.specs.declared.joint.ControllerLog.{ControllerLog}
 use Rattle.joint_history.specs.declared.joint.Joint.{Joint}
 use Rattle.joint_history.specs.Effects.{effects}
 use Rattle.joint_history.specs.JointLaws.{IsJoint, IsLegalJoint}
+use Rattle.reply_laws.specs.Result.{no_result}
 use Rattle.effect_laws.specs.HostReplies.{HostRepliesAreAnswers}
 use Rattle.effect_laws.specs.Success.{ReportsSuccess}
 use Rattle.effect_laws.specs.Targets.{EffectsAreAtTarget}
@@ -26,7 +26,7 @@ SuccessIsOneEffect joint = (id : CallId) → ReportsSuccess joint id → effects
 abbrev pub RepliesFit : Joint → Type 0
 RepliesFit joint = (log : ControllerLog) (id : CallId) (result : MstrResult)
     → Contains joint.controllers log → Contains log.entries (Finish id result)
-    → result ≢ Bad 0x3000
+    → result ≢ no_result
 
 -- Something is so of every joint history whose lists are legal ones of a plant's stations and of
 -- its ring, for any number of scans, and keep the laws between them.

@@ -1,7 +1,6 @@
 -- What one list allows the other only grows, so what both may put next they may put together.
 use Rattle.std.proofs.Common.{◌≤◌, List, [], ◌∷◌, arith}
 use Rattle.controller_core.specs.declared.entry.Entry.{Entry}
-use Rattle.host_port.specs.declared.entry.HostEntry.{HostEntry}
 use Rattle.ring_core.specs.declared.entry.RingEntry.{RingEntry}
 use Rattle.one_order.specs.Merges.{tally}
 use Rattle.entry_causes.specs.Causes.{StationEntry, ByController, ByHost, Noting, Asks, AsksPort}
@@ -10,7 +9,7 @@ use Rattle.entry_causes.specs.Causes.{Doing, PostsRequest, WorksPort, TakesReque
 use Rattle.entry_causes.specs.Causes.{AnswersAtPort, PostsReply, IsOver}
 use Rattle.entry_causes.specs.Causes.{Noted, Done, no_notes, no_deeds, noted_next, done_next}
 use Rattle.entry_causes.specs.Causes.{notings, host_notings, doings}
-use Rattle.entry_causes.specs.Causes.{note, note_entry, note_host, deed, AreCaused}
+use Rattle.entry_causes.specs.Causes.{note, note_entry, deed, AreCaused}
 
 pub none-caused : AreCaused no_notes no_deeds
 none-caused = record {
@@ -101,8 +100,3 @@ pub both-of-entry : (s : Noted) (d : Done) (e : Entry) (r : RingEntry)
     → AreCaused (note_entry s e) d → AreCaused s (deed d r)
     → AreCaused (note_entry s e) (deed d r)
 both-of-entry s d e r f k = both s d (ByController e) r f k
-
-pub both-of-host : (s : Noted) (d : Done) (e : HostEntry) (r : RingEntry)
-    → AreCaused (note_host s e) d → AreCaused s (deed d r)
-    → AreCaused (note_host s e) (deed d r)
-both-of-host s d e r f k = both s d (ByHost e) r f k

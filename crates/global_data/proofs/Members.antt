@@ -8,7 +8,7 @@ use Rattle.std.specs.Cmp.{nat_cmp_total}
 use Rattle.std.specs.Ordering.{eq_by_cmp}
 use Rattle.std.specs.FinMap.{insert, empty, get-insert, same_map, nat_cmp-IsAntisymmetric}
 use Rattle.global_data.specs.Book.{Book, GlobalIs, no_words, new_book}
-use Rattle.global_data.specs.Places.{filled, book_places}
+use Rattle.global_data.specs.Places.{map_of_places, byte_addresses}
 use Rattle.global_data.proofs.Places.{numbered-set, filled-none}
 
 -- the members of a list join a book one after another
@@ -46,19 +46,21 @@ joined-new (m ∷ ms) = joined-last empty m ms ∙ ap (λ b. insert b m no_words
 
 -- the next member joins by a write of its place
 pub joined-next : (places : List (Option GlobalIs)) (ms : List ℕ) (k m : ℕ) (words : GlobalIs)
-    (book : Book) → m < 256 → length places ≡ book_places
+    (book : Book) → m < 256 → length places ≡ byte_addresses
     → k < length ms → m ≡ get_or ms k 0 → words ≡ no_words
-    → joined (filled (λ i. i) places) (drop k ms) ≡ book
-    → joined (filled (λ i. i) (set places m (Some words))) (drop (k + 1) ms) ≡ book
+    → joined (map_of_places (λ i. i) places) (drop k ms) ≡ book
+    → joined (map_of_places (λ i. i) (set places m (Some words))) (drop (k + 1) ms) ≡ book
 joined-next places ms k m words book low size more read none is =
-    ap (λ (w : GlobalIs). joined (filled (λ i. i) (set places m (Some w))) (drop (k + 1) ms)) none
+    ap (λ (w : GlobalIs).
+    joined (map_of_places (λ i. i) (set places m (Some w))) (drop (k + 1) ms)) none
     ∙ (ap (λ (b : Book). joined b (drop (k + 1) ms))
     (numbered-set places m no_words (omega (arith, low, size)))
-    ∙ (ap (λ (n : ℕ). joined (filled (λ i. i) places) (n ∷ drop (k + 1) ms)) read
-    ∙ (sym (at_drop_more (joined (filled (λ i. i) places)) ms k 0 more) ∙ is)))
+    ∙ (ap (λ (n : ℕ). joined (map_of_places (λ i. i) places) (n ∷ drop (k + 1) ms)) read
+    ∙ (sym (at_drop_more (joined (map_of_places (λ i. i) places)) ms k 0 more) ∙ is)))
 
 -- all join where no place is filled yet
 pub joined-first : (places : List (Option GlobalIs)) (ms : List ℕ) (k : ℕ)
-    → places ≡ replicate k None → joined (filled (λ i. i) places) ms ≡ new_book ms
-joined-first places ms k is = ap (λ (l : List (Option GlobalIs)). joined (filled (λ i. i) l) ms) is
+    → places ≡ replicate k None → joined (map_of_places (λ i. i) places) ms ≡ new_book ms
+joined-first places ms k is =
+    ap (λ (l : List (Option GlobalIs)). joined (map_of_places (λ i. i) l) ms) is
     ∙ (ap (λ (b : Book). joined b ms) (filled-none (λ i. i) k) ∙ joined-new ms)

@@ -8,7 +8,7 @@ use Rattle.std.specs.Cmp.{IsTotalOrder, nat_cmp_total, unsigned_tied}
 use Rattle.std.specs.Ordering.{eq_by_cmp}
 use Rattle.std.specs.FinMap.{FinMap, get, insert, find, get-from_entries, get-insert, same_map}
 use Rattle.std.specs.FinMap.{nat_cmp-IsAntisymmetric, empty, from_entries}
-use Rattle.global_data.specs.Places.{filled, filled_from}
+use Rattle.global_data.specs.Places.{map_of_places, filled_from}
 
 module _ {K X : Type 0} (R : K → K → Ordering) (key : ℕ → K) (q : K) (place : ℕ)
     (its : (i : ℕ) → eq_by_cmp R q (key i) ≡ (place == i)) where
@@ -48,8 +48,8 @@ find_none R key q none at (Some x ∷ places) =
 -- the map has nothing at a key of no place
 pub get-no_place : {K X : Type 0} {R : K → K → Ordering} → IsTotalOrder R → (key : ℕ → K) (q : K)
     → ((i : ℕ) → eq_by_cmp R q (key i) ≡ false)
-    → (places : List (Option X)) → get (filled {R = R} key places) q ≡ None
-unfolding filled
+    → (places : List (Option X)) → get (map_of_places {R = R} key places) q ≡ None
+unfolding map_of_places
 get-no_place {R = R} total key q none places = get-from_entries total (filled_from key 0 places) q
     ∙ find_none R key q none 0 places
 
@@ -57,15 +57,15 @@ get-no_place {R = R} total key q none places = get-from_entries total (filled_fr
 pub get-filled : {K X : Type 0} {R : K → K → Ordering} → IsTotalOrder R
     → (key : ℕ → K) (q : K) (place : ℕ)
     → ((i : ℕ) → eq_by_cmp R q (key i) ≡ (place == i)) → (places : List (Option X))
-    → get (filled {R = R} key places) q ≡ get_or places place None
-unfolding filled
+    → get (map_of_places {R = R} key places) q ≡ get_or places place None
+unfolding map_of_places
 get-filled {R = R} total key q place its places =
     get-from_entries total (filled_from key 0 places) q
     ∙ find_filled R key q place its place 0 places (omega arith)
 
 -- the same where the places are the keys
 pub get_numbered : {X : Type 0} (places : List (Option X)) (q : ℕ)
-    → get (filled {R = nat_cmp} (λ i. i) places) q ≡ get_or places q None
+    → get (map_of_places {R = nat_cmp} (λ i. i) places) q ≡ get_or places q None
 get_numbered places q = get-filled nat_cmp_total (λ i. i) q q (unsigned_tied q) places
 
 -- what stands at a place after a write of one
@@ -84,7 +84,8 @@ read-set places m q x low = ⊎_elim
 
 -- a place that is written is an entry that is inserted
 pub numbered-set : {X : Type 0} (places : List (Option X)) (m : ℕ) (x : X) → m < length places
-    → filled {R = nat_cmp} (λ i. i) (set places m (Some x)) ≡ insert (filled (λ i. i) places) m x
+    → map_of_places {R = nat_cmp} (λ i. i) (set places m (Some x))
+    ≡ insert (map_of_places (λ i. i) places) m x
 numbered-set places m x low = same_map nat_cmp_total nat_cmp-IsAntisymmetric _ _ (λ q.
     get_numbered (set places m (Some x)) q ∙ read-set places m q x low
     ∙ sym (get-insert nat_cmp_total _ m x q
@@ -93,7 +94,8 @@ numbered-set places m x low = same_map nat_cmp_total nat_cmp-IsAntisymmetric _ _
 -- what was read at a place is what the map has there
 pub numbered-read : {X : Type 0} (places : List (Option X)) (map : FinMap nat_cmp X) (n : ℕ)
     (o : Option X)
-    → filled (λ i. i) places ≡ map → n < length places → o ≡ get_or places n o → get map n ≡ o
+    → map_of_places (λ i. i) places ≡ map → n < length places → o ≡ get_or places n o
+    → get map n ≡ o
 numbered-read places map n o is low read =
     ap (λ m. get m n) (sym is) ∙ get_numbered places n ∙ sym (get_or_read places n o low read None)
 
@@ -104,6 +106,6 @@ none_filled key (suc k) at = none_filled key k (at + 1)
 
 -- no place is filled at first
 pub filled-none : {K X : Type 0} {R : K → K → Ordering} (key : ℕ → K) (k : ℕ)
-    → filled {X = X} {R = R} key (replicate k None) ≡ empty
-unfolding filled
+    → map_of_places {X = X} {R = R} key (replicate k None) ≡ empty
+unfolding map_of_places
 filled-none {R = R} key k = ap (λ es. from_entries {R = R} es) (none_filled key k 0)

@@ -13,13 +13,13 @@ filled_from key at (None ∷ places) = filled_from key (at + 1) places
 filled_from key at (Some x ∷ places) = (key at, x) ∷ filled_from key (at + 1) places
 
 -- The map of all filled places.
-unfoldable pub filled : {K X : Type 0} {R : K → K → Ordering} → (ℕ → K) → List (Option X) →
+unfoldable pub map_of_places : {K X : Type 0} {R : K → K → Ordering} → (ℕ → K) → List (Option X) →
     FinMap R X
-filled key places = from_entries (filled_from key 0 places)
+map_of_places key places = from_entries (filled_from key 0 places)
 
--- A place for each address that a byte can say.
-abbrev pub book_places : ℕ
-book_places = 256
+-- How many addresses a byte can say: a place for each.
+abbrev pub byte_addresses : ℕ
+byte_addresses = 256
 
 -- The code by which a proof tells two books apart.
 abbrev pub coded_words : Coded GlobalIs

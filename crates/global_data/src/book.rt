@@ -21,15 +21,15 @@ pub struct GlobalBook {
 impl Model for GlobalBook {
     ghost use Rattle.std.specs.Prelude.{◌≡◌, length};
     ghost use Rattle.global_data.specs.Book.{Book};
-    ghost use Rattle.global_data.specs.Places.{filled, book_places, coded_book};
+    ghost use Rattle.global_data.specs.Places.{map_of_places, byte_addresses, coded_book};
 
     ghost Value = { Book };
 
     ghost coded = { coded_book };
 
-    ghost view = { λ b. filled (λ node. node) b.places.items };
+    ghost view = { λ b. map_of_places (λ node. node) b.places.items };
 
-    ghost invariant = { λ b. length b.places.items ≡ book_places };
+    ghost invariant = { λ b. length b.places.items ≡ byte_addresses };
 }
 
 impl GlobalBook {

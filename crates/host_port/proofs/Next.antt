@@ -1,31 +1,26 @@
 -- Which entries may come next.
-use Rattle.std.proofs.Common.{◌≡◌, ◌≤◌, ℕ, true, List, [], ◌∷◌, ◌++◌, Option, Some, None, length}
+use Rattle.std.proofs.Common.{◌≡◌, ℕ, true, List, [], ◌∷◌, ◌++◌, Option, Some, None, length}
 use Rattle.std.proofs.Common.{map, refl, sym, ap, subst, ◌∙◌, inl, inr}
-use Rattle.std.proofs.Common.{arith, append_assoc, length-append}
+use Rattle.std.proofs.Common.{append_assoc}
 use Rattle.std.proofs.lemmas.List.{length-map, map-append}
-use Rattle.std.specs.Prelude.{option_map, nat_le, if◌then◌else◌}
+use Rattle.std.specs.Prelude.{option_map}
 use Rattle.std.specs.List.{slice_get}
-use Rattle.std.proofs.lemmas.Bool.{cases_Bool}
 use Rattle.std.proofs.lemmas.Option.{slice_get-map}
-use Rattle.plant_types.specs.declared.net.HostAsk.{HostAsk}
 use Rattle.plant_types.specs.declared.net.HostPlan.{HostPlan}
 use Rattle.mstr_block.specs.declared.call.CallId.{CallId}
 use Rattle.mstr_block.specs.Table.{network_paths}
-use Rattle.ring_core.specs.declared.frame.Frame.{Frame}
 use Rattle.ring_core.specs.declared.frame.FrameKind.TheVariants.{Request}
 use Rattle.ring_core.specs.Legal.{IsPath}
 use Rattle.host_port.specs.declared.entry.HostEntry.{HostEntry}
 use Rattle.host_port.specs.declared.entry.HostEntry.TheVariants.{Ask, Answer, Served}
 use Rattle.host_port.specs.declared.entry.HostResult.{HostResult}
-use Rattle.plant_types.specs.Plans.{IsAskOf, IsHostPlan}
 use Rattle.host_port.specs.Calls.{requests_in, path_is_free, is_unanswered, call_on, free_path}
 use Rattle.host_port.specs.Calls.{next_host_call}
 use Rattle.host_port.specs.Legal.{Question, FitsHost, IsHostHistory, question_due, question_of}
 use Rattle.host_port.specs.Legal.{questions_in, questions_of, refusal_to}
-use Rattle.host_port.specs.Host.{HostIs, due_ask, due_request, if_due, next_ask, request_for}
+use Rattle.host_port.specs.Host.{HostIs}
 use Rattle.host_port.specs.Following.{MayComeNext, HostMayFollow}
-use Rattle.host_port.specs.Kept.{IsDueRequest}
-use Rattle.host_port.proofs.Lists.{all_at, behind, found, get_behind, split_last}
+use Rattle.host_port.proofs.Lists.{behind, found, get_behind, split_last}
 use Rattle.host_port.proofs.Paths.{paths_are}
 use Rattle.host_port.proofs.Unanswered.{requests_answer, requests_ask, requests_served}
 
@@ -159,61 +154,3 @@ next_of v (Ask id to pdu) may =
     (last_fits v.plan v.history (Ask id to pdu) may, ask_is v.plan v.history id to pdu may)
 next_of v (Answer id result) may = last_fits v.plan v.history (Answer id result) may
 next_of v (Served id request reply) may = last_fits v.plan v.history (Served id request reply) may
-
--- ---- the Request that is due
-
-record Parts (call : Option CallId) (due : Option HostAsk) (f : Frame) : Type 0 where
-  pub id : CallId
-  pub ask : HostAsk
-  pub named : call ≡ Some id
-  pub asked : due ≡ Some ask
-  pub frame : record { kind = Request; to = ask.to; id = id; pdu = ask.pdu } ≡ f
-
-parts : (call : Option CallId) (due : Option HostAsk) (f : Frame) → request_for call due ≡ Some f
-    → Parts call due f
-parts None None f is = absurd cc
-parts None (Some ask) f is = absurd cc
-parts (Some id) None f is = absurd cc
-parts (Some id) (Some ask) f is =
-    record { id = id; ask = ask; named = refl; asked = refl; frame = cc }
-
-due_is : (hold : ℕ) (o : Option HostAsk) (ask : HostAsk) → if_due hold o ≡ Some ask → o ≡ Some ask
-due_is hold None ask is = absurd cc
-due_is hold (Some x) ask is = elim (cases_Bool (nat_le x.hold hold)) [
-  | inl come ↦ sym (ap (λ b. if b then Some x else None) come) ∙ is
-  | inr early ↦ let none : None ≡ Some ask = sym (ap (λ b. if b then Some x else None) early)
-      ∙ is in absurd cc
-]
-
-pub request_is : (v : HostIs) (hold : ℕ) (f : Frame) → IsHostPlan v.plan
-    → due_request v hold ≡ Some f → IsDueRequest v f
-request_is v hold f sound is =
-    let p = parts (next_host_call v.plan v.history) (due_ask v hold) f is in
-    let here = due_is hold (next_ask v) p.ask p.asked in
-    let next = next_is v.plan v.history p.id p.named in
-    let made : Frame = record { kind = Request; to = p.ask.to; id = p.id; pdu = p.ask.pdu } in
-    let due : IsDueRequest v made = record {
-      next = (p.named, ap (option_map question_due) here);
-      from = (
-        ap (λ (i : CallId). i.node) next.name,
-        (all_at (IsAskOf v.plan.node) v.plan.requests (length (requests_in v.history)) p.ask
-            sound.requests here).other,
-        next.path,
-      );
-    } in
-    subst (IsDueRequest v) p.frame due
-
--- ---- how many
-
-pub few_asked : (plan : HostPlan) (h : List HostEntry) → IsHostHistory plan h
-    → length (requests_in h) ≤ length plan.requests
-few_asked plan h legal =
-    let all = ap length legal.order.1 in
-    omega (
-      arith,
-      all,
-      length-append (questions_in h) legal.order.0,
-      length-map
-          (requests_in h) question_of,
-      length-map plan.requests question_due,
-    )

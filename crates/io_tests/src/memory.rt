@@ -4,8 +4,8 @@ use std::alloc::{AllocError, Global};
 use std::process::Abort;
 use std::test::Fail;
 
-// An input, how many bytes a call gives, the limit, and the calls that fail; what comes of a reading
-// up to the limit, and of a second one of what is left then. An empty text is `-`.
+// An input, how many bytes a call gives, the limit, and the calls that fail; what comes of a
+// reading up to the limit, and of a second one of what is left then. An empty text is `-`.
 const READINGS: &str = "\
 - 3 0 : => - -
 - 3 5 : => - -

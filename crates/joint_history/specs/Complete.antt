@@ -23,6 +23,7 @@ use Rattle.joint_history.specs.declared.joint.ControllerLog.{ControllerLog}
 use Rattle.joint_history.specs.declared.joint.HostLog.{HostLog}
 use Rattle.joint_history.specs.declared.joint.Joint.{Joint}
 use Rattle.joint_history.specs.JointLaws.{fixed_of}
+use Rattle.joint_history.specs.Nets.{net_of}
 use Rattle.joint_history.specs.Reading.{items_of, host_items_of, has_started_at}
 
 -- Each call that a station made has ended, once.
@@ -103,13 +104,13 @@ pub record NodeIsComplete (net : NetPlan) (ring : List RingEntry) (node : ℕ) :
 abbrev pub IsCompleteLog : Plant → ℕ → List RingEntry → ControllerPlan → ControllerLog → Type 0
 IsCompleteLog plant scans ring plan log =
     ControllerIsComplete (fixed_of plant scans plan) log.entries
-    × NodeIsComplete plant.net ring log.node
+    × NodeIsComplete (net_of plant log.node) ring log.node
 
 -- The list of a host and its node on the ring are complete.
 abbrev pub IsCompleteHostLog : Plant → List RingEntry → HostPlan → HostLog → Type 0
 IsCompleteHostLog plant ring plan log =
     HostIsComplete plan (host_items_of log.entries) (own log.node ring)
-    × NodeIsComplete plant.net ring log.node
+    × NodeIsComplete (net_of plant log.node) ring log.node
 
 -- A run is complete: all stations are.
 pub record IsComplete (plant : Plant) (scans : ℕ) (joint : Joint) : Type 0 where

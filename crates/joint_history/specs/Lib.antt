@@ -1,3 +1,4 @@
+pub mod Nets
 pub mod Reading
 pub mod JointLaws
 pub mod Complete

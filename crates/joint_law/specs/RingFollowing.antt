@@ -1,16 +1,17 @@
 -- What it is to follow the ring's list. This project's own.
-use Rattle.std.specs.Prelude.{◌≡◌, Bool, true, false, [], ◌∷◌, ◌++◌}
+use Rattle.std.specs.Prelude.{Bool, true, false, List}
+use Rattle.ring_core.specs.declared.bare.BareRing.{BareRing}
 use Rattle.ring_core.specs.declared.entry.RingEntry.{RingEntry}
-use Rattle.ring_core.specs.Kept.{RingLog}
+use Rattle.ring_core.specs.Bare.{BareMade, bare_net}
 use Rattle.ring_core.specs.Legal.{IsRingStep}
 
--- The ring made this entry.
-pub record RingMade (old : RingLog) (entry : RingEntry) (new : RingLog) : Type 0 where
-  pub step : IsRingStep old.net old.history entry
-  pub net : new.net ≡ old.net
-  pub history : new.history ≡ old.history ++ entry ∷ []
+-- Behind some entries the ring made this one, which is a step.
+pub record RingMade (past : List RingEntry) (old : BareRing) (entry : RingEntry) (new : BareRing)
+    : Type 0 where
+  pub step : IsRingStep (bare_net old) past entry
+  pub made : BareMade past entry old new
 
 -- An entry was followed, or it is no step of the ring here.
-abbrev pub RingFollowed : RingLog → RingEntry → RingLog → Bool → Type 0
-RingFollowed old entry new true = RingMade old entry new
-RingFollowed old entry new false = IsRingStep old.net old.history entry → ⊥
+abbrev pub RingFollowed : List RingEntry → BareRing → RingEntry → BareRing → Bool → Type 0
+RingFollowed past old entry new true = RingMade past old entry new
+RingFollowed past old entry new false = IsRingStep (bare_net old) past entry → ⊥

@@ -111,13 +111,6 @@ cut_line at (x ∷ xs) ys h =
       cut_line at xs ys (All-tail (λ b. b ≢ at) x xs h),
     ) refl
 
-pub cut_none : (at : ℕ) (text : List ℕ) → All (λ b. b ≢ at) text → cut at text ≡ None
-unfolding cut
-cut_none at [] h = refl
-cut_none at (x ∷ xs) h =
-    rw (differ x at (All-head (λ b. b ≢ at) x xs h), cut_none at xs (All-tail (λ b. b ≢ at) x xs h))
-    refl
-
 -- the rest is shorter
 pub shorter : (at : ℕ) (text : List ℕ) (parts : List ℕ × List ℕ) → cut at text ≡ Some parts
     → length parts.1 < length text

@@ -5,7 +5,7 @@ use Rattle.std.proofs.Common.{length-append}
 use Rattle.std.specs.Prelude.{codes, IfErr, IfOk}
 use Rattle.std.specs.List.{flat_map}
 use Rattle.std.proofs.lemmas.List.{append-nil, flat_map_more}
-use Rattle.std.proofs.lemmas.List.Elements.{All-nil, All-push}
+use Rattle.std.proofs.lemmas.List.Elements.{All-push}
 use Rattle.ring_core.specs.declared.entry.RingEntry.{RingEntry}
 use Rattle.joint_history.specs.declared.joint.HostLog.{HostLog}
 use Rattle.joint_history.specs.declared.joint.Joint.{Joint}
@@ -35,17 +35,6 @@ pub record SoFar (bytes : List ℕ) (draft : Draft) (rest : List ℕ) (number : 
   pub good : IsGood draft
   pub goes : (joint : Joint) → IsHistory joint → (tail : List ℕ)
       → flat_map with_feed lines ++ tail ≡ journal joint → Goes draft joint tail
-
-pub at_start : (bytes : List ℕ) → SoFar bytes drafts.Start bytes 1
-at_start bytes = record {
-  lines = [];
-  each = All-nil IsLine;
-  parts = refl;
-  count = omega arith;
-  text = refl;
-  good = tt;
-  goes = λ joint is tail e. e;
-}
 
 -- one line more
 push : (lines : List (List ℕ)) (line : List ℕ)

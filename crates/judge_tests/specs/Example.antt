@@ -16,6 +16,7 @@ controller_plan = record {
   registers = 16;
   panel = [];
   orders = [];
+  power = [];
   drops = [];
   segments = [];
 }

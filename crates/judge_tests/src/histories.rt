@@ -69,6 +69,7 @@ fn controllers(alloc: Global) -> Result<List<ControllerPlan>, AllocError>
         registers: 16,
         panel: List::new(alloc),
         orders: List::new(alloc),
+        power: List::new(alloc),
         drops: List::new(alloc),
         segments: List::new(alloc),
     })?;

@@ -123,3 +123,15 @@ pub reach-is : (marks row n : ℕ) → n < 128
     → n ≡ reach_of marks row
 unfolding reach_of
 reach-is marks row n small same = mask_of-is n (is_joined_live marks (2 ^ (row - 1))) small same
+
+-- the first row's bit, shifted to a row
+pub shifted_row : (row : ℕ) → 1 ≤ row → row ≤ 7 → 1 * 2 ^ (row - 1) % 2 ^ 8 ≡ 2 ^ (row - 1)
+shifted_row zero low high = absurd (omega arith)
+shifted_row (suc zero) low high = refl
+shifted_row (suc (suc zero)) low high = refl
+shifted_row (suc (suc (suc zero))) low high = refl
+shifted_row (suc (suc (suc (suc zero)))) low high = refl
+shifted_row (suc (suc (suc (suc (suc zero))))) low high = refl
+shifted_row (suc (suc (suc (suc (suc (suc zero)))))) low high = refl
+shifted_row (suc (suc (suc (suc (suc (suc (suc zero))))))) low high = refl
+shifted_row (suc (suc (suc (suc (suc (suc (suc (suc row)))))))) low high = absurd (omega arith)

@@ -2,7 +2,8 @@
 use Rattle.std.proofs.Common.{◌≡◌, ◌≢◌, ℕ, ◌+◌, ◌-◌, ◌<◌, ◌≤◌, zero, suc, get_or, set, Bool, true}
 use Rattle.std.proofs.Common.{false, ◌&&◌, ◌||◌, ◌==◌, List, ◌∷◌, refl, ◌∙◌, sym, ap, subst, length}
 use Rattle.std.proofs.Common.{◌⊎◌, inl, inr, arith, get_or-set_same, get_or-set_other}
-use Rattle.std.specs.Prelude.{if◌then◌else◌, bit_or}
+use Rattle.std.proofs.Common.{Option, Some}
+use Rattle.std.specs.Prelude.{if◌then◌else◌, bit_or, IfSome}
 use Rattle.std.proofs.lemmas.Bool.Decides.{nat_tests}
 use Rattle.ladder_solver.specs.declared.layout.Spot.{Spot}
 use Rattle.grid_compile.proofs.MaskLemmas.{row_on-past}
@@ -11,23 +12,18 @@ use Rattle.plant_types.specs.declared.power.NodePower.{NodePower}
 use Rattle.plant_types.specs.Network.{is_row}
 use Rattle.ladder_solver.specs.State.{SolveState}
 use Rattle.ladder_solver.specs.declared.flow.Solved.{Solved}
-use Rattle.ladder_solver.specs.Flow.{Flow, Setting, Left, solved_element}
+use Rattle.ladder_solver.specs.declared.scan.Scan.{Scan}
+use Rattle.plant_types.specs.Store.{Contents}
+use Rattle.ladder_solver.specs.Element.{one_node}
+use Rattle.ladder_solver.specs.Flow.{Flow, GoesOn, Setting, Left, solved_element}
 use Rattle.ladder_solver.specs.Network.{Power, Place, Site, is_live, is_fed, inputs_at, place_in}
 use Rattle.ladder_solver.specs.Network.{with_output, with_outputs, element_at}
 use Rattle.grid_compile.specs.Cells.{marks_of}
 use Rattle.ladder_solver.specs.Rows.{flag_of, flags_at, reaches_of, three_from, fed_rows}
-use Rattle.ladder_solver.specs.Rows.{output_reaches, FeedsAll}
+use Rattle.ladder_solver.specs.Rows.{rows_fed, output_reaches, FeedsAll}
 use Rattle.grid_compile.specs.Masks.{are_linked}
-use Rattle.ladder_solver.specs.Agreement.{AgreesPower, AgreesSolved}
+use Rattle.ladder_solver.specs.Agreement.{AgreesPower, AgreesSolved, RelayLeaves, solving}
 use Rattle.ladder_solver.proofs.Spread.{are_linked-joined, fed_rows-feeds, fed_rows-small}
-
--- a column is no other column
-other_column : (a b : ℕ) → a < b → (a == b) ≡ false
-other_column a b h = grind (arith, nat_tests)
-
--- nor is one on the other side
-other_column_below : (a b : ℕ) → b < a → (a == b) ≡ false
-other_column_below a b h = grind (arith, nat_tests)
 
 -- a column is itself
 same_column : (a : ℕ) → (a == a) ≡ true
@@ -250,3 +246,28 @@ spot-done setting spot site live next s after solved first within low high does 
       state = ap (λ (q : Power). q.state) e;
       flow = ap (λ (q : Power). q.flow) e;
     }
+
+-- a cell whose relay gives an output
+pub relay-done : (setting : Setting) (spot : Spot) (site : Site) (live live_after : List ℕ)
+    (past old new : Contents) (scan : Scan) (found : Option Bool) (power output : Bool)
+    → 1 ≤ spot.column → spot.column < length live → 1 ≤ spot.row → spot.row ≤ 7
+    → IfSome found (RelayLeaves spot.element power past old new) → found ≡ Some output
+    → power ≡ flag_of (get_or live (spot.column - 1) 0) spot.row
+    → live_after ≡ rows_fed live spot.column (fed_rows (one_node output) spot.reaches)
+    → (shorts : List Short) (p : Power)
+    → spot.reaches ≡ three_from (reaches_of (marks_of shorts spot.column)) spot.row
+    → AgreesPower shorts live p → p.state ≡ solving old past scan
+    → AgreesSolved shorts live_after (solving new past scan) GoesOn
+    (element_at setting shorts site spot.column spot.row spot.element p)
+relay-done setting spot site live live_after past old new scan found power output first within low
+    high leaves is on fed shorts p reaches agrees state =
+    let left = get_or live (spot.column - 1) 0 in
+    let next = bit_or (get_or live spot.column 0) (fed_rows (one_node output) spot.reaches) in
+    let leaves_it : RelayLeaves spot.element power past old new output =
+    subst (λ (o : Option Bool). IfSome o (RelayLeaves spot.element power past old new)) is leaves in
+    subst (λ (after : List ℕ). AgreesSolved shorts after (solving new past scan) GoesOn
+    (element_at setting shorts site spot.column spot.row spot.element p)) (sym fed)
+    (spot-done setting spot site live next (solving old past scan) (solving new past scan)
+    (record { outputs = one_node output; flow = GoesOn }) first within low high
+    (leaves_it setting (place_in site spot.column spot.row) (flags_at left spot.row) scan (sym on))
+    refl shorts p reaches agrees state)

@@ -10,7 +10,8 @@ ghost use Rattle.ladder_solver.specs.Numbers.{mstr_count};
 ghost use Rattle.ladder_solver.specs.Layout.{spot_of, ops_spots, column_spots, spots_in};
 ghost use Rattle.ladder_solver.specs.Layout.{segment_spots, spots_of, HasBlockRoom, Behind};
 
-use crate::rows::Reaches;
+use crate::relays::{Relay, relay_of};
+use crate::rows::{Reaches, mask_at};
 use grid_compile::{Column, Grid, Op, column_join};
 use plant_types::{Element, List};
 use std::alloc::{AllocError, Global};
@@ -20,6 +21,9 @@ use std::alloc::{AllocError, Global};
 pub(crate) struct Spot {
     pub column: u8,
     pub row: u8,
+    /// The mask of its row alone.
+    pub mask: u8,
+    pub relay: Relay,
     pub element: Element,
     /// The number of its MSTR block; of another element, that of the next.
     pub block: u16,
@@ -51,6 +55,8 @@ fn spot_of(reaches: &Reaches, column: u8, block: u16, op: &Op) -> Spot
     Spot {
         column,
         row: op.row,
+        mask: mask_at(op.row),
+        relay: relay_of(op.element),
         element: op.element,
         block,
         reaches: [reaches[place], reaches[place + 1], reaches[place + 2]],

@@ -224,6 +224,7 @@ fn plan_of(alloc: Global, segments: Segments) -> Result<ControllerPlan, AllocErr
         registers: 32,
         panel: List::new(alloc),
         orders: List::new(alloc),
+        power: List::new(alloc),
         drops: List::new(alloc),
         segments,
     })

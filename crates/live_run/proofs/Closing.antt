@@ -4,7 +4,6 @@ use Rattle.std.proofs.Common.{sym, ap, subst, ◌∙◌, arith, append-nil}
 use Rattle.std.specs.List.{All}
 use Rattle.std.proofs.lemmas.List.Elements.{filter-append}
 use Rattle.turn_gate.specs.Known.{GateFacts, Owns, PassFacts, StartsWith, made_by}
-use Rattle.plant_types.specs.declared.net.HostPlan.{HostPlan}
 use Rattle.plant_types.specs.declared.plan.ControllerPlan.{ControllerPlan}
 use Rattle.plant_types.specs.declared.plan.Plant.{Plant}
 use Rattle.ring_core.specs.declared.entry.RingEntry.{RingEntry}
@@ -12,24 +11,20 @@ use Rattle.controller_core.specs.declared.entry.Entry.{Entry}
 use Rattle.controller_core.specs.declared.fixed.Fixed.{Fixed}
 use Rattle.controller_core.specs.Controller.{IsLegal}
 use Rattle.controller_core.proofs.NextEntry.{front_legal}
-use Rattle.host_port.specs.Host.{HostIs}
 use Rattle.joint_history.specs.declared.joint.ControllerLog.{ControllerLog}
-use Rattle.joint_history.specs.declared.joint.HostLog.{HostLog}
 use Rattle.joint_history.specs.JointLaws.{fixed_of}
-use Rattle.comm_port.specs.HostTurns.{HostWorkerIs}
 use Rattle.joint_history.specs.Reading.{is_ours}
 use Rattle.comm_port.specs.Sides.{RingSideIs}
 use Rattle.comm_port.specs.Worker.{WorkerIs}
-use Rattle.turn_laws.specs.KeepsOn.{HasFinished, HostHasFinished, HostKeepsOn, KeepsOn, NoneSpent}
+use Rattle.turn_laws.specs.KeepsOn.{HasFinished, HostHasFinished, KeepsOn, NoneSpent}
 use Rattle.turn_laws.specs.KeepsOn.{StandsTied}
 use Rattle.turn_laws.proofs.Passes.{cancel-none}
 use Rattle.turn_laws.proofs.Rests.{ended-alone}
-use Rattle.turn_laws.proofs.Stands.{host-stands-of}
 use Rattle.tied_lists.specs.Own.{own}
 use Rattle.live_run.specs.Cells.{maker_number}
 use Rattle.live_run.specs.Pairs.{IsBack, ram_side}
-use Rattle.live_run.specs.Stations.{CameToEnd, HostCameToEnd}
-use Rattle.live_run.specs.Talking.{AttendsOn, TalksOn}
+use Rattle.live_run.specs.Stations.{CameToEnd}
+use Rattle.live_run.specs.Talking.{TalksOn}
 use Rattle.live_run.proofs.Stays.{none-ours}
 
 -- what a pass brought back is all of its number, so the list went on by others alone
@@ -106,27 +101,6 @@ came-to-end {Q} plant scans plan gate w side ring p h log unopened fixed node ne
     same = begins.1 ∙ ap (λ l. b.talked ++ l) (ended-alone gate.fixed b.talked begins.0
         (s.ended refl) (subst (IsLegal gate.fixed) begins.1 legal_gate) none)
         ∙ append-nil b.talked
-
-pub host-came-to-end : {Q : Type 0} (plant : Plant) (plan : HostPlan) (w : HostWorkerIs)
-    (host : HostIs) (side : RingSideIs Q) (ring : List RingEntry)
-    (log : HostLog) → host.plan ≡ plan → side.net ≡ plant.net → AttendsOn w host side ring true
-    → log ≡ record { node = plan.node; entries = host.history }
-    → HostCameToEnd plant plan log ring
-host-came-to-end {Q} plant plan w host side ring log plan_is net a log_is =
-    let stands = host-stands-of w.node host side ring a.ties in
-    subst (λ l. HostCameToEnd plant plan l ring) (sym log_is) (record {
-      finished = record {
-        node = refl;
-        stands =
-            subst (λ x. Rattle.turn_laws.specs.KeepsOn.HostStandsTied plan x host.history ring) net
-            (subst (λ x. Rattle.turn_laws.specs.KeepsOn.HostStandsTied x side.net host.history ring)
-            plan_is stands);
-        keeps = subst (λ x. HostKeepsOn plan x host.history ring true) net
-            (subst (λ x. HostKeepsOn x side.net host.history ring true) plan_is a.keeps);
-      };
-      unspent = subst (λ n. NoneSpent (own n ring))
-          (sym a.node ∙ ap (λ x. x.node) plan_is) a.unspent;
-    })
 
 -- pass 0 of a controller's gate, once both passes are back
 pub back : {Q : Type 0} (gate : GateFacts Entry Fixed) (w : WorkerIs) (side : RingSideIs Q)

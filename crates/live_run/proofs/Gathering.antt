@@ -109,16 +109,6 @@ gather-next {L} gate all old p q p' left rest w logs logs' done kept unopened is
     into = ap (λ (x : PassFacts RingEntry). with_pass x q) g.into
         ∙ (λ i. record old { seen = longer p.seen q.seen; joined = joined i; heard = heard i })
 
-pub gather-end : {L : Type 0} (gate : GateFacts RingEntry NetPlan) (all left : List (Seat L))
-    (old p : PassFacts RingEntry) (logs : List L) (done : Bool)
-    → left ≡ [] → Gathering gate all old p left logs done
-    → GatheredInto all old p × (done ≡ true → AllZip HasLog all logs)
-gather-end gate all left old p logs done none g =
-    let whole = sym (g.all_is ∙ (ap (λ l. g.taken ++ reverse l) none ∙ append-nil g.taken)) in (
-      subst (λ l. GatheredInto l old p) whole g.into,
-      λ yes'. subst (λ l. AllZip HasLog l logs) whole (g.logged yes'),
-    )
-
 pub on-ok : {T X : Type 0} (r : Result T X) (P : Type 0) (b : Bool) → b ≡ is_ok r → OnOk r P
     → b ≡ true → P
 on-ok (Ok x) P b is p yes' = p

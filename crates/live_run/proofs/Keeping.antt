@@ -12,7 +12,7 @@ use Rattle.controller_core.proofs.NextEntry.{front_legal}
 use Rattle.host_port.specs.Host.{HostIs}
 use Rattle.tied_lists.specs.Own.{is_of, own, WentOn}
 use Rattle.tied_lists.specs.Waits.{Holds}
-use Rattle.tied_lists.proofs.Turns.{own-found}
+use Rattle.tied_lists.proofs.Turns.{membership-kept, own-found}
 use Rattle.comm_port.specs.Sides.{RamSideIs, RingSideIs}
 use Rattle.comm_port.specs.HoldTurn.{HoldsTurn, IsGivenUp}
 use Rattle.comm_port.specs.HostTurns.{CountsPasses, HoldsHostTurn, HostTies, HostWorkerIs}
@@ -31,7 +31,6 @@ use Rattle.turn_laws.proofs.Spent.{hosts-spend, leaves-ended, turns-spend}
 use Rattle.turn_laws.proofs.Stands.{host-stands-of, stands-of, stands-others}
 use Rattle.turn_laws.proofs.TurnParts as parts
 use Rattle.live_run.specs.Talking.{AttendsOn, TalksOn}
-use Rattle.live_run.proofs.Members.{here-others}
 
 -- a list that others went on with
 others-only : (alone : Bool) (n : ℕ) (ring ring' : List RingEntry)
@@ -54,7 +53,7 @@ talks-on w ram known side ring more left legal none t =
       standing = standing-others w ram known side ring more
           (record { members = t.member.members; legal = legal; member = t.member.member })
           none t.standing;
-      here = λ is. here-others side.net n ring more none (t.here is);
+      here = λ is. membership-kept side.net n ring more none ∙ t.here is;
       unspent = subst NoneSpent (sym (own-found n ring more none)) t.unspent;
       so_far = λ good.
           let s = t.so_far good in
@@ -110,9 +109,9 @@ turn-here alone_ram alone_ring w ram side known known' ring ring' left t is =
     let due = subst (λ ids. InOrder IsGivenUp ids g.noted g.done)
     (ap (λ b. if b then calls_waiting w.node t.given_ring else []) is) g.due in
     subst (λ l. IsHere side.net l w.node) (sym g.node.after_is)
-    (here-others side.net w.node t.ends.handed_ring g.node.more (g.node.ours_are ∙ due.1)
-    (t.ends.handed.stays (none-due (cause_due side.net (ring_after side.net t.given_ring) w.node
-    t.ends.done w.budget) (sym t.ends.left_is ∙ is))))
+    (membership-kept side.net w.node t.ends.handed_ring g.node.more (g.node.ours_are ∙ due.1)
+    ∙ t.ends.handed.stays (none-due (cause_due side.net (ring_after side.net t.given_ring) w.node
+    t.ends.done w.budget) (sym t.ends.left_is ∙ is)))
   where
     none-due : (o : Option LeaveCause) → is_some o ≡ false → o ≡ None
     none-due None none = refl
@@ -192,7 +191,7 @@ attends-others {Q} alone w host side side' ring ring' left same went legal a =
       ties = host-ties-others w.node host side ring o.0 o.2
           (subst (IsLegalRing side.net) o.1 legal) a.ties;
       counts = counts-others w ring o.0 o.2 a.counts;
-      here = λ is. here-others side.net w.node ring o.0 o.2 (a.here is);
+      here = λ is. membership-kept side.net w.node ring o.0 o.2 ∙ a.here is;
       unspent = subst NoneSpent (sym (own-found w.node ring o.0 o.2)) a.unspent;
       keeps = host-others host.plan side.net host.history ring o.0 left
           (ap (λ n. own n o.0) a.node ∙ o.2) a.keeps;

@@ -1,7 +1,6 @@
 pub mod Raising
 pub mod Stays
 pub mod Scans
-pub mod Members
 pub mod Keeping
 pub mod Starting
 pub mod Closing

@@ -1,7 +1,7 @@
 -- Each step on the word of a flag keeps it from falling.
-use Rattle.std.proofs.Common.{◌≡◌, ℕ, [], ◌∷◌, set, slice_index, refl, sym, ap, ⊎_elim, arith}
-use mathlib.Core.Option.{none, some-ne-none}
-use Rattle.atomic_table.specs.Table.{State, Me, keeps, step, opening, Allows, Enters}
+use Rattle.std.proofs.Common.{◌≡◌, ℕ, [], set, slice_index, refl, ap, ⊎_elim, arith}
+use mathlib.Core.Option.{none}
+use Rattle.atomic_table.specs.Table.{State, Me, keeps, step, Allows, Enters}
 use Rattle.atomic_table.proofs.Lists.{at_set, at_snoc}
 use Rattle.live_run.specs.Flags.{NeverLowered, WatchLooked, Raised}
 
@@ -9,16 +9,6 @@ module _ (s : State ℕ ℕ) (r : NeverLowered s) where
   -- what is read is the word
   found : slice_index s.words 0 ≡ r.word
   found = ap (λ ws. slice_index ws 0) r.words_are
-
--- a new flag is down
-pub begins : NeverLowered (opening (0 ∷ []) [] 0)
-begins = record {
-  word = 0;
-  words_are = refl;
-  low = omega arith;
-  seen = λ j v at. ⊎_elim (λ none_there. absurd (some-ne-none v (sym none_there)))
-      (λ is. omega (arith, is)) (at_snoc [] 0 v j at);
-}
 
 -- a look leaves the word and sees it
 pub looks : (slots id : ℕ) (m : Me ℕ ℕ)

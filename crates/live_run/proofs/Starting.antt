@@ -17,6 +17,7 @@ use Rattle.tied_lists.specs.Waits.{IsOnRing}
 use Rattle.comm_port.specs.HostTurns.{HostWorkerIs}
 use Rattle.comm_port.specs.Sides.{RamSideIs, RingSideIs, MayWrite}
 use Rattle.comm_port.specs.Worker.{WorkerIs}
+use Rattle.comm_port.proofs.HostTurnLaws.{host-ties-new}
 use Rattle.comm_port.proofs.Standings.{standing-new}
 use Rattle.turn_laws.proofs.HostOthers.{host-starts}
 use Rattle.turn_laws.proofs.Others.{starts}
@@ -48,19 +49,15 @@ host-talks plan net side sound member same writer =
     record {
       node = refl;
       budget = refl;
-      ties = record {
-        node = refl;
-        legal = record {
-          order = (questions_of plan, refl);
-          each = λ before after entry is. none before after entry is;
-        };
-        serves = serves-as side.writer n writer;
-        on = subst (λ m. IsOnRing m [] n) (sym same) (on-start net n sound member);
-        answer = subst (λ (m : NetPlan). 0 < m.answer) (sym same)
-            (let from = sound.answer.from in omega (arith, from));
-        tied = record { asks = refl; peers = refl; port = refl; replies = refl; ends = refl };
-        paths = record { waits = λ p. refl; numbers = λ p. refl };
-      };
+      ties = host-ties-new plan side
+          (record {
+            order = (questions_of plan, refl);
+            each = λ before after entry is. none before after entry is;
+          })
+          (serves-as side.writer n writer)
+          (subst (λ m. IsOnRing m [] n) (sym same) (on-start net n sound member))
+          (subst (λ (m : NetPlan). 0 < m.answer) (sym same)
+          (let from = sound.answer.from in omega (arith, from)));
       counts = refl;
       here = λ is. subst (λ m. Rattle.comm_port.specs.Leaving.IsHere m [] n) (sym same)
           (member-there net n (low-member net n sound member) member);

@@ -196,7 +196,3 @@ back-all cs hs p given joined n is =
     (λ (c : is_among n (reverse cs ++ []) ≡ true). among-left n cs hs
     (among-reverse n cs (subst (λ l. is_among n l ≡ true) (append-nil (reverse cs)) c)))
     (among-cases n (reverse hs) (reverse cs ++ []) (sym (ap (is_among n) given) ∙ is))))
-
--- nothing was given
-pub back-none : (p : PassFacts RingEntry) → p.given ≡ [] → HasAllBack p
-back-none p none n is = absurd (let no' : false ≡ true = sym (ap (is_among n) none) ∙ is in cc)

@@ -1,6 +1,6 @@
 -- All stations ran and all passes of the ring are back.
 use Rattle.std.proofs.Common.{◌≡◌, ℕ, ◌&&◌, Bool, true, false, List, [], ◌∷◌, ◌++◌, All, Contains}
-use Rattle.std.proofs.Common.{map, reverse, refl, sym, ap, subst, ◌∙◌, ◌≤◌, ◌<◌, arith}
+use Rattle.std.proofs.Common.{map, reverse, refl, sym, ap, subst, ◌∙◌, ◌≤◌}
 use Rattle.std.proofs.lemmas.List.{map-append}
 use Rattle.std.proofs.lemmas.List.Elements.{Contains-append_left, Contains-append_right}
 use Rattle.std.proofs.lemmas.List.Sorted.{Contains-permutation}
@@ -13,7 +13,6 @@ use Rattle.plant_types.specs.declared.plan.Plant.{Plant}
 use Rattle.plant_types.specs.Plans.{IsPlant, controller_nodes, host_nodes}
 use Rattle.ring_core.specs.declared.entry.RingEntry.{RingEntry}
 use Rattle.ring_core.specs.Legal.{IsMember}
-use Rattle.ring_core.specs.Machine.{addresses}
 use Rattle.std.proofs.lemmas.List.Elements.{All-contains_itself}
 use Rattle.joint_history.specs.declared.joint.HostLog.{HostLog}
 use Rattle.live_run.specs.Dealing.{GatheredInto, HasLog, IsAtGate, Seat, brought, fresh_station}
@@ -25,7 +24,7 @@ use Rattle.live_run.specs.Stations.{CameNoted, CanRunAll, HasRun, HostCameToEnd,
 use Rattle.live_run.specs.Stations.{RanEach}
 use Rattle.live_run.proofs.Dealt.{plant-new}
 use Rattle.live_run.proofs.Gathering.{into-gate}
-use Rattle.live_run.proofs.Through.{IsSeatOf, are-brought, back-all, back-none, more-brought}
+use Rattle.live_run.proofs.Through.{IsSeatOf, are-brought, back-all, more-brought}
 use Rattle.live_run.proofs.Through.{seat-numbers, seat_seen, seat_side, seated, seats-at}
 
 all-parts : {A : Type 0} (P : A → Type 0) (xs : List A) → ((x : A) → Contains xs x → P x) → All P xs
@@ -170,19 +169,6 @@ through-all plant scans gate zero one two three four old new host_old host_new l
         ∙ ap (λ l. l ++ map seen_by host_new) (ap (λ (p : PassFacts RingEntry). p.heard) into
         ∙ ap (λ (p : PassFacts RingEntry). p.heard ++ map seen_by new) base)
 
--- nothing ran
-pub through-none : (plant : Plant) (scans : ℕ) (gate : GateFacts RingEntry NetPlan)
-    (p : PassFacts RingEntry) (logs : List NotedLog) (host_logs : List HostLog)
-    → p ≡ first_pass gate.name → IsThrough plant scans gate p logs host_logs false
-through-none plant scans gate p logs host_logs is = record {
-  gate_is = ap (λ (q : PassFacts RingEntry). q.gate) is;
-  outside = ap (λ (q : PassFacts RingEntry). q.stay) is;
-  is_zero = ap (λ (q : PassFacts RingEntry). q.number) is;
-  all_back = back-none p (ap (λ (q : PassFacts RingEntry). q.given) is);
-  ran = λ yes'. absurd (let no' : false ≡ true = yes' in cc);
-  served = λ yes'. absurd (let no' : false ≡ true = yes' in cc);
-}
-
 -- each controller of a plant that can run can run
 pub can-run : (plant : Plant) (scans : ℕ) → CanRunPlant plant → scans ≤ 2000
     → CanRunAll plant scans plant.controllers
@@ -192,7 +178,3 @@ can-run plant scans can few k d within = record {
   watchdog = can.sound.watchdog.from;
   scans = few;
 }
-
-pub low-members : (plant : Plant) → IsPlant plant → All (λ m. m < addresses) plant.net.members
-low-members plant sound k d within =
-    let high = (sound.net.members k d within).to in omega (arith, high)

@@ -13,6 +13,7 @@ use Rattle.tied_lists.specs.Own.{own}
 use Rattle.joint_history.specs.declared.joint.ControllerLog.{ControllerLog}
 use Rattle.joint_history.specs.declared.joint.HostLog.{HostLog}
 use Rattle.joint_history.specs.JointLaws.{fixed_of}
+use Rattle.joint_history.specs.Nets.{net_of}
 use Rattle.comm_port.specs.Sides.{RingSideIs}
 use Rattle.turn_laws.specs.KeepsOn.{HasFinished, HostHasFinished, NoneSpent}
 use Rattle.live_run.specs.declared.stations.NotedLog.{NotedLog}
@@ -29,9 +30,9 @@ CanServeAll plans = All IsHostPlan plans
 -- A side of the plant's ring that writes in the name of this member alone, and has seen nothing.
 pub record IsUnused {Q : Type 0} (plant : Plant) (node : ℕ) (side : RingSideIs Q)
     (known : List RingEntry) : Type 0 where
-  pub sound : IsNetPlan plant.net
-  pub member : IsMember plant.net node
-  pub net : side.net ≡ plant.net
+  pub sound : IsNetPlan (net_of plant node)
+  pub member : IsMember (net_of plant node) node
+  pub net : side.net ≡ net_of plant node
   pub writer : side.writer ≡ Some node
   pub nothing : known ≡ []
 

@@ -81,7 +81,8 @@ pub(crate) fn run_host<G: RingSide + Outside, M: Meet, R: Wait + Clock>(
     ring: &mut G,
 ) -> Result<HostLog, AllocError>
     requires plan { IsHostPlan plan.now }
-    requires unused { IsUnused run.now.plant.now plan.now.node (G.side ring.old) (G.known ring.old) }
+    requires unused { IsUnused run.now.plant.now plan.now.node (G.side ring.old)
+        (G.known ring.old) }
     ensures ended { IfOk result
         (λ log. HostCameToEnd run.now.plant.now plan.now log (G.known ring.new)) }
     ensures side { G.side ring.new ≡ G.side ring.old }

@@ -104,7 +104,8 @@ pub(crate) fn run_controller<
     R: Threads + Wait + Clock + Sync,
 >(run: &Run<'_, M, R>, plan: &ControllerPlan, ring: &mut G) -> Result<NotedLog, AllocError>
     requires runnable { IsRunnable (fixed_of run.now.plant.now run.now.scans plan.now) }
-    requires unused { IsUnused run.now.plant.now plan.now.node (G.side ring.old) (G.known ring.old) }
+    requires unused { IsUnused run.now.plant.now plan.now.node (G.side ring.old)
+        (G.known ring.old) }
     ensures ended { IfOk result
         (λ noted. CameNoted run.now.plant.now run.now.scans plan.now noted (G.known ring.new)) }
     ensures side { G.side ring.new ≡ G.side ring.old }

@@ -86,7 +86,8 @@ fn run_halves<G: RingSide + Outside + Send, M: Meet + Sync, R: Threads + Wait + 
 )
     requires runnable_first { CanRunAll run.now.plant.now run.now.scans first.now }
     requires runnable_second { CanRunAll run.now.plant.now run.now.scans second.now }
-    requires fresh_front { AreControllersFresh G.side G.known run.now.plant.now first.now front.old }
+    requires fresh_front { AreControllersFresh G.side G.known run.now.plant.now first.now
+        front.old }
     requires fresh_back { AreControllersFresh G.side G.known run.now.plant.now second.now back.old }
     requires shorter { (0 < length front.old) × (0 < length back.old) }
     ensures front { AllRan G.side G.known run.now.plant.now run.now.scans first.now

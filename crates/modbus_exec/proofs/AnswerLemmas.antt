@@ -61,16 +61,28 @@ reply_fits : (request : Request) (m : Contents) (outcome : Execution) → IsRequ
     → execution_of request m ≡ Ok outcome → Fits request (reply_by request m)
 reply_fits (ReadCoils address quantity) m outcome range e =
     let long = length-bits_from m (reference_at kinds.Coil address) quantity in
-    record { range = (inl refl, (omega arith, omega arith)); to = (refl, long) }
+    record {
+      range = (inl refl, record { from = omega arith; to = omega arith });
+      to = (refl, long);
+    }
 reply_fits (ReadInputs address quantity) m outcome range e =
     let long = length-bits_from m (reference_at kinds.Input address) quantity in
-    record { range = (inr refl, (omega arith, omega arith)); to = (refl, long) }
+    record {
+      range = (inr refl, record { from = omega arith; to = omega arith });
+      to = (refl, long);
+    }
 reply_fits (ReadRegisters address quantity) m outcome range e =
     let long = length-words_from m (reference_at kinds.Register address) quantity in
-    record { range = (inl refl, (omega arith, omega arith)); to = (refl, long) }
+    record {
+      range = (inl refl, record { from = omega arith; to = omega arith });
+      to = (refl, long);
+    }
 reply_fits (ReadInputRegisters address quantity) m outcome range e =
     let long = length-words_from m (reference_at kinds.InputRegister address) quantity in
-    record { range = (inr (inl refl), (omega arith, omega arith)); to = (refl, long) }
+    record {
+      range = (inr (inl refl), record { from = omega arith; to = omega arith });
+      to = (refl, long);
+    }
 reply_fits (Stats clear) m outcome range e = absurd cc
 reply_fits (WriteCoils address bits) m outcome range e =
     record { range = inl (refl, range.0); to = (refl, refl, refl) }
@@ -80,7 +92,10 @@ reply_fits (ReadWrite read quantity write words) m outcome range e =
     let after = with_words m (reference_at kinds.Register write) words in
     let long = length-words_from after (reference_at kinds.Register read) quantity in
     let reads = range.0 in
-    record { range = (inr (inr refl), (omega arith, omega arith)); to = (refl, long) }
+    record {
+      range = (inr (inr refl), record { from = omega arith; to = omega arith });
+      to = (refl, long);
+    }
 reply_fits _ m outcome range e = record { range = tt; to = refl }
 
 -- The reply of every answer fits the request.

@@ -1,6 +1,6 @@
 -- Runs of references of a map.
 use Rattle.std.proofs.Common.{◌≡◌, ℕ, zero, suc, ◌+◌, ◌<◌, ◌≤◌, Bool, true, false, ◌&&◌, List, []}
-use Rattle.std.proofs.Common.{◌∷◌, ◌++◌, length, take, get_or, cond, refl, sym, ap, ◌∙◌, below_more}
+use Rattle.std.proofs.Common.{◌∷◌, ◌++◌, length, take, get_or, cond, refl, sym, ap, ◌∙◌}
 use Rattle.std.proofs.Common.{arith}
 use Rattle.std.specs.Prelude.{nat_le, nat_lt, if◌then◌else◌}
 use Rattle.std.specs.Cmp.{first_so, second_so}
@@ -86,16 +86,6 @@ run_of m at (suc count) h =
     held first rest zero lt = ap (contains_key m) (ref_from-zero at) ∙ first
     held first rest (suc place) lt = ap (contains_key m) (sym (next at place))
         ∙ rest.held place (omega arith)
-
--- One more reference of a run.
-pub one_more : (m : Contents) (at here : Ref) (count : ℕ) → HasReferences m at count
-    → at.number + count ≤ largest_number → here ≡ ref_from at count → contains_key m here ≡ true
-    → HasReferences m at (count + 1)
-one_more m at here count run fits is held = record {
-  fits = λ place lt. omega arith;
-  held = below_more (λ place. contains_key m (ref_from at place) ≡ true) count run.held
-      (ap (contains_key m) (sym is) ∙ held);
-}
 
 -- One more word is stored behind the first so many.
 pub with_words-more : (m : Contents) (at : Ref) (words : List ℕ) (i : ℕ) → i < length words

@@ -38,7 +38,8 @@ fn is_in_map_behind<R: RefStore>(ram: &R, kind: RefKind, address: u16, place: us
 pub(crate) fn are_in_map<R: RefStore>(ram: &R, kind: RefKind, address: u16, count: usize) -> bool
     requires { count ≤ most_discretes_read }
     ensures all { result ≡ are_in_map (R.contents ram.now) (reference_at kind address) count }
-    ensures run { IsTrue result → HasReferences (R.contents ram.now) (reference_at kind address) count }
+    ensures run { IsTrue result →
+        HasReferences (R.contents ram.now) (reference_at kind address) count }
 {
     for place in 0..count {
         if !is_in_map_behind(ram, kind, address, place) {
@@ -92,7 +93,8 @@ pub(crate) fn read_bits<R: RefStore>(
 
 /// Reads the registers from an address on, as many as `words` has places.
 fn read_words<R: RefStore>(ram: &R, kind: RefKind, address: u16, words: &mut [u16])
-    requires run { HasReferences (R.contents ram.now) (reference_at kind address) (length words.old) }
+    requires run { HasReferences (R.contents ram.now) (reference_at kind address)
+        (length words.old) }
     requires kind { is_discrete kind ≡ false }
     ensures { words.new ≡
         words_from (R.contents ram.now) (reference_at kind address) (length words.old) }
@@ -124,7 +126,8 @@ pub(crate) fn read_run<R: RefStore>(
 
 /// Sets the coils from an address on.
 pub(crate) fn write_bits<R: RefStore>(ram: &mut R, address: u16, bits: &[bool])
-    requires { HasReferences (R.contents ram.old) (reference_at RefKind.Coil address) (length bits.now) }
+    requires { HasReferences (R.contents ram.old) (reference_at RefKind.Coil address)
+        (length bits.now) }
     ensures { R.contents ram.new ≡
         with_bits (R.contents ram.old) (reference_at RefKind.Coil address) bits.now }
 {

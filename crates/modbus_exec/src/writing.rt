@@ -113,7 +113,8 @@ fn word_after<R: RefStore>(ram: &R, read: u16, place: usize, write: u16, words: 
 
 /// The words of so many registers once words are stored from an address on.
 fn words_after<R: RefStore>(ram: &R, read: u16, found: &mut [u16], write: u16, words: &[u16])
-    requires { HasReferences (R.contents ram.now) (reference_at RefKind.Register read) (length found.old) }
+    requires { HasReferences (R.contents ram.now) (reference_at RefKind.Register read)
+        (length found.old) }
     ensures { found.new ≡
         words_after (R.contents ram.now) read (length found.old) write words.now }
 {

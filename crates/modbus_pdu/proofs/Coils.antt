@@ -38,7 +38,7 @@ coils_there fields a q x fits e range count =
     ∙ packed-unpacked x (counted_fits fields a q x fits e) in
     record {
       code = refl;
-      range = ((omega arith, omega arith), tt);
+      range = (record { from = omega arith; to = omega arith }, tt);
       form = (
         drop q (unpacked x),
         omega (arith, length-drop q (unpacked x), length-unpacked x),

@@ -37,7 +37,7 @@ read_write_read fields a q w n x words e reads writes count is =
     ∙ ap (λ (rest : List ℕ). length rest ∷ rest) is in
     record {
       code = refl;
-      range = (reads, ((omega arith, omega arith), tt));
+      range = (reads, (record { from = omega arith; to = omega arith }, tt));
       form = e ∙ (λ i. word_bytes a ++ word_bytes q ++ word_bytes w ++ word_bytes (sym long i)
           ++ sym same i);
     }

@@ -203,14 +203,17 @@ within : (quantities : List Quantity) → are_up_to quantities ≡ true → Each
 within [] e = tt
 within (q ∷ qs) e =
     let here = first_so _ (are_up_to qs) e in (
-      (leb-true _ _ (first_so _ _ here), leb-true _ _ (second_so _ _ here)),
+      record {
+        from = leb-true _ _ (first_so _ _ here);
+        to = leb-true _ _ (second_so _ _ here);
+      },
       within qs (second_so _ (are_up_to qs) e),
     )
 
 is_within : (quantities : List Quantity) → EachUpTo quantities → are_up_to quantities ≡ true
 is_within [] h = refl
 is_within (q ∷ qs) h =
-    both_true (both_true (le-leb _ _ h.0.0) (le-leb _ _ h.0.1)) (is_within qs h.1)
+    both_true (both_true (le-leb _ _ h.0.from) (le-leb _ _ h.0.to)) (is_within qs h.1)
 
 -- The test of a spelling.
 spelled_test : (bytes : List ℕ) (request : Request) → Spells bytes request

@@ -32,7 +32,7 @@ registers_read fields a q x words e range count is =
     ∙ ap (λ (rest : List ℕ). length rest ∷ rest) is in
     record {
       code = refl;
-      range = ((omega arith, omega arith), tt);
+      range = (record { from = omega arith; to = omega arith }, tt);
       form = e ∙ (λ i. word_bytes a ++ word_bytes (sym long i) ++ sym same i);
     }
 

@@ -58,7 +58,7 @@ words_found f q bytes x words listed e range count is =
       (
         (refl, long),
         record {
-          range = (listed, (omega arith, omega arith));
+          range = (listed, record { from = omega arith; to = omega arith });
           form = e ∙ ap (λ (rest : List ℕ). f ∷ rest) (sym same);
         },
       ),
@@ -168,8 +168,10 @@ bits_told f q bytes x listed fits e range count clear =
     e
     ∙ ap (λ (n : ℕ). f ∷ n ∷ x) count
     ∙ ap (λ (xs : List ℕ). f ∷ bytes_for q ∷ xs) (sym back)
-    ∙ ap (λ (n : ℕ). f ∷ bytes_for n ∷ packed (bytes_for n) (bits ++ clear_spare n)) (sym long) in
-    ((refl, long), record { range = (listed, (omega arith, omega arith)); form = form })
+    ∙ ap (λ (n : ℕ). f ∷ bytes_for n ∷ packed (bytes_for n) (bits ++ clear_spare n)) (sym long) in (
+      (refl, long),
+      record { range = (listed, record { from = omega arith; to = omega arith }); form = form },
+    )
 
 -- Bits that were read from the bytes are the reply.
 pub bits_found : (f q : ℕ) (bytes x : List ℕ) (bits : List Bool) → (f ≡ 1) ⊎ (f ≡ 2)

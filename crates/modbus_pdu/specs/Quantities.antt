@@ -1,6 +1,7 @@
 -- How many references requests and replies may tell. This project's own bounds.
-use Rattle.std.specs.Prelude.{◌≤◌, ℕ, Bool, true, ◌&&◌, List, [], ◌∷◌, ⊤}
+use Rattle.std.specs.Prelude.{ℕ, Bool, true, ◌&&◌, List, [], ◌∷◌, ⊤}
 pub use Rattle.plant_types.specs.Limits.{is_up_to}
+use Rattle.plant_types.specs.Plans.{IsFromTo}
 
 -- Coils or inputs in one read.
 abbrev pub most_discretes_read : ℕ
@@ -24,7 +25,7 @@ most_registers_exchanged = 121
 
 -- From one up to a number.
 abbrev pub IsUpTo : ℕ → ℕ → Type 0
-IsUpTo most count = (1 ≤ count) × (count ≤ most)
+IsUpTo most count = IsFromTo 1 most count
 
 -- A quantity and its bound.
 pub record Quantity : Type 0 where

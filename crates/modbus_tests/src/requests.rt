@@ -19,7 +19,8 @@ const EXCHANGES: &str = "\
 0200000008 => 0201ff
 0600011234 => 0600011234
 0800150004 => 0800150004
-0800150003 => 080015000300020003000200000001000100000000000200000000000000020000000000010000000100000000
+0800150003 => \
+    080015000300020003000200000001000100000000000200000000000000020000000000010000000100000000
 0f0013000a02cd01 => 0f0013000a
 100001000204000a0102 => 1000010002
 100001000204000a0102 => 9000
@@ -133,8 +134,8 @@ fn exceptions_are_due_to_requests(rt: HostRuntime) -> Result<(), Fail> {
     exceptions_are_due(&rt, rt.alloc(), OTHERS)
 }
 
-/// The first bytes of a request, its byte count and how many bytes of 255 stand behind that; then what
-/// decoding answers, as above. At first writes, then reads with writes.
+/// The first bytes of a request, its byte count and how many bytes of 255 stand behind that; then
+/// what decoding answers, as above. At first writes, then reads with writes.
 const COUNTS: &str = "\
 0f00000000 0 0 => 3
 0f00000001 1 1 => 0
@@ -214,7 +215,8 @@ fn cut_requests_are_exceptions(rt: HostRuntime) -> Result<(), Fail> {
     Ok(())
 }
 
-/// A request, and whether some bytes are a reply to it: at first what was read, then what was written.
+/// A request, and whether some bytes are a reply to it: at first what was read, then what was
+/// written.
 const REPLIES: &str = "\
 010000000a : 0102ff03 => true
 010000000a : 0102ff04 => false

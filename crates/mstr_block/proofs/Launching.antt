@@ -26,7 +26,8 @@ use Rattle.mstr_block.specs.Laws.{StaysTable, GivesNewNumbers, SolvesGiveNewNumb
 use Rattle.mstr_block.proofs.Passing.{Passes, can_move, is_ask, asks_for}
 use Rattle.mstr_block.proofs.Steps.{Step, stays, rests, gives_up, launches, step_of}
 use Rattle.mstr_block.proofs.Names.{nothing, the_same, same_name, set-cases, set-states, runs_none}
-use Rattle.mstr_block.proofs.Names.{rests-stay, gives-stay, finished-stays, taken-stays}
+use Rattle.mstr_block.proofs.Names.{rests-stay, gives-stay, finished-stays, failed-stays}
+use Rattle.mstr_block.proofs.Names.{taken-stays}
 
 -- what a search finds passes, and stands in the list
 found_here : (p : ℕ → Bool) (P : ℕ → Type 0) (y x : ℕ) (rest : Option ℕ) (b : Bool) → P y → p y ≡ b
@@ -354,4 +355,5 @@ stays-table = record {
       λ table block site inputs m. step-stays table block _ (step_of table block site inputs m);
   taken = λ table. taken-stays table (position is_untaken table.blocks);
   finished = finished-stays;
+  failed = failed-stays;
 }

@@ -5,5 +5,6 @@ pub mod Keeping
 pub mod Ending
 pub mod Taking
 pub mod Names
+pub mod Failing
 pub mod Launching
 pub mod Calling

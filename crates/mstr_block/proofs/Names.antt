@@ -12,6 +12,7 @@ use Rattle.mstr_block.specs.declared.state.BlockState.TheVariants.{Idle, Waiting
 use Rattle.mstr_block.specs.declared.state.BlockState.TheVariants.{Ready}
 use Rattle.mstr_block.specs.Table.{BlockTable, block_state, with_state, running_in, is_awaited}
 use Rattle.mstr_block.specs.Table.{call_taken, taken_at, call_ended, with_result, finished}
+use Rattle.mstr_block.specs.Table.{power_lost, power_failed}
 use Rattle.mstr_block.specs.Running.{RunsAt, IsRunning, IsStateOf, IsTable}
 use Rattle.mstr_block.proofs.Steps.{IsResting, idle, waiting}
 
@@ -158,6 +159,34 @@ finished-stays table id result t = names-stay table _ (λ place r runs.
     (map-states table.node table.numbers (with_result id result) refl
     (λ s. result-state table.node table.numbers result s
     (is_awaited id s)) table.blocks t.states) t
+
+-- a power failure leaves each call that runs
+pub lost-runs : (s : BlockState) → running_in (power_lost s) ≡ running_in s
+lost-runs Idle = refl
+lost-runs Waiting = refl
+lost-runs (Active r) = refl
+lost-runs (Aborted r) = refl
+lost-runs (Ready kept result) = refl
+
+lost-state : (own : ℕ) (numbers : List ℕ) (s : BlockState) → IsStateOf own numbers s
+    → IsStateOf own numbers (power_lost s)
+lost-state own numbers Idle is = tt
+lost-state own numbers Waiting is = tt
+lost-state own numbers (Active r) is = is
+lost-state own numbers (Aborted r) is = is
+lost-state own numbers (Ready kept result) is = tt
+
+pub failed-runs : (table : BlockTable) (place : ℕ) (r : Running)
+    → RunsAt (power_failed table) place r → RunsAt table place r
+failed-runs table place r runs =
+    sym (lost-runs (get_or table.blocks place Idle))
+    ∙ sym (ap running_in (map-at power_lost refl table.blocks place)) ∙ runs
+
+pub failed-stays : (table : BlockTable) → IsTable table → IsTable (power_failed table)
+failed-stays table t = names-stay table _
+    (λ place r runs. (r, failed-runs table place r runs, refl))
+    (map-states table.node table.numbers power_lost refl (lost-state table.node table.numbers)
+    table.blocks t.states) t
 
 -- a call that is taken keeps its name
 taken-name : (s : BlockState) (r : Running) → running_in (call_taken s) ≡ Some r

@@ -10,7 +10,7 @@ use Rattle.mstr_block.specs.declared.site.Site.{Site}
 use Rattle.mstr_block.specs.declared.state.Running.{Running}
 use Rattle.mstr_block.specs.Call.{is_same_call}
 use Rattle.mstr_block.specs.Table.{BlockTable, idle_table, call_taken, is_taken_out, has_untaken}
-use Rattle.mstr_block.specs.Table.{started_calls, first_taken, finished}
+use Rattle.mstr_block.specs.Table.{started_calls, first_taken, finished, power_failed}
 use Rattle.mstr_block.specs.Running.{RunsAt, IsTable}
 use Rattle.mstr_block.specs.Solve.{block_solved}
 
@@ -67,6 +67,15 @@ SolvesGiveNewNumbers =
     (table : BlockTable) (block : ℕ) (site : Site) (inputs : NodePower) (m : Contents)
     → GivesNewNumbers table (block_solved table block site inputs m).table
 
+-- A power failure starts, takes and ends no call: those that were not taken are the same in the same
+-- order, those that are out are the same, and no path gives a number.
+pub record PowerFailuresKeepCalls : Type 0 where
+  pub keeps : (table : BlockTable) → KeepsCalls table (power_failed table)
+  pub started : (table : BlockTable) → started_calls (power_failed table) ≡ started_calls table
+  pub out : (table : BlockTable) (id : CallId)
+      → is_taken_out (power_failed table) id ≡ is_taken_out table id
+  pub new : (table : BlockTable) → GivesNewNumbers table (power_failed table)
+
 -- A bank begins with such a table, and each of its calls leaves such a table.
 pub record StaysTable : Type 0 where
   pub idle : (node count : ℕ) → IsTable (idle_table node count)
@@ -75,3 +84,4 @@ pub record StaysTable : Type 0 where
   pub taken : (table : BlockTable) → IsTable table → IsTable (first_taken table)
   pub finished : (table : BlockTable) (id : CallId) (result : MstrResult) → IsTable table
       → IsTable (finished id result table)
+  pub failed : (table : BlockTable) → IsTable table → IsTable (power_failed table)

@@ -125,6 +125,19 @@ abbrev pub finished : CallId → MstrResult → BlockTable → BlockTable
 finished id result table =
     record table { blocks = map (with_result id result) table.blocks }
 
+-- A block as its controller loses power: one that waits for a path, or has a result that it was not
+-- solved with, is idle; one that awaits its call gives it up, whether or not the call was taken.
+abbrev pub power_lost : BlockState → BlockState
+power_lost Idle = Idle
+power_lost Waiting = Idle
+power_lost (Active running) = Aborted running
+power_lost (Aborted running) = Aborted running
+power_lost (Ready kept result) = Idle
+
+-- The table after a power failure: the paths keep their numbers.
+abbrev pub power_failed : BlockTable → BlockTable
+power_failed table = record table { blocks = map power_lost table.blocks }
+
 -- A path has given its last number.
 abbrev pub is_spent : BlockTable → ℕ → Bool
 is_spent table path = nat_le last_call_number (get_or table.numbers path 0)

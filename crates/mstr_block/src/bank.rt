@@ -7,7 +7,7 @@ ghost use Rattle.plant_types.specs.Store.{HasRegisters};
 ghost use Rattle.mstr_block.specs.Running.{IsCall, IsTable};
 ghost use Rattle.mstr_block.specs.Solve.{SolvesBlock, block_solved};
 ghost use Rattle.mstr_block.specs.Table.{IsBlock, idle_table, started_calls, has_untaken};
-ghost use Rattle.mstr_block.specs.Table.{first_taken, is_taken_out, finished};
+ghost use Rattle.mstr_block.specs.Table.{first_taken, is_taken_out, finished, power_failed};
 
 use crate::blocks::Blocks;
 use crate::call::{CallId, MstrCall, MstrResult};
@@ -112,6 +112,15 @@ impl MstrBank {
         ensures { self.new ≡ finished id outcome self.old }
     {
         self.blocks.finish(id, outcome);
+    }
+
+    /// The controller loses power: a block that waits for a path, or is ready with a result, is idle
+    /// from then on, and one that awaits its call gives it up, whether or not that was taken. Each
+    /// call that runs goes on, and each path keeps its number. Takes no memory.
+    pub fn power_fail(&mut self)
+        ensures { self.new ≡ power_failed self.old }
+    {
+        self.blocks.power_fail();
     }
 
     /// Solves a block of this number, from 1 on, with its nine control registers from `control` on

@@ -12,7 +12,7 @@ ghost use Rattle.mstr_block.specs.Table.{network_paths, runs_on, is_spent, is_fr
 ghost use Rattle.mstr_block.specs.Table.{path_for, next_call, with_state};
 ghost use Rattle.mstr_block.specs.Table.{CanGive, IsBlock, resting_table, started_calls};
 ghost use Rattle.mstr_block.specs.Table.{has_untaken, is_untaken, first_taken, is_taken_out};
-ghost use Rattle.mstr_block.specs.Table.{finished};
+ghost use Rattle.mstr_block.specs.Table.{finished, power_failed};
 
 use crate::answer::{ACTIVE, ERROR, SILENT};
 use crate::call::{CallId, MstrCall, MstrResult};
@@ -136,6 +136,15 @@ impl Blocks {
     {
         for block in self.blocks.iter_mut() {
             block.finish(id, &outcome);
+        }
+    }
+
+    /// The controller loses power.
+    pub fn power_fail(&mut self)
+        ensures { self.new ≡ power_failed self.old }
+    {
+        for block in self.blocks.iter_mut() {
+            block.lose_power();
         }
     }
 

@@ -2,6 +2,7 @@
 ghost use Rattle.std.specs.Prelude.{◌≡◌, option_copied, None};
 ghost use Rattle.mstr_block.specs.Table.{running_in, untaken_call, runs_on, is_awaited, untaken};
 ghost use Rattle.mstr_block.specs.Table.{is_untaken, call_taken, given_up, call_ended, with_result};
+ghost use Rattle.mstr_block.specs.Table.{power_lost};
 
 use crate::call::{CallId, MstrAsk, MstrCall, MstrResult};
 use crate::operation::Operation;
@@ -129,6 +130,16 @@ impl BlockState {
             BlockState::Active(running) => BlockState::Aborted(running),
             other => other,
         };
+    }
+
+    /// The controller loses power. A call that runs goes on.
+    pub fn lose_power(&mut self)
+        ensures { self.new ≡ power_lost self.old }
+    {
+        match self {
+            BlockState::Waiting | BlockState::Ready { .. } => *self = BlockState::Idle,
+            _ => self.give_up(),
+        }
     }
 
     fn end(&mut self, outcome: &MstrResult)

@@ -3,5 +3,6 @@ mod acts;
 mod answers;
 mod copies;
 mod errors;
+mod failures;
 mod rig;
 mod states;

@@ -10,15 +10,6 @@ pub tally-append : {X T : Type 0} (next : T → X → T) (t : T) (xs ys : List X
 tally-append next t [] ys = refl
 tally-append next t (x ∷ xs) ys = tally-append next (next t x) xs ys
 
-kept-filter : {X : Type 0} (b : Bool) (x : X) (xs ys : List X) → b ≡ true → xs ≡ ys
-    → cond b (x ∷ xs) xs ≡ x ∷ ys
-kept-filter true x xs ys p q = ap (λ t. x ∷ t) q
-kept-filter false x xs ys p q = absurd (cc)
-
-lost-filter : {X : Type 0} (b : Bool) (x : X) (xs : List X) → b ≡ false → cond b (x ∷ xs) xs ≡ xs
-lost-filter true x xs p = absurd (cc)
-lost-filter false x xs p = refl
-
 module _ {E R S D : Type 0} (note : S → E → S) (deed : D → R → D) (Caused : S → D → Type 0) where
   abbrev Run : S → D → List (Merged E R) → Type 0
   Run s d w = Runs note deed Caused s d w

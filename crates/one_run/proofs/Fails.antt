@@ -28,8 +28,7 @@ use Rattle.ring_core.specs.Machine.{busy_word, sent_head, after}
 use Rattle.ring_core.specs.Machine.{with_members, ring_after, addresses}
 use Rattle.tied_lists.proofs.Histories.{arrived-part}
 use Rattle.tied_lists.proofs.Turns.{next-ring}
-use Rattle.comm_port.specs.Giving.{part_at}
-use Rattle.comm_port.specs.SendsAll.{HasFailed}
+use Rattle.comm_port.specs.Giving.{part_at, HasFailed}
 
 -- an item of a list in which one place was written
 pub at-set : {X : Type 0} (P : ℕ → X → Type 0) (xs : List X) (d : X) (m : ℕ) (x : X)

@@ -32,11 +32,10 @@ use Rattle.tied_lists.proofs.Turns.{legal-parts}
 use Rattle.comm_port.specs.Giving.{part_at}
 use Rattle.comm_port.specs.HostTurns.{AsksAllDue, EndsHostTurn, GivenUp, GivesUpDue}
 use Rattle.comm_port.specs.HostTurns.{HoldsHostTurn, SendsOut}
-use Rattle.comm_port.specs.SendsAll.{HasFailed}
 use Rattle.comm_port.specs.HostTurns.{ServesFrame, ServesInbox, ServesKind, TellsTaken}
 use Rattle.comm_port.specs.HostTurns.{ask_entry_of}
 use Rattle.comm_port.specs.HostTurns.{bad_answer_of, bad_answer_to, give_up_of, hold_of, host_at}
-use Rattle.comm_port.specs.Giving.{inbox_of}
+use Rattle.comm_port.specs.Giving.{inbox_of, HasFailed}
 use Rattle.comm_port.specs.HostTurns.{host_cause, host_notes_of, went_on}
 use Rattle.comm_port.specs.Leaving.{last_entry}
 use Rattle.comm_port.specs.Replies.{reply_frame}

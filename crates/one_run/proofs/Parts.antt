@@ -16,10 +16,9 @@ use Rattle.ring_core.specs.declared.entry.RingEntry.TheVariants.{Pass, Leave}
 use Rattle.tied_lists.specs.Calls.{AreNewCalls}
 use Rattle.tied_lists.specs.Items.{Called, Ended}
 use Rattle.tied_lists.specs.Own.{is_of, WentOn}
-use Rattle.comm_port.specs.Giving.{part_at}
+use Rattle.comm_port.specs.Giving.{part_at, NoneFailed, each_path}
 use Rattle.comm_port.specs.HoldTurn.{Collects, CollectsIf}
 use Rattle.comm_port.specs.HoldTurn.{SendsAll, finish_of}
-use Rattle.comm_port.specs.SendsAll.{NoneFailed, each_path}
 use Rattle.comm_port.specs.Parts.{InOrder, PartOf}
 use Rattle.joint_history.specs.Reading.{called_of, controller_at, has_started_at, is_ours, items_of}
 use Rattle.joint_history.proofs.Collected.{CallLaws, collected-new}

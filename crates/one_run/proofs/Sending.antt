@@ -17,8 +17,8 @@ use Rattle.ring_core.specs.declared.refusal.RingNo.TheVariants.{NotAwaited}
 use Rattle.ring_core.specs.Legal.{IsHeard, IsLegalRing, IsPath, IsRingStep}
 use Rattle.ring_core.specs.Machine.{NodeIs, RingIs, awaited_number, path_of, ring_node, ring_after}
 use Rattle.ring_core.specs.Refusals.{or_no, other_no, awaited_no, word_of}
-use Rattle.comm_port.specs.Giving.{part_at}
-use Rattle.comm_port.specs.SendsAll.{IsNextSending, NoneFailed, SendsFrames}
+use Rattle.comm_port.specs.Giving.{part_at, NoneFailed}
+use Rattle.comm_port.specs.SendsAll.{IsNextSending, SendsFrames}
 use Rattle.tied_lists.specs.Own.{is_of}
 use Rattle.one_run.proofs.Dues.{ring-step}
 use Rattle.one_run.proofs.Fails.{HasFailedOn, SendsOn, SendsPath, next-fails}

@@ -9,10 +9,9 @@ use Rattle.ring_core.specs.Legal.{IsLegalRing}
 use Rattle.controller_core.specs.declared.fixed.Fixed.{Fixed}
 use Rattle.controller_core.specs.declared.entry.Entry.{Entry}
 use Rattle.host_port.specs.declared.entry.HostEntry.{HostEntry}
-use Rattle.comm_port.specs.Giving.{part_at}
+use Rattle.comm_port.specs.Giving.{part_at, NoneFailed, each_path}
 use Rattle.comm_port.specs.HoldTurn.{HoldsTurn, VisitsEnd}
 use Rattle.comm_port.specs.HostTurns.{HoldsHostTurn}
-use Rattle.comm_port.specs.SendsAll.{NoneFailed, each_path}
 use Rattle.turn_laws.specs.KeepsOn.{StandsTied}
 
 -- Two holds of the token by a controller that begin alike, when none of its calls has failed, end

@@ -6,7 +6,7 @@ use Rattle.std.proofs.Common.{add-one, append-nil, append_assoc, arith, drop-con
 use native.Mathlib.Nat.{suc-mul}
 use Rattle.std.specs.Prelude.{if◌then◌else◌, OnOk, Result, Ok, Err}
 use Rattle.std.specs.List.{zip}
-use Rattle.std.proofs.lemmas.List.{drop-drop, drop_all, drop_more, get_or-append_right}
+use Rattle.std.proofs.lemmas.List.{drop-drop, get_or-append_right}
 use Rattle.std.proofs.lemmas.List.{get_or_append_left, get_or_past}
 use Rattle.plant_types.specs.declared.reference.Ref.{Ref}
 use Rattle.plant_types.specs.declared.plan.ControllerPlan.{ControllerPlan}
@@ -31,18 +31,6 @@ cut_at xs at x within is =
 no_texts : (panel : List Ref) → noted_texts panel [] ≡ []
 no_texts [] = refl
 no_texts (ref ∷ panel) = refl
-
--- the text of a reference with the value at a place
-pub text_here : (ref : Ref) (values : List ℕ) (at : ℕ) → at < length values
-    → noted_texts (ref ∷ []) (drop at values) ≡ noted_text (ref, get_or values at 0)
-text_here ref values at within =
-    ap (λ left. noted_texts (ref ∷ []) left) (drop_more values at 0 within)
-    ∙ append-nil (noted_text (ref, get_or values at 0))
-
--- none where the values do not go so far
-pub text_past : (ref : Ref) (values : List ℕ) (at : ℕ) → length values ≤ at
-    → noted_texts (ref ∷ []) (drop at values) ≡ []
-text_past ref values at past = ap (λ left. noted_texts (ref ∷ []) left) (drop_all at values past)
 
 -- the text of the first reference, and of the others
 first_text : (ref : Ref) (panel : List Ref) (values : List ℕ)

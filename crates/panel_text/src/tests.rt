@@ -98,6 +98,7 @@ fn plan_at(alloc: Global, node: u8) -> Result<ControllerPlan, AllocError> {
         registers: 16,
         panel,
         orders: List::new(alloc),
+        power: List::new(alloc),
         segments: List::new(alloc),
         drops: List::new(alloc),
     })

@@ -1,16 +1,17 @@
 -- What was answered over what was read keeps the promise.
 use Rattle.std.proofs.Common.{◌≡◌, ℕ, ◌+◌, ◌<◌, ◌≤◌, ◌↔◌, Bool, true, false, List, [], ◌∷◌, length}
-use Rattle.std.proofs.Common.{Option, Some, None}
+use Rattle.std.proofs.Common.{Option, Some, None, Result, Ok, Err, IfOk, IsOkAnd}
 use Rattle.std.proofs.Common.{ap, sym, refl, ◌∙◌, ◌++◌, subst, inl, inr, arith, append-nil}
 use Rattle.plant_io.specs.Streams.{GaveFront, GaveAll}
 use Rattle.command_answers.specs.declared.status.Status.{Status}
 use Rattle.command_answers.specs.declared.status.Status.TheVariants as ends
 use Rattle.command_words.specs.declared.words.Command.{Command}
 use Rattle.command_words.specs.Words.{IsCommandInRange, IsNumberOfScans, SpellsCommand, SpellsLive}
-use Rattle.command_answers.specs.Due.{Due}
+use Rattle.command_answers.specs.declared.answered.Answer.{Answer}
+use Rattle.command_answers.specs.Due.{Due, as_due}
+use Rattle.command_answers.specs.Status.{goes_with_text}
 use Rattle.plant984.specs.Promise.{HasAnswered, AskedFor, CanRead, EndsAsDue, Failed, HasRead}
-use Rattle.plant984.specs.Promise.{IsSomeCommand}
-use Rattle.plant984.specs.Promise.{KeepsPromise, Side, Wrote, input_limit}
+use Rattle.plant984.specs.Promise.{IsSomeCommand, KeepsPromise, Side, Wrote, input_limit}
 
 -- What a call has found out before it writes: what was asked, and what was read for it.
 pub record Found {C : Type 0} (Spells : List (List ℕ) → C → Type 0) (reads : C → Bool)
@@ -96,6 +97,78 @@ abbrev asked-found : {C : Type 0} {Spells : List (List ℕ) → C → Type 0} {r
     → AskedFor Spells reads words source.bytes source_now.bytes
 asked-found {command = command} {input = input} found =
     record { command = command; spelled = found.spelled; input = input; read = found.read }
+
+-- an answer that was written whole was written with its own status
+pub wrote-whole : (IsDueHere : Due → Type 0) (status : Status) (had has : Side)
+    → goes_with_text status ≡ true → Wrote IsDueHere status had.bytes has.bytes
+    → HasAnswered IsDueHere had has status
+wrote-whole IsDueHere ends.Ok had has text wrote = wrote
+wrote-whole IsDueHere ends.Refused had has text wrote = wrote
+wrote-whole IsDueHere ends.Illegal had has text wrote = wrote
+wrote-whole IsDueHere ends.NoMemory had has text wrote = absurd (cc)
+wrote-whole IsDueHere ends.Usage had has text wrote = absurd (cc)
+wrote-whole IsDueHere ends.ReadFault had has text wrote = absurd (cc)
+wrote-whole IsDueHere ends.TooLong had has text wrote = absurd (cc)
+wrote-whole IsDueHere ends.WriteFault had has text wrote = absurd (cc)
+
+-- an answer is what it tells
+pub told-self : {E : Type 0} (answered : Result Answer E) (answer : Answer) → answered ≡ Ok answer
+    → IsOkAnd answered (λ other. as_due answer ≡ as_due other)
+told-self {E = E} answered answer is =
+    let P : Result Answer E → Type 0 = λ r. IsOkAnd r (λ other. as_due answer ≡ as_due other) in
+    subst P (sym is) refl
+
+-- what was written of one thing that is due was written of any that is due
+wrote-more : (IsOne IsAny : Due → Type 0) → ((what : Due) → IsOne what → IsAny what)
+    → (status : Status) (had has : Option (List ℕ)) → Wrote IsOne status had has
+    → Wrote IsAny status had has
+wrote-more IsOne IsAny more status had has wrote =
+    record {
+      what = wrote.what;
+      due = more wrote.what wrote.due;
+      ended = wrote.ended;
+      took = wrote.took;
+    }
+
+-- so is what answering has written
+answered-more : (IsOne IsAny : Due → Type 0) → ((what : Due) → IsOne what → IsAny what)
+    → (had has : Side) (status : Status) → HasAnswered IsOne had has status
+    → HasAnswered IsAny had has status
+answered-more IsOne IsAny more had has ends.Ok answers =
+    wrote-more IsOne IsAny more ends.Ok had.bytes has.bytes answers
+answered-more IsOne IsAny more had has ends.Refused answers =
+    wrote-more IsOne IsAny more ends.Refused had.bytes has.bytes answers
+answered-more IsOne IsAny more had has ends.Illegal answers =
+    wrote-more IsOne IsAny more ends.Illegal had.bytes has.bytes answers
+answered-more IsOne IsAny more had has ends.NoMemory answers = answers
+answered-more IsOne IsAny more had has ends.Usage answers = answers
+answered-more IsOne IsAny more had has ends.ReadFault answers = answers
+answered-more IsOne IsAny more had has ends.TooLong answers = answers
+answered-more IsOne IsAny more had has ends.WriteFault answers =
+    let front = answers.1 in (
+      answers.0,
+      record {
+        what = front.what;
+        due = more front.what front.due;
+        took = front.took;
+      },
+    )
+
+-- what an answer tells is due where the answer is
+told-due : {E : Type 0} (IsDueHere : Due → Type 0) (answered : Result Answer E)
+    → IfOk answered (λ answer. IsDueHere (as_due answer))
+    → (what : Due) → IsOkAnd answered (λ answer. what ≡ as_due answer) → IsDueHere what
+told-due IsDueHere (Ok answer) due what is = subst IsDueHere (sym is) due
+told-due IsDueHere (Err error) due what is = absurd is
+
+-- so where an answer is due, what was written of it was written of what is due
+pub answered-due : {E : Type 0} (IsDueHere : Due → Type 0) (answered : Result Answer E)
+    → IfOk answered (λ answer. IsDueHere (as_due answer)) → (had has : Side) (status : Status)
+    → HasAnswered (λ what. IsOkAnd answered (λ answer. what ≡ as_due answer)) had has status
+    → HasAnswered IsDueHere had has status
+answered-due IsDueHere answered due had has status answers =
+    answered-more (λ what. IsOkAnd answered (λ answer. what ≡ as_due answer)) IsDueHere
+    (told-due IsDueHere answered due) had has status answers
 
 -- what was written is what was due
 wrote-ends : (IsDueHere : Due → Type 0) (status : Status) (had has : Side)

@@ -1,17 +1,16 @@
 // The live top call: the plant runs in threads, and may wait.
-ghost use Rattle.std.specs.Prelude.{◌≡◌, ◌≤◌, IfOk, map, string_bytes};
-ghost use Rattle.plant_loader.specs.Plant.{plant_of};
+ghost use Rattle.std.specs.Prelude.{◌≡◌, IfOk, map, string_bytes};
 ghost use Rattle.joint_history.specs.Runnable.{CanRunPlant};
 ghost use Rattle.command_words.specs.Words.{IsNumberOfScans, SpellsLive};
-ghost use Rattle.command_answers.specs.Due.{IsLiveDue, IsLiveDueOf, IsLiveShown, as_due};
-ghost use Rattle.plant984.specs.Promise.{HasAnswered, AsksInput, PromisedLive, always, side};
-ghost use Rattle.plant984.specs.Promise.{WritesNothing};
+ghost use Rattle.command_answers.specs.Due.{IsLiveDue, IsLiveShown, as_due};
+ghost use Rattle.plant984.specs.Promise.{AsksInput, PromisedLive, WritesNothing, always, side};
 
 use crate::serial::INPUT_LIMIT;
+use crate::writing::write_due;
 use command_answers::{Answer, Status, refused, traced};
 use command_words::live_scans;
 use live_run::{Meet, live_noted};
-use plant_io::{ReadEnd, Sink, Source, read_all, write_all};
+use plant_io::{ReadEnd, Sink, Source, read_all};
 use plant_loader::{LoadEnd, load};
 use plant_types::Plant;
 use std::alloc::{AllocError, Global};
@@ -45,37 +44,12 @@ fn answer_live<M: Meet + Sync, R: Threads + Wait + Clock + Sync>(
     meet: &M,
 ) -> Result<Answer, AllocError>
     requires { IsNumberOfScans scans }
-    ensures { IfOk result (λ answer. IsLiveDueOf scans (plant_of input.now) (as_due answer)) }
+    ensures { IfOk result (λ answer. IsLiveDue scans input.now (as_due answer)) }
 {
     match load(alloc, input) {
         Ok(plant) => show_live(rt, alloc, scans, &plant, meet),
         Err(LoadEnd::Refused(fault, place)) => refused(alloc, fault, place),
         Err(LoadEnd::NoMemory) => Err(AllocError),
-    }
-}
-
-/// Runs the plant of an input, and writes what is due.
-fn write_live<K: Sink, M: Meet + Sync, R: Threads + Wait + Clock + Sync>(
-    rt: &R,
-    alloc: Global,
-    scans: u32,
-    input: &[u8],
-    sink: &mut K,
-    meet: &M,
-) -> Status
-    requires { IsNumberOfScans scans }
-    ensures answers { HasAnswered (IsLiveDue scans input.now)
-        (side (K.taken sink.old) (K.faults sink.old))
-        (side (K.taken sink.new) (K.faults sink.new)) result }
-    ensures later { K.faults sink.old ≤ K.faults sink.new }
-    ensures nothing_written { WritesNothing result → sink.new ≡ sink.old }
-{
-    match answer_live(rt, alloc, scans, input, meet) {
-        Err(_) => Status::NoMemory,
-        Ok(Answer { status, text }) => match write_all(sink, text.as_slice()) {
-            Ok(()) => status,
-            Err(_) => Status::WriteFault,
-        },
     }
 }
 
@@ -108,6 +82,6 @@ pub fn plant_live<S: Source, K: Sink, M: Meet + Sync, R: Threads + Wait + Clock 
         Err(ReadEnd::Fault) => Status::ReadFault,
         Err(ReadEnd::TooLong) => Status::TooLong,
         Err(ReadEnd::NoMemory) => Status::NoMemory,
-        Ok(input) => write_live(rt, alloc, scans, input.as_slice(), sink, meet),
+        Ok(input) => write_due(answer_live(rt, alloc, scans, input.as_slice(), meet), sink),
     }
 }

@@ -14,6 +14,7 @@ mod tests;
 #[cfg(test)]
 mod threads;
 mod top;
+mod writing;
 
 use command_answers::Status;
 use live_run::NoMeet;

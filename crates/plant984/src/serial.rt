@@ -1,12 +1,13 @@
 // The serial top call: the whole input is read, and then the whole text is written.
-ghost use Rattle.std.specs.Prelude.{◌≡◌, ◌≤◌, map, string_bytes};
-ghost use Rattle.command_words.specs.Words.{IsCommandInRange, SpellsCommand};
-ghost use Rattle.command_answers.specs.Due.{IsDue, reads_input};
-ghost use Rattle.plant984.specs.Promise.{HasAnswered, AsksInput, Promised, side, WritesNothing};
+ghost use Rattle.std.specs.Prelude.{◌≡◌, map, string_bytes};
+ghost use Rattle.command_words.specs.Words.{SpellsCommand};
+ghost use Rattle.command_answers.specs.Due.{reads_input};
+ghost use Rattle.plant984.specs.Promise.{AsksInput, Promised, side, WritesNothing};
 
-use command_answers::{Answer, Status, answer_to};
+use crate::writing::write_due;
+use command_answers::{Status, answer_to};
 use command_words::{Command, command_of};
-use plant_io::{ReadEnd, Sink, Source, read_all, write_all};
+use plant_io::{ReadEnd, Sink, Source, read_all};
 use std::alloc::Global;
 
 /// The most bytes of input that are taken.
@@ -16,24 +17,6 @@ fn reads_input(command: Command) -> bool
     ensures { result ≡ reads_input command }
 {
     matches!(command, Command::Do { .. })
-}
-
-/// Answers a command over an input, and writes the answer.
-fn write_answer<K: Sink>(alloc: Global, command: Command, input: &[u8], sink: &mut K) -> Status
-    requires { IsCommandInRange command }
-    ensures answers { HasAnswered (IsDue command input.now)
-        (side (K.taken sink.old) (K.faults sink.old))
-        (side (K.taken sink.new) (K.faults sink.new)) result }
-    ensures later { K.faults sink.old ≤ K.faults sink.new }
-    ensures nothing_written { WritesNothing result → sink.new ≡ sink.old }
-{
-    match answer_to(alloc, command, input) {
-        Err(_) => Status::NoMemory,
-        Ok(Answer { status, text }) => match write_all(sink, text.as_slice()) {
-            Ok(()) => status,
-            Err(_) => Status::WriteFault,
-        },
-    }
 }
 
 /// Does what the words say, without threads. It reads the whole input before it writes, and makes
@@ -60,12 +43,12 @@ pub fn plant_serial<S: Source, K: Sink>(
         return Status::Usage;
     };
     if !reads_input(command) {
-        return write_answer(alloc, command, &[], sink);
+        return write_due(answer_to(alloc, command, &[]), sink);
     }
     match read_all(alloc, source, INPUT_LIMIT) {
         Err(ReadEnd::Fault) => Status::ReadFault,
         Err(ReadEnd::TooLong) => Status::TooLong,
         Err(ReadEnd::NoMemory) => Status::NoMemory,
-        Ok(input) => write_answer(alloc, command, input.as_slice(), sink),
+        Ok(input) => write_due(answer_to(alloc, command, input.as_slice()), sink),
     }
 }

@@ -19,11 +19,12 @@ use Rattle.plant_types.specs.declared.fault.Place.{Place}
 use Rattle.plant_types.specs.Fault.{controller_place, panel_place}
 use Rattle.plant_types.specs.Reference.{is_discrete}
 use Rattle.plant_types.specs.Sizes.{Sizes, has_reference, cleared, sizes_from}
-use Rattle.plant_types.specs.Plans.{IsNode, PassesTests}
+use Rattle.plant_types.specs.Plans.{IsNode, PassesTests, KeepsPower}
 use Rattle.plant_types.specs.Checks.{is_size, is_discrete_size, sizes_of, passes_check}
-use Rattle.plant_types.specs.FirstFault.{first_failed, tests_of_each}
+use Rattle.plant_types.specs.FirstFault.{first_failed, tests_behind, tests_of_each}
 use Rattle.plant_types.specs.Passing.{row_passes}
 use Rattle.plant_types.specs.PlanTests.{placed, panel_limit, drop_limit, segment_limit, order_limit}
+use Rattle.plant_types.specs.PlanTests.{power_limit, power_tests}
 use Rattle.plant_types.specs.PlanTests.{segment_tests, is_segment, is_subroutines, has_drop}
 use Rattle.plant_types.specs.PlanTests.{has_control, is_order, order_tests, panel_tests, are_sizes}
 use Rattle.plant_types.specs.PlanTests.{has_few, table_tests, controller_tests}
@@ -151,8 +152,15 @@ arrays_at-few place ms arrays h =
 -- a controller that is read passes its tests
 pub record IsRead (plan : ControllerPlan) : Type 0 where
   pub tests : PassesTests plan
+  pub keeps : KeepsPower plan
   pub drops : PassesDropTests plan
   pub node : IsNode plan.node
+
+-- no power rows pass
+no_power-pass : (plan : ControllerPlan)
+    → first_failed (tests_of_each (power_tests plan) []) ≡ Ok tt
+unfolding tests_behind
+no_power-pass plan = refl
 
 three-hold : {F : Type 0} (a b c : Bool) (f g k : F) → a ≡ true → b ≡ true → c ≡ true
     → first_failed ((a, f) ∷ (b, g) ∷ (c, k) ∷ []) ≡ Ok tt
@@ -191,27 +199,31 @@ parts_of-read owner arrays plan numbers few h =
     let count : has_few whole ≡ true =
     and_from (nat_le (length panel.0) panel_limit && nat_le (length drops.0) drop_limit)
     (nat_le (length segments.0) segment_limit
-    && nat_le (length orders.0) order_limit)
+    && (nat_le (length orders.0) order_limit && true))
     (and_from (nat_le (length panel.0) panel_limit) (nat_le (length drops.0) drop_limit)
     panel_few drops_few)
-    (and_from (nat_le (length segments.0) segment_limit) (nat_le (length orders.0) order_limit)
-    segments_few orders_few) in
+    (and_from (nat_le (length segments.0) segment_limit)
+    (nat_le (length orders.0) order_limit && true) segments_few
+    (and_from (nat_le (length orders.0) order_limit) true orders_few refl)) in
     let table : first_failed (table_tests whole) ≡ Ok tt =
     three-hold (nat_le 1 node && nat_le node 64) (are_sizes owner.sizes)
     (has_few whole) BadNode BadValue TooLarge address sizes count in
     let panel_part = tests_of_each (panel_tests owner.sizes) panel.0 in
+    let power_part = tests_of_each (power_tests whole) [] in
     let order_part = tests_of_each (order_tests whole) orders.0 in
     let segment_part = tests_of_each (segment_tests whole) segments.0 in
     let tests : first_failed (controller_tests whole) ≡ Ok tt =
     both-hold (placed (controller_place 1) (table_tests whole))
-    (segment_part ++ (order_part ++ panel_part))
+    (segment_part ++ (order_part ++ (power_part ++ panel_part)))
     (placed-hold (controller_place 1) (table_tests whole) table)
-    (both-hold segment_part (order_part ++ panel_part) segment_pass
-    (both-hold order_part panel_part
+    (both-hold segment_part (order_part ++ (power_part ++ panel_part)) segment_pass
+    (both-hold order_part (power_part ++ panel_part)
     (orders-pass owner whole (refl {a = owner.sizes}) arrays.orders orders.0 orders.1.0)
-    (panel-pass owner arrays.panel panel.0 panel.1.0))) in
+    (both-hold power_part panel_part (no_power-pass whole)
+    (panel-pass owner arrays.panel panel.0 panel.1.0)))) in
     let read : IsRead whole = record {
       tests = tests;
+      keeps = refl;
       drops = drops-pass owner arrays.drops drops.0 drops.1.0;
       node = record { from = within.0; to = within.1 };
     } in
@@ -362,12 +374,15 @@ read-runnable plan read =
     let few = and_parts (nat_le (length plan.panel) panel_limit
     && nat_le (length plan.drops) drop_limit)
     (nat_le (length plan.segments) segment_limit
-    && nat_le (length plan.orders) order_limit) checked.few in
+    && (nat_le (length plan.orders) order_limit && nat_le (length plan.power) power_limit))
+    checked.few in
     let counts = and_parts (nat_le (length plan.segments) segment_limit)
-    (nat_le (length plan.orders) order_limit) few.1 in
+    (nat_le (length plan.orders) order_limit && nat_le (length plan.power) power_limit) few.1 in
+    let rows = and_parts (nat_le (length plan.orders) order_limit)
+    (nat_le (length plan.power) power_limit) counts.1 in
     record {
       passes = checked.passes;
       messages = checked.messages;
-      count = leb-true (length plan.orders) order_limit counts.1;
+      count = leb-true (length plan.orders) order_limit rows.0;
       rows = rows-fit plan plan.orders checked.passes read.drops checked.orders;
     }

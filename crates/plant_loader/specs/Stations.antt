@@ -58,7 +58,7 @@ arrays_at place ms = do
   orders ← texts_at place order_limit (codes "orders") ms
   Ok (arrays_from panel drops segments orders)
 
--- The plan of a controller from its parts.
+-- The plan of a controller from its parts; it keeps its power.
 abbrev pub plan_of : Owner → List Ref → List OrderRow → List IoDrop → List Segment
     → ControllerPlan
 plan_of owner panel orders drops segments = record {
@@ -69,6 +69,7 @@ plan_of owner panel orders drops segments = record {
   registers = owner.sizes.registers;
   panel = panel;
   orders = orders;
+  power = [];
   drops = drops;
   segments = segments;
 }

@@ -16,8 +16,8 @@ use crate::pieces::segments_of;
 use crate::refusal::LoadEnd;
 use crate::tables::{TableKind, table_passes};
 use plant_types::{
-    CONTROLLER_LIMIT, ControllerPlan, DROP_LIMIT, ORDER_LIMIT, PANEL_LIMIT, Place, PlantFault,
-    SEGMENT_LIMIT,
+    CONTROLLER_LIMIT, ControllerPlan, DROP_LIMIT, List, ORDER_LIMIT, PANEL_LIMIT, Place,
+    PlantFault, SEGMENT_LIMIT,
 };
 use std::alloc::Global;
 use toml::Table;
@@ -72,6 +72,7 @@ fn parts_of(alloc: Global, owner: Owner, arrays: &Arrays) -> Result<ControllerPl
         registers: owner.sizes.registers,
         panel,
         orders,
+        power: List::new(alloc),
         drops,
         segments,
     })

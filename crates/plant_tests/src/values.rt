@@ -216,6 +216,13 @@ fn texts_of_faults_of_a_plant(rt: HostRuntime) -> Result<(), AllocError> {
 }
 
 #[test]
+fn texts_of_faults_of_power_rows(rt: HostRuntime) -> Result<(), AllocError> {
+    let text = format!(in rt.alloc(); "{} {}", PlantFault::BadPower, Place::power(1, 1))?;
+    assert!(rt; text.as_str() == "15 BadPower controller 1 power 1");
+    Ok(())
+}
+
+#[test]
 fn nodes_have_power_by_bits(rt: HostRuntime) {
     let nodes = NodePower::of_bits(5);
     assert_eq!(rt;

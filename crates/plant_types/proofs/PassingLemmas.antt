@@ -1,12 +1,14 @@
 -- What follows where all tests of a controller hold.
-use Rattle.std.proofs.Common.{◌≡◌, ℕ, ◌+◌, ◌≤◌, true, false, Bool, not, ◌&&◌, List, [], ◌∷◌, ◌++◌}
+use Rattle.std.proofs.Common.{◌≡◌, ℕ, ◌+◌, ◌-◌, ◌≤◌, true, false, Bool, not, ◌&&◌, List, [], ◌∷◌, ◌++◌}
 use Rattle.std.proofs.Common.{length, Option, Some, None, Ok, refl, sym, ap, subst, ◌∙◌}
 use Rattle.std.proofs.Common.{append_assoc, arith}
 use Rattle.std.specs.Prelude.{nat_le, nat_lt, if◌then◌else◌}
-use Rattle.std.specs.List.{list_any, list_all, flat_map, cons_option}
+use Rattle.std.specs.List.{list_any, list_all, flat_map, cons_option, slice_get}
 use Rattle.std.proofs.lemmas.Bool.{and_parts, and_from}
 use Rattle.std.proofs.lemmas.Bool.Decides.{nat_tests}
-use Rattle.std.proofs.lemmas.List.{append-nil}
+use Rattle.std.proofs.lemmas.List.{append-nil, length-append}
+use Rattle.std.proofs.lemmas.Option.{slice_get-get_or}
+use Rattle.std.proofs.Math.Seq.{get_or-append_seam}
 use Rattle.std.proofs.lemmas.List.Folds.{list_all-append}
 use Rattle.std.proofs.lemmas.List.Elements.{filter_map-append}
 use Rattle.plant_types.specs.declared.reference.Ref.{Ref}
@@ -16,11 +18,13 @@ use Rattle.plant_types.specs.declared.network.Cell.{Cell}
 use Rattle.plant_types.specs.declared.network.Short.{Short}
 use Rattle.plant_types.specs.declared.network.Network.{Network}
 use Rattle.plant_types.specs.declared.network.Segment.{Segment}
+use Rattle.plant_types.specs.declared.plan.PowerRow.{PowerRow}
 use Rattle.plant_types.specs.declared.plan.ControllerPlan.{ControllerPlan}
 use Rattle.plant_types.specs.declared.fault.PlantFault.TheVariants.{BadValue, BadRef, BadShape}
-use Rattle.plant_types.specs.declared.fault.PlantFault.TheVariants.{BadOrder, BadNode, CoilTwice}
-use Rattle.plant_types.specs.declared.fault.PlantFault.TheVariants.{TooLarge}
-use Rattle.plant_types.specs.Fault.{controller_place, segment_place, order_place, panel_place}
+use Rattle.plant_types.specs.declared.fault.PlantFault.TheVariants.{BadOrder, BadNode, BadPower}
+use Rattle.plant_types.specs.declared.fault.PlantFault.TheVariants.{CoilTwice, TooLarge}
+use Rattle.plant_types.specs.Fault.{controller_place, segment_place, order_place, power_place}
+use Rattle.plant_types.specs.Fault.{panel_place}
 use Rattle.plant_types.specs.Sizes.{Sizes, has_reference}
 use Rattle.plant_types.specs.Pairs.{no_two}
 use Rattle.plant_types.specs.Operands.{has_form, has_values, has_kinds}
@@ -37,10 +41,11 @@ use Rattle.plant_types.specs.Standing.{standing_of, standing_tests}
 use Rattle.plant_types.specs.PlanTests.{Site, placed, placed_cell_tests, placed_short_tests}
 use Rattle.plant_types.specs.PlanTests.{site_in, site_tests_in, network_limit, segment_tests}
 use Rattle.plant_types.specs.PlanTests.{is_order, has_control, order_tests, panel_tests, are_sizes}
+use Rattle.plant_types.specs.PlanTests.{has_power_numbers, is_behind_dark, power_tests}
 use Rattle.plant_types.specs.PlanTests.{has_few, table_tests, controller_tests}
 use Rattle.plant_types.specs.Passing.{same_label, are_labelled_once, row_passes, IsChecked}
-use Rattle.plant_types.specs.Passing.{ChecksAreExact}
-use Rattle.plant_types.proofs.PairsLemmas.{no_two-push}
+use Rattle.plant_types.specs.Passing.{are_behind_dark, ChecksAreExact}
+use Rattle.plant_types.proofs.PairsLemmas.{neither, no_two-push}
 use Rattle.plant_types.proofs.StandingLemmas.{cells_of_networks-push, cells_of_segments-push}
 use Rattle.plant_types.proofs.StandingLemmas.{message_count-push}
 use Rattle.plant_types.proofs.PlanLemmas.{placed-ok, first-ok, parts-ok, behind-keeps, two-ok}
@@ -284,6 +289,81 @@ numbers_from plan node sizes =
     (and_from (is_discrete_size plan.inputs)
     (is_size plan.input_registers && is_size plan.registers) discretes.1 parts.1))
 
+-- the last of these rows
+abbrev row_before : List PowerRow → Option PowerRow
+row_before rows = slice_get rows (length rows - 1)
+
+-- a power row that passes its test
+power_row-ok : (plan : ControllerPlan) (earlier : List PowerRow) (row : PowerRow)
+    → first_failed (power_tests plan earlier row) ≡ Ok tt
+    → (has_power_numbers plan row ≡ true) × (is_behind_dark (row_before earlier) row ≡ true)
+power_row-ok plan earlier row held =
+    let numbers = has_power_numbers plan row in
+    let behind = is_behind_dark (row_before earlier) row in
+    and_parts numbers behind (first-ok (numbers && behind) BadPower []
+    (placed-ok (power_place 1 (length earlier + 1)) ((numbers && behind, BadPower) ∷ [])
+    held)).0
+
+-- a row is behind the dark scans of each of these
+abbrev AreBefore : PowerRow → List PowerRow → Type 0
+AreBefore row rows = not (list_any (λ before. not (is_behind_dark (Some before) row)) rows) ≡ true
+
+-- rows each behind all before it, and what is behind the last of them is behind each
+record RowsBehind (rows : List PowerRow) : Type 0 where
+  behind : are_behind_dark rows ≡ true
+  each : (row : PowerRow) → is_behind_dark (row_before rows) row ≡ true → AreBefore row rows
+
+-- a row behind one that is behind another
+behind-behind : (first one row : PowerRow) → nat_lt (first.scan + first.dark) one.scan ≡ true
+    → nat_lt (one.scan + one.dark) row.scan ≡ true
+    → nat_lt (first.scan + first.dark) row.scan ≡ true
+behind-behind first one row h t = grind (arith, nat_tests)
+
+-- what is not untrue is true
+not_untrue : (a : Bool) → not (not a) ≡ true → a ≡ true
+not_untrue true h = refl
+not_untrue false h = absurd (cc)
+
+-- a row behind one that is behind others is behind all of them
+before-more : (rows : List PowerRow) (one row : PowerRow) → AreBefore one rows
+    → is_behind_dark (Some one) row ≡ true → AreBefore row (rows ++ one ∷ [])
+before-more [] one row h t = rw t refl
+before-more (first ∷ rows) one row h t =
+    let (here, rest) = neither (not (nat_lt (first.scan + first.dark) one.scan))
+    (list_any (λ before. not (is_behind_dark (Some before) one)) rows) h in
+    rw (behind-behind first one row (not_untrue _ here) t) (before-more rows one row rest t)
+
+-- the last of rows behind which one more stands
+row_before-push : (rows : List PowerRow) (row : PowerRow)
+    → row_before (rows ++ row ∷ []) ≡ Some row
+row_before-push rows row =
+    let more = length-append rows (row ∷ []) in
+    let last : length (rows ++ row ∷ []) - 1 ≡ length rows = omega (arith, more) in
+    ap (slice_get (rows ++ row ∷ [])) last
+    ∙ slice_get-get_or (rows ++ row ∷ []) (length rows) row (omega (arith, more))
+    ∙ ap Some (get_or-append_seam rows row [] row)
+
+-- one more row
+rows-push : (plan : ControllerPlan) (earlier : List PowerRow) (row : PowerRow)
+    → RowsBehind earlier → first_failed (power_tests plan earlier row) ≡ Ok tt
+    → RowsBehind (earlier ++ row ∷ [])
+rows-push plan earlier row known held =
+    let before = known.each row (power_row-ok plan earlier row held).1 in
+    record {
+      behind = no_two-push (λ row before. not (is_behind_dark (Some before) row)) earlier row
+          known.behind before;
+      each = λ next h. before-more earlier row next before
+          (ap (λ last. is_behind_dark last next) (sym (row_before-push earlier row)) ∙ h);
+    }
+
+-- all power rows
+rows-behind : (plan : ControllerPlan)
+    → first_failed (tests_of_each (power_tests plan) plan.power) ≡ Ok tt → RowsBehind plan.power
+unfolding no_two
+rows-behind plan h =
+    behind-keeps RowsBehind (power_tests plan) (rows-push plan) [] plan.power
+    (record { behind = refl; each = λ row h. refl }) h
+
 -- where a check finds no fault
 checked-from_tests : (plan : ControllerPlan) → first_failed (controller_tests plan) ≡ Ok tt
     → IsChecked plan
@@ -293,10 +373,12 @@ checked-from_tests plan h =
     let table = placed (controller_place 1) (table_tests plan) in
     let segments = tests_of_each (segment_tests plan) plan.segments in
     let orders = tests_of_each (order_tests plan) plan.orders in
+    let power = tests_of_each (power_tests plan) plan.power in
     let panel = tests_of_each (panel_tests sizes) plan.panel in
-    let one = parts-ok table (segments ++ (orders ++ panel)) h in
-    let two = parts-ok segments (orders ++ panel) one.1 in
-    let three = parts-ok orders panel two.1 in
+    let one = parts-ok table (segments ++ (orders ++ (power ++ panel))) h in
+    let two = parts-ok segments (orders ++ (power ++ panel)) one.1 in
+    let three = parts-ok orders (power ++ panel) two.1 in
+    let four = parts-ok power panel three.1 in
     let node = first-ok (nat_le 1 plan.node && nat_le plan.node 64) BadNode
     ((are_sizes sizes, BadValue) ∷ (has_few plan, TooLarge) ∷ [])
     (placed-ok (controller_place 1) (table_tests plan) one.0) in
@@ -306,7 +388,7 @@ checked-from_tests plan h =
     let shown = each-holds (has_reference sizes) (panel_tests sizes)
     (λ earlier at held. (first-ok (has_reference sizes at) BadRef []
     (placed-ok (panel_place 1 (length earlier + 1)) ((has_reference sizes at, BadRef) ∷ [])
-    held)).0) plan.panel three.1 in
+    held)).0) plan.panel four.1 in
     let rows = each-holds (row_passes plan) (order_tests plan) (λ earlier row held.
     let both = two-ok (is_order plan row) (has_control sizes row.control) BadOrder BadRef
     (placed-ok (order_place 1 (length earlier + 1))
@@ -327,6 +409,9 @@ checked-from_tests plan h =
       labels = solved.such.labels;
       messages = solved.such.messages;
       orders = rows;
+      power = each-holds (has_power_numbers plan) (power_tests plan)
+          (λ earlier row held. (power_row-ok plan earlier row held).0) plan.power four.0;
+      behind = (rows-behind plan four.0).behind;
     }
 
 -- no test fails where each holds

@@ -23,6 +23,7 @@ fault_number faults.BadDrop = 10
 fault_number faults.BadScript = 11
 fault_number faults.BadNode = 12
 fault_number faults.TooLarge = 13
+fault_number faults.BadPower = 15
 
 -- The name of a fault. This project's own.
 abbrev pub fault_name : PlantFault → List ℕ
@@ -39,6 +40,7 @@ fault_name faults.BadDrop = codes "BadDrop"
 fault_name faults.BadScript = codes "BadScript"
 fault_name faults.BadNode = codes "BadNode"
 fault_name faults.TooLarge = codes "TooLarge"
+fault_name faults.BadPower = codes "BadPower"
 
 -- A fault as its number and its name. This project's own.
 abbrev pub fault_text : PlantFault → List ℕ
@@ -53,6 +55,7 @@ numbers_behind parts.Segment j k m = codes " segment " ++ decimal j
 numbers_behind parts.Cell j k m =
     codes " segment " ++ decimal j ++ codes " network " ++ decimal k ++ codes " cell " ++ decimal m
 numbers_behind parts.Order j k m = codes " order " ++ decimal j
+numbers_behind parts.Power j k m = codes " power " ++ decimal j
 numbers_behind parts.Panel j k m = codes " panel " ++ decimal j
 numbers_behind part j k m = []
 
@@ -76,8 +79,8 @@ place_text place =
     way_text place.part (place_number place 0) (place_number place 1) (place_number place 2)
     (place_number place 3)
 
--- The table of a controller, one of its segments, a piece of a network of a segment, an order row
--- and a panel reference. This project's own.
+-- The table of a controller, one of its segments, a piece of a network of a segment, an order row,
+-- a power row and a panel reference. This project's own.
 abbrev pub controller_place : ℕ → Place
 controller_place controller = record { part = parts.Controller; at = controller ∷ 0 ∷ 0 ∷ 0 ∷ [] }
 
@@ -92,6 +95,10 @@ cell_place controller segment network cell =
 abbrev pub order_place : ℕ → ℕ → Place
 order_place controller order =
     record { part = parts.Order; at = controller ∷ order ∷ 0 ∷ 0 ∷ [] }
+
+abbrev pub power_place : ℕ → ℕ → Place
+power_place controller row =
+    record { part = parts.Power; at = controller ∷ row ∷ 0 ∷ 0 ∷ [] }
 
 abbrev pub panel_place : ℕ → ℕ → Place
 panel_place controller reference =

@@ -32,6 +32,10 @@ watchdog_limit = 10000
 abbrev pub most_scans : ℕ
 most_scans = 2000
 
+-- The most scans after a power failure in which a controller is dark.
+abbrev pub dark_limit : ℕ
+dark_limit = 2000
+
 -- The most fates of a network, which its transmissions take in turn.
 abbrev pub fate_limit : ℕ
 fate_limit = 1000

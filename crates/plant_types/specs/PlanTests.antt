@@ -1,7 +1,7 @@
 -- The tests of a controller in their order, each with its fault and its place: this project's own.
-use Rattle.std.specs.Prelude.{ℕ, ◌+◌, ◌-◌, ◌<◌, Bool, true, not, ◌&&◌, ◌==◌, nat_le, List, [], ◌∷◌}
-use Rattle.std.specs.Prelude.{◌++◌, map, drop, length, Option, Some, None}
-use Rattle.std.specs.List.{list_any}
+use Rattle.std.specs.Prelude.{ℕ, ◌+◌, ◌-◌, ◌<◌, Bool, true, not, ◌&&◌, ◌==◌, nat_le, nat_lt, List, []}
+use Rattle.std.specs.Prelude.{◌∷◌, ◌++◌, map, drop, length, Option, Some, None}
+use Rattle.std.specs.List.{list_any, slice_get}
 use Rattle.plant_types.specs.declared.reference.Ref.{Ref}
 use Rattle.plant_types.specs.declared.drops.IoDrop.{IoDrop}
 use Rattle.plant_types.specs.declared.network.Cell.{Cell}
@@ -9,22 +9,23 @@ use Rattle.plant_types.specs.declared.network.Short.{Short}
 use Rattle.plant_types.specs.declared.network.Network.{Network}
 use Rattle.plant_types.specs.declared.network.Segment.{Segment}
 use Rattle.plant_types.specs.declared.plan.OrderRow.{OrderRow}
+use Rattle.plant_types.specs.declared.plan.PowerRow.{PowerRow}
 use Rattle.plant_types.specs.declared.plan.ControllerPlan.{ControllerPlan}
 use Rattle.plant_types.specs.declared.fault.PlantFault.{PlantFault}
 use Rattle.plant_types.specs.declared.fault.PlantFault.TheVariants.{BadValue, BadRef, BadOrder}
-use Rattle.plant_types.specs.declared.fault.PlantFault.TheVariants.{BadNode, TooLarge}
+use Rattle.plant_types.specs.declared.fault.PlantFault.TheVariants.{BadNode, BadPower, TooLarge}
 use Rattle.plant_types.specs.declared.fault.Place.{Place}
 use Rattle.plant_types.specs.Fault.{controller_place, segment_place, cell_place, order_place}
-use Rattle.plant_types.specs.Fault.{panel_place}
-use Rattle.plant_types.specs.Limits.{most_address}
+use Rattle.plant_types.specs.Fault.{power_place, panel_place}
+use Rattle.plant_types.specs.Limits.{is_up_to, most_address, most_scans, dark_limit}
 use Rattle.plant_types.specs.Reference.{is_discrete}
 use Rattle.plant_types.specs.Sizes.{Sizes, has_reference}
 use Rattle.plant_types.specs.Checks.{sizes_of, is_size, is_discrete_size}
 use Rattle.plant_types.specs.FirstFault.{Test, tests_of_each, is_label, cell_tests, short_tests}
 use Rattle.plant_types.specs.Standing.{cells_before, standing_of, standing_tests}
 
--- The most segments of a controller, networks of a segment, references of a panel, order rows and
--- drops.
+-- The most segments of a controller, networks of a segment, references of a panel, order rows,
+-- power rows and drops.
 abbrev pub segment_limit : ℕ
 segment_limit = 32
 
@@ -36,6 +37,9 @@ panel_limit = 64
 
 abbrev pub order_limit : ℕ
 order_limit = 32
+
+abbrev pub power_limit : ℕ
+power_limit = 32
 
 abbrev pub drop_limit : ℕ
 drop_limit = 32
@@ -145,6 +149,24 @@ order_tests plan earlier row =
     placed (order_place 1 (length earlier + 1))
     ((is_order plan row, BadOrder) ∷ (has_control (sizes_of plan) row.control, BadRef) ∷ [])
 
+-- A power row's scan and its dark scans are in their ranges, and its row is 0 or an order row.
+abbrev pub has_power_numbers : ControllerPlan → PowerRow → Bool
+has_power_numbers plan row =
+    (is_up_to most_scans row.scan && nat_le row.dark dark_limit)
+    && nat_le row.row (length plan.orders)
+
+-- A power row's scan is above the last dark scan of the row before, where there is one.
+abbrev pub is_behind_dark : Option PowerRow → PowerRow → Bool
+is_behind_dark None row = true
+is_behind_dark (Some before) row = nat_lt (before.scan + before.dark) row.scan
+
+-- The test of a power row behind those before it.
+abbrev pub power_tests : ControllerPlan → List PowerRow → PowerRow
+    → List (Test (PlantFault × Place))
+power_tests plan earlier row =
+    placed (power_place 1 (length earlier + 1))
+    ((has_power_numbers plan row && is_behind_dark (slice_get earlier (length earlier - 1)) row, BadPower) ∷ [])
+
 -- The test of a panel reference.
 abbrev pub panel_tests : Sizes → List Ref → Ref → List (Test (PlantFault × Place))
 panel_tests sizes earlier at =
@@ -160,7 +182,8 @@ are_sizes sizes =
 abbrev pub has_few : ControllerPlan → Bool
 has_few plan =
     (nat_le (length plan.panel) panel_limit && nat_le (length plan.drops) drop_limit)
-    && (nat_le (length plan.segments) segment_limit && nat_le (length plan.orders) order_limit)
+    && (nat_le (length plan.segments) segment_limit
+    && (nat_le (length plan.orders) order_limit && nat_le (length plan.power) power_limit))
 
 -- The tests of a controller's table, key by key.
 abbrev pub table_tests : ControllerPlan → List (Test PlantFault)
@@ -170,11 +193,12 @@ table_tests plan =
     ∷ (has_few plan, TooLarge)
     ∷ []
 
--- The tests of a controller but those of its drops: its table, its segments, its order rows and
--- its panel.
+-- The tests of a controller but those of its drops: its table, its segments, its order rows, its
+-- power rows and its panel.
 abbrev pub controller_tests : ControllerPlan → List (Test (PlantFault × Place))
 controller_tests plan =
     placed (controller_place 1) (table_tests plan)
     ++ (tests_of_each (segment_tests plan) plan.segments
     ++ (tests_of_each (order_tests plan) plan.orders
-    ++ tests_of_each (panel_tests (sizes_of plan)) plan.panel))
+    ++ (tests_of_each (power_tests plan) plan.power
+    ++ tests_of_each (panel_tests (sizes_of plan)) plan.panel)))

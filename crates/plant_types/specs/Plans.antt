@@ -1,6 +1,6 @@
 -- Which networks, hosts and plants can be run. Node addresses are those of the Modbus Plus Network
 -- Planning and Installation Guide; all else is this project's own.
-use Rattle.std.specs.Prelude.{◌≡◌, ◌≢◌, ◌≤◌, ℕ, List, ◌++◌, length, map, Ok, IsPermutation}
+use Rattle.std.specs.Prelude.{◌≡◌, ◌≢◌, ◌≤◌, ℕ, List, [], ◌++◌, length, map, Ok, IsPermutation}
 use Rattle.std.specs.List.{All}
 use Rattle.std.specs.List.Sorted.{IsStrictlyIncreasing}
 use Rattle.plant_types.specs.declared.net.NetPlan.{NetPlan}
@@ -49,6 +49,14 @@ pub record IsHostPlan (host : HostPlan) : Type 0 where
 -- A controller passes its tests.
 abbrev pub PassesTests : ControllerPlan → Type 0
 PassesTests plan = first_failed (controller_tests plan) ≡ Ok tt
+
+-- A controller keeps its power: it has no power rows.
+abbrev pub KeepsPower : ControllerPlan → Type 0
+KeepsPower plan = plan.power ≡ []
+
+-- Each controller of a plant keeps its power.
+abbrev pub AllKeepPower : Plant → Type 0
+AllKeepPower plant = All KeepsPower plant.controllers
 
 -- The addresses of controllers and of hosts.
 abbrev pub controller_nodes : Plant → List ℕ

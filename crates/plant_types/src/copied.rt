@@ -7,7 +7,7 @@ use crate::fault::{Part, Place, PlantFault};
 use crate::list::List;
 use crate::net::{Fate, HostAsk, HostPlan, NetPlan};
 use crate::network::{Cell, Network, Segment, Short};
-use crate::plan::{ControllerPlan, OrderRow, Plant};
+use crate::plan::{ControllerPlan, OrderRow, Plant, PowerRow};
 use crate::power::NodePower;
 use crate::reference::{Ref, RefKind};
 use crate::words::{Block, Pdu, Words};
@@ -98,6 +98,12 @@ impl Copied for Short {
 }
 
 impl Copied for OrderRow {
+    fn copied(&self, _: Global) -> Result<Self, AllocError> {
+        Ok(*self)
+    }
+}
+
+impl Copied for PowerRow {
     fn copied(&self, _: Global) -> Result<Self, AllocError> {
         Ok(*self)
     }
@@ -256,6 +262,7 @@ impl Copied for ControllerPlan {
     fn copied(&self, alloc: Global) -> Result<Self, AllocError> {
         let (panel, orders) = both_copied(alloc, &self.panel, &self.orders)?;
         let (drops, segments) = both_copied(alloc, &self.drops, &self.segments)?;
+        let power = self.power.copied(alloc)?;
         Ok(ControllerPlan {
             node: self.node,
             coils: self.coils,
@@ -264,6 +271,7 @@ impl Copied for ControllerPlan {
             registers: self.registers,
             panel,
             orders,
+            power,
             drops,
             segments,
         })

@@ -2,7 +2,7 @@
 ghost use Rattle.std.specs.Prelude.{◌≡◌, Some};
 ghost use Rattle.plant_types.specs.Fault.{fault_number, fault_name, fault_text, place_text};
 ghost use Rattle.plant_types.specs.Fault.{controller_place, segment_place, cell_place, order_place};
-ghost use Rattle.plant_types.specs.Fault.{panel_place, at_place, behind_text};
+ghost use Rattle.plant_types.specs.Fault.{power_place, panel_place, at_place, behind_text};
 
 use std::fmt;
 
@@ -22,6 +22,7 @@ pub enum PlantFault {
     BadScript,
     BadNode,
     TooLarge,
+    BadPower,
 }
 
 impl PlantFault {
@@ -43,6 +44,7 @@ impl PlantFault {
             PlantFault::BadScript => 11,
             PlantFault::BadNode => 12,
             PlantFault::TooLarge => 13,
+            PlantFault::BadPower => 15,
         }
     }
 
@@ -64,6 +66,7 @@ impl PlantFault {
             PlantFault::BadScript => "BadScript",
             PlantFault::BadNode => "BadNode",
             PlantFault::TooLarge => "TooLarge",
+            PlantFault::BadPower => "BadPower",
         }
     }
 }
@@ -100,6 +103,8 @@ pub enum Part {
     Cell,
     /// An order row of a controller.
     Order,
+    /// A power row of a controller.
+    Power,
     /// A panel reference of a controller.
     Panel,
     /// A host's table.
@@ -162,6 +167,16 @@ impl Place {
         }
     }
 
+    /// A power row.
+    pub fn power(controller: u32, row: u32) -> Place
+        ensures { result ≡ power_place controller row }
+    {
+        Place {
+            part: Part::Power,
+            at: [controller, row, 0, 0],
+        }
+    }
+
     /// A panel reference.
     pub fn panel(controller: u32, reference: u32) -> Place
         ensures { result ≡ panel_place controller reference }
@@ -210,6 +225,7 @@ impl fmt::Display for Behind {
             Part::Segment => write!(f, " segment {second}"),
             Part::Cell => write!(f, " segment {second} network {third} cell {fourth}"),
             Part::Order => write!(f, " order {second}"),
+            Part::Power => write!(f, " power {second}"),
             Part::Panel => write!(f, " panel {second}"),
             _ => Ok(()),
         }

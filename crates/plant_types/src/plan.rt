@@ -34,6 +34,19 @@ pub struct OrderRow {
     pub output: Option<u8>,
 }
 
+/// A power failure of a controller, and the scans after it in which the controller is dark. Its form
+/// is this project's own.
+#[derive(Clone, Copy, Debug, PartialEq, Eq)]
+pub struct PowerRow {
+    /// The scan in which power fails, 1 to 2000.
+    pub scan: u32,
+    /// The order row behind whose solve it fails, from 1 to the number of order rows; 0 where it
+    /// fails right behind Begin.
+    pub row: u16,
+    /// How many scans after it are dark, 0 to 2000.
+    pub dark: u32,
+}
+
 /// One controller: how many references it has, what its panel shows and what it solves.
 #[derive(Drop)]
 pub struct ControllerPlan {
@@ -51,6 +64,8 @@ pub struct ControllerPlan {
     pub panel: List<Ref>,
     /// The order of solve, up to 32 rows.
     pub orders: List<OrderRow>,
+    /// Its power failures, up to 32, each in a scan above the last dark one of the row before.
+    pub power: List<PowerRow>,
     /// Its drops of input and output modules, up to 32.
     pub drops: List<IoDrop>,
     /// Up to 32 segments; the last one has the subroutines where it has a LAB.

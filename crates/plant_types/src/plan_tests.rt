@@ -7,6 +7,7 @@ ghost use Rattle.plant_types.specs.PlanTests.{piece_place, site_cell_tests, plac
 ghost use Rattle.plant_types.specs.PlanTests.{placed_short_tests, site_tests, site_tests_in};
 ghost use Rattle.plant_types.specs.PlanTests.{segment_tests, has_label, is_subroutines, is_segment};
 ghost use Rattle.plant_types.specs.PlanTests.{has_drop, has_control, is_order, order_tests};
+ghost use Rattle.plant_types.specs.PlanTests.{has_power_numbers, is_behind_dark, power_tests};
 ghost use Rattle.plant_types.specs.PlanTests.{panel_tests, are_sizes, has_few, table_tests};
 ghost use Rattle.plant_types.specs.PlanTests.{controller_tests};
 
@@ -14,7 +15,7 @@ use crate::drops::IoDrop;
 use crate::fault::{Place, PlantFault};
 use crate::net::NODE_LIMIT;
 use crate::network::{Cell, Network, Segment, Short};
-use crate::plan::{ControllerPlan, OrderRow};
+use crate::plan::{ControllerPlan, MOST_SCANS, OrderRow, PowerRow};
 use crate::reference::Ref;
 use crate::sizes::Sizes;
 use crate::standing::{Earlier, is_label};
@@ -34,6 +35,12 @@ pub const PANEL_LIMIT: usize = 64;
 
 /// The most order rows of a controller.
 pub const ORDER_LIMIT: usize = 32;
+
+/// The most power rows of a controller.
+pub const POWER_LIMIT: usize = 32;
+
+/// The most scans after a power failure in which a controller is dark.
+pub const DARK_LIMIT: u32 = 2000;
 
 /// The most drops of a controller.
 pub const DROP_LIMIT: usize = 32;
@@ -288,6 +295,50 @@ fn check_orders(plan: &ControllerPlan, orders: &[OrderRow]) -> Result<(), (Plant
     Ok(())
 }
 
+fn has_power_numbers(plan: &ControllerPlan, row: PowerRow) -> bool
+    ensures { result ≡ has_power_numbers plan.now row }
+{
+    1 <= row.scan
+        && row.scan <= MOST_SCANS
+        && row.dark <= DARK_LIMIT
+        && usize::from(row.row) <= plan.orders.as_slice().len()
+}
+
+fn is_behind_dark(before: Option<PowerRow>, row: PowerRow) -> bool
+    ensures { result ≡ is_behind_dark before row }
+{
+    match before {
+        Some(before) => u64::from(before.scan) + u64::from(before.dark) < u64::from(row.scan),
+        None => true,
+    }
+}
+
+fn check_power_row(
+    plan: &ControllerPlan,
+    earlier: &[PowerRow],
+    row: PowerRow,
+) -> Result<(), (PlantFault, Place)>
+    requires { length earlier.now < POWER_LIMIT }
+    ensures { result ≡ first_failed (power_tests plan.now earlier.now row) }
+{
+    if has_power_numbers(plan, row) && is_behind_dark(earlier.last().copied(), row) {
+        Ok(())
+    } else {
+        let place = Place::power(1, earlier.len() as u32 + 1);
+        Err((PlantFault::BadPower, place))
+    }
+}
+
+fn check_power(plan: &ControllerPlan, power: &[PowerRow]) -> Result<(), (PlantFault, Place)>
+    requires { length power.now ≤ POWER_LIMIT }
+    ensures { result ≡ first_failed (tests_of_each (power_tests plan.now) power.now) }
+{
+    for (i, row) in power.iter().enumerate() {
+        check_power_row(plan, &power[..i], *row)?;
+    }
+    Ok(())
+}
+
 fn check_reference(sizes: Sizes, earlier: &[Ref], at: Ref) -> Result<(), (PlantFault, Place)>
     requires { length earlier.now < PANEL_LIMIT }
     ensures { result ≡ first_failed (panel_tests sizes earlier.now at) }
@@ -338,6 +389,7 @@ fn has_few(plan: &ControllerPlan) -> bool
         && plan.drops.as_slice().len() <= DROP_LIMIT
         && plan.segments.as_slice().len() <= SEGMENT_LIMIT
         && plan.orders.as_slice().len() <= ORDER_LIMIT
+        && plan.power.as_slice().len() <= POWER_LIMIT
 }
 
 fn check_table(plan: &ControllerPlan) -> Result<(), PlantFault>
@@ -357,15 +409,16 @@ fn check_table(plan: &ControllerPlan) -> Result<(), PlantFault>
 
 impl ControllerPlan {
     /// The first test that it does not pass, and the place of that: its address, its numbers of
-    /// references and of items, the pieces of its networks, its order rows, its panel. The tests of
-    /// its drops are not among them. Places name the controller by 1, and the cells of a network
-    /// stand before its shorts.
+    /// references and of items, the pieces of its networks, its order rows, its power rows, its panel.
+    /// The tests of its drops are not among them. Places name the controller by 1, and the cells of
+    /// a network stand before its shorts.
     pub fn check(&self) -> Result<(), (PlantFault, Place)>
         ensures { result ≡ first_failed (controller_tests self.now) }
     {
         Place::controller(1).locate(check_table(self))?;
         check_segments(self, self.segments.as_slice())?;
         check_orders(self, self.orders.as_slice())?;
+        check_power(self, self.power.as_slice())?;
         check_panel(self.sizes(), self.panel.as_slice())
     }
 }

@@ -127,6 +127,7 @@ fn plan_of(alloc: Global) -> Result<Option<ControllerPlan>, AllocError>
         registers: 20,
         panel: List::new(alloc),
         orders,
+        power: List::new(alloc),
         drops: List::new(alloc),
         segments,
     }))

@@ -9,7 +9,6 @@ use Rattle.std.proofs.lemmas.Bool.{and_parts, eqb-true, false_from_ne_true, leb-
 use Rattle.std.proofs.lemmas.Bool.{or_from}
 use Rattle.std.proofs.lemmas.List.{length-drop}
 use Rattle.std.proofs.lemmas.Slice.Eq.{bytes_eq-Decides}
-use Rattle.mstr_block.specs.declared.call.MstrResult.TheVariants.{Bad}
 use Rattle.modbus_pdu.specs.Bytes.{bytes_for, word_bytes, word_in, words_in, unpacked}
 use Rattle.modbus_pdu.specs.Decoding.{IsUnspelled}
 use Rattle.modbus_pdu.specs.Quantities.{IsUpTo, is_up_to, most_coils_written, most_discretes_read}
@@ -30,7 +29,7 @@ use Rattle.ring_core.specs.Statistics.{clear_statistics, get_statistics}
 use Rattle.reply_laws.specs.Result.{has_byte_count, echoes, exchanges_registers, fits_plainly}
 use Rattle.reply_laws.specs.Result.{function_in, is_echoed, or_good, reads, reads_discretes}
 use Rattle.reply_laws.specs.Result.{reads_registers, result_of, tells_bits, told_bytes, writes_coil}
-use Rattle.reply_laws.specs.Result.{writes_coils, writes_registers}
+use Rattle.reply_laws.specs.Result.{writes_coils, writes_registers, exception_result, no_result}
 use Rattle.reply_laws.specs.Results.{UnaskedGiveCodes}
 use Rattle.reply_laws.proofs.Tests.{bytes-are, code-told, exceptions}
 use Rattle.reply_laws.proofs.Told.{told-plain}
@@ -88,7 +87,7 @@ ten _ fits long = absurd (omega arith)
 in-range : (most count : ℕ) → is_up_to most count ≡ true → IsUpTo most count
 in-range most count t =
     let both = and_parts (nat_le 1 count) (nat_le count most) t in
-    (leb-true 1 count both.0, leb-true count most both.1)
+    record { from = leb-true 1 count both.0; to = leb-true count most both.1 }
 
 -- ---- bytes that spell no request pass no test of one
 
@@ -318,14 +317,14 @@ pub unasked : UnaskedGiveCodes
 unasked ask bytes all none = record { code = code; other = other }
   where
     code : (c : ℕ) → bytes ≡ exception_code (function_in ask) ∷ c ∷ []
-        → result_of ask bytes ≡ Bad (0x3000 + c)
+        → result_of ask bytes ≡ exception_result c
     code c e =
         ap (result_of ask) e
         ∙ ap (λ (o : Option ℕ). or_good o (told_bytes ask
         (exception_code (function_in ask) ∷ c ∷ []))) (code-told (function_in ask) c)
 
     other : ((c : ℕ) → bytes ≢ exception_code (function_in ask) ∷ c ∷ [])
-        → result_of ask bytes ≡ Bad 0x3000
+        → result_of ask bytes ≡ no_result
     other unlike = elim (exceptions (function_in ask) bytes) [
       | inl e ↦ absurd (unlike e.0 e.1)
       | inr plain ↦ (λ i. or_good (plain i) (untold ask bytes (bytes-are ask all) none i))

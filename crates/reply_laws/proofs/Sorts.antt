@@ -116,10 +116,10 @@ bits-come request f q ask bytes listed range fits same told serves =
     (λ t.
     let both = and_parts (tells_bytes (bytes_for q) ask bytes) (has_clear_spare q bytes) t in
     let b = tells-behind (bytes_for q) f ask bytes same both.0 in
-    let clear : IsClear x q = spare-clear q bytes range.0 b.1 both.1 in
+    let clear : IsClear x q = spare-clear q bytes range.from b.1 both.1 in
     let found = bits_found f q bytes x (take q (unpacked x)) listed fits b.0 range b.1 clear refl in
     (found.0, found.1, refl))
-    (not-bits f q ask bytes same range.0 fits)
+    (not-bits f q ask bytes same range.from fits)
 
 -- ---- the request again
 

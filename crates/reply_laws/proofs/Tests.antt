@@ -7,12 +7,12 @@ use Rattle.std.proofs.lemmas.Bool.{and_from, and_parts, cases_eq, cases_lt, eq-e
 use Rattle.std.proofs.lemmas.Bool.{le-leb, lt-leb, ne_eqb}
 use Rattle.std.proofs.lemmas.List.{get_or-drop, get_or_past}
 use Rattle.std.proofs.lemmas.List.Elements.{All-get_or}
-use Rattle.mstr_block.specs.declared.call.MstrResult.TheVariants.{Good, Bad}
+use Rattle.mstr_block.specs.declared.call.MstrResult.TheVariants.{Good}
 use Rattle.modbus_pdu.specs.Bytes.{words_in}
 use Rattle.modbus_pdu.specs.Spelling.{exception_code}
 use Rattle.modbus_pdu.proofs.Bytes.{IsBytes, length-words_bytes, words_again}
 use Rattle.modbus_pdu.proofs.Replies.{Behind}
-use Rattle.reply_laws.specs.Result.{exception_told, function_in, good, tells_bytes}
+use Rattle.reply_laws.specs.Result.{exception_told, function_in, good, no_result, tells_bytes}
 use Rattle.reply_laws.specs.Results.{AreBytes, result_with}
 
 -- A reply is an exception reply of a function, or tells no code of it.
@@ -75,7 +75,7 @@ good-words bytes count fits even =
     let words = words_in bytes in
     let back = words_again bytes count fits even in
     let long : length bytes ≡ 2 * length words = ap length (sym back) ∙ length-words_bytes words in
-    let one = λ (t : Bool). if t then Good words else Bad 0x3000 in
+    let one = λ (t : Bool). if t then Good words else no_result in
     elim (cases_lt 100 (length words)) [
       | inl more ↦ ap one (lt-leb (length bytes) 200 (omega arith))
           ∙ sym (ap one (lt-leb (length words) 100 more))

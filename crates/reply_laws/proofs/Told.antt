@@ -81,7 +81,7 @@ plain-written ask bytes reads echoed writes i =
 
 up-to : (most w q : ℕ) → w ≡ q → IsUpTo most q → is_up_to most w ≡ true
 up-to most w q same range =
-    and_from _ _ (le-leb 1 w (omega (arith, range.0))) (le-leb w most (omega (arith, range.1)))
+    and_from _ _ (le-leb 1 w (omega (arith, range.from))) (le-leb w most (omega (arith, range.to)))
 
 -- ---- reads
 

@@ -12,8 +12,8 @@ use Rattle.modbus_pdu.specs.declared.request.Request.TheVariants as requests
 use Rattle.modbus_pdu.proofs.Bytes.{IsBytes}
 use Rattle.modbus_pdu.proofs.Matching.{IsExceptionOf, exception_found, normal_found}
 use Rattle.reply_laws.specs.Result.{exception_told, function_in, good, or_good, result_of}
-use Rattle.reply_laws.specs.Result.{told_bytes}
-use Rattle.reply_laws.specs.Results.{AnswersGiveTheirResult, OthersGiveNone, no_result}
+use Rattle.reply_laws.specs.Result.{no_result, told_bytes}
+use Rattle.reply_laws.specs.Results.{AnswersGiveTheirResult, OthersGiveNone}
 use Rattle.reply_laws.specs.Results.{result_by}
 use Rattle.reply_laws.proofs.Sorts.{Comes, to_none, to_reply}
 use Rattle.reply_laws.proofs.Tests.{bytes-are, code-told, exceptions}

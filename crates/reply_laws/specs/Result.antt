@@ -129,13 +129,26 @@ exception_told function (first ∷ code ∷ []) =
     if first == exception_code function then Some code else None
 exception_told function _ = None
 
+-- The error word of a reply that tells no result, and the first of those of exceptions, each of
+-- which is that word and the exception's code. This project's own.
+abbrev pub no_result_word : ℕ
+no_result_word = 0x3000
+
+-- What a reply comes to that gives no result.
+abbrev pub no_result : MstrResult
+no_result = Bad no_result_word
+
+-- What an exception with a code comes to.
+abbrev pub exception_result : ℕ → MstrResult
+exception_result code = Bad (no_result_word + code)
+
 -- The result that words make; none where they are more than a block has. This project's own.
 abbrev pub good : Option (List ℕ) → MstrResult
-good None = Bad 0x3000
-good (Some bytes) = if nat_le (length bytes) 200 then Good (words_in bytes) else Bad 0x3000
+good None = no_result
+good (Some bytes) = if nat_le (length bytes) 200 then Good (words_in bytes) else no_result
 
 abbrev pub or_good : Option ℕ → Option (List ℕ) → MstrResult
-or_good (Some code) told = Bad (0x3000 + code)
+or_good (Some code) told = exception_result code
 or_good None told = good told
 
 -- The result of a reply. This project's own.

@@ -8,12 +8,12 @@ use Rattle.station_stats.specs.Counts.{StatsIs, stats_words}
 use Rattle.ring_core.proofs.Noting.{stats-scratch, length-stats}
 use Rattle.ring_core.specs.Words.{NetPlan, RingEntry, Post, Send, Take, Local, GiveUp, Pass, Leave}
 use Rattle.ring_core.specs.Words.{FrameKind}
-use Rattle.ring_core.specs.Machine.{NodeIs, RingIs, after, opening, addresses, least_from}
+use Rattle.ring_core.specs.Machine.{NodeIs, RingIs, after, opening, addresses, least_from, ring_after}
 use Rattle.ring_core.specs.Machine.{ring_node, fresh, opening_nodes}
 use Rattle.ring_core.specs.Scratch.{ring_notes, heard_words, count_members, members_now}
 use Rattle.ring_core.specs.Scratch.{station_counts, statistics}
 use Rattle.ring_core.specs.Legal.{IsRingStep, IsMember, IsFrom}
-use Rattle.ring_core.specs.Kept.{IsRingKept, IsSoundRing, IsBook, RingLog, ring_of}
+use Rattle.ring_core.specs.Kept.{IsRingKept, IsSoundRing, IsBook}
 use Rattle.ring_core.specs.Kept.{stats_at, noted_all, opening_stats, book_step}
 use Rattle.ring_core.proofs.Runs.{IsLegal-push, after_all-push, stats_after-push}
 use Rattle.ring_core.proofs.Sound.{IsSourced, after-sound, opening-sound}
@@ -25,7 +25,7 @@ pub member-low : (net : NetPlan) (n : ℕ) → All (λ m. m < addresses) net.mem
 member-low net n all member = All-contains (λ m. m < addresses) net.members n all member
 
 -- a Request that is posted asks for a member, on a path of its own
-sourced : (net : NetPlan) (h : List RingEntry) (e : RingEntry)
+pub sourced : (net : NetPlan) (h : List RingEntry) (e : RingEntry)
     → All (λ m. m < addresses) net.members → IsRingStep net h e → IsSourced e
 sourced net h (Post n f) all step = λ asks.
     let from = subst (λ (kind : FrameKind). IsFrom n kind f) asks step.0.1 in (
@@ -55,46 +55,36 @@ kept-push net h r s b e k step = record {
   said = book-push net h b e k.said step;
 }
 
--- the same for a call, whose step is said of the value
-pub kept-call : (w v : RingLog) (g : List RingEntry) (r r' : RingIs) (s s' : List StatsIs)
-    (b b' : Book) (e : RingEntry) → w ≡ v
-    → IsRingKept w.net w.history r s b → IsRingStep v.net v.history e → g ≡ w.history ++ e ∷ []
-    → r' ≡ after w.net r e
-    → s' ≡ noted_all s (ring_notes w.net r e) → b' ≡ book_step b e → IsRingKept w.net g r' s' b'
-kept-call w v g r r' s s' b b' e is k step grows ring stats book =
-    let pushed = kept-push w.net w.history r s b e k
-    (subst (λ (x : RingLog). IsRingStep x.net x.history e) (sym is) step) in
-    subst (λ (x : Book). IsRingKept w.net g r' s' x) (sym book)
-    (subst (λ (x : List StatsIs). IsRingKept w.net g r' x (book_step b e)) (sym stats)
-    (subst (λ (x : RingIs). IsRingKept w.net g x (noted_all s (ring_notes w.net r e))
-    (book_step b e)) (sym ring)
-    (subst (λ (x : List RingEntry). IsRingKept w.net x (after w.net r e)
-    (noted_all s (ring_notes w.net r e)) (book_step b e)) (sym grows) pushed)))
-
--- the ring of the value is that of the fields
-pub opened : (w v : RingLog) (r : RingIs) (s : List StatsIs) (b : Book) → w ≡ v
-    → IsRingKept w.net w.history r s b → ring_of v ≡ r
-opened w v r s b is k = sym (k.state ∙ ap ring_of is)
+-- the same for a call, by what its fields are then
+pub kept-call : (net : NetPlan) (h : List RingEntry) (r r' : RingIs) (s s' : List StatsIs)
+    (b b' : Book) (e : RingEntry) → IsRingKept net h r s b → IsRingStep net h e
+    → r' ≡ after net r e → s' ≡ noted_all s (ring_notes net r e) → b' ≡ book_step b e
+    → IsRingKept net (h ++ e ∷ []) r' s' b'
+kept-call net h r r' s s' b b' e k step ring stats book =
+    subst (λ (x : Book). IsRingKept net (h ++ e ∷ []) r' s' x) (sym book)
+    (subst (λ (x : List StatsIs). IsRingKept net (h ++ e ∷ []) r' x (book_step b e)) (sym stats)
+    (subst (λ (x : RingIs). IsRingKept net (h ++ e ∷ []) x (noted_all s (ring_notes net r e))
+    (book_step b e)) (sym ring) (kept-push net h r s b e k step)))
 
 -- a member's part is there
-pub within : (w v : RingLog) (r : RingIs) (s : List StatsIs) (b : Book) (n : ℕ) → w ≡ v
-    → IsRingKept w.net w.history r s b → IsMember v.net n → n < length r.nodes
-within w v r s b n is k m = subst (λ (size : ℕ). n < size) (sym k.sound.size)
-    (member-low w.net n k.members (subst (λ (x : RingLog). IsMember x.net n) (sym is) m))
+pub within : (net : NetPlan) (h : List RingEntry) (r : RingIs) (s : List StatsIs) (b : Book)
+    (n : ℕ) → IsRingKept net h r s b → IsMember net n → n < length r.nodes
+within net h r s b n k m =
+    subst (λ (size : ℕ). n < size) (sym k.sound.size) (member-low net n k.members m)
 
 -- what was read at a place of the nodes
-pub part : (w v : RingLog) (r : RingIs) (s : List StatsIs) (b : Book) (n : ℕ) (c : NodeIs) → w ≡ v
-    → IsRingKept w.net w.history r s b
-    → IsMember v.net n → c ≡ get_or r.nodes n c → c ≡ ring_node r n
-part w v r s b n c is k m read =
-    get_or_read r.nodes n c (within w v r s b n is k m) read (fresh false)
+pub part : (net : NetPlan) (h : List RingEntry) (r : RingIs) (s : List StatsIs) (b : Book) (n : ℕ)
+    (c : NodeIs) → IsRingKept net h r s b → IsMember net n → c ≡ get_or r.nodes n c
+    → c ≡ ring_node r n
+part net h r s b n c k m read =
+    get_or_read r.nodes n c (within net h r s b n k m) read (fresh false)
 
 -- a member's counters are there
-pub counted : (w v : RingLog) (r : RingIs) (s : List StatsIs) (b : Book) (n : ℕ) → w ≡ v
-    → IsRingKept w.net w.history r s b → IsMember v.net n → n < length s
-counted w v r s b n is k m =
-    subst (λ (size : ℕ). n < size) (sym (ap length k.counters ∙ length-stats w.net w.history))
-    (member-low w.net n k.members (subst (λ (x : RingLog). IsMember x.net n) (sym is) m))
+pub counted : (net : NetPlan) (h : List RingEntry) (r : RingIs) (s : List StatsIs) (b : Book)
+    (n : ℕ) → IsRingKept net h r s b → IsMember net n → n < length s
+counted net h r s b n k m =
+    subst (λ (size : ℕ). n < size) (sym (ap length k.counters ∙ length-stats net h))
+    (member-low net n k.members m)
 
 -- each node has its counters
 pub stations : (net : NetPlan) (h : List RingEntry) (r : RingIs) (s : List StatsIs) (b : Book)
@@ -102,19 +92,15 @@ pub stations : (net : NetPlan) (h : List RingEntry) (r : RingIs) (s : List Stats
 stations net h r s b k = k.sound.size ∙ sym (ap length k.counters ∙ length-stats net h)
 
 -- the statistics of a member
-pub statistics-are : (w v : RingLog) (r : RingIs) (s : List StatsIs) (b : Book)
-    (n members passed : ℕ) → w ≡ v
-    → IsRingKept w.net w.history r s b → IsMember v.net n → members ≡ count_members r.nodes
-    → passed ≡ length (heard_words n v.history)
-    → stats_words (stats_at s n) members passed ≡ statistics v.net v.history n
-statistics-are w v r s b n members passed is k m members_is passed_is =
-    let member : IsMember w.net n = subst (λ (x : RingLog). IsMember x.net n) (sym is) m in
-    let counts : stats_at s n ≡ record { node = n; counts = station_counts v.net v.history n } =
+pub statistics-are : (net : NetPlan) (h : List RingEntry) (r : RingIs) (s : List StatsIs)
+    (b : Book) (n members passed : ℕ) → IsRingKept net h r s b → IsMember net n
+    → members ≡ count_members r.nodes → passed ≡ length (heard_words n h)
+    → stats_words (stats_at s n) members passed ≡ statistics net h n
+statistics-are net h r s b n members passed k m members_is passed_is =
+    let counts : stats_at s n ≡ record { node = n; counts = station_counts net h n } =
     ap (λ (l : List StatsIs). stats_at l n) k.counters
-    ∙ (stats-scratch w.net w.history n (member-low w.net n k.members member) member
-    ∙ ap (λ (x : RingLog). record { node = n; counts = station_counts x.net x.history n }) is) in
-    let here : members ≡ members_now (ring_of v) = members_is
-    ∙ ap members_now (sym (opened w v r s b is k)) in
+    ∙ stats-scratch net h n (member-low net n k.members m) m in
+    let here : members ≡ members_now (ring_after net h) = members_is ∙ ap members_now k.state in
     λ i. stats_words (counts i) (here i) (passed_is i)
 
 -- a fresh ring

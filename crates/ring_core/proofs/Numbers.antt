@@ -12,7 +12,7 @@ use Rattle.std.proofs.lemmas.List.{get_or_past, get_or_read}
 use Rattle.std.specs.Cmp.{IsTotalOrder, nat_cmp_total, unsigned_tied}
 use Rattle.std.specs.Ordering.{eq_by_cmp, is_eq, ordering_then}
 use Rattle.std.specs.FinMap.{get, insert, get-insert, get_tied, same_map}
-use Rattle.global_data.specs.Places.{filled}
+use Rattle.global_data.specs.Places.{map_of_places}
 use Rattle.global_data.proofs.Places.{get-filled, get-no_place, read-set}
 use Rattle.mstr_block.specs.declared.call.CallId.{CallId}
 use Rattle.ring_core.specs.Machine.{AcceptedIs, Source, source_cmp, source_of, accepted_of}
@@ -72,7 +72,7 @@ no_place node path high i = tied_sources node path (i / 5) (i % 5)
 
 -- what is read at the place of a source
 pub number-read : (numbers : List (Option ℕ)) (accepted : AcceptedIs) (id : CallId) (o : Option ℕ)
-    → filled source_at numbers ≡ accepted → id.path < 5
+    → map_of_places source_at numbers ≡ accepted → id.path < 5
     → 5 * id.node + id.path < length numbers → o ≡ get_or numbers (5 * id.node + id.path) o
     → unwrap_or o 0 ≡ accepted_of accepted id
 number-read numbers accepted id o is path low read = ap (λ (x : Option ℕ). unwrap_or x 0)
@@ -82,7 +82,7 @@ number-read numbers accepted id o is path low read = ap (λ (x : Option ℕ). un
     ∙ ap (λ (m : AcceptedIs). get m (source_of id)) is))
 
 none_of_path : (numbers : List (Option ℕ)) (accepted : AcceptedIs) (id : CallId)
-    → filled source_at numbers ≡ accepted → 5 ≤ id.path
+    → map_of_places source_at numbers ≡ accepted → 5 ≤ id.path
     → 0 ≡ accepted_of accepted id
 none_of_path numbers accepted id is high = ap (λ (x : Option ℕ). unwrap_or x 0)
     (sym (get-no_place sources_total source_at (source_of id)
@@ -90,7 +90,7 @@ none_of_path numbers accepted id is high = ap (λ (x : Option ℕ). unwrap_or x 
     ∙ ap (λ (m : AcceptedIs). get m (source_of id)) is)
 
 none-past : (numbers : List (Option ℕ)) (accepted : AcceptedIs) (id : CallId)
-    → filled source_at numbers ≡ accepted → id.path < 5
+    → map_of_places source_at numbers ≡ accepted → id.path < 5
     → length numbers ≤ 5 * id.node + id.path → 0 ≡ accepted_of accepted id
 none-past numbers accepted id is path past = ap (λ (x : Option ℕ). unwrap_or x 0)
     (sym (get_or_past numbers (5 * id.node + id.path) None past)
@@ -100,7 +100,7 @@ none-past numbers accepted id is path past = ap (λ (x : Option ℕ). unwrap_or 
 
 -- nothing was accepted of a source without a place
 pub none-accepted : (numbers : List (Option ℕ)) (accepted : AcceptedIs) (id : CallId)
-    → filled source_at numbers ≡ accepted
+    → map_of_places source_at numbers ≡ accepted
     → (5 ≤ id.path) ⊎ (length numbers ≤ 5 * id.node + id.path) → 0 ≡ accepted_of accepted id
 none-accepted numbers accepted id is none = ⊎_elim
     (λ (few : id.path < 5). ⊎_elim (λ (high : 5 ≤ id.path). absurd (omega (arith, few, high)))
@@ -109,7 +109,7 @@ none-accepted numbers accepted id is none = ⊎_elim
     (cases_lt id.path 5)
 
 abbrev held : List (Option ℕ) → ℕ → ℕ → Option ℕ
-held numbers n p = get (filled {R = source_cmp} source_at numbers) (n, p)
+held numbers n p = get (map_of_places {R = source_cmp} source_at numbers) (n, p)
 
 -- where a number is written each source has what it had, but for the one
 written_at : (numbers : List (Option ℕ)) (node path seq : ℕ) → path < 5
@@ -146,14 +146,15 @@ source-low id size is source = let n = source.0 in let p = source.1 in omega (ar
 
 -- a number that is written is the one of its source
 pub number-written : (numbers : List (Option ℕ)) (accepted : AcceptedIs) (id : CallId)
-    → filled source_at numbers ≡ accepted → length numbers ≡ sources
+    → map_of_places source_at numbers ≡ accepted → length numbers ≡ sources
     → IsSource id
-    → filled source_at (set numbers (5 * id.node + id.path) (Some id.seq)) ≡ accepting accepted id
+    → map_of_places source_at (set numbers (5 * id.node + id.path) (Some id.seq))
+    ≡ accepting accepted id
 number-written numbers accepted id is size source =
     same_map sources_total exact_sources _ _ (λ q.
     written_at numbers id.node id.path id.seq source.1
     (source-low id (length numbers) size source) q.0 q.1
-    ∙ sym (get-insert sources_total (filled source_at numbers) (source_of id) id.seq q))
+    ∙ sym (get-insert sources_total (map_of_places source_at numbers) (source_of id) id.seq q))
     ∙ ap (λ (m : AcceptedIs). insert m (source_of id) id.seq) is
 
 is_equal : (o : Ordering) → is_eq o ≡ true → o ≡ Equal

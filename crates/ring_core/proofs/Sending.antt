@@ -11,15 +11,15 @@ use Rattle.ring_core.specs.Words.{CallId, Fate, Heard, Fell}
 use Rattle.ring_core.specs.Words.{AcceptedRequest, AcceptedReply, DroppedReply}
 use Rattle.ring_core.specs.Machine.{NodeIs, RingIs, ring_node, part_of, fresh, fate_at, heard_of}
 use Rattle.ring_core.specs.Machine.{arrival, arrived, heard_by, sent_head, sent_one, fell}
-use Rattle.ring_core.specs.Machine.{waits_for, path_of, arrives}
+use Rattle.ring_core.specs.Machine.{waits_for, path_of, arrives, ring_after}
 use Rattle.ring_core.specs.Refusals.{turn_no, empty_no, or_no}
 use Rattle.ring_core.specs.Scratch.{counts, heard_event, arrival_notes, sent_notes, send_notes}
 use Rattle.ring_core.specs.Scratch.{ring_notes}
 use Rattle.ring_core.specs.Legal.{IsMember, IsFirst, IsHeard}
-use Rattle.ring_core.specs.Kept.{IsRingKept, RingLog, ring_of, noted_at, noted_all, IsSource}
+use Rattle.ring_core.specs.Kept.{IsRingKept, noted_at, noted_all, IsSource}
 use Rattle.ring_core.specs.Kept.{HasSource}
 use Rattle.ring_core.proofs.Runs.{noted_two}
-use Rattle.ring_core.proofs.Keeping.{kept-call, opened, within}
+use Rattle.ring_core.proofs.Keeping.{kept-call, within}
 
 pub record Sends (net : NetPlan) (r : RingIs) (n : ℕ) (box : List Frame) (f : Frame) : Type 0 where
   pub lets : or_no (turn_no r n) (empty_no box) ≡ None
@@ -36,22 +36,20 @@ is-heard net r (g ∷ gs) f h first heard = heard
     ∙ ap (λ (x : Frame). heard_of (fate_at net.fates r.sent)
     (arrival r.nodes (fate_at net.fates r.sent) x)) (sym first)
 
--- the same for a call, whose first frame is said of the value
-told-send : (w v : RingLog) (r : RingIs) (s : List StatsIs) (b : Book) (n : ℕ) (f : Frame)
-    (h : Heard) (fate : Fate) (fall : Option Fell)
-    → w ≡ v → IsRingKept w.net w.history r s b → IsFirst (ring_node (ring_of v) n).outbox f
-    → fate ≡ fate_at w.net.fates r.sent → fall ≡ arrival r.nodes fate f → h ≡ heard_of fate fall
-    → IsHeard v.net (ring_of v) (ring_node (ring_of v) n).outbox h
-told-send w v r s b n f h fate fall is k first fate_is fall_is h_is =
-    let same = opened w v r s b is k in
-    let fate' = fate_at w.net.fates r.sent in
+-- the same by what was read of the fields
+pub told-send : (net : NetPlan) (past : List RingEntry) (r : RingIs) (s : List StatsIs) (b : Book)
+    (n : ℕ) (f : Frame) (h : Heard) (fate : Fate) (fall : Option Fell)
+    → IsRingKept net past r s b → IsFirst (ring_node (ring_after net past) n).outbox f
+    → fate ≡ fate_at net.fates r.sent → fall ≡ arrival r.nodes fate f → h ≡ heard_of fate fall
+    → IsHeard net (ring_after net past) (ring_node (ring_after net past) n).outbox h
+told-send net past r s b n f h fate fall k first fate_is fall_is h_is =
+    let fate' = fate_at net.fates r.sent in
     let heard : h ≡ heard_of fate' (arrival r.nodes fate' f) =
     h_is
     ∙ (ap (heard_of fate) fall_is ∙ (λ i. heard_of (fate_is i) (arrival r.nodes (fate_is i) f))) in
-    subst (λ (x : RingLog). IsHeard x.net (ring_of v) (ring_node (ring_of v) n).outbox h) is
-    (subst (λ (x : RingIs). IsHeard w.net x (ring_node x n).outbox h) (sym same)
-    (is-heard w.net r (ring_node r n).outbox f h
-    (subst (λ (x : RingIs). IsFirst (ring_node x n).outbox f) same first) heard))
+    subst (λ (x : RingIs). IsHeard net x (ring_node x n).outbox h) k.state
+    (is-heard net r (ring_node r n).outbox f h
+    (subst (λ (x : RingIs). IsFirst (ring_node x n).outbox f) (sym k.state) first) heard)
 
 sends : (net : NetPlan) (r : RingIs) (n : ℕ) (box : List Frame) (f : Frame) → turn_no r n ≡ None
     → IsFirst box f → Sends net r n box f
@@ -68,23 +66,22 @@ length-arrived : (nodes : List NodeIs) (f : Frame) (fall : Option Fell)
 length-arrived nodes f None = refl
 length-arrived nodes f (Some fall) = length-set nodes f.to _
 
-pub kept-send : (w v : RingLog) (g : List RingEntry) (r : RingIs) (s s1 s2 : List StatsIs)
+pub kept-send : (net : NetPlan) (past : List RingEntry) (r : RingIs) (s s1 s2 : List StatsIs)
     (b : Book) (n : ℕ) (f : Frame) (h : Heard)
     (there : Bool) (fate : Fate) (fall : Option Fell) (ns : List NodeIs) (p q : NodeIs)
-    → w ≡ v → IsRingKept w.net w.history r s b → IsMember v.net n → turn_no (ring_of v) n ≡ None
-    → IsFirst (ring_node (ring_of v) n).outbox f
-    → fate ≡ fate_at w.net.fates r.sent → there ≡ (ring_node r f.to).here
+    → IsRingKept net past r s b → IsMember net n → turn_no (ring_after net past) n ≡ None
+    → IsFirst (ring_node (ring_after net past) n).outbox f
+    → fate ≡ fate_at net.fates r.sent → there ≡ (ring_node r f.to).here
     → fall ≡ arrival r.nodes fate f → h ≡ heard_of fate fall → ns ≡ arrived r.nodes f fall
     → p ≡ get_or ns n p → q ≡ heard_by p f.kind f.id there h
     → s1 ≡ noted_all s (arrival_notes f.to fall) → s2 ≡ noted_at s1 (counts n (heard_event h))
-    → g ≡ w.history ++ Send n h ∷ []
-    → IsRingKept w.net g (record { holder = r.holder; sent = r.sent + 1; nodes = set ns n q }) s2 b
-kept-send w v g r s s1 s2 b n f h there fate fall ns p q is k member turn first fate_is there_is
-    fall_is h_is ns_is p_is q_is s1_is s2_is grows =
-    let same = opened w v r s b is k in
-    let fate' = fate_at w.net.fates r.sent in
+    → IsRingKept net (past ++ Send n h ∷ [])
+    (record { holder = r.holder; sent = r.sent + 1; nodes = set ns n q }) s2 b
+kept-send net past r s s1 s2 b n f h there fate fall ns p q k member turn first fate_is there_is
+    fall_is h_is ns_is p_is q_is s1_is s2_is =
+    let fate' = fate_at net.fates r.sent in
     let low : n < length ns = subst (λ (l : ℕ). n < l)
-    (sym (ap length ns_is ∙ length-arrived r.nodes f fall)) (within w v r s b n is k member) in
+    (sym (ap length ns_is ∙ length-arrived r.nodes f fall)) (within net past r s b n k member) in
     let fell : fall ≡ arrival r.nodes fate' f = fall_is
     ∙ ap (λ (t : Fate). arrival r.nodes t f) fate_is in
     let heard : h ≡ heard_of fate' (arrival r.nodes fate' f) = h_is
@@ -94,27 +91,28 @@ kept-send w v g r s s1 s2 b n f h there fate fall ns p q is k member turn first 
     let part : p ≡ part_of (arrived r.nodes f (arrival r.nodes fate' f)) n =
     get_or_read ns n p low p_is (fresh false)
     ∙ ap (λ (l : List NodeIs). part_of l n) nodes in
-    let t = sends w.net r n (ring_node r n).outbox f
-    (subst (λ (x : RingIs). turn_no x n ≡ None) same turn)
-    (subst (λ (x : RingIs). IsFirst (ring_node x n).outbox f) same first) in
+    let t = sends net r n (ring_node r n).outbox f
+    (subst (λ (x : RingIs). turn_no x n ≡ None) (sym k.state) turn)
+    (subst (λ (x : RingIs). IsFirst (ring_node x n).outbox f) (sym k.state) first) in
     let node : q ≡ heard_by (part_of (arrived r.nodes f (arrival r.nodes fate' f)) n) f.kind f.id
     (ring_node r f.to).here
     (heard_of fate' (arrival r.nodes fate' f)) = q_is
     ∙ (λ i. heard_by (part i) f.kind f.id (there_is i) (heard i)) in
     let next : record { holder = r.holder; sent = r.sent + 1; nodes = set ns n q }
-    ≡ sent_one w.net r n f =
+    ≡ sent_one net r n f =
     λ i. record { holder = r.holder; sent = r.sent + 1; nodes = set (nodes i) n (node i) } in
     let noted : s2 ≡ noted_all s (arrival_notes f.to fall ++ counts n (heard_event h) ∷ []) = s2_is
     ∙ (ap (λ (l : List StatsIs). noted_at l (counts n (heard_event h))) s1_is
     ∙ noted_two s (arrival_notes f.to fall) (counts n (heard_event h))) in
-    let notes : s2 ≡ noted_all s (ring_notes w.net r (Send n h)) = noted
+    let notes : s2 ≡ noted_all s (ring_notes net r (Send n h)) = noted
     ∙ ((λ i. noted_all s (arrival_notes f.to (fell i) ++ counts n (heard_event (heard i)) ∷ []))
     ∙ ap (noted_all s) (sym t.notes)) in
-    let lets : or_no (turn_no (ring_of v) n) (empty_no (ring_node (ring_of v) n).outbox) ≡ None =
+    let lets : or_no (turn_no (ring_after net past) n)
+    (empty_no (ring_node (ring_after net past) n).outbox) ≡ None =
     subst (λ (x : RingIs). or_no (turn_no x n) (empty_no (ring_node x n).outbox) ≡ None)
-    (sym same) t.lets in
-    let told = told-send w v r s b n f h fate fall is k first fate_is fall_is h_is in
-    kept-call w v g r _ s s2 b b (Send n h) is k (member, (lets, told)) grows
+    k.state t.lets in
+    let told = told-send net past r s b n f h fate fall k first fate_is fall_is h_is in
+    kept-call net past r _ s s2 b b (Send n h) k (member, (lets, told))
     (next ∙ sym t.next) notes refl
 
 not_asked : (b : Bool) → cond b AcceptedReply DroppedReply ≡ AcceptedRequest → ⊥
@@ -135,14 +133,12 @@ head-source [] f first all = absurd first
 head-source (g ∷ gs) f first all = subst HasSource first (All-head HasSource g gs all)
 
 -- a Request that is accepted has its source
-pub sent-source : (w v : RingLog) (r : RingIs) (s : List StatsIs) (b : Book) (n : ℕ) (f : Frame)
-    (fate : Fate) (fall : Option Fell) → w ≡ v
-    → IsRingKept w.net w.history r s b → IsFirst (ring_node (ring_of v) n).outbox f
-    → fall ≡ arrival r.nodes fate f → fall ≡ Some AcceptedRequest
-    → IsSource f.id
-sent-source w v r s b n f fate fall is k first fall_is accepted =
-    let own = subst (λ (x : RingIs). IsFirst (ring_node x n).outbox f)
-    (opened w v r s b is k) first in
+pub sent-source : (net : NetPlan) (past : List RingEntry) (r : RingIs) (s : List StatsIs)
+    (b : Book) (n : ℕ) (f : Frame) (fate : Fate) (fall : Option Fell)
+    → IsRingKept net past r s b → IsFirst (ring_node (ring_after net past) n).outbox f
+    → fall ≡ arrival r.nodes fate f → fall ≡ Some AcceptedRequest → IsSource f.id
+sent-source net past r s b n f fate fall k first fall_is accepted =
+    let own = subst (λ (x : RingIs). IsFirst (ring_node x n).outbox f) (sym k.state) first in
     let source = head-source (ring_node r n).outbox f own (k.sound.each n).asked in
     source (fell-asks (part_of r.nodes f.to) f.kind f.id
     (come (arrives r.nodes fate f.to) _ (sym fall_is ∙ accepted)))

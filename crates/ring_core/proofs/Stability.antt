@@ -1,4 +1,4 @@
--- What the entries of others leave as it was.
+-- What entries leave of a node as it was.
 use Rattle.std.proofs.Common.{◌≡◌, ◌≢◌, ℕ, zero, suc, ◌==◌, Bool, true, false, cond, nat_le, List}
 use Rattle.std.proofs.Common.{[], ◌∷◌, ◌++◌, set, Option, Some, None, refl, sym, ap, ◌∙◌, subst}
 use Rattle.std.proofs.Common.{⊎_elim, append-nil, append_assoc}
@@ -14,9 +14,7 @@ use Rattle.ring_core.specs.Machine.{fell, with_frame, heard_by, heard_of, fate_a
 use Rattle.ring_core.specs.Machine.{sent_off, failed, silence_word, is_here}
 use Rattle.ring_core.specs.Refusals.{turn_no, free_no, or_no, least_done, least_of, or_zero}
 use Rattle.ring_core.specs.Legal.{IsTimelyEntry}
-use Rattle.ring_core.specs.Stability.{Stays, HolderStays, LeftStays, IsLeave, MemberStays}
-use Rattle.ring_core.specs.Stability.{BoxesStay}
-use Rattle.ring_core.specs.Stability.{HoldersKeep, OutsidersKeep}
+use Rattle.ring_core.specs.Stability.{HoldersKeep, IsLeave, MembershipStays, OutsidersKeep, Stays}
 use Rattle.ring_core.proofs.Runs.{after_all-push}
 
 first_none : (a b : Option RingNo) → or_no a b ≡ None → a ≡ None
@@ -93,17 +91,18 @@ next_ring : (net : NetPlan) (past : List RingEntry) (e : RingEntry)
     → ring_after net (past ++ e ∷ []) ≡ after net (ring_after net past) e
 next_ring net past e = after_all-push net (opening net) past e
 
-pub holder-stays : HolderStays
-holder-stays net past [] n run h none =
+pub holders-keep : HoldersKeep
+holders-keep net past [] n run there h none =
     subst (λ (l : List RingEntry). Stays (ring_after net past) (ring_after net l) n)
     (sym (append-nil past)) (record { holder = refl; part = refl; quiet = refl })
-holder-stays net past (e ∷ es) n run h none =
+holders-keep net past (e ∷ es) n run there h none =
     let r = ring_after net past in
     let one : Stays r (ring_after net (past ++ e ∷ [])) n = subst (λ (x : RingIs). Stays r x n)
     (sym (next_ring net past e))
     (step-stays net past r n e run.0.1 h none.0) in
     let more : Stays (ring_after net (past ++ e ∷ [])) (ring_after net ((past ++ e ∷ []) ++ es)) n =
-    holder-stays net (past ++ e ∷ []) es n run.1 (one.holder ∙ h) none.1 in
+    holders-keep net (past ++ e ∷ []) es n run.1 (ap is_here one.part ∙ there) (one.holder ∙ h)
+    none.1 in
     subst (λ (l : List RingEntry). Stays r (ring_after net l) n) (append_assoc past (e ∷ []) es)
     (record {
       holder = more.holder ∙ one.holder;
@@ -111,7 +110,7 @@ holder-stays net past (e ∷ es) n run h none =
       quiet = more.quiet ∙ one.quiet;
     })
 
--- a node that has left: an entry of another leaves its part
+-- a node that is no member: an entry of another leaves its part
 out : (nodes : List NodeIs) (n m : ℕ) (c : NodeIs) → (m ≡ n → ⊥)
     → part_of (set nodes m c) n ≡ part_of nodes n
 out nodes n m c other = get_or-set_other nodes m n c (fresh false) (λ q. other (sym q))
@@ -153,17 +152,18 @@ step-left net r n (GiveUp id word) left other = out r.nodes n id.node _ other
 step-left net r n (Pass m done words) left other = out r.nodes n m _ other
 step-left net r n (Leave m cause) left other = out r.nodes n m _ other
 
-pub left-stays : LeftStays
-left-stays net past [] n left none =
+pub outsiders-keep : OutsidersKeep
+outsiders-keep net past [] n before behind none =
     ap (λ (l : List RingEntry). ring_node (ring_after net l) n) (append-nil past)
-left-stays net past (e ∷ es) n left none =
+outsiders-keep net past (e ∷ es) n before behind none =
+    let joined = append_assoc past (e ∷ []) es in
     let one : ring_node (ring_after net (past ++ e ∷ [])) n ≡ ring_node (ring_after net past) n =
     ap (λ (x : RingIs). ring_node x n) (next_ring net past e)
-    ∙ step-left net (ring_after net past) n e left none.0 in
-    let more = left-stays net (past ++ e ∷ []) es n
-    (ap (λ (c : NodeIs). c.here) one ∙ left) none.1 in
-    ap (λ (l : List RingEntry). ring_node (ring_after net l) n)
-    (sym (append_assoc past (e ∷ []) es)) ∙ (more ∙ one)
+    ∙ step-left net (ring_after net past) n e before none.0 in
+    let more = outsiders-keep net (past ++ e ∷ []) es n (ap is_here one ∙ before)
+    (ap (λ (l : List RingEntry). is_here (ring_node (ring_after net l) n)) joined ∙ behind) none.1
+    in
+    ap (λ (l : List RingEntry). ring_node (ring_after net l) n) (sym joined) ∙ (more ∙ one)
 
 -- a write that keeps whether a node is there
 here-set : (nodes : List NodeIs) (m k : ℕ) (c : NodeIs) → c.here ≡ (part_of nodes m).here
@@ -205,50 +205,34 @@ here-sent net r m (f ∷ fs) k =
     (heard_of (fate_at net.fates r.sent) fall))
     ∙ here-arrived r.nodes f fall k
 
-step-member : (net : NetPlan) (r : RingIs) (n : ℕ) (e : RingEntry) → (ring_node r n).here ≡ true
-    → (IsLeave n e → ⊥) → (ring_node (after net r e) n).here ≡ true
-step-member net r n (Post m f) there no' = here-set r.nodes m n _ refl ∙ there
-step-member net r n (Send m heard) there no' = here-sent net r m (ring_node r m).outbox n ∙ there
-step-member net r n (Take m f) there no' = here-set r.nodes m n _ refl ∙ there
-step-member net r n (Local m id op result) there no' = there
-step-member net r n (GiveUp id word) there no' = here-set r.nodes id.node n _ refl ∙ there
-step-member net r n (Pass m done words) there no' = here-set r.nodes m n _ refl ∙ there
-step-member net r n (Leave m cause) there no' =
-    ap (λ (c : NodeIs). c.here) (out r.nodes n m _ no') ∙ there
+step-membership : (net : NetPlan) (r : RingIs) (n : ℕ) (e : RingEntry) → (IsLeave n e → ⊥)
+    → is_here (ring_node (after net r e) n) ≡ is_here (ring_node r n)
+step-membership net r n (Post m f) no' = here-set r.nodes m n _ refl
+step-membership net r n (Send m heard) no' = here-sent net r m (ring_node r m).outbox n
+step-membership net r n (Take m f) no' = here-set r.nodes m n _ refl
+step-membership net r n (Local m id op result) no' = refl
+step-membership net r n (GiveUp id word) no' = here-set r.nodes id.node n _ refl
+step-membership net r n (Pass m done words) no' = here-set r.nodes m n _ refl
+step-membership net r n (Leave m cause) no' = ap is_here (out r.nodes n m _ no')
 
-pub member-stays : MemberStays
-member-stays net past [] n there none =
-    ap (λ (l : List RingEntry). (ring_node (ring_after net l) n).here) (append-nil past) ∙ there
-member-stays net past (e ∷ es) n there none =
-    let one : (ring_node (ring_after net (past ++ e ∷ [])) n).here ≡ true =
-    ap (λ (x : RingIs). (ring_node x n).here) (next_ring net past e)
-    ∙ step-member net (ring_after net past) n e there none.0 in
-    let more = member-stays net (past ++ e ∷ []) es n one none.1 in
-    ap (λ (l : List RingEntry). (ring_node (ring_after net l) n).here)
-    (sym (append_assoc past (e ∷ []) es)) ∙ more
+pub membership-stays : MembershipStays
+membership-stays net past [] n none =
+    ap (λ (l : List RingEntry). is_here (ring_node (ring_after net l) n)) (append-nil past)
+membership-stays net past (e ∷ es) n none =
+    let one : is_here (ring_node (ring_after net (past ++ e ∷ [])) n)
+    ≡ is_here (ring_node (ring_after net past) n) =
+    ap (λ (x : RingIs). is_here (ring_node x n)) (next_ring net past e)
+    ∙ step-membership net (ring_after net past) n e none.0 in
+    ap (λ (l : List RingEntry). is_here (ring_node (ring_after net l) n))
+    (sym (append_assoc past (e ∷ []) es))
+    ∙ (membership-stays net (past ++ e ∷ []) es n none.1 ∙ one)
 
--- equal parts have equal boxes
-boxes-stay : (c d : NodeIs) → d ≡ c → BoxesStay c d
-boxes-stay c d e = record {
-  outbox = ap (λ (x : NodeIs). x.outbox) e;
-  tries = ap (λ (x : NodeIs). x.tries) e;
-  inbox = ap (λ (x : NodeIs). x.inbox) e;
-  paths = ap (λ (x : NodeIs). x.paths) e;
-  accepted = ap (λ (x : NodeIs). x.accepted) e;
-}
-
-pub holders-keep : HoldersKeep
-holders-keep net past more n run there h none =
-    let s = holder-stays net past more n run h none in
-    record {
-      holder = s.holder;
-      here = ap is_here s.part;
-      boxes = boxes-stay (ring_node (ring_after net past) n)
-          (ring_node (ring_after net (past ++ more)) n) s.part;
-      quiet = s.quiet;
-    }
-
-pub outsiders-keep : OutsidersKeep
-outsiders-keep net past more n out_before out_after none =
-    boxes-stay (ring_node (ring_after net past) n) (ring_node (ring_after net (past ++ more)) n)
-    (left-stays net past more n out_before none)
+-- whose Leave it is made the entry
+pub leave-made : (n : ℕ) (e : RingEntry) → IsLeave n e → maker e ≡ n
+leave-made n (Post m f) is = absurd is
+leave-made n (Send m heard) is = absurd is
+leave-made n (Take m f) is = absurd is
+leave-made n (Local m id op result) is = absurd is
+leave-made n (GiveUp id word) is = absurd is
+leave-made n (Pass m done words) is = absurd is
+leave-made n (Leave m cause) is = is

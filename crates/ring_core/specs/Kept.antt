@@ -1,6 +1,7 @@
 -- What a contract sees of a ring, and what its fields keep. This project's own.
-use Rattle.std.specs.Prelude.{◌+◌, ◌-◌, ◌≡◌, ℕ, ◌<◌, ◌≤◌, List, [], ◌∷◌, ◌++◌, length, get_or, set}
-use Rattle.std.specs.Prelude.{replicate, All, Option, Some, None, Result, MatchResult, ◌⊎◌, Bool, true}
+use Rattle.std.specs.Prelude.{◌-◌, ◌≡◌, ℕ, ◌<◌, ◌≤◌, List, [], ◌∷◌, ◌++◌, length, get_or, set}
+use Rattle.std.specs.Prelude.{replicate, All, Option, Some, None, Result, MatchResult, ◌⊎◌, Bool}
+use Rattle.std.specs.Prelude.{true}
 use Rattle.std.specs.Prelude.{MatchOption}
 use Rattle.std.specs.FinMap.{contains_key}
 use Rattle.ring_core.specs.Words.{NetPlan, RingEntry, Local, Pass, RingNo, NoMemory, LocalOp}
@@ -126,9 +127,3 @@ pub record IsRingKept (net : NetPlan) (history : List RingEntry) (ring : RingIs)
   pub sound : IsSoundRing (length history) ring
   pub counters : stats ≡ stats_after net history
   pub said : IsBook net history book
-
--- A ring is kept so, with room for its spare.
-pub record IsWholeRing (net : NetPlan) (history : List RingEntry) (ring : RingIs)
-    (stats : List StatsIs) (book : Book) (spare capacity : ℕ) : Type 0 where
-  pub kept : IsRingKept net history ring stats book
-  pub room : length history + spare ≤ capacity

@@ -5,5 +5,6 @@ pub mod Refusals
 pub mod Scratch
 pub mod Legal
 pub mod Kept
+pub mod Bare
 pub mod Statistics
 pub mod Stability

@@ -1,11 +1,14 @@
 -- Why a call is refused: the first reason that fits. This project's own.
-use Rattle.std.specs.Prelude.{◌≡◌, ℕ, ◌==◌, ◌&&◌, Bool, false, nat_lt, min, if◌then◌else◌, List, [], ◌∷◌}
+use Rattle.std.specs.Prelude.{◌≡◌, ℕ, ◌==◌, ◌&&◌, Bool, false, nat_lt, min, if◌then◌else◌, List, []}
+use Rattle.std.specs.Prelude.{◌∷◌}
 use Rattle.std.specs.Prelude.{length, Option, Some, None}
 use Rattle.ring_core.specs.Words.{CallId, FrameKind, Request, Reply, Frame, LeaveCause, Ended}
 use Rattle.ring_core.specs.Words.{Spent, NetPlan, RingNo, NotMember, NotHolder, Unsent, Untaken}
-use Rattle.ring_core.specs.Words.{NoMemory, NotDue, NothingToSend, PathTaken, NotAwaited, Await, Nothing, Out}
+use Rattle.ring_core.specs.Words.{NoMemory, NotDue, NothingToSend, PathTaken, NotAwaited, Await}
+use Rattle.ring_core.specs.Words.{Nothing, Out}
 use Rattle.ring_core.specs.Words.{Arrived, Failed, LeaveDue}
-use Rattle.ring_core.specs.Machine.{NodeIs, RingIs, ring_node, path_of, silence_word, is_here, hears}
+use Rattle.ring_core.specs.Machine.{NodeIs, RingIs, ring_node, path_of, silence_word, is_here}
+use Rattle.ring_core.specs.Machine.{hears}
 
 -- A call is refused for want of memory, and then nothing changes.
 abbrev pub WantsMemory : {X : Type 0} → X → X → RingNo → Type 0

@@ -20,7 +20,7 @@ pub(crate) struct Accepted {
 
 impl Model for Accepted {
     ghost use Rattle.std.specs.Prelude.{◌≡◌, length};
-    ghost use Rattle.global_data.specs.Places.{filled};
+    ghost use Rattle.global_data.specs.Places.{map_of_places};
     ghost use Rattle.ring_core.specs.Machine.{AcceptedIs};
     ghost use Rattle.ring_core.specs.Sources.{source_at, sources, coded_accepted};
 
@@ -28,7 +28,7 @@ impl Model for Accepted {
 
     ghost coded = { coded_accepted };
 
-    ghost view = { λ a. filled source_at a.numbers.items };
+    ghost view = { λ a. map_of_places source_at a.numbers.items };
 
     ghost invariant = { λ a. length a.numbers.items ≡ sources };
 }

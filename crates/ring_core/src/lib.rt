@@ -3,6 +3,7 @@
 
 mod accepted;
 mod arrival;
+mod bare;
 mod conditions;
 mod copied;
 mod counting;
@@ -19,10 +20,11 @@ mod refusal;
 mod ring;
 mod stats_request;
 
+pub use bare::BareRing;
 pub use conditions::{is_from, is_net, is_path};
 pub use entry::{Heard, LeaveCause, LocalOp, RingEntry};
 pub use frame::{Frame, FrameKind};
-pub use laws::{holder_stays, holders_keep, left_stays, member_stays, outsiders_keep};
+pub use laws::{holders_keep, membership_stays, outsiders_keep};
 pub use refusal::RingNo;
 pub use ring::Ring;
 pub use stats_request::{CLEAR_STATISTICS, GET_STATISTICS, is_stats};

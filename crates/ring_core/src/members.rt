@@ -1,5 +1,6 @@
 //! What is read of all nodes: who is a member, and who comes next.
-ghost use Rattle.std.specs.Prelude.{◌≡◌, ◌<◌, ◌≤◌, ◌+◌, false, length, drop, get_or, IfSome, IfErr, OnOk, None};
+ghost use Rattle.std.specs.Prelude.{◌≡◌, ◌<◌, ◌≤◌, ◌+◌, false, length, drop, get_or, IfSome, IfErr};
+ghost use Rattle.std.specs.Prelude.{OnOk, None};
 ghost use Rattle.std.specs.Prelude.{Some};
 ghost use Rattle.ring_core.specs.Machine.{least_from, successor, part_of, arrival, arrived, fresh};
 ghost use Rattle.ring_core.specs.Machine.{is_here, hears};

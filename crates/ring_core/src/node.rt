@@ -1,5 +1,6 @@
 //! A node's part of the ring.
-ghost use Rattle.std.specs.Prelude.{◌≡◌, ◌<◌, ◌≤◌, ◌+◌, ◌^◌, ℕ, List, [], ◌∷◌, ◌++◌, length, get_or};
+ghost use Rattle.std.specs.Prelude.{◌≡◌, ◌<◌, ◌≤◌, ◌+◌, ◌^◌, ℕ, List, [], ◌∷◌, ◌++◌, length};
+ghost use Rattle.std.specs.Prelude.{get_or};
 ghost use Rattle.std.specs.Prelude.{set, drop, filter, not, true, false, OnOk, OnErr, IfOk, IfSome};
 ghost use Rattle.std.specs.Prelude.{IfErr, None, MatchOption, All};
 ghost use Rattle.ring_core.specs.Machine.{NodeIs, posted, took, after_pass, gone, fresh, path_of};

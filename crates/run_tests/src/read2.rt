@@ -167,6 +167,7 @@ fn controller(
         registers,
         panel: List::new(alloc),
         orders: one_row(alloc)?,
+        power: List::new(alloc),
         drops: List::new(alloc),
         segments: one_segment(alloc, networks)?,
     }))

@@ -49,6 +49,7 @@ fn plan_of(alloc: Global, rows: &[OrderRow]) -> Result<ControllerPlan, AllocErro
         registers: 0,
         panel: List::new(alloc),
         orders: List::from_vec(Vec::from_slice(alloc, rows)?),
+        power: List::new(alloc),
         drops: List::new(alloc),
         segments: List::new(alloc),
     })

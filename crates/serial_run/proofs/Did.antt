@@ -20,6 +20,7 @@ use Rattle.joint_history.specs.Reading.{controller_at, has_started_at}
 use Rattle.comm_port.specs.Worker.{Standing, WorkerIs}
 use Rattle.comm_port.specs.HostTurns.{HoldsHostTurn, HostTies}
 use Rattle.comm_port.specs.HoldTurn.{HoldsTurn, VisitsEnd}
+use Rattle.comm_port.specs.HostStands.{own_side}
 use Rattle.tied_lists.specs.Own.{is_of}
 use Rattle.tied_lists.specs.Waits.{Holds}
 use Rattle.serial_run.specs.declared.order.Turn.TheVariants.{Step, Hold, Visit}
@@ -31,14 +32,16 @@ use Rattle.serial_run.specs.Turns.{visit_is_due, with_list}
 use Rattle.serial_run.specs.Turns.{MakesTurn, MakesHold, MakesStep, MakesVisit, VisitsWhere}
 use Rattle.serial_run.specs.Stations.{StandsController, StandAll, Did, MadeEvents, log_of}
 use Rattle.serial_run.specs.Stations.{host_log_of}
-use Rattle.serial_run.specs.Stations.{joint_of, plain_ram_side, ring_side}
+use Rattle.serial_run.specs.Stations.{joint_of, plain_ram_side}
 use Rattle.serial_run.specs.Held.{StaysStation, HeldController, StandsBeside, HasToken}
 use Rattle.serial_run.specs.Held.{HostStandsBeside, HeldHost, VisitedController, VisitedWhere}
 use Rattle.turn_laws.specs.KeepsOn.{HostKeepsOn, KeepsOn}
 use Rattle.serial_run.proofs.Distinct.{controller-member, host-member, member-node}
 use Rattle.serial_run.proofs.Grown.{Further, further-none}
 use Rattle.serial_run.proofs.HeldTurns.{turn-ring, host-turn-ring, visit-ring}
-use Rattle.turn_laws.proofs.Holders.{holder-there, gone-stays}
+use Rattle.turn_laws.proofs.Gone.{inner-keeps}
+use Rattle.turn_laws.proofs.Holders.{holder-there}
+use Rattle.turn_laws.proofs.Went.{went-visit}
 use Rattle.serial_run.proofs.Lists.{set-there}
 use Rattle.serial_run.proofs.Standings.{stands-scans}
 use Rattle.serial_run.proofs.TurnsMade.{at-place, place-is, host-place-is, stand-with, is-at}
@@ -52,7 +55,7 @@ pub stands-beside : (plant : Plant) (scans : ℕ) (run : Stations) (at : ℕ) (s
     → slice_get run.controllers.items at ≡ Some s → StandsBeside s run.ring
 stands-beside plant scans run at s all is =
     subst (λ (net : NetPlan). Standing s.worker (plain_ram_side s.controller) s.controller.history
-    (ring_side net) run.ring.history) (sym all.net)
+    (own_side net) run.ring.history) (sym all.net)
     (at-place plant scans run at s all is).stands.standing
 
 pub host-stands-beside : (plant : Plant) (scans : ℕ) (run : Stations) (at : ℕ) (s : HostStation)
@@ -61,9 +64,9 @@ pub host-stands-beside : (plant : Plant) (scans : ℕ) (run : Stations) (at : �
 host-stands-beside plant scans run at s all is =
     let p = host-at-place plant scans run at s all is in
     record {
-      ties = subst (λ (net : NetPlan). HostTies s.worker.node s.host (ring_side net)
+      ties = subst (λ (net : NetPlan). HostTies s.worker.node s.host (own_side net)
           run.ring.history) (sym all.net)
-          (subst (λ (n : ℕ). HostTies n s.host (ring_side plant.net) run.ring.history)
+          (subst (λ (n : ℕ). HostTies n s.host (own_side plant.net) run.ring.history)
           (sym p.stands.worker_node) p.stands.ties);
       counts = p.stands.counts;
     }
@@ -208,7 +211,7 @@ module _ (old new : Stations) (at : ℕ) (s t : ControllerStation)
         fixed = stays.fixed ∙ p.stands.fixed;
         legal = stays.legal;
         standing = subst (λ (net : NetPlan). Standing t.worker (plain_ram_side t.controller)
-            t.controller.history (ring_side net) new.ring.history)
+            t.controller.history (own_side net) new.ring.history)
             net stays.stands;
         left = left plant scans all ∙ (λ i. has_left (all.net i) new.ring.history (worker i));
         keeps = subst (λ (f : Fixed). KeepsOn f plant.net p.plan.node t.controller.history
@@ -299,9 +302,9 @@ module _ (old new : Stations) (at : ℕ) (s t : HostStation)
         worker_node = now;
         budget = held.budget ∙ p.stands.budget;
         plan_is = held.plan ∙ p.stands.plan_is;
-        ties = subst (λ (net : NetPlan). HostTies p.plan.node t.host (ring_side net)
+        ties = subst (λ (net : NetPlan). HostTies p.plan.node t.host (own_side net)
             new.ring.history) net
-            (subst (λ (n : ℕ). HostTies n t.host (ring_side new.ring.net) new.ring.history) now
+            (subst (λ (n : ℕ). HostTies n t.host (own_side new.ring.net) new.ring.history) now
             held.stands.ties);
         counts = held.stands.counts;
         left = held.left ∙ (λ i. has_left (all.net i) new.ring.history (worker i));
@@ -403,27 +406,25 @@ module _ (old new : Stations) (at : ℕ) (s t : ControllerStation)
     visit-further : Further (is_of s.worker.node) old.ring.history new.ring.history
     visit-further = further-by (s.left && has_started s.controller) visited.visit
 
-    -- who had not left has not left now
-    left-still : (b : Bool) → (s.left && has_started s.controller) ≡ b
-        → VisitedWhere b s t old.ring new.ring
+    -- a visit keeps whether the node has left
+    left-still : (b : Bool) → VisitedWhere b s t old.ring new.ring
         → s.left ≡ has_left old.ring.net old.ring.history s.worker.node
         → s.left ≡ has_left old.ring.net new.ring.history s.worker.node
-    left-still false due v is-left = is-left
+    left-still false v is-left = is-left
         ∙ ap (λ r. has_left old.ring.net r.history s.worker.node)
         (sym v.1)
-    left-still true due v is-left =
-        let s-left : s.left ≡ true = and-first s.left (has_started s.controller) due in
-        let here : (ring_node (ring_after old.ring.net old.ring.history) s.worker.node).here ≡
-        false = not-true _ (sym is-left ∙ s-left) in
-        s-left ∙ sym (ap not (ap (λ (l : List RingEntry).
-        (ring_node (ring_after old.ring.net l) s.worker.node).here) visit-further.is
-        ∙ gone-stays old.ring.net old.ring.history visit-further.more s.worker.node here))
+    left-still true v is-left =
+        let w = went-visit s.worker.node true true s.controller.fixed s.controller.history
+        t.controller.history old.ring.history new.ring.history v.calls in
+        is-left
+        ∙ sym (ap not (inner-keeps old.ring.net s.worker.node old.ring.history visit-further.more
+        new.ring.history w.done visit-further.is w.own_is w.quiet))
 
     visit-left : (plant : Plant) (scans : ℕ) → StandAll plant scans old
         → t.left ≡ has_left old.ring.net new.ring.history s.worker.node
     visit-left plant scans all =
         let p = at-place plant scans old at s all is in
-        visited.left ∙ left-still (s.left && has_started s.controller) refl visited.visit
+        visited.left ∙ left-still (s.left && has_started s.controller) visited.visit
         (p.stands.left ∙ (λ i. has_left (sym all.net i) old.ring.history
         (sym p.stands.worker_node i)))
 

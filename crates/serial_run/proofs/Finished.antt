@@ -17,6 +17,7 @@ use Rattle.controller_core.specs.Controller.{state_of}
 use Rattle.joint_history.specs.JointLaws.{fixed_of}
 use Rattle.joint_history.specs.Reading.{has_ended_at, has_started_at}
 use Rattle.comm_port.specs.Worker.{IsMemberWorker}
+use Rattle.comm_port.specs.HostStands.{own_side}
 use Rattle.turn_laws.specs.KeepsOn.{HasFinished, HostHasFinished, HostKeepsOn, HostStandsTied}
 use Rattle.turn_laws.specs.KeepsOn.{KeepsOn}
 use Rattle.turn_laws.specs.KeepsOn.{StandsTied}
@@ -27,7 +28,6 @@ use Rattle.serial_run.specs.declared.stations.Stations.{Stations}
 use Rattle.serial_run.specs.Scans.{have_ended, KeepScans, KeepsStepsLeft}
 use Rattle.serial_run.specs.Stations.{StandAll, StandsController, StandsHost, host_log_of, log_of}
 use Rattle.serial_run.specs.Stations.{plain_ram_side}
-use Rattle.serial_run.specs.Stations.{ring_side}
 use Rattle.serial_run.specs.Held.{AreCollected, stations_here}
 use Rattle.serial_run.proofs.Distinct.{controller-member, low-members}
 use Rattle.serial_run.proofs.Lists.{zip-other}
@@ -130,7 +130,7 @@ module _ (plant : Plant) (scans : ℕ) (run : Stations) (all : StandAll plant sc
             (subst (λ (n : ℕ). StandsTied s.controller.fixed plant.net n s.controller.history ring)
             node
             (stands-of s.worker (plain_ram_side s.controller) s.controller.history
-            (ring_side plant.net) ring member st.legal st.standing));
+            (own_side plant.net) ring member st.legal st.standing));
         keeps = subst (λ (n : ℕ). KeepsOn (fixed_of plant scans plan) plant.net n
             s.controller.history ring true) (sym st.node)
             (subst (λ (b : Bool). KeepsOn (fixed_of plant scans plan) plant.net plan.node
@@ -164,7 +164,7 @@ module _ (plant : Plant) (scans : ℕ) (run : Stations) (all : StandAll plant sc
       all.hosts (λ k plan s at-plan at-s st. record {
         node = st.node;
         stands = subst (λ (p : HostPlan). HostStandsTied p plant.net s.host.history ring) st.plan_is
-            (host-stands-of plan.node s.host (ring_side plant.net) ring st.ties);
+            (host-stands-of plan.node s.host (own_side plant.net) ring st.ties);
         keeps = subst (λ (b : Bool). HostKeepsOn plan plant.net s.host.history ring b)
             (host-left-at k s at-s) st.keeps;
       }))

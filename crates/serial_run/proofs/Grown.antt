@@ -8,7 +8,7 @@ use Rattle.plant_types.specs.declared.net.NetPlan.{NetPlan}
 use Rattle.ring_core.specs.declared.entry.RingEntry.{RingEntry}
 use Rattle.ring_core.specs.Words.{maker}
 use Rattle.tied_lists.specs.Own.{is_of, own, Adds, Grew}
-use Rattle.serial_run.proofs.Rings.{here-stays}
+use Rattle.tied_lists.proofs.Turns.{membership-kept}
 use Rattle.serial_run.specs.Turns.{has_left}
 
 -- a list went on by entries of one maker alone
@@ -67,4 +67,4 @@ pub others-left : (net : NetPlan) (n m : ℕ) (old new : List RingEntry) → m �
 others-left net n m old new other f =
     ap (λ (l : List RingEntry). has_left net l m) f.is
     ∙ ap Rattle.std.specs.Prelude.not
-    (here-stays net old f.more m (others-none n m old new other f))
+    (membership-kept net m old f.more (others-none n m old new other f))

@@ -12,13 +12,12 @@ use Rattle.ring_core.specs.declared.entry.RingEntry.TheVariants.{Pass, Leave, Gi
 use Rattle.ring_core.specs.declared.entry.RingEntry.TheVariants.{Send, Local}
 use Rattle.ring_core.specs.Machine.{addresses, ring_after, ring_node}
 use Rattle.ring_core.specs.Legal.{IsLegalRing}
-use Rattle.ring_core.specs.Stability.{NoLeave}
-use Rattle.ring_core.proofs.Stability.{member-stays}
 use Rattle.std.specs.List.{AllByRecursion}
 use Rattle.tied_lists.specs.Waits.{HasLeft}
 use Rattle.comm_port.specs.Leaving.{IsHere}
 use Rattle.serial_run.specs.Turns.{has_left}
-use Rattle.turn_laws.proofs.Holders.{gone-stays}
+use Rattle.turn_laws.proofs.Gone.{inner-keeps}
+use Rattle.turn_laws.proofs.Passes.{IsInner, each-map}
 use Rattle.controller_core.specs.declared.fixed.Fixed.{Fixed}
 use Rattle.controller_core.specs.declared.entry.Entry.{Entry}
 use Rattle.tied_lists.specs.Own.{is_of, own, Adds, Grew}
@@ -177,28 +176,30 @@ visit-known fixed net n known new_known ring new_ring v =
 
 -- ---- whether the node has left
 
-no-leaves : (n : ℕ) (es : List RingEntry) → AllByRecursion IsGivingUp es → NoLeave n es
-no-leaves n [] all = tt
-no-leaves n (GiveUp id word ∷ es) all = ((λ is. is), no-leaves n es all.1)
-no-leaves n (Pass m d w ∷ es) all = absurd all.0
-no-leaves n (Leave m c ∷ es) all = absurd all.0
-no-leaves n (Post m f ∷ es) all = absurd all.0
-no-leaves n (Take m f ∷ es) all = absurd all.0
-no-leaves n (Send m h ∷ es) all = absurd all.0
-no-leaves n (Local m id op r ∷ es) all = absurd all.0
+giving-inner : (e : RingEntry) → IsGivingUp e → IsInner e
+giving-inner (GiveUp id word) is = refl
+giving-inner (Pass m d w) is = absurd is
+giving-inner (Leave m c) is = absurd is
+giving-inner (Post m f) is = absurd is
+giving-inner (Take m f) is = absurd is
+giving-inner (Send m h) is = absurd is
+giving-inner (Local m id op r) is = absurd is
 
 left-by : (net : NetPlan) (n : ℕ) (handed new_ring : List RingEntry) (left : Bool)
     → Adds true (is_of n) IsGivingUp handed new_ring
     → (left ≡ true → HasLeft net handed n) → (left ≡ false → IsHere net handed n)
     → left ≡ has_left net new_ring n
-left-by net n handed new_ring true a gone stays =
-    ap not (sym (ap (λ (l : List RingEntry). (ring_node (ring_after net l) n).here) a.grew.after_is
-    ∙ gone-stays net handed a.grew.more n (gone refl)))
-left-by net n handed new_ring false a gone stays =
-    let none : NoLeave n a.grew.more = subst (NoLeave n) (sym (a.grew.all_alone refl))
-    (no-leaves n a.added a.sort) in
-    ap not (sym (ap (λ (l : List RingEntry). (ring_node (ring_after net l) n).here) a.grew.after_is
-    ∙ member-stays net handed a.grew.more n (stays refl) none))
+left-by net n handed new_ring left a gone stays = at left gone stays
+  where
+    kept : (ring_node (ring_after net new_ring) n).here ≡ (ring_node (ring_after net handed) n).here
+    kept = inner-keeps net n handed a.grew.more new_ring a.added a.grew.after_is
+        (grew-ours true (is_of n) handed a.added new_ring a.grew)
+        (each-map IsGivingUp IsInner a.added giving-inner a.sort)
+
+    at : (b : Bool) → (b ≡ true → HasLeft net handed n) → (b ≡ false → IsHere net handed n)
+        → b ≡ has_left net new_ring n
+    at true gone' stays' = ap not (sym (kept ∙ gone' refl))
+    at false gone' stays' = ap not (sym (kept ∙ stays' refl))
 
 -- ---- a node has fewer hold turns before it
 

@@ -14,6 +14,7 @@ use Rattle.joint_history.specs.JointLaws.{fixed_of}
 use Rattle.comm_port.specs.Worker.{IsMemberWorker, Standing, WorkerIs}
 use Rattle.comm_port.specs.HostTurns.{HostWorkerIs, after_turn}
 use Rattle.comm_port.specs.Leaving.{IsHere}
+use Rattle.comm_port.specs.HostStands.{own_side}
 use Rattle.tied_lists.specs.Waits.{HasLeft}
 use Rattle.turn_laws.specs.KeepsOn.{HostKeepsOn, KeepsOn, StandsTied}
 use Rattle.turn_laws.proofs.Stands.{stands-of}
@@ -21,22 +22,22 @@ use Rattle.serial_run.specs.declared.stations.ControllerStation.{ControllerStati
 use Rattle.serial_run.specs.declared.stations.HostStation.{HostStation}
 use Rattle.serial_run.specs.declared.stations.Stations.{Stations}
 use Rattle.serial_run.specs.Turns.{has_left}
-use Rattle.serial_run.specs.Stations.{StandAll, plain_ram_side, ring_side}
+use Rattle.serial_run.specs.Stations.{StandAll, plain_ram_side}
 use Rattle.serial_run.specs.Held.{HasToken, HostKeepsBeside, KeepsBeside}
 use Rattle.serial_run.proofs.Distinct.{controller-member, low-members}
 use Rattle.serial_run.proofs.TurnsMade.{at-place, host-at-place}
 
 pub stands-before : (w : WorkerIs) (v : ControllerIs) (ring : RingLog)
     → IsMemberWorker ring.net w.node → IsLegal v.fixed v.history
-    → Standing w (plain_ram_side v) v.history (ring_side ring.net) ring.history
+    → Standing w (plain_ram_side v) v.history (own_side ring.net) ring.history
     → StandsTied v.fixed ring.net w.node v.history ring.history
 stands-before w v ring member legal s = stands-of w (plain_ram_side v) v.history
-    (ring_side ring.net) ring.history member legal s
+    (own_side ring.net) ring.history member legal s
 
 pub stands-behind : (w u : WorkerIs) (v x : ControllerIs) (ring new_ring : RingLog)
     → IsMemberWorker ring.net w.node → IsLegal x.fixed x.history
     → u ≡ record w { waiting = u.waiting } → x.fixed ≡ v.fixed → new_ring.net ≡ ring.net
-    → Standing u (plain_ram_side x) x.history (ring_side new_ring.net) new_ring.history
+    → Standing u (plain_ram_side x) x.history (own_side new_ring.net) new_ring.history
     → StandsTied v.fixed ring.net w.node x.history new_ring.history
 stands-behind w u v x ring new_ring member legal worker fixed net s =
     let node : u.node ≡ w.node = ap (λ (k : WorkerIs). k.node) worker in
@@ -46,7 +47,7 @@ stands-behind w u v x ring new_ring member legal worker fixed net s =
     subst (λ (f : Fixed). StandsTied f ring.net w.node x.history new_ring.history) fixed
     (subst (λ (p : NetPlan). StandsTied x.fixed p w.node x.history new_ring.history) net
     (subst (λ (n : ℕ). StandsTied x.fixed new_ring.net n x.history new_ring.history) node
-    (stands-of u (plain_ram_side x) x.history (ring_side new_ring.net) new_ring.history there legal
+    (stands-of u (plain_ram_side x) x.history (own_side new_ring.net) new_ring.history there legal
     s)))
 
 -- what a station keeps, beside the ring alone

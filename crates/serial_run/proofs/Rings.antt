@@ -3,11 +3,10 @@ use Rattle.std.proofs.Common.{◌≡◌, ◌≢◌, ℕ, zero, suc, ◌+◌, ◌
 use Rattle.std.proofs.Common.{false, cond, List, [], ◌∷◌, ◌++◌, length, set}
 use Rattle.std.proofs.Common.{replicate, count_by, refl, sym, ap, subst, ◌∙◌, arith}
 use Rattle.std.proofs.Common.{⊎_elim, All, append-nil, append_assoc}
-use Rattle.std.proofs.lemmas.Bool.{cases_Bool, cases_eq, cond_both, eq-eqb, ne_eqb}
+use Rattle.std.proofs.lemmas.Bool.{cases_eq, cond_both, eq-eqb, ne_eqb}
 use Rattle.std.proofs.lemmas.List.Elements.{All-contains}
 use Rattle.std.proofs.lemmas.List.Sums.{sum_by-append}
 use Rattle.plant_types.specs.declared.net.NetPlan.{NetPlan}
-use Rattle.ring_core.specs.declared.frame.FrameKind.{FrameKind}
 use Rattle.ring_core.specs.declared.entry.RingEntry.{RingEntry}
 use Rattle.ring_core.specs.declared.entry.RingEntry.TheVariants.{Post, Send, Take, Local, GiveUp}
 use Rattle.ring_core.specs.declared.entry.RingEntry.TheVariants.{Pass, Leave}
@@ -16,13 +15,12 @@ use Rattle.ring_core.specs.Machine.{NodeIs, RingIs, addresses, fresh, part_of, r
 use Rattle.ring_core.specs.Machine.{after_pass, gone}
 use Rattle.ring_core.specs.Machine.{after, ring_after}
 use Rattle.ring_core.specs.Machine.{with_members}
-use Rattle.ring_core.specs.Legal.{IsFrom, IsLegalRing, IsRun, IsRingStep}
+use Rattle.ring_core.specs.Legal.{IsLegalRing, IsRun, IsRingStep}
 use Rattle.ring_core.specs.Kept.{IsSoundRing}
-use Rattle.ring_core.specs.Stability.{IsLeave, NoLeave, NoneBy}
-use Rattle.ring_core.proofs.Sound.{IsSourced, after-sound, opening-sound}
-use Rattle.ring_core.proofs.Stability.{left-stays, member-stays}
+use Rattle.ring_core.proofs.Keeping.{sourced}
+use Rattle.ring_core.proofs.Sound.{after-sound, opening-sound}
 use Rattle.tied_lists.specs.Own.{own}
-use Rattle.tied_lists.proofs.Turns.{next-ring, none-by}
+use Rattle.tied_lists.proofs.Turns.{next-ring}
 use Rattle.joint_history.specs.Complete.{is_pass}
 use Rattle.turn_laws.proofs.Holders.{seen-set, seen-sent}
 
@@ -120,20 +118,6 @@ passes-after net past r n (Leave m cause) size low step =
       left-passes (d ∷ ds) (suc a) zero e = refl
       left-passes (d ∷ ds) (suc a) (suc b) e = left-passes ds a b (omega (arith, e))
 
--- a Request that is posted asks for a member, on a path of its own
-sourced : (net : NetPlan) (past : List RingEntry) (e : RingEntry)
-    → All (λ m. m < addresses) net.members → IsRingStep net past e → IsSourced e
-sourced net past (Post n f) low step = λ asks.
-    let from = subst (λ (kind : FrameKind). IsFrom n kind f) asks step.0.1 in
-    let address = All-contains (λ m. m < addresses) net.members n low step.0.0 in
-    (subst (λ (m : ℕ). m < addresses) (sym from.0) address, omega (arith, from.2.1))
-sourced net past (Send n heard) low step = tt
-sourced net past (Take n f) low step = tt
-sourced net past (Local n id op result) low step = tt
-sourced net past (GiveUp id word) low step = tt
-sourced net past (Pass n done words) low step = tt
-sourced net past (Leave n cause) low step = tt
-
 counted-from : (net : NetPlan) (n : ℕ) (past es : List RingEntry) → (k : ℕ)
     → IsSoundRing k (ring_after net past)
     → All (λ m. m < addresses) net.members → IsRun net past es
@@ -188,30 +172,3 @@ passes-counted net history n low legal =
     (replicate addresses (fresh false)) net.members n (fresh-passes addresses) in
     let all = counted-from net n [] history 0 (opening-sound net) low legal in
     omega (arith, start, all)
-
--- ---- who is there
-
--- entries of others don't change whether a node has left
-no-leave : (n : ℕ) (es : List RingEntry) → own n es ≡ [] → NoLeave n es
-no-leave n es none = from-none es (none-by n es none) where
-  leave-other : (e : RingEntry) → maker e ≢ n → IsLeave n e → ⊥
-  leave-other (Leave m cause) other is = other is
-  leave-other (Post m f) other is = is
-  leave-other (Send m heard) other is = is
-  leave-other (Take m f) other is = is
-  leave-other (Local m id op result) other is = is
-  leave-other (GiveUp id word) other is = is
-  leave-other (Pass m done words) other is = is
-
-  from-none : (es : List RingEntry) → NoneBy n es → NoLeave n es
-  from-none [] h = tt
-  from-none (e ∷ es) h = (leave-other e h.0, from-none es h.1)
-
-pub here-stays : (net : NetPlan) (past more : List RingEntry) (n : ℕ) → own n more ≡ []
-    → (ring_node (ring_after net (past ++ more)) n).here ≡ (ring_node (ring_after net past) n).here
-here-stays net past more n none = ⊎_elim
-    (λ (there : (ring_node (ring_after net past) n).here ≡ true). member-stays net past more n there
-    (no-leave n more none) ∙ sym there)
-    (λ (left : (ring_node (ring_after net past) n).here ≡ false). ap (λ (c : NodeIs). c.here)
-    (left-stays net past more n left (none-by n more none)))
-    (cases_Bool (ring_node (ring_after net past) n).here)

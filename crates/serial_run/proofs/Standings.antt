@@ -14,12 +14,12 @@ use Rattle.controller_core.specs.declared.entry.Entry.TheVariants as entries
 use Rattle.controller_core.specs.declared.entry.Maker.TheVariants.{Scan}
 use Rattle.controller_core.specs.Controller.{ControllerIs, AreOf, ControllerWentOn}
 use Rattle.tied_lists.specs.Own.{is_of}
-use Rattle.tied_lists.specs.Items.{AHost}
-use Rattle.tied_lists.specs.Tied.{Tied}
-use Rattle.joint_history.specs.Reading.{is_ours, host_items_of}
+use Rattle.joint_history.specs.Reading.{is_ours}
 use Rattle.comm_port.specs.Worker.{Standing, WorkerIs}
-use Rattle.comm_port.specs.HostTurns.{HostTies, PathsAgree}
+use Rattle.comm_port.specs.HostTurns.{HostTies}
+use Rattle.comm_port.proofs.HostTurnLaws.{host-ties-others}
 use Rattle.comm_port.proofs.Standings.{standing-others, standing-scans}
+use Rattle.comm_port.specs.HostStands.{own_side}
 use Rattle.controller_core.specs.declared.fixed.Fixed.{Fixed}
 use Rattle.plant_types.specs.Plans.{IsPlant}
 use Rattle.ring_core.specs.Legal.{IsMember}
@@ -32,7 +32,6 @@ use Rattle.serial_run.proofs.Distinct.{low-members}
 use Rattle.serial_run.specs.declared.stations.ControllerStation.{ControllerStation}
 use Rattle.serial_run.specs.declared.stations.HostStation.{HostStation}
 use Rattle.serial_run.specs.Stations.{StandsController, StandsHost, MadeEvents, plain_ram_side}
-use Rattle.serial_run.specs.Stations.{ring_side}
 use Rattle.serial_run.proofs.Grown.{Further, others-own, others-left, others-none}
 
 -- ---- others have their turns
@@ -40,11 +39,11 @@ use Rattle.serial_run.proofs.Grown.{Further, others-own, others-left, others-non
 comm-others : (plant : Plant) (w : WorkerIs) (v : ControllerIs) (n : ℕ) (old new : List RingEntry)
     → IsPlant plant → IsMember plant.net w.node → w.node ≢ n
     → Further (is_of n) old new → IsLegalRing plant.net new
-    → Standing w (plain_ram_side v) v.history (ring_side plant.net) old
-    → Standing w (plain_ram_side v) v.history (ring_side plant.net) new
+    → Standing w (plain_ram_side v) v.history (own_side plant.net) old
+    → Standing w (plain_ram_side v) v.history (own_side plant.net) new
 comm-others plant w v n old new sound member other f legal s =
-    subst (Standing w (plain_ram_side v) v.history (ring_side plant.net)) (sym f.is)
-    (standing-others w (plain_ram_side v) v.history (ring_side plant.net) old f.more
+    subst (Standing w (plain_ram_side v) v.history (own_side plant.net)) (sym f.is)
+    (standing-others w (plain_ram_side v) v.history (own_side plant.net) old f.more
     (record {
       members = low-members plant sound;
       legal = subst (IsLegalRing plant.net) f.is legal;
@@ -54,18 +53,11 @@ comm-others plant w v n old new sound member other f legal s =
 
 ties-others : (net : NetPlan) (host : _) (m n : ℕ) (old new : List RingEntry) → m ≢ n
     → Further (is_of n) old new → IsLegalRing net new
-    → HostTies m host (ring_side net) old → HostTies m host (ring_side net) new
+    → HostTies m host (own_side net) old → HostTies m host (own_side net) new
 ties-others net host m n old new other f legal s =
-    let same = others-own n m old new other f in
-    record {
-      node = s.node;
-      legal = s.legal;
-      serves = s.serves;
-      on = record { members = s.on.members; legal = legal; member = s.on.member };
-      answer = s.answer;
-      tied = subst (Tied AHost (host_items_of host.history)) (sym same) s.tied;
-      paths = subst (PathsAgree host.history) (sym same) s.paths;
-    }
+    subst (HostTies m host (own_side net)) (sym f.is)
+    (host-ties-others m host (own_side net) old f.more (others-none n m old new other f)
+    (subst (IsLegalRing net) f.is legal) s)
 
 pub stands-others : (plant : Plant) (scans n : ℕ) (old new : List RingEntry) (plan : ControllerPlan)
     (s : ControllerStation) → IsPlant plant
@@ -122,14 +114,14 @@ no-items (entries.Finish id result ∷ added) of = absurd (let is = of.0 in cc)
 
 comm-scans : (net : NetPlan) (worker : WorkerIs) (added : List Entry) (v w : ControllerIs)
     (ring : List RingEntry) → ControllerWentOn Scan added v w
-    → Standing worker (plain_ram_side v) v.history (ring_side net) ring
-    → Standing worker (plain_ram_side w) w.history (ring_side net) ring
+    → Standing worker (plain_ram_side v) v.history (own_side net) ring
+    → Standing worker (plain_ram_side w) w.history (own_side net) ring
 comm-scans net worker added v w ring went s =
     subst (λ (f : Fixed). Standing worker (record { fixed = f; place = tt }) w.history
-    (ring_side net) ring) (sym went.fixed)
-    (subst (λ (h : List Entry). Standing worker (plain_ram_side v) h (ring_side net) ring)
+    (own_side net) ring) (sym went.fixed)
+    (subst (λ (h : List Entry). Standing worker (plain_ram_side v) h (own_side net) ring)
     (sym went.history)
-    (standing-scans worker (plain_ram_side v) v.history added (ring_side net) ring
+    (standing-scans worker (plain_ram_side v) v.history added (own_side net) ring
     (no-items added went.made) s))
 
 pub stands-scans : (plant : Plant) (scans : ℕ) (ring : List RingEntry) (plan : ControllerPlan)

@@ -9,11 +9,10 @@ use Rattle.plant_types.specs.Plans.{IsPlant}
 use Rattle.ring_core.specs.Machine.{path_places}
 use Rattle.ring_core.specs.Legal.{IsMember}
 use Rattle.controller_core.specs.Controller.{ControllerIs, IsLegal}
-use Rattle.tied_lists.specs.Items.{AHost, no_items}
-use Rattle.tied_lists.specs.Tied.{Tied}
 use Rattle.joint_history.specs.JointLaws.{fixed_of}
 use Rattle.comm_port.specs.Worker.{WorkerIs}
-use Rattle.comm_port.specs.HostTurns.{HostWorkerIs, PathsAgree}
+use Rattle.comm_port.specs.HostTurns.{HostWorkerIs}
+use Rattle.comm_port.proofs.HostTurnLaws.{host-ties-new}
 use Rattle.host_port.specs.Host.{HostIs}
 use Rattle.host_port.specs.Legal.{IsHostHistory}
 use Rattle.serial_run.specs.declared.stations.ControllerStation.{ControllerStation}
@@ -29,14 +28,11 @@ use Rattle.serial_run.specs.Stations.{StandsController, StandsHost, StartsContro
 use Rattle.serial_run.specs.Stations.{StartControllers, StartHosts, Starts, host_log_of, log_of}
 use Rattle.serial_run.proofs.Lists.{zip-each, zip-other, zip-same-map}
 use Rattle.comm_port.proofs.Standings.{standing-new}
-use Rattle.serial_run.specs.Stations.{ring_side}
+use Rattle.comm_port.specs.HostStands.{own_side}
 use Rattle.serial_run.proofs.Distinct.{low-members, member-node}
 use Rattle.turn_laws.proofs.Others.{starts}
 use Rattle.turn_laws.proofs.HostOthers.{host-starts}
 use Rattle.turn_laws.proofs.Holders.{member-there}
-
-nothing-host-tied : Tied AHost no_items []
-nothing-host-tied = record { asks = refl; peers = refl; port = refl; replies = refl; ends = refl }
 
 nobody-left : (plant : Plant) → IsPlant plant → (n : ℕ) → IsMember plant.net n
     → false ≡ has_left plant.net [] n
@@ -75,7 +71,7 @@ start-controller plant scans plan v w sound member legal v-is w-is =
         fixed = refl;
         legal = legal;
         standing = standing-new plan.node plant.net true
-            (record { fixed = fixed_of plant scans plan; place = tt }) [] (ring_side plant.net) refl
+            (record { fixed = fixed_of plant scans plan; place = tt }) [] (own_side plant.net) refl
             refl tt refl;
         left = nobody-left plant sound plan.node member;
         keeps = starts (fixed_of plant scans plan) plant.net plan.node [] refl;
@@ -83,9 +79,6 @@ start-controller plant scans plan v w sound member legal v-is w-is =
       nothing = refl;
       here = refl;
     }))
-
-paths-agree : PathsAgree [] []
-paths-agree = record { waits = λ p. refl; numbers = λ p. refl }
 
 pub start-host : (plant : Plant) (plan : HostPlan) (v : HostIs) (w : HostWorkerIs) → IsPlant plant
     → IsMember plant.net plan.node
@@ -109,15 +102,9 @@ start-host plant plan v w sound member legal v-is w-is =
         worker_node = refl;
         budget = refl;
         plan_is = refl;
-        ties = record {
-          node = refl;
-          legal = legal;
-          serves = tt;
-          on = record { members = low-members plant sound; legal = tt; member = member };
-          answer = let from = sound.net.answer.from in omega (arith, from);
-          tied = nothing-host-tied;
-          paths = paths-agree;
-        };
+        ties = host-ties-new plan (own_side plant.net) legal tt
+            (record { members = low-members plant sound; legal = tt; member = member })
+            (let from = sound.net.answer.from in omega (arith, from));
         counts = refl;
         left = nobody-left plant sound plan.node member;
         keeps = host-starts plan plant.net [] refl;

@@ -18,17 +18,18 @@ use Rattle.serial_run.specs.declared.stations.HostStation.{HostStation}
 use Rattle.serial_run.specs.declared.stations.Stations.{Stations}
 use Rattle.serial_run.specs.Turns.{has_left}
 use Rattle.comm_port.specs.Worker.{IsMemberWorker}
+use Rattle.comm_port.specs.HostStands.{own_side}
 use Rattle.turn_laws.specs.KeepsOn.{HostKeepsOn, KeepsOn}
-use Rattle.serial_run.specs.Stations.{plain_ram_side, ring_side}
+use Rattle.serial_run.specs.Stations.{plain_ram_side}
 
 -- A controller's station beside the ring alone.
 abbrev pub StandsBeside : ControllerStation → RingLog → Type 0
 StandsBeside station ring = Standing station.worker (plain_ram_side station.controller)
-    station.controller.history (ring_side ring.net) ring.history
+    station.controller.history (own_side ring.net) ring.history
 
 -- A host's station beside the ring alone.
 pub record HostStandsBeside (station : HostStation) (ring : RingLog) : Type 0 where
-  pub ties : HostTies station.worker.node station.host (ring_side ring.net) ring.history
+  pub ties : HostTies station.worker.node station.host (own_side ring.net) ring.history
   pub counts : CountsPasses station.worker ring.history
 
 -- The node of a station holds the token.

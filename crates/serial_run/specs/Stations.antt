@@ -1,8 +1,7 @@
 -- What a run keeps of all stations of its plant. This project's own.
-use Rattle.std.specs.Prelude.{false, ◌≡◌, ℕ, true, List, map, None}
+use Rattle.std.specs.Prelude.{false, ◌≡◌, ℕ, true, List, map}
 use Rattle.std.specs.Prelude.{[]}
 use Rattle.std.specs.List.{AllZip, count_by}
-use Rattle.plant_types.specs.declared.net.NetPlan.{NetPlan}
 use Rattle.plant_types.specs.declared.net.HostPlan.{HostPlan}
 use Rattle.plant_types.specs.declared.plan.ControllerPlan.{ControllerPlan}
 use Rattle.plant_types.specs.declared.plan.Plant.{Plant}
@@ -21,8 +20,10 @@ use Rattle.joint_history.specs.declared.joint.HostLog.{HostLog}
 use Rattle.joint_history.specs.declared.joint.Joint.{Joint}
 use Rattle.summary_text.specs.Coils.{all_coils}
 use Rattle.joint_history.specs.JointLaws.{fixed_of}
-use Rattle.comm_port.specs.Sides.{RamSideIs, RingSideIs}
+use Rattle.joint_history.specs.Nets.{net_of}
+use Rattle.comm_port.specs.Sides.{RamSideIs}
 use Rattle.comm_port.specs.Worker.{Standing}
+use Rattle.comm_port.specs.HostStands.{own_side}
 use Rattle.comm_port.specs.HostTurns.{CountsPasses, HostTies}
 use Rattle.serial_run.specs.declared.stations.ControllerStation.{ControllerStation}
 use Rattle.serial_run.specs.declared.stations.HostStation.{HostStation}
@@ -54,12 +55,9 @@ joint_of run = record {
   ring = run.ring.history;
 }
 
--- A controller and a ring as the sides of a worker, where nobody else writes.
+-- A controller as the side of a worker, where nobody else writes.
 abbrev pub plain_ram_side : ControllerIs → RamSideIs Unit
 plain_ram_side controller = record { fixed = controller.fixed; place = tt }
-
-abbrev pub ring_side : NetPlan → RingSideIs Unit
-ring_side net = record { net = net; writer = None; place = tt }
 
 -- A controller's station stands between its turns.
 pub record StandsController (plant : Plant) (scans : ℕ) (ring : List RingEntry)
@@ -70,10 +68,10 @@ pub record StandsController (plant : Plant) (scans : ℕ) (ring : List RingEntry
   pub fixed : station.controller.fixed ≡ fixed_of plant scans plan
   pub legal : IsLegal station.controller.fixed station.controller.history
   pub standing : Standing station.worker (plain_ram_side station.controller)
-      station.controller.history (ring_side plant.net) ring
-  pub left : station.left ≡ has_left plant.net ring plan.node
-  pub keeps : KeepsOn (fixed_of plant scans plan) plant.net plan.node station.controller.history
-      ring station.left
+      station.controller.history (own_side (net_of plant plan.node)) ring
+  pub left : station.left ≡ has_left (net_of plant plan.node) ring plan.node
+  pub keeps : KeepsOn (fixed_of plant scans plan) (net_of plant plan.node) plan.node
+      station.controller.history ring station.left
 
 -- A host's station stands between its turns.
 pub record StandsHost (plant : Plant) (ring : List RingEntry) (plan : HostPlan)
@@ -82,10 +80,10 @@ pub record StandsHost (plant : Plant) (ring : List RingEntry) (plan : HostPlan)
   pub worker_node : station.worker.node ≡ plan.node
   pub budget : station.worker.budget ≡ true
   pub plan_is : station.host.plan ≡ plan
-  pub ties : HostTies plan.node station.host (ring_side plant.net) ring
+  pub ties : HostTies plan.node station.host (own_side (net_of plant plan.node)) ring
   pub counts : CountsPasses station.worker ring
-  pub left : station.left ≡ has_left plant.net ring plan.node
-  pub keeps : HostKeepsOn plan plant.net station.host.history ring station.left
+  pub left : station.left ≡ has_left (net_of plant plan.node) ring plan.node
+  pub keeps : HostKeepsOn plan (net_of plant plan.node) station.host.history ring station.left
 
 -- All stations stand between their turns, those of the plant in its order.
 pub record StandAll (plant : Plant) (scans : ℕ) (run : Stations) : Type 0 where

@@ -6,7 +6,7 @@ use Rattle.plant_types.specs.declared.net.NetPlan.{NetPlan}
 use Rattle.plant_types.specs.declared.net.HostPlan.{HostPlan}
 use Rattle.plant_types.specs.declared.plan.ControllerPlan.{ControllerPlan}
 use Rattle.plant_types.specs.declared.plan.Plant.{Plant}
-use Rattle.ring_core.specs.Machine.{ring_after, ring_node}
+use Rattle.ring_core.specs.Machine.{ring_after, ring_node, is_here}
 use Rattle.ring_core.specs.declared.entry.RingEntry.{RingEntry}
 use Rattle.controller_core.specs.declared.fixed.Fixed.{Fixed}
 use Rattle.controller_core.specs.declared.entry.Entry.{Entry}
@@ -16,6 +16,7 @@ use Rattle.joint_history.specs.declared.joint.ControllerLog.{ControllerLog}
 use Rattle.joint_history.specs.declared.joint.HostLog.{HostLog}
 use Rattle.joint_history.specs.declared.joint.Joint.{Joint}
 use Rattle.joint_history.specs.JointLaws.{fixed_of}
+use Rattle.joint_history.specs.Nets.{net_of}
 use Rattle.joint_history.specs.Reading.{controller_at, has_started_at}
 use Rattle.comm_port.specs.HoldTurn.{HoldsTurn, VisitsEnd}
 use Rattle.comm_port.specs.HostTurns.{HoldsHostTurn}
@@ -91,8 +92,8 @@ pub record MakesHoldTurnAt (plant : Plant) (scans at : ℕ) (old new : Joint) : 
   pub entries : List Entry
   pub ring : List RingEntry
   pub left : Bool
-  pub turn : HoldsTurn true true (fixed_of plant scans plan) plant.net plan.node true log.entries
-      entries old.ring ring left
+  pub turn : HoldsTurn true true (fixed_of plant scans plan) (net_of plant plan.node) plan.node true
+      log.entries entries old.ring ring left
   pub made : new ≡ record (with_list at log entries old) { ring = ring }
 
 -- The host at a place makes its hold turn: its own list and the ring's go on.
@@ -103,8 +104,8 @@ pub record HostHoldsAt (plant : Plant) (at : ℕ) (old new : Joint) : Type 0 whe
   pub entries : List HostEntry
   pub ring : List RingEntry
   pub left : Bool
-  pub turn : HoldsHostTurn true plant.net plan.node plan true log.entries entries old.ring ring
-      left
+  pub turn : HoldsHostTurn true (net_of plant plan.node) plan.node plan true log.entries entries
+      old.ring ring left
   pub made : new ≡ record (with_host_list at log entries old) { ring = ring }
 
 -- Hold: the station of the node that holds the token makes its hold turn; nothing where all have
@@ -116,20 +117,21 @@ MakesHold plant scans None None old new = new ≡ old
 
 -- A node has left the ring.
 abbrev pub has_left : NetPlan → List RingEntry → ℕ → Bool
-has_left net ring node = not (ring_node (ring_after net ring) node).here
+has_left net ring node = not (is_here (ring_node (ring_after net ring) node))
 
 -- A controller's visit is due: it has left, and has calls that were not collected.
 abbrev pub visit_is_due : Plant → ℕ → ControllerPlan → List Entry → List RingEntry → Bool
 visit_is_due plant scans plan entries ring =
-    has_left plant.net ring plan.node && has_started_at (fixed_of plant scans plan) entries
+    has_left (net_of plant plan.node) ring plan.node
+    && has_started_at (fixed_of plant scans plan) entries
 
 -- The controller at a place makes its visit: its own list and the ring's go on.
 pub record VisitsAt (plant : Plant) (scans at : ℕ) (plan : ControllerPlan) (log : ControllerLog)
     (old new : Joint) : Type 0 where
   pub entries : List Entry
   pub ring : List RingEntry
-  pub visit : VisitsEnd true true (fixed_of plant scans plan) plant.net plan.node log.entries
-      entries old.ring ring
+  pub visit : VisitsEnd true true (fixed_of plant scans plan) (net_of plant plan.node) plan.node
+      log.entries entries old.ring ring
   pub made : new ≡ record (with_list at log entries old) { ring = ring }
 
 -- The controller at a place makes its visit where that is due, and else nothing.

@@ -32,14 +32,6 @@ pub grew-ours : {E : Type 0} (alone : Bool) (ours : E → Bool) (before added af
 grew-ours alone ours before added after' g = ap (filter ours) g.after_is
     ∙ (filter-append ours before g.more ∙ ap (λ l. filter ours before ++ l) g.ours_are)
 
-pub went-ours : {E : Type 0} (alone : Bool) (ours : E → Bool) (before added after' : List E)
-    → WentOn alone ours before added
-    after' → filter ours after' ≡ filter ours before ++ filter ours added
-went-ours alone ours before added after' w =
-    ap (filter ours) w.after_is ∙ (filter-append ours (before ++ w.between) added
-    ∙ ap (λ l. l ++ filter ours added) (filter-append ours before w.between
-    ∙ (ap (λ l. filter ours before ++ l) w.others ∙ append-nil (filter ours before))))
-
 -- entries of one sort
 pub adds_none : {E : Type 0} (alone : Bool) (ours : E → Bool) (Sort : E → Type 0) (xs : List E)
     → Adds alone ours Sort xs xs

@@ -517,10 +517,6 @@ heard-own m c kind id there Silent all =
     (OwnBox m) (λ _. each-drop (IsOwn m) c.outbox all) (λ _. all)
 
 -- Send: the target
-from-reply : (m : ℕ) (f : Frame) (kind : FrameKind) → IsFrom m kind f → kind ≡ Reply → f.to ≡ f.id.node
-from-reply m f Request from is = absurd (cc)
-from-reply m f Reply from is = from.0
-
 pub to-other : (m : ℕ) (f : Frame) (kind : FrameKind) → IsFrom m kind f → f.to ≢ m
 to-other m f Request from = from.1
 to-other m f Reply from = from.1
@@ -596,10 +592,6 @@ nothing-out : (n holder : ℕ) (here : Bool) (out : List Frame) → holder ≢ n
 nothing-out n holder here out not_mine is b = ⊎_elim (λ (x : out ≡ []). x)
     (λ (y : (holder ≡ n) ⊎ (here ≡ false)). ⊎_elim (λ (z : holder ≡ n). absurd (not_mine z))
     (λ (z : here ≡ false). absurd (cc)) y) b
-
-pub record SentTo (n : ℕ) (b : List RingEntry) (holder : ℕ) (old new : NodeIs) : Type 0 where
-  pub node : NodeFollows n b holder new
-  pub outbox : new.outbox ≡ old.outbox
 
 came-node : (n m : ℕ) (b : List RingEntry) (holder : ℕ) (c : NodeIs) (f : Frame) → IsOwn m f
     → f.to ≡ n → m ≢ n → holder ≢ n → c.here ≡ true → NodeFollows n b holder c

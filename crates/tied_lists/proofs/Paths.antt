@@ -150,9 +150,6 @@ follows-set n b b' ps q v out out' box box' tries tries' low here others ask num
     }
 
 -- Post of a Request
-is-nothing-out : (a : Await) → a ≡ Nothing → is_out a ≡ false
-is-nothing-out a e = ap is_out e
-
 posted-here : (p : ℕ) (now : Option Frame) (f : Frame) → f.id.path ≡ p
     → (cond (f.id.path == p) (Some f) now) ≡ Some f
 posted-here p now f e = cond-true (f.id.path == p) _ _ (eq-eqb f.id.path p e)

@@ -56,11 +56,6 @@ tied-called station calls a b t = record {
 both : {X : Type 0} (a b c d : List X) → a ≡ c → b ≡ d → a ++ b ≡ c ++ d
 both a b c d p q = λ i. p i ++ q i
 
-map-push : {X Y : Type 0} (f : X → Y) (xs : List X) (x : X)
-    → map f (xs ++ x ∷ []) ≡ map f xs ++ f x ∷ []
-map-push f [] x = refl
-map-push f (y ∷ xs) x = ap (λ l. f y ∷ l) (map-push f xs x)
-
 ends-append : (station : Station) (asked : List Asked) (b c : List RingEntry)
     → ended_by station asked (b ++ c) ≡ ended_by station
     asked b ++ ended_by station (asked ++ asked_by b) c

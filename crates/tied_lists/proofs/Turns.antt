@@ -18,9 +18,9 @@ use Rattle.ring_core.specs.Machine.{ring_node, path_of, posted, took, gave_up, g
 use Rattle.ring_core.specs.Machine.{ring_after, heard_by, awaited_number, sent_head, after_pass}
 use Rattle.ring_core.specs.Legal.{IsFirst, IsPath, IsFrom, IsLawful, IsTimelyEntry, IsRingStep}
 use Rattle.ring_core.specs.Legal.{IsRun, IsLegalRing}
-use Rattle.ring_core.specs.Stability.{Stays, NoneBy}
+use Rattle.ring_core.specs.Stability.{IsLeave, NoLeave, NoneBy, Stays}
 use Rattle.ring_core.proofs.Runs.{after_all-push}
-use Rattle.ring_core.proofs.Stability.{holder-stays, left-stays}
+use Rattle.ring_core.proofs.Stability.{holders-keep, leave-made, membership-stays, outsiders-keep}
 use Rattle.tied_lists.specs.Words.{CallId, FrameKind, Request, Reply, Frame, NetPlan, Heard}
 use Rattle.tied_lists.specs.Words.{LocalOp, MstrResult, LeaveCause, RingEntry, Post, Send, Take}
 use Rattle.tied_lists.specs.Words.{Local, GiveUp, Pass, Leave}
@@ -68,6 +68,29 @@ none-by n (e ∷ es) none =
       none-by n es k.1,
     )
 
+-- what is said of each own entry and of others' is said of all
+own-first : (P : RingEntry → Type 0) (b : Bool) (e : RingEntry) (rest : List RingEntry)
+    → Each P (cond b (e ∷ rest) rest) → (b ≡ true → P e) × Each P rest
+own-first P true e rest all = (λ _. all.0, all.1)
+own-first P false e rest all = (λ is. absurd (let no' : false ≡ true = is in cc), all)
+
+-- a list without a Leave of the node among its own entries
+pub no-leave : (n : ℕ) (es : List RingEntry) → Each (λ (e : RingEntry). IsLeave n e → ⊥) (own n es)
+    → NoLeave n es
+no-leave n [] none = tt
+no-leave n (e ∷ es) none =
+    let k = own-first (λ (x : RingEntry). IsLeave n x → ⊥) (maker e == n) e (own n es) none in (
+      λ is. k.0 (eq-eqb (maker e) n (leave-made n e is)) is,
+      no-leave n es k.1,
+    )
+
+-- entries of others keep whether the node is a member
+pub membership-kept : (net : NetPlan) (n : ℕ) (past more : List RingEntry) → own n more ≡ []
+    → (part net (past ++ more) n).here ≡ (part net past n).here
+membership-kept net n past more none =
+    membership-stays net past more n
+    (no-leave n more (subst (Each (λ (e : RingEntry). IsLeave n e → ⊥)) (sym none) tt))
+
 pub own-joined : (n : ℕ) (xs ys : List RingEntry) → own n (xs ++ ys) ≡ own n xs ++ own n ys
 own-joined n xs ys = filter-append (is_of n) xs ys
 
@@ -90,8 +113,7 @@ found-at net n before between legal none free =
     let run = (legal-parts net before between legal).1 in
     ⊎_elim (λ (h : Holds net before n).
     let s : Stays (ring_after net before) (ring_after net (before ++ between)) n =
-    holder-stays net before between n run
-    h.holder (none-by n between none) in
+    holders-keep net before between n run h.here h.holder (none-by n between none) in
     let now : Holds net (before ++ between) n =
     record { holder = s.holder ∙ h.holder; here = ap (λ (c : NodeIs). c.here) s.part ∙ h.here } in
     record {
@@ -101,13 +123,11 @@ found-at net n before between legal none free =
       own_is = own-found n before between none;
     })
     (λ (l : HasLeft net before n).
-    let same : part net (before ++ between) n ≡ part net before n =
-    left-stays net before between n l (none-by n between none) in
-    let gone' : HasLeft net (before ++ between) n = ap (λ (c : NodeIs). c.here) same ∙ l in
+    let still : HasLeft net (before ++ between) n = membership-kept net n before between none ∙ l in
     record {
-      free = inr gone';
+      free = inr still;
       holds = λ h. absurd (let x = h.here in cc);
-      part_is = same;
+      part_is = outsiders-keep net before between n l still (none-by n between none);
       own_is = own-found n before between none;
     })
     free

@@ -11,7 +11,7 @@ use Rattle.tied_lists.specs.Words.{CallId, MstrResult, Bad, FrameKind, Request, 
 use Rattle.tied_lists.specs.Words.{LocalOp, RemoteGet, RemoteClear, RingEntry, Post, Take, Local}
 use Rattle.tied_lists.specs.Words.{GiveUp}
 use Rattle.ring_core.specs.Statistics.{get_statistics, clear_statistics, is_stats}
-use Rattle.reply_laws.specs.Result.{result_of}
+use Rattle.reply_laws.specs.Result.{no_result, result_of}
 
 -- A request that a station asks another for.
 pub record Asked : Type 0 where
@@ -195,7 +195,7 @@ due_replies (ForStats id pdu ∷ ts) peers locals =
 
 -- The result of a Reply, where the Request of its name was posted.
 abbrev pub result_for : Option (List ℕ) → List ℕ → MstrResult
-result_for None reply = Bad 0x3000
+result_for None reply = no_result
 result_for (Some request) reply = result_of request reply
 
 -- What a Reply, a word and an operation at home come to at a station.

@@ -1,7 +1,7 @@
 -- What a node's own list says of its paths. This project's own.
 use Rattle.std.specs.Prelude.{◌≡◌, ◌≢◌, ◌⊎◌, ℕ, ◌<◌, ◌==◌, true, false, if◌then◌else◌, List, []}
 use Rattle.std.specs.Prelude.{◌∷◌, Option, Some, None, Contains, All}
-use Rattle.ring_core.specs.Machine.{addresses, path_of, ring_node, ring_after}
+use Rattle.ring_core.specs.Machine.{addresses, path_of, ring_node, ring_after, is_here}
 use Rattle.ring_core.specs.Legal.{IsMember, IsPath, IsLegalRing}
 use Rattle.ring_core.specs.Words.{is_same_call}
 use Rattle.ring_core.specs.declared.path.Await.{Await}
@@ -75,11 +75,11 @@ pub record IsOnRing (net : NetPlan) (history : List RingEntry) (n : ℕ) : Type 
 -- A node holds the token.
 pub record Holds (net : NetPlan) (history : List RingEntry) (n : ℕ) : Type 0 where
   pub holder : (ring_after net history).holder ≡ n
-  pub here : (ring_node (ring_after net history) n).here ≡ true
+  pub here : is_here (ring_node (ring_after net history) n) ≡ true
 
 -- A node has left the ring.
 abbrev pub HasLeft : NetPlan → List RingEntry → ℕ → Type 0
-HasLeft net history n = (ring_node (ring_after net history) n).here ≡ false
+HasLeft net history n = is_here (ring_node (ring_after net history) n) ≡ false
 
 -- Nobody else changes a node's boxes and paths.
 abbrev pub IsFree : NetPlan → List RingEntry → ℕ → Type 0

@@ -32,7 +32,8 @@ use Rattle.comm_port.specs.Parts.{InOrder, PartOf}
 use Rattle.joint_history.specs.Reading.{is_ours, has_started_at}
 use Rattle.comm_port.specs.HoldTurn.{CollectsIf, Collects, HoldsTurn, VisitsEnd, IsGivenUp, IsMade}
 use Rattle.comm_port.specs.HoldTurn.{IsEnded, EndedAs, IsServed, MadeAs, SendsAll}
-use Rattle.comm_port.specs.SendsAll.{IsNextSending, each_path}
+use Rattle.comm_port.specs.Giving.{each_path}
+use Rattle.comm_port.specs.SendsAll.{IsNextSending}
 use Rattle.comm_port.proofs.Parts.{each-added}
 use Rattle.comm_port.specs.HoldTurn.{ServedAs, finish_of, inbox_of}
 use Rattle.comm_port.proofs.Asked.{both-asked}

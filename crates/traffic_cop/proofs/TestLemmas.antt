@@ -160,19 +160,3 @@ tested-ready sizes drops number s all named =
             faultless-modules sizes it.found.modules s it.holds.modules;
       };
     }
-
--- the drop of a number has that number
-number-step : (d found : IoDrop) (drops : List IoDrop) (number : ℕ) (b : Bool)
-    → (d.number == number) ≡ b
-    → (drop_named drops number ≡ Some found → found.number ≡ number)
-    → (if b then Some d else drop_named drops number) ≡ Some found → found.number ≡ number
-number-step d found drops number true e rest h =
-    let same : d ≡ found = cc in rw (← same) (eqb-true d.number number e)
-number-step d found drops number false e rest h = rest h
-
-pub drop_named-number : (drops : List IoDrop) (number : ℕ) (found : IoDrop)
-    → drop_named drops number ≡ Some found → found.number ≡ number
-unfolding drop_named
-drop_named-number [] number found h = cc
-drop_named-number (d ∷ drops) number found h = number-step d found drops number
-    (d.number == number) refl (drop_named-number drops number found) h

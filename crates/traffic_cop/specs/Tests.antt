@@ -79,7 +79,8 @@ held_of sizes io_module = count_of sizes (carried_kind io_module.kind)
 
 -- The modules of a drop have at most 64 words in and 64 words out.
 abbrev pub has_few_words : List Module → Bool
-has_few_words modules = nat_le (input_total modules) drop_words && nat_le (output_total modules) drop_words
+has_few_words modules =
+    nat_le (input_total modules) drop_words && nat_le (output_total modules) drop_words
 
 -- A drop that passes its tests: its number is 1 to 32, its modules have no fault in a map of these
 -- sizes, and its rows fit them.

@@ -1,6 +1,6 @@
 -- Who holds the token is there, as long as anybody is.
 use Rattle.std.proofs.Common.{◌≡◌, ◌⊎◌, ℕ, zero, suc, ◌+◌, ◌<◌, Bool, true, false, cond}
-use Rattle.std.proofs.Common.{List, [], ◌∷◌, ◌++◌, length, set, drop, replicate, refl, sym, ap}
+use Rattle.std.proofs.Common.{List, [], ◌∷◌, length, set, drop, replicate, refl, sym, ap}
 use Rattle.std.proofs.Common.{subst, ◌∙◌, arith, inl, inr, ⊎_elim}
 use Rattle.std.proofs.lemmas.Bool.{cases_Bool}
 use Rattle.std.proofs.lemmas.List.{get_or-drop, length-set, length-replicate}
@@ -300,23 +300,3 @@ pub member-there : (net : NetPlan) (n : ℕ) → n < addresses → IsMember net 
 member-there net n low member =
     opened (replicate addresses (fresh false)) net.members member.0 n
     (let size = length-replicate addresses (fresh false) in omega arith) member.1 member.2
-
--- ---- who has left does not come back
-
-after-more : (net : NetPlan) (r : RingIs) (xs ys : List RingEntry)
-    → after_all net r (xs ++ ys) ≡ after_all net (after_all net r xs) ys
-after-more net r [] ys = refl
-after-more net r (x ∷ xs) ys = after-more net (after net r x) xs ys
-
-false-by : (b c : Bool) → (b ≡ true → c ≡ true) → c ≡ false → b ≡ false
-false-by true c back is = let no' : true ≡ false = sym (back refl) ∙ is in absurd (cc)
-false-by false c back is = refl
-
-pub gone-stays : (net : NetPlan) (past more : List RingEntry) (n : ℕ)
-    → (ring_node (ring_after net past) n).here ≡ false
-    → (ring_node (ring_after net (past ++ more)) n).here ≡ false
-gone-stays net past more n gone' =
-    ap (λ (r : RingIs). (ring_node r n).here) (after-more net (opening net) past more)
-    ∙ false-by (ring_node (after_all net (ring_after net past) more) n).here
-    (ring_node (ring_after net past) n).here
-    (all-back net (ring_after net past) more n) gone'

@@ -1,11 +1,9 @@
 -- What comes between turns keeps what a host's lists keep, and what a host comes to.
-use Rattle.std.proofs.Common.{◌≡◌, true, false, List, [], ◌∷◌, refl, sym, ap, subst, ◌∙◌}
+use Rattle.std.proofs.Common.{◌≡◌, true, false, List, [], ◌∷◌, refl, sym, subst, ◌∙◌}
 use Rattle.std.specs.List.{AllZip}
 use Rattle.plant_types.specs.declared.net.HostPlan.{HostPlan}
-use Rattle.ring_core.specs.Machine.{NodeIs}
-use Rattle.ring_core.proofs.Stability.{left-stays}
 use Rattle.tied_lists.specs.Own.{own}
-use Rattle.tied_lists.proofs.Turns.{none-by, own-found}
+use Rattle.tied_lists.proofs.Turns.{membership-kept, own-found}
 use Rattle.joint_history.specs.Complete.{AsksAllBeforeDone, AsksInItsHolds, HostIsComplete}
 use Rattle.joint_history.specs.Complete.{IsCompleteHostLog, IsCompleteLog, NodeIsComplete}
 use Rattle.joint_history.specs.Complete.{RepliesBeforePasses, StaysDone}
@@ -51,8 +49,7 @@ host-others plan net list ring more left none k =
       gone = λ is_so.
           let g = k.gone is_so in
           record {
-            left = ap (λ (c : NodeIs). c.here)
-                (left-stays net ring more n g.left (none-by n more none)) ∙ g.left;
+            left = membership-kept net n ring more none ∙ g.left;
             answered = g.answered;
           };
       timely = host-others-in-time n list ring more none k.timely;

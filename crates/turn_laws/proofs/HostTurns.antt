@@ -18,7 +18,6 @@ use Rattle.host_port.specs.Legal.{IsHostHistory}
 use Rattle.tied_lists.specs.Items.{AHost, asked_by, ended_by, net_ask, taken_by}
 use Rattle.tied_lists.specs.Own.{own}
 use Rattle.tied_lists.specs.Tied.{Tied}
-use Rattle.tied_lists.specs.Waits.{IsOnRing}
 use Rattle.joint_history.specs.Complete.{AsksAllBeforeDone, AsksInItsHolds, IsOfDone, is_pass}
 use Rattle.joint_history.specs.Complete.{RepliesBeforePasses, StaysDone}
 use Rattle.comm_port.specs.Leaving.{last_entry}
@@ -31,7 +30,7 @@ use Rattle.turn_laws.specs.Laws.{HostTurnsKeepOn}
 use Rattle.turn_laws.proofs.Passes.{IsNoPass, asked-join, cancel-none, due-length, each-join}
 use Rattle.turn_laws.proofs.Passes.{each-of-done, ended-join, replies-more, replies-push, said-more}
 use Rattle.turn_laws.proofs.Passes.{no-pass, said-push, same-count, stays-more, stays-push}
-use Rattle.turn_laws.proofs.Gone.{left-more}
+use Rattle.turn_laws.proofs.Gone.{inner-keeps}
 use Rattle.turn_laws.proofs.HostDone.{DidAll, GoesDone, all-done, asks-many, did-all, done-more}
 use Rattle.turn_laws.proofs.HostWent.{Asking, HostWent, IsNoAsk, asked-more, asked-push, holds-more}
 use Rattle.turn_laws.proofs.HostWent.{gave-holds, host-gives, host-handed, host-went}
@@ -233,9 +232,9 @@ module _ (plan : HostPlan) where
               new_ring (t.ends.gives_up is_so) handed-holds;
           asked = kept.asked;
           gone = λ is'. record {
-            left = left-more net n t.ends.handed_ring (t.ends.gives_up is_so).grew.more
-                (subst (λ l. IsOnRing net l n) (t.ends.gives_up is_so).grew.after_is new.on)
-                (t.ends.handed.gone why is) (sym (t.ends.gives_up is_so).grew.after_is);
+            left = inner-keeps net n t.ends.handed_ring (t.ends.gives_up is_so).grew.more new_ring
+                gives.done (t.ends.gives_up is_so).grew.after_is gives.own_is gives.quiet
+                ∙ t.ends.handed.gone why is;
             answered = t.ends.answered is';
           };
           timely = timely;

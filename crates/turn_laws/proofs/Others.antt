@@ -1,11 +1,9 @@
 -- What comes between turns keeps what a controller's lists keep.
 use Rattle.std.proofs.Common.{◌≡◌, true, false, List, [], ◌∷◌, ◌++◌, refl, sym, ap}
 use Rattle.std.proofs.Common.{subst, ◌∙◌, append-nil}
-use Rattle.ring_core.specs.Machine.{NodeIs}
-use Rattle.ring_core.proofs.Stability.{left-stays}
 use Rattle.controller_core.specs.declared.entry.Entry.{Entry}
 use Rattle.tied_lists.specs.Waits.{waiting}
-use Rattle.tied_lists.proofs.Turns.{none-by, own-found}
+use Rattle.tied_lists.proofs.Turns.{membership-kept, own-found}
 use Rattle.joint_history.specs.Complete.{RepliesBeforePasses, StaysDone}
 use Rattle.comm_port.specs.Waiting.{id_of}
 use Rattle.std.specs.List.{filter_map}
@@ -67,8 +65,7 @@ others fixed net n entries ring more left none k =
       gone = λ is_so.
           let g = k.gone is_so in
           record {
-            left = ap (λ (c : NodeIs). c.here)
-                (left-stays net ring more n g.left (none-by n more none)) ∙ g.left;
+            left = membership-kept net n ring more none ∙ g.left;
             idle = (λ i. filter_map (λ path. id_of (waiting path (same i))) network_paths) ∙ g.idle;
           };
       timely = subst (λ (l : List Entry). StaysInTime n l (ring ++ more)) (append-nil entries)

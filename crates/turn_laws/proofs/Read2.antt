@@ -17,7 +17,9 @@ use Rattle.ring_core.specs.declared.frame.FrameKind.{FrameKind}
 use Rattle.ring_core.specs.declared.frame.FrameKind.TheVariants.{Request, Reply}
 use Rattle.ring_core.specs.declared.frame.Frame.{Frame}
 use Rattle.ring_core.specs.Machine.{NodeIs, RingIs, gone, opening, part_of, ring_after, ring_node}
+use Rattle.ring_core.specs.Stability.{NoLeave}
 use Rattle.ring_core.proofs.Runs.{after_all-push}
+use Rattle.ring_core.proofs.Stability.{membership-stays}
 use Rattle.controller_core.specs.declared.call.CallKind.TheVariants.{Net}
 use Rattle.controller_core.specs.declared.entry.Entry.{Entry}
 use Rattle.controller_core.specs.declared.entry.Entry.TheVariants.{Begin, Solve, End, Collect, Peer}
@@ -32,7 +34,6 @@ use Rattle.joint_history.specs.Reading.{items_of}
 use Rattle.turn_laws.specs.KeepsOn.{SaidDone}
 use Rattle.turn_laws.proofs.Passes.{none-said, replies-push, said-push, stays-push}
 use Rattle.turn_laws.proofs.Others.{no-replies, no-stays}
-use Rattle.turn_laws.proofs.Holders.{gone-stays}
 
 -- ---- the journal
 
@@ -145,17 +146,17 @@ gone-part [] n = refl
 gone-part (c ∷ cs) zero = refl
 gone-part (c ∷ cs) (suc n) = gone-part cs n
 
--- a node whose Leave stands in a history has left
+-- a node whose last Leave stands in a history has left
 has-left : (net : NetPlan) (history before more : List RingEntry) (n : ℕ) (cause : LeaveCause)
-    → StandsIn history before (Leave n cause) more → HasLeft net history n
-has-left net history before more n cause stands =
+    → StandsIn history before (Leave n cause) more → NoLeave n more → HasLeft net history n
+has-left net history before more n cause stands none =
     let left : HasLeft net (before ++ Leave n cause ∷ []) n =
     ap (λ (r : RingIs). (ring_node r n).here)
     (after_all-push net (opening net) before (Leave n cause))
     ∙ gone-part (ring_after net before).nodes n in
     subst (λ (l : List RingEntry). HasLeft net l n)
     (append_assoc before (Leave n cause ∷ []) more ∙ sym stands)
-    (gone-stays net (before ++ Leave n cause ∷ []) more n left)
+    (membership-stays net (before ++ Leave n cause ∷ []) more n none ∙ left)
 
 -- ---- the run
 
@@ -169,6 +170,7 @@ plan node = record {
   registers = 0;
   panel = [];
   orders = [];
+  power = [];
   drops = [];
   segments = [];
 }
@@ -201,14 +203,15 @@ target-ended k d within = absurd (omega (arith, within))
 
 two-complete : NodeIsComplete net ring 2
 two-complete = record {
-  left = has-left net ring (take 12 ring) (drop 13 ring) 2 Ended refl;
+  left = has-left net ring (take 12 ring) (drop 13 ring) 2 Ended refl
+      ((λ is. let apart : 5 ≡ 2 = is in omega (arith, apart)), tt);
   replied = two.replied;
   done = two.stays;
 }
 
 five-complete : NodeIsComplete net ring 5
 five-complete = record {
-  left = has-left net ring (take 13 ring) (drop 14 ring) 5 Ended refl;
+  left = has-left net ring (take 13 ring) (drop 14 ring) 5 Ended refl tt;
   replied = five.replied;
   done = five.stays;
 }

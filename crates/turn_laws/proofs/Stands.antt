@@ -1,5 +1,5 @@
 -- Workers that stand between two turns stand tied.
-use Rattle.std.proofs.Common.{◌≡◌, ℕ, List, [], ◌++◌, filter, refl, sym, ap, subst, ◌∙◌}
+use Rattle.std.proofs.Common.{◌≡◌, ℕ, List, [], ◌++◌, refl, sym, ap, subst, ◌∙◌}
 use Rattle.std.proofs.Common.{Some, None}
 use Rattle.plant_types.specs.declared.net.HostPlan.{HostPlan}
 use Rattle.plant_types.specs.declared.net.NetPlan.{NetPlan}
@@ -12,18 +12,16 @@ use Rattle.controller_core.specs.Replay.{start}
 use Rattle.controller_core.specs.Scans.{all_due}
 use Rattle.host_port.specs.declared.entry.HostEntry.{HostEntry}
 use Rattle.host_port.specs.Host.{HostIs}
-use Rattle.tied_lists.specs.Calls.{IsOut}
 use Rattle.tied_lists.specs.Items.{AController, AHost, NetCall, no_items}
 use Rattle.tied_lists.specs.Own.{own}
 use Rattle.tied_lists.specs.Tied.{Tied}
 use Rattle.tied_lists.specs.Waits.{IsOnRing, waiting}
 use Rattle.tied_lists.proofs.Turns.{own-found}
 use Rattle.comm_port.specs.Sides.{RamSideIs, RingSideIs}
-use Rattle.joint_history.specs.Reading.{host_items_of, is_ours, items_of}
+use Rattle.joint_history.specs.Reading.{host_items_of, items_of}
 use Rattle.comm_port.specs.Worker.{IsMemberWorker, Standing, WorkerIs}
 use Rattle.comm_port.specs.HostTurns.{HostTies}
 use Rattle.turn_laws.specs.KeepsOn.{HostStandsTied, StandsTied}
-use Rattle.turn_laws.proofs.Went.{items-grew}
 
 pub stands-of : {P Q : Type 0} (w : WorkerIs) (ram : RamSideIs P) (known : List Entry)
     (side : RingSideIs Q) (ring : List RingEntry)
@@ -62,21 +60,6 @@ stands-start fixed net n ring node on none = record {
       (record { asks = refl; peers = refl; port = refl; replies = refl; ends = refl });
   waits = λ path f is. absurd (let no' : None ≡ Some f = sym (ap (waiting path) none) ∙ is in cc);
 }
-
--- events of the scan, and entries of other nodes
-pub stands-scans : (fixed : Fixed) (net : NetPlan) (n : ℕ) (entries more : List Entry)
-    (ring : List RingEntry) → IsLegal fixed (entries ++ more)
-    → filter is_ours more ≡ [] → StandsTied fixed net n entries ring
-    → StandsTied fixed net n (entries ++ more) ring
-stands-scans fixed net n entries more ring legal none s =
-    let same : items_of (entries ++ more) ≡ items_of entries = items-grew entries more [] none in
-    record {
-      node = s.node;
-      legal = legal;
-      on = s.on;
-      tied = subst (λ a. Tied AController a (own n ring)) (sym same) s.tied;
-      waits = λ path f is. subst (λ a. IsOut a f.id) (sym same) (s.waits path f is);
-    }
 
 pub stands-others : (fixed : Fixed) (net : NetPlan) (n : ℕ) (entries : List Entry)
     (ring more : List RingEntry) → IsLegalRing net (ring ++ more)

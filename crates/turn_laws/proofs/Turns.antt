@@ -46,7 +46,7 @@ use Rattle.turn_laws.proofs.Passes.{no-pass, said-push, same-count, stays-more, 
 use Rattle.turn_laws.proofs.Rests.{NoneOut, RestsOn, each-ended, end-none, ended-none}
 use Rattle.turn_laws.proofs.Rests.{over, rests-more}
 use Rattle.turn_laws.proofs.Posted.{all-wait, asked_named}
-use Rattle.turn_laws.proofs.Gone.{left-more}
+use Rattle.turn_laws.proofs.Gone.{inner-keeps}
 use Rattle.turn_laws.proofs.TurnParts as parts
 use Rattle.turn_laws.proofs.Went.{Went}
 use Rattle.turn_laws.proofs.Went.{went-visit}
@@ -350,10 +350,9 @@ module _ (laws : CallLaws) (fixed : Fixed) where
           said = kept.said;
           at_home = home;
           gone = λ is_so. record {
-            left = left-more net n t.ends.handed_ring _
-                (subst (λ l. Rattle.tied_lists.specs.Waits.IsOnRing net l n)
-                t.ends.gives_up.node.after_is new.on) (t.ends.handed.gone why is)
-                (sym t.ends.gives_up.node.after_is);
+            left = inner-keeps net n t.ends.handed_ring t.ends.gives_up.node.more new_ring
+                gives.done t.ends.gives_up.node.after_is gives.own_is gives.quiet
+                ∙ t.ends.handed.gone why is;
             idle = t.ends.none_waits is_so;
           };
           timely = timely;
@@ -487,9 +486,8 @@ module _ (laws : CallLaws) (fixed : Fixed) where
         said = kept.said;
         at_home = w.home k.at_home;
         gone = λ is_so. record {
-          left = left-more net n ring p.more
-              (subst (λ l. Rattle.tied_lists.specs.Waits.IsOnRing net l n) p.after_is new.on)
-              (k.gone refl).left (sym p.after_is);
+          left = inner-keeps net n ring p.more new_ring w.done p.after_is w.own_is w.quiet
+              ∙ (k.gone refl).left;
           idle = v.as_before ∙ (k.gone refl).idle;
         };
         timely = timely;

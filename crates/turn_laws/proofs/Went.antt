@@ -34,7 +34,8 @@ use Rattle.joint_history.specs.Reading.{called_of, has_started_at, is_ours, item
 use Rattle.joint_history.specs.Reading.{items_of, sort_of}
 use Rattle.comm_port.specs.Parts.{InOrder, PartOf}
 use Rattle.comm_port.specs.HoldTurn.{Collects, CollectsIf, IsEnded, IsGivenUp, IsMade}
-use Rattle.comm_port.specs.SendsAll.{IsNextSending, each_path}
+use Rattle.comm_port.specs.Giving.{each_path}
+use Rattle.comm_port.specs.SendsAll.{IsNextSending}
 use Rattle.comm_port.proofs.Parts.{each-added}
 use Rattle.comm_port.specs.HoldTurn.{IsServed, MadeAs, EndedAs, SendsAll, ServedAs, finish_of}
 use Rattle.turn_laws.specs.KeepsOn.{DidAtHome}

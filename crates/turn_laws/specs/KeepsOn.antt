@@ -28,6 +28,7 @@ use Rattle.comm_port.specs.Parts.{calls_waiting}
 use Rattle.joint_history.specs.declared.joint.ControllerLog.{ControllerLog}
 use Rattle.joint_history.specs.declared.joint.HostLog.{HostLog}
 use Rattle.joint_history.specs.JointLaws.{fixed_of}
+use Rattle.joint_history.specs.Nets.{net_of}
 use Rattle.joint_history.specs.Reading.{items_of, host_items_of, has_ended_at, has_started_at}
 use Rattle.joint_history.specs.Complete.{EndsEachCall, StandsIn, RepliesBeforePasses, StaysDone}
 use Rattle.joint_history.specs.Complete.{AsksInItsHolds, AsksAllBeforeDone}
@@ -130,8 +131,10 @@ NoneSpent list = All (λ (entry : RingEntry). leaves_spent entry ≡ false) list
 -- A controller has finished: its node is gone, its scans have ended, and its calls were collected.
 pub record HasFinished (plant : Plant) (scans : ℕ) (ring : List RingEntry) (plan : ControllerPlan)
     (log : ControllerLog) : Type 0 where
-  pub stands : StandsTied (fixed_of plant scans plan) plant.net log.node log.entries ring
-  pub keeps : KeepsOn (fixed_of plant scans plan) plant.net log.node log.entries ring true
+  pub stands : StandsTied (fixed_of plant scans plan) (net_of plant log.node) log.node log.entries
+      ring
+  pub keeps : KeepsOn (fixed_of plant scans plan) (net_of plant log.node) log.node log.entries ring
+      true
   pub ended : has_ended_at (fixed_of plant scans plan) log.entries ≡ true
   pub collected : has_started_at (fixed_of plant scans plan) log.entries ≡ false
 
@@ -139,5 +142,5 @@ pub record HasFinished (plant : Plant) (scans : ℕ) (ring : List RingEntry) (pl
 pub record HostHasFinished (plant : Plant) (ring : List RingEntry) (plan : HostPlan)
     (log : HostLog) : Type 0 where
   pub node : log.node ≡ plan.node
-  pub stands : HostStandsTied plan plant.net log.entries ring
-  pub keeps : HostKeepsOn plan plant.net log.entries ring true
+  pub stands : HostStandsTied plan (net_of plant log.node) log.entries ring
+  pub keeps : HostKeepsOn plan (net_of plant log.node) log.entries ring true

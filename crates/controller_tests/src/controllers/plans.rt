@@ -115,6 +115,7 @@ fn plan_of(alloc: Global, plan: &Plan) -> Result<ControllerPlan, AllocError>
         registers: 124,
         panel,
         orders,
+        power: List::new(alloc),
         drops: List::new(alloc),
         segments,
     })

@@ -35,6 +35,8 @@ pub(crate) enum Act {
     Fail(u8, u32, u16),
     /// Whether a call was taken and has no result.
     IsOut(u8, u32, bool),
+    /// The controller loses power.
+    PowerFails,
 }
 
 fn is_asked(ask: &MstrAsk, asks: &Asks) -> bool {
@@ -89,6 +91,10 @@ fn goes(rt: &impl Abort, rig: &mut Rig, act: &Act) -> bool {
             true
         }
         Act::IsOut(path, seq, is) => rig.bank.is_out(call_id(*path, *seq)) == *is,
+        Act::PowerFails => {
+            rig.bank.power_fail();
+            true
+        }
     }
 }
 

@@ -38,6 +38,16 @@ pub(crate) const FIRST: Stand = Stand {
     room: 10,
 };
 
+/// A second control block and area.
+pub(crate) const SECOND: Stand = Stand {
+    control: 21,
+    area: 31,
+    room: 10,
+};
+
+/// A control block that reads two registers of node 5.
+pub(crate) const READ: [u16; 9] = [2, 9, 2, 1, 5, 0, 0, 0, 0];
+
 /// Blocks and the registers 40001 to 40060.
 #[derive(Drop)]
 pub(crate) struct Rig {

@@ -1,20 +1,10 @@
 //! The states of a block, and the paths of calls.
 use super::acts::{Act, Asks, play, show};
-use super::rig::{ABORT, ACTIVE, ENABLE, ERROR, FIRST, Rig, SUCCESS, Stand};
+use super::rig::{ABORT, ACTIVE, ENABLE, ERROR, FIRST, READ, Rig, SECOND, SUCCESS};
 use std::alloc::AllocError;
-
-/// Reads two registers of node 5.
-const READ: [u16; 9] = [2, 9, 2, 1, 5, 0, 0, 0, 0];
 
 /// Reads the own statistics.
 const OWN_STATISTICS: [u16; 9] = [3, 9, 2, 0, 0, 0, 0, 0, 0];
-
-/// A second control block and area.
-const SECOND: Stand = Stand {
-    control: 21,
-    area: 31,
-    room: 10,
-};
 
 /// A read over two scans.
 const OVER_TWO_SCANS: [Act; 9] = [

@@ -1,7 +1,7 @@
 //! The first fault of a plan, each once with its place.
 use plant_types::{
     Cell, ControllerPlan, Element, IoDrop, List, Network, Operand, OrderRow, Part, Place,
-    PlantFault, Ref, RefKind, Segment, Short,
+    PlantFault, PowerRow, Ref, RefKind, Segment, Short,
 };
 use std::alloc::{AllocError, Global};
 
@@ -78,6 +78,7 @@ fn only(alloc: Global, segment: Result<Segment, AllocError>) -> Result<List<Segm
 fn plan_with(
     panel: List<Ref>,
     orders: List<OrderRow>,
+    power: List<PowerRow>,
     drops: List<IoDrop>,
     segments: List<Segment>,
 ) -> ControllerPlan {
@@ -89,6 +90,7 @@ fn plan_with(
         registers: 20,
         panel,
         orders,
+        power,
         drops,
         segments,
     }
@@ -96,6 +98,7 @@ fn plan_with(
 
 fn plan(alloc: Global, segments: List<Segment>) -> ControllerPlan {
     plan_with(
+        List::new(alloc),
         List::new(alloc),
         List::new(alloc),
         List::new(alloc),
@@ -109,7 +112,13 @@ fn bare(alloc: Global) -> ControllerPlan {
 
 fn with_panel(alloc: Global, panel: &[Ref]) -> Result<ControllerPlan, AllocError> {
     let panel = list_of(alloc, panel)?;
-    Ok(plan_with(panel, List::new(alloc), List::new(alloc), List::new(alloc)))
+    Ok(plan_with(
+        panel,
+        List::new(alloc),
+        List::new(alloc),
+        List::new(alloc),
+        List::new(alloc),
+    ))
 }
 
 /// A plan of one cell, of order rows and of drops.
@@ -121,7 +130,7 @@ fn with_orders(
 ) -> Result<ControllerPlan, AllocError> {
     let orders = list_of(alloc, rows)?;
     let segments = segments(alloc, &[cell])?;
-    Ok(plan_with(List::new(alloc), orders, drops, segments))
+    Ok(plan_with(List::new(alloc), orders, List::new(alloc), drops, segments))
 }
 
 /// Drop 3 alone.
@@ -332,5 +341,106 @@ fn order_rows_name_drops_and_controls(rt: HostRuntime) -> Result<(), AllocError>
     let drops = drop_3(alloc)?;
     let made = with_orders(alloc, wire, &[named], drops)?;
     assert!(rt; fails(made, PlantFault::BadRef, Part::Order, at));
+    Ok(())
+}
+
+/// A power failure behind the one order row, and three dark scans after it.
+const FAILURE: PowerRow = PowerRow {
+    scan: 5,
+    row: 1,
+    dark: 3,
+};
+
+/// A failure right behind Begin, which no scan after it is dark for.
+const SHORT: PowerRow = PowerRow {
+    scan: 9,
+    row: 0,
+    dark: 0,
+};
+
+/// A plan with one order row, these panel references and these power rows.
+fn with_power(
+    alloc: Global,
+    panel: &[Ref],
+    power: &[PowerRow],
+) -> Result<ControllerPlan, AllocError> {
+    let panel = list_of(alloc, panel)?;
+    let orders = list_of(alloc, &[ROW])?;
+    let power = list_of(alloc, power)?;
+    let segments = segments(alloc, &[cell(1, 1, Element::Wire)])?;
+    Ok(plan_with(panel, orders, power, List::new(alloc), segments))
+}
+
+/// So many failures, one in each scan from the first on.
+fn one_by_one(alloc: Global, count: u32) -> Result<ControllerPlan, AllocError> {
+    let mut made = with_power(alloc, &[], &[])?;
+    for scan in 1..=count {
+        made.power.push(PowerRow { scan, ..SHORT })?;
+    }
+    Ok(made)
+}
+
+#[test]
+fn power_rows_pass(rt: HostRuntime) -> Result<(), AllocError> {
+    let alloc = rt.alloc();
+    let first = PowerRow { scan: 1, ..SHORT };
+    let last = PowerRow {
+        scan: 2000,
+        row: 1,
+        dark: 2000,
+    };
+    let found = [
+        passes(with_power(alloc, &[], &[])?),
+        passes(with_power(alloc, &[], &[FAILURE, SHORT])?),
+        passes(with_power(alloc, &[], &[first, last])?),
+        passes(one_by_one(alloc, 32)?),
+    ];
+    assert_eq!(rt; found, [true; 4]);
+    Ok(())
+}
+
+#[test]
+fn power_rows_have_bounds(rt: HostRuntime) -> Result<(), AllocError> {
+    let alloc = rt.alloc();
+    for row in [
+        PowerRow { scan: 0, ..SHORT },
+        PowerRow {
+            scan: 2001,
+            ..SHORT
+        },
+        PowerRow { row: 2, ..SHORT },
+        PowerRow {
+            dark: 2001,
+            ..SHORT
+        },
+    ] {
+        let made = with_power(alloc, &[], &[FAILURE, row])?;
+        assert!(rt; fails(made, PlantFault::BadPower, Part::Power, [1, 2, 0, 0]));
+    }
+    let many = one_by_one(alloc, 33)?;
+    assert!(rt; fails(many, PlantFault::TooLarge, Part::Controller, [1, 0, 0, 0]));
+    Ok(())
+}
+
+#[test]
+fn power_rows_stand_behind_dark_scans(rt: HostRuntime) -> Result<(), AllocError> {
+    let alloc = rt.alloc();
+    for scan in [4, 5, 6, 8] {
+        let met = PowerRow { scan, ..SHORT };
+        let made = with_power(alloc, &[], &[FAILURE, met])?;
+        assert!(rt; fails(made, PlantFault::BadPower, Part::Power, [1, 2, 0, 0]));
+    }
+    Ok(())
+}
+
+#[test]
+fn power_rows_are_tested_between_orders_and_panel(rt: HostRuntime) -> Result<(), AllocError> {
+    let alloc = rt.alloc();
+    let outside = PowerRow { scan: 0, ..SHORT };
+    let made = with_power(alloc, &[coil(17)], &[outside])?;
+    assert!(rt; fails(made, PlantFault::BadPower, Part::Power, [1, 1, 0, 0]));
+    let mut made = with_power(alloc, &[], &[outside])?;
+    made.orders.push(OrderRow { segment: 2, ..ROW })?;
+    assert!(rt; fails(made, PlantFault::BadOrder, Part::Order, [1, 2, 0, 0]));
     Ok(())
 }

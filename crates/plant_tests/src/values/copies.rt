@@ -2,8 +2,8 @@
 use plant_types::{
     Block, ControllerPlan, Copied, Element, Fate, HostAsk, HostPlan, IoDrop, List, MathOp,
     MatrixOp, Module, ModuleKind, MoveOp, NetPlan, Network, NodePower, Operand, OrderRow, Part,
-    Pdu, Place, Plant, PlantFault, Ref, RefKind, ScriptRow, Segment, Unit, Words, is_host_plan,
-    is_net_plan,
+    Pdu, Place, Plant, PlantFault, PowerRow, Ref, RefKind, ScriptRow, Segment, Unit, Words,
+    is_host_plan, is_net_plan,
 };
 use std::alloc::{AllocError, Global};
 
@@ -17,6 +17,12 @@ const ROW: OrderRow = OrderRow {
     control: Some(COIL_1),
     input: Some(3),
     output: None,
+};
+
+const FAILURE: PowerRow = PowerRow {
+    scan: 2000,
+    row: 1,
+    dark: 3,
 };
 
 const MODULE: Module = Module {
@@ -90,6 +96,7 @@ fn field_and_ladder(alloc: Global) -> Result<(List<IoDrop>, List<Segment>), Allo
 fn controller(alloc: Global) -> Result<ControllerPlan, AllocError> {
     let (panel, orders) = rows(alloc)?;
     let (drops, segments) = field_and_ladder(alloc)?;
+    let power = only(alloc, FAILURE)?;
     Ok(ControllerPlan {
         node: 64,
         coils: 16,
@@ -98,6 +105,7 @@ fn controller(alloc: Global) -> Result<ControllerPlan, AllocError> {
         registers: 4,
         panel,
         orders,
+        power,
         drops,
         segments,
     })
@@ -202,6 +210,7 @@ fn copies_of_parts_and_faults(rt: HostRuntime) -> Result<(), AllocError> {
     let alloc = rt.alloc();
     let same = [
         is_copied(alloc, ROW)?,
+        is_copied(alloc, FAILURE)?,
         is_copied(alloc, ModuleKind::Out)?,
         is_copied(alloc, MODULE)?,
         is_copied(alloc, Fate::L)?,
@@ -210,7 +219,7 @@ fn copies_of_parts_and_faults(rt: HostRuntime) -> Result<(), AllocError> {
         is_copied(alloc, Part::HostRequest)?,
         is_copied(alloc, Place::PLANT)?,
     ];
-    assert_eq!(rt; same, [true; 8]);
+    assert_eq!(rt; same, [true; 9]);
     Ok(())
 }
 
@@ -273,6 +282,7 @@ fn is_the_controller(plan: &ControllerPlan) -> bool {
         ] == [16, 32, 3, 4]
         && plan.panel.as_slice() == [COIL_1].as_slice()
         && plan.orders.as_slice() == [ROW].as_slice()
+        && plan.power.as_slice() == [FAILURE].as_slice()
         && plan.segments.as_slice().len() == 1
         && plan.drops.as_slice().len() == 1
 }

@@ -1,6 +1,6 @@
 use Rattle.std.proofs.Common.{◌<◌}
-use Rattle.comm_port.specs.Giving.{part_at, MaySend}
-use Rattle.comm_port.specs.SendsAll.{IsNextSending, each_path}
+use Rattle.comm_port.specs.Giving.{part_at, MaySend, each_path}
+use Rattle.comm_port.specs.SendsAll.{IsNextSending}
 use Rattle.comm_port.specs.Parts.{PartOf, EachNext}
 use Rattle.comm_port.proofs.SendsAll.{Finished}
 use Rattle.joint_history.specs.Reading.{is_ours}

@@ -1,9 +1,14 @@
 use Rattle.std.proofs.Common.{sym, ◌∙◌, subst, Bool}
-use Rattle.tied_lists.specs.Own.{own}
+use Rattle.tied_lists.specs.Own.{is_of, own}
+use Rattle.tied_lists.proofs.Growth.{adds-both, adds-weaker}
+use Rattle.comm_port.specs.Order.{IsGivingUp}
 use Rattle.comm_port.specs.HostTurns.{EndsWithPass}
 use Rattle.comm_port.proofs.HostAsks.{stays-with, ends-with, gone-on, gone-with, ties-handed}
 use Rattle.comm_port.proofs.HostAsks.{turning-left}
+use Rattle.comm_port.proofs.HostBoxes.{gives-sort}
 use Rattle.comm_port.proofs.HostTurning.{turning-side}
+use Rattle.comm_port.proofs.Leaves.{ending-too, handed-ends}
+use Rattle.comm_port.proofs.Through.{IsEnding, rest-through}
 use Rattle.mstr_block.specs.Table.{network_paths}
 use Rattle.comm_port.proofs.HostGives.{gives-at}
 use Rattle.comm_port.proofs.HostHolds.{ends-host, leaves-host, none-unanswered}
@@ -11,10 +16,10 @@ use Rattle.comm_port.proofs.Steps.{host-ring, host-then}
 use Rattle.comm_port.proofs.host_worker.end_turn.Goals as goal
 
 pub hand_on-requires-clause-sent : goal.hand_on-requires-clause-sent
-hand_on-requires-clause-sent g c = c.requires.boxes.0
+hand_on-requires-clause-sent g c = c.requires.rest.all_sent
 
 pub hand_on-requires-clause-taken : goal.hand_on-requires-clause-taken
-hand_on-requires-clause-taken g c = c.requires.boxes.1
+hand_on-requires-clause-taken g c = c.requires.empty
 
 pub give_up_where-requires : goal.give_up_where-requires
 give_up_where-requires g c =
@@ -22,7 +27,7 @@ give_up_where-requires g c =
     let gone = gone-with g.R.RingSide.alone _ c.args.node _ _ _ _ _ o.handed
     (sym c.if-not-left.false ∙ o.left) in
     let ties = ties-handed g.R.RingSide.alone c.args.node _ _ _ _ _ _ _ c.requires.turning o.handed
-    o.step.stands.legal c.requires.wait in
+    o.step.stands.legal c.requires.wait c.requires.rest in
     record {
       turning = turning-side c.args.node _ _ _ _ o.step.same
           (turning-left c.args.node _ _ _ ties gone);
@@ -32,7 +37,34 @@ pub returns-then-not-left-clause-ties : goal.returns-then-not-left-clause-ties
 returns-then-not-left-clause-ties g c =
     let o = c.in_ok-left.ensures in
     ties-handed g.R.RingSide.alone c.args.node _ _ _ _ _ _ _ c.requires.turning o.handed
-    o.step.stands.legal c.requires.wait
+    o.step.stands.legal c.requires.wait c.requires.rest
+
+pub returns-clause-ties : goal.returns-clause-ties
+returns-clause-ties g c =
+    let o = c.in_ok-left.ensures in
+    let w = c.in_ok-give_up_where.ensures in
+    let n = c.args.node in
+    let alone = g.R.RingSide.alone in
+    let before = g.R.RingSide.side c.args.ring.now in
+    let there = g.R.RingSide.side c.hand_on.new.ring in
+    let gives = gives-at alone n network_paths _ _ _ _ there before (sym o.step.same) w.gives_up in
+    let turning = turning-side n _ there before _ (sym o.step.same) w.turning in
+    record {
+      node = turning.node;
+      legal = turning.legal;
+      serves = turning.own_turn.serves;
+      on = turning.own_turn.on;
+      answer = c.requires.wait;
+      tied = turning.tied;
+      paths = turning.paths;
+      rest = rest-through alone before.net n _ _ c.requires.turning.own_turn.on
+          turning.own_turn.on.legal
+          (adds-both alone (is_of n) IsEnding _ _ _
+          (handed-ends alone before.net n _ _ _ _ _ o.handed)
+          (adds-weaker alone (is_of n) IsGivingUp IsEnding _ _ ending-too
+          (record { added = _; sort = gives-sort gives.ends; grew = gives.grew })))
+          c.requires.rest;
+    }
 
 pub returns-then-not-left-clause-passed : goal.returns-then-not-left-clause-passed
 returns-then-not-left-clause-passed g c =

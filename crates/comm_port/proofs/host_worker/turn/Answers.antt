@@ -1,10 +1,10 @@
 use Rattle.plant_types.specs.declared.net.NetPlan.{NetPlan}
 use Rattle.ring_core.specs.Legal.{IsLegalRing}
 use Rattle.tied_lists.specs.Waits.{Holds}
-use Rattle.comm_port.specs.Giving.{part_at, BoxesEmpty}
-use Rattle.comm_port.proofs.HostBoxes.{boxes-empty}
+use Rattle.comm_port.specs.Giving.{part_at, IsAtRest}
+use Rattle.comm_port.proofs.HostBoxes.{inbox-empty, rest-due}
 use Rattle.comm_port.proofs.Parts.{net-as}
-use Rattle.std.proofs.Common.{sym, ◌∙◌, ◌<◌}
+use Rattle.std.proofs.Common.{sym, ◌≡◌, ◌∙◌, ◌<◌, []}
 use Rattle.mstr_block.specs.Table.{network_paths}
 use Rattle.comm_port.specs.HostTurns.{EndsHostTurn, HoldsHostTurn}
 use Rattle.comm_port.proofs.HostAsked.{asked-all-at}
@@ -79,8 +79,8 @@ end_turn-requires-clause-wait g c =
     ∙ (c.in_ok-fresh.ensures.step.node.same ∙ c.in_ok-serve_inbox.ensures.step.node.same))))
     c.requires.wait
 
-pub end_turn-requires-clause-boxes : goal.end_turn-requires-clause-boxes
-end_turn-requires-clause-boxes g c =
+pub end_turn-requires-clause-empty : goal.end_turn-requires-clause-empty
+end_turn-requires-clause-empty g c =
     let alone = g.R.RingSide.alone in
     let n = c.args.node in
     let side = g.R.RingSide.side in
@@ -102,8 +102,8 @@ end_turn-requires-clause-boxes g c =
     let out = sends-out-at alone n _ _ _ _ _ (side c.ask_all.new.ring) before (sym same2) d.sends in
     let gives = gives-at alone n network_paths _ _ _ _ (side c.send_all.new.ring) before (sym same3)
     e.gives_up in
-    net-as (λ (m : NetPlan). BoxesEmpty (part_at m n given)) _ _ (sym same4)
-    (boxes-empty alone before.net n _ c.args.hold all.asks _ network_paths _ _ _ _ served asked sent
+    net-as (λ (m : NetPlan). (part_at m n given).inbox ≡ []) _ _ (sym same4)
+    (inbox-empty alone before.net n _ c.args.hold all.asks _ network_paths _ _ _ _ served asked sent
     given
     (record { members = t.members; legal = a.step.node.stands.legal; member = t.member }) a.holds
     (net-as (λ (m : NetPlan). IsLegalRing m asked) _ _ a.step.node.same b.step.node.stands.legal)
@@ -113,6 +113,32 @@ end_turn-requires-clause-boxes g c =
     (net-as (λ (m : NetPlan). IsLegalRing m given) _ _ same3 e.step.node.stands.legal)
     a.served.empty
     all.all out gives)
+
+pub end_turn-requires-clause-rest : goal.end_turn-requires-clause-rest
+end_turn-requires-clause-rest g c =
+    let alone = g.R.RingSide.alone in
+    let n = c.args.node in
+    let side = g.R.RingSide.side in
+    let before = side c.args.ring.now in
+    let d = c.in_ok-send_all.ensures in
+    let e = c.in_ok-give_up_where.ensures in
+    let sent = g.R.RingSide.known c.send_all.new.ring in
+    let given = g.R.RingSide.known c.give_up_where.new.ring in
+    let same2 = c.in_ok-fresh.ensures.step.node.same ∙ c.in_ok-serve_inbox.ensures.step.node.same in
+    let same3 = d.step.node.same ∙ same2 in
+    let t = c.requires.turning.own_turn.on in
+    let out = sends-out-at alone n _ _ _ _ _ (side c.ask_all.new.ring) before (sym same2) d.sends in
+    let gives = gives-at alone n network_paths _ _ _ _ (side c.send_all.new.ring) before (sym same3)
+    e.gives_up in
+    net-as (λ (m : NetPlan). IsAtRest m n given) _ _ (sym (e.step.node.same ∙ same3))
+    (rest-due alone before.net n _ _ _ _ _ sent given
+    (record {
+      members = t.members;
+      legal = net-as (λ (m : NetPlan). IsLegalRing m sent) _ _ same2 d.step.node.stands.legal;
+      member = t.member;
+    })
+    (net-as (λ (m : NetPlan). Holds m sent n) _ _ same2 d.holds)
+    (net-as (λ (m : NetPlan). IsLegalRing m given) _ _ same3 e.step.node.stands.legal) out gives)
 
 pub returns-in_err-fresh-clause-step : goal.returns-in_err-fresh-clause-step
 returns-in_err-fresh-clause-step g c =

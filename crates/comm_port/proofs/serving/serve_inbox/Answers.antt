@@ -29,10 +29,6 @@ took : (alone : Bool) (n : ℕ) (ring ring' : List RingEntry) (taken taken' : Op
 took alone n ring ring' taken taken' is w = subst
     (λ (o : Option Frame). WentOn alone (is_of n) ring (taken_entries n o) ring') is w
 
-none-taken : (o : Option Frame) → ((f : Frame) → o ≡ Some f → ⊥) → o ≡ None
-none-taken None no' = Rattle.std.proofs.Common.refl
-none-taken (Some f) no' = absurd (no' f Rattle.std.proofs.Common.refl)
-
 pub serve-requires : goal.serve-requires
 serve-requires g c =
     let o = c.in_ok-frame.ensures in

@@ -1,18 +1,17 @@
-use Rattle.std.proofs.Common.{arith}
+use Rattle.std.proofs.Common.{arith, refl}
 use Rattle.joint_law.proofs.RingSteps.{ring-breaks, ring-goes-on}
 use Rattle.joint_law.proofs.ring_following.first_illegal.Goals as goal
 
 pub returns-then-not-branch-clause-broken : goal.returns-then-not-branch-clause-broken
 returns-then-not-branch-clause-broken c =
     ring-breaks c.args.plan.now c.args.entries.now c.loop-place.place c.index-entries-place.result
-    c.loop-place.ring _ _
-    c.loop-place.invariant.net c.loop-place.invariant.history c.loop-place.invariant.legal
+    _ c.loop-place.ring _ _
+    c.loop-place.invariant.net_is refl c.loop-place.invariant.legal
     (omega arith) c.index-entries-place.is c.in_ok-follow.ensures c.if-not-branch.true
 
 pub loop-place-preserved : goal.loop-place-preserved
 loop-place-preserved c =
-    let next = ring-goes-on c.args.plan.now c.args.entries.now c.loop-place.place
-    c.index-entries-place.result c.loop-place.ring _ _
-    c.loop-place.invariant.net c.loop-place.invariant.history c.loop-place.invariant.legal
-    (omega arith) c.index-entries-place.is c.in_ok-follow.ensures c.if-not-branch.false in
-    record { history = next.0; net = next.1; legal = next.2 }
+    ring-goes-on c.args.plan.now c.args.entries.now c.loop-place.place
+    c.index-entries-place.result _ c.loop-place.ring _ _
+    c.loop-place.invariant.net_is refl c.loop-place.invariant.legal
+    (omega arith) c.index-entries-place.is c.in_ok-follow.ensures c.if-not-branch.false

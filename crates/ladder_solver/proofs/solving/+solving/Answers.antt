@@ -5,21 +5,19 @@ use Rattle.std.specs.Prelude.{map, bit_or, IfSome}
 use Rattle.std.specs.List.{AllByRecursion}
 use Rattle.std.proofs.lemmas.List.{length-map, take_all}
 use Rattle.grid_compile.specs.Layout.{grid_of}
-use Rattle.plant_types.specs.declared.power.NodePower.{NodePower}
+use Rattle.plant_types.specs.Operands.{HasOperands}
 use Rattle.ladder_solver.specs.State.{BlockPlace}
-use Rattle.ladder_solver.specs.Element.{one_node}
-use Rattle.ladder_solver.specs.Flow.{GoesOn}
-use Rattle.ladder_solver.specs.Network.{place_in}
-use Rattle.ladder_solver.specs.Rows.{flags_at}
+use Rattle.ladder_solver.specs.declared.flow.Solved.{Solved}
 use Rattle.ladder_solver.specs.Edges.{HasNetworks, HasEdgeBit}
 use Rattle.ladder_solver.specs.Numbers.{networks_of, block_number}
 use Rattle.ladder_solver.specs.Segment.{setting_within}
 use Rattle.ladder_solver.specs.Program.{grids_at, spots_at, last_grids, IsWithinNetworks}
-use Rattle.ladder_solver.specs.Conditions.{CanSolveSpot, CanSolveNetwork, CanSolveSegment}
-use Rattle.ladder_solver.specs.Agreement.{KeepsScan}
+use Rattle.ladder_solver.specs.Conditions.{CanCall, CanSolveSpot, CanSolveNetwork}
+use Rattle.ladder_solver.specs.Conditions.{CanSolveSegment}
+use Rattle.ladder_solver.specs.Agreement.{KeepsScan, solving}
 use Rattle.ladder_solver.proofs.Stored.{all_at, all_at_item, CanSolveNetwork-kept}
 use Rattle.ladder_solver.proofs.Stored.{CanSolveSegment-kept}
-use Rattle.ladder_solver.proofs.Simulation.{spot-done}
+use Rattle.ladder_solver.proofs.Simulation.{spot-done, relay-done}
 use Rattle.ladder_solver.proofs.Networks.{spots-start, spots-item, spots-on, network-done}
 use Rattle.ladder_solver.proofs.Networks.{network-over}
 use Rattle.ladder_solver.proofs.Runs.{run-ends, run-goes, run-over}
@@ -69,6 +67,21 @@ solve_call-returns-clause-solved g t c segments same =
     (c.last.ensures ∙ ap length (sym same)
     ∙ length-map segments (λ segment. map grid_of segment.networks))
     (c.solve_run.ensures.solved segments same)) c.behind.ensures
+
+pub solve_element-returns-then-is_relay-clause-solved :
+    goal.solve_element-returns-then-is_relay-clause-solved
+solve_element-returns-then-is_relay-clause-solved g t c segments same numbered =
+    c.relay_output-top.ensures.leaves (setting_within c.args.depth segments) c.args.placed.place
+    c.args.inputs c.args.scan.now refl
+    ∙ ap (λ (solved : Solved). (
+      (
+        solved.outputs,
+        solving (g.R.RefStore.contents c.relay_output-top.new.ram)
+            (g.P.RefStore.contents c.args.lent.now.past.now) c.args.scan.now,
+      ),
+      solved.flow,
+    ))
+    (sym c.with.ensures)
 
 pub solve_element-solve_call-requires : goal.solve_element-solve_call-requires
 solve_element-solve_call-requires g t c κs within =
@@ -299,58 +312,60 @@ solve_run-returns-clause-solved g t c segments same =
     c.loop-i-test.false
 
 pub solve_spot-solve_element-solved-requires : goal.solve_spot-solve_element-solved-requires
-solve_spot-solve_element-solved-requires g t c κs within = (
-  omega (arith, c.decreases),
-  (
-    within.0,
-    (
-      within.1,
+solve_spot-solve_element-solved-requires g t c κs within =
+    let contents = g.R.RefStore.contents in
+    let same = sym (c.spot_output.ensures.other c.in_default.is) in (
+      omega (arith, c.decreases),
       (
-        c.requires.calls,
+        within.0,
         (
-          c.requires.can_solve.operands,
+          within.1,
           (
-            sym c.is_relay.ensures ∙ c.if-is_relay.false,
+            subst (λ ram. CanCall (contents ram) (g.P.RefStore.contents c.args.lent.now.past.now)
+                c.args.scan.now c.args.lent.now.program.now) same c.requires.calls,
             (
-              subst (λ (place : BlockPlace). HasEdgeBit c.args.scan.now.edges.counts place)
-                  (sym c.place.ensures) (record {
-                    networks = c.requires.networks;
-                    network = c.requires.number;
-                    left = c.requires.can_solve.left;
-                    right = c.requires.can_solve.right;
-                    top = c.requires.can_solve.first;
-                    bottom = c.requires.can_solve.last;
-                  }),
-              c.requires.can_solve.block,
+              subst (λ ram. HasOperands (contents ram) c.args.spot.now.element) same
+                  c.requires.can_solve.operands,
+              (
+                c.requires.can_solve.past,
+                (
+                  subst (λ (place : BlockPlace). HasEdgeBit c.args.scan.now.edges.counts place)
+                      (sym c.place.ensures) (record {
+                        networks = c.requires.networks;
+                        network = c.requires.number;
+                        left = c.requires.can_solve.left;
+                        right = c.requires.can_solve.right;
+                        top = c.requires.can_solve.first;
+                        bottom = c.requires.can_solve.last;
+                      }),
+                  c.requires.can_solve.block,
+                ),
+              ),
             ),
           ),
         ),
       ),
-    ),
-  ),
-)
+    )
 
-pub solve_spot-returns-then-is_relay-clause-solved :
-    goal.solve_spot-returns-then-is_relay-clause-solved
-solve_spot-returns-then-is_relay-clause-solved g t c segments same numbered =
-    let spot = c.args.spot.now in
-    let setting = setting_within c.args.at.depth segments in
-    let left = get_or c.args.live.now (spot.column - 1) 0 in
-    spot-done setting spot c.args.at.site _ _ _ _
-    (record { outputs = one_node c.relay_output-power.result; flow = GoesOn })
+pub solve_spot-returns-in-Some-clause-solved : goal.solve_spot-returns-in-Some-clause-solved
+solve_spot-returns-in-Some-clause-solved g t c segments same numbered =
+    relay-done (setting_within c.args.at.depth segments) c.args.spot.now c.args.at.site
+    c.args.live.now _ (g.P.RefStore.contents c.args.lent.now.past.now) _ _ c.args.scan.now
+    c.spot_output.result c.has_power-power.result c.in-Some.output
     c.requires.can_solve.left (omega (arith, c.requires.can_solve.right)) c.requires.can_solve.first
-    c.requires.can_solve.last
-    (c.relay_output-power.ensures.leaves setting (place_in c.args.at.site spot.column spot.row)
-    (flags_at left spot.row) c.args.scan.now
-    (ap (λ (power : NodePower). power.top) (sym c.inputs_at-inputs.ensures)))
-    (ap (λ n. bit_or (get_or c.args.live.now spot.column 0) n) c.fed_by_one.ensures)
+    c.requires.can_solve.last c.spot_output.ensures.leaves c.in-Some.is
+    (c.has_power-power.ensures c.args.spot.now.row c.requires.can_solve.mask) c.feed.ensures
+
+pub solve_spot-returns-clause-keeps : goal.solve_spot-returns-clause-keeps
+solve_spot-returns-clause-keeps g t c at h =
+    c.solve_element-solved.ensures.keeps at (c.spot_output.ensures.keeps at h)
 
 pub solve_spot-returns-clause-solved : goal.solve_spot-returns-clause-solved
 solve_spot-returns-clause-solved g t c segments same numbered =
     spot-done (setting_within c.args.at.depth segments) c.args.spot.now c.args.at.site _ _ _ _
     c.solve_element-solved.result c.requires.can_solve.left
     (omega (arith, c.requires.can_solve.right)) c.requires.can_solve.first c.requires.can_solve.last
-    (rw (c.inputs_at-inputs.ensures, c.place.ensures) at
+    (rw (c.inputs_at-inputs.ensures, c.place.ensures, c.spot_output.ensures.other c.in_default.is) at
     (c.solve_element-solved.ensures.solved segments same (numbered ∙ ap
     (block_number segments) (sym c.place.ensures))))
     (ap (λ n. bit_or (get_or c.args.live.now c.args.spot.now.column 0) n) c.fed_rows.ensures)

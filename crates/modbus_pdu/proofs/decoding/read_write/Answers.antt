@@ -15,13 +15,13 @@ returns-in_err-words c =
     rw (p.1, p.2) (
       _,
       read_write_there c.args.fields.now at.read at.quantity at.write at.count at.rest.now fits
-          at.ensures (omega arith, omega arith)
-          (omega arith, omega arith) (omega arith),
+          at.ensures (record { from = omega arith; to = omega arith })
+          (record { from = omega arith; to = omega arith }) (omega arith),
     )
 
 pub returns : goal.returns
 returns c =
     read_write_read c.args.fields.now c.in-Some.read c.in-Some.quantity c.in-Some.write
     c.in-Some.count c.in-Some.rest.now c.in_ok-words.words
-    c.in-Some.ensures (omega arith, omega arith) (omega arith, omega arith)
-    (omega arith) c.in_ok-words.ensures
+    c.in-Some.ensures (record { from = omega arith; to = omega arith })
+    (record { from = omega arith; to = omega arith }) (omega arith) c.in_ok-words.ensures

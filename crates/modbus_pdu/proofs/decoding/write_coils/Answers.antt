@@ -15,7 +15,7 @@ returns-in_err-bits c =
     rw (p.1, p.2) (
       _,
       coils_there c.args.fields.now at.address at.quantity at.packed.now fits at.ensures
-          (omega arith, omega arith) (omega arith),
+          (record { from = omega arith; to = omega arith }) (omega arith),
     )
 
 pub returns : goal.returns
@@ -24,4 +24,4 @@ returns c =
     let at = c.in-Some in
     rw c.in_ok-bits.ensures
     (coils_there c.args.fields.now at.address at.quantity at.packed.now fits at.ensures
-    (omega arith, omega arith) (omega arith))
+    (record { from = omega arith; to = omega arith }) (omega arith))

@@ -15,11 +15,11 @@ returns-in_err-words c =
     rw (p.1, p.2) (
       _,
       registers_there c.args.fields.now at.address at.quantity at.rest.now fits at.ensures
-          (omega arith, omega arith) (omega arith),
+          (record { from = omega arith; to = omega arith }) (omega arith),
     )
 
 pub returns : goal.returns
 returns c =
     registers_read c.args.fields.now c.in-Some.address c.in-Some.quantity c.in-Some.rest.now
     c.in_ok-words.words c.in-Some.ensures
-    (omega arith, omega arith) (omega arith) c.in_ok-words.ensures
+    (record { from = omega arith; to = omega arith }) (omega arith) c.in_ok-words.ensures

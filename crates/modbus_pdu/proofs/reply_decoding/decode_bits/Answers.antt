@@ -21,12 +21,12 @@ returns-in_err-bits c =
     let clear = c.if-not-spare_is_clear.ensures.0 refl in
     rw (p.1, p.2)
     (bits_there c.args.function c.args.quantity c.args.bytes.now at.packed.now c.requires fits
-    at.ensures (omega arith, omega arith) (omega arith) clear)
+    at.ensures (record { from = omega arith; to = omega arith }) (omega arith) clear)
 
 pub returns : goal.returns
 returns c =
     bits_found c.args.function c.args.quantity c.args.bytes.now c.in-Some.packed.now
     c.in_ok-bits.bits c.requires
     (λ i. omega (arith, c.type_inv.bytes i)) c.in-Some.ensures
-    (omega arith, omega arith) (omega arith)
+    (record { from = omega arith; to = omega arith }) (omega arith)
     (c.if-not-spare_is_clear.ensures.0 refl) c.in_ok-bits.ensures

@@ -15,10 +15,10 @@ returns-in_err-words c =
     let at = c.in-Some in
     rw (p.1, p.2)
     (words_there c.args.function c.args.quantity c.args.bytes.now at.rest.now c.requires fits
-    at.ensures (omega arith, omega arith) (omega arith))
+    at.ensures (record { from = omega arith; to = omega arith }) (omega arith))
 
 pub returns : goal.returns
 returns c =
     words_found c.args.function c.args.quantity c.args.bytes.now c.in-Some.rest.now
     c.in_ok-words.words c.requires c.in-Some.ensures
-    (omega arith, omega arith) (omega arith) c.in_ok-words.ensures
+    (record { from = omega arith; to = omega arith }) (omega arith) c.in_ok-words.ensures

@@ -1,12 +1,13 @@
-use Rattle.std.proofs.Common.{map, string_bytes, refl, rules, arith}
+use Rattle.std.proofs.Common.{map, string_bytes, rules}
 use Rattle.command_words.specs.Words.{SpellsLive}
 use Rattle.command_answers.specs.Due.{IsLiveDue}
 use Rattle.plant984.specs.Promise.{always, side}
-use Rattle.plant984.proofs.DueLemmas.{Found, Keeps-found, live_in_range, one-command}
+use Rattle.plant984.proofs.DueLemmas.{Found, Keeps-found, answered-due, live_in_range}
+use Rattle.plant984.proofs.DueLemmas.{one-command}
 use Rattle.plant984.proofs.live.plant_live.Goals as goal
 
-pub write_live-requires-after_bounds : goal.write_live-requires-after_bounds
-write_live-requires-after_bounds g c = λ κs bounds.
+pub answer_live-requires-after_bounds : goal.answer_live-requires-after_bounds
+answer_live-requires-after_bounds g c = λ κs bounds.
     live_in_range (map string_bytes c.args.words.now) c.in-Some.scans
     ((c.in-Ok.ensures c.in-Some.scans).0 c.in-Some.is)
 
@@ -24,8 +25,9 @@ returns-in-Ok-read_all-clause-promised g c =
       read = (c.in-Ok-read_all.ensures.whole, c.in-Ok-read_all.ensures.within);
       later = c.read_all.ensures.later;
     } in
-    Keeps-found SpellsLive always IsLiveDue words source source_now scans input found
-    (side (g.K.Sink.taken c.args.sink.now) (g.K.Sink.faults c.args.sink.now))
-    (side (g.K.Sink.taken c.write_live.new.sink) (g.K.Sink.faults c.write_live.new.sink))
-    c.write_live.result
-    c.write_live.ensures.later (search rules)
+    let had = side (g.K.Sink.taken c.args.sink.now) (g.K.Sink.faults c.args.sink.now) in
+    let has = side (g.K.Sink.taken c.write_due.new.sink) (g.K.Sink.faults c.write_due.new.sink) in
+    Keeps-found SpellsLive always IsLiveDue words source source_now scans input found had has
+    c.write_due.result c.write_due.ensures.later
+    (answered-due (IsLiveDue scans input) c.answer_live.result (search rules) had has
+    c.write_due.result c.write_due.ensures.answers)

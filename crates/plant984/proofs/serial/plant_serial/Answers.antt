@@ -2,17 +2,17 @@ use Rattle.std.proofs.Common.{◌≡◌, [], true, false, map, string_bytes, rul
 use Rattle.command_words.specs.Words.{SpellsCommand}
 use Rattle.command_answers.specs.Due.{IsDue, reads_input}
 use Rattle.plant984.specs.Promise.{side}
-use Rattle.plant984.proofs.DueLemmas.{Found, Keeps-found, in_range, nothing_read, one-command}
-use Rattle.plant984.proofs.DueLemmas.{whole_read}
+use Rattle.plant984.proofs.DueLemmas.{Found, Keeps-found, answered-due, in_range}
+use Rattle.plant984.proofs.DueLemmas.{nothing_read, one-command, whole_read}
 use Rattle.plant984.proofs.serial.plant_serial.Goals as goal
 
-pub write_answer-requires : goal.write_answer-requires
-write_answer-requires g c =
+pub answer_to-requires : goal.answer_to-requires
+answer_to-requires g c =
     in_range (map string_bytes c.args.words.now) c.in-Some.command
     ((c.in-Ok.ensures c.in-Some.command).0 c.in-Some.is)
 
-pub write_answer-requires-in-Ok-read_all : goal.write_answer-requires-in-Ok-read_all
-write_answer-requires-in-Ok-read_all g c =
+pub answer_to-requires-in-Ok-read_all : goal.answer_to-requires-in-Ok-read_all
+answer_to-requires-in-Ok-read_all g c =
     in_range (map string_bytes c.args.words.now) c.in-Some.command
     ((c.in-Ok.ensures c.in-Some.command).0 c.in-Some.is)
 
@@ -28,11 +28,12 @@ returns-then-not-reads_input-clause-promised g c =
       read = nothing_read (reads_input command) source.bytes off;
       later = omega arith;
     } in
-    Keeps-found SpellsCommand reads_input IsDue words source source command [] found
-    (side (g.K.Sink.taken c.args.sink.now) (g.K.Sink.faults c.args.sink.now))
-    (side (g.K.Sink.taken c.write_answer.new.sink) (g.K.Sink.faults c.write_answer.new.sink))
-    c.write_answer.result
-    c.write_answer.ensures.later c.write_answer.ensures.answers
+    let had = side (g.K.Sink.taken c.args.sink.now) (g.K.Sink.faults c.args.sink.now) in
+    let has = side (g.K.Sink.taken c.write_due.new.sink) (g.K.Sink.faults c.write_due.new.sink) in
+    Keeps-found SpellsCommand reads_input IsDue words source source command [] found had has
+    c.write_due.result c.write_due.ensures.later
+    (answered-due (IsDue command []) c.answer_to.result c.answer_to.ensures had has
+    c.write_due.result c.write_due.ensures.answers)
 
 pub returns-in-Ok-read_all-clause-promised : goal.returns-in-Ok-read_all-clause-promised
 returns-in-Ok-read_all-clause-promised g c =
@@ -51,8 +52,10 @@ returns-in-Ok-read_all-clause-promised g c =
           c.in-Ok-read_all.ensures.within;
       later = c.read_all.ensures.later;
     } in
-    Keeps-found SpellsCommand reads_input IsDue words source source_now command input found
-    (side (g.K.Sink.taken c.args.sink.now) (g.K.Sink.faults c.args.sink.now))
-    (side (g.K.Sink.taken c.write_answer-in-Ok-read_all.new.sink)
-    (g.K.Sink.faults c.write_answer-in-Ok-read_all.new.sink))
-    c.write_answer-in-Ok-read_all.result c.write_answer-in-Ok-read_all.ensures.later (search rules)
+    let wrote = c.write_due-in-Ok-read_all in
+    let had = side (g.K.Sink.taken c.args.sink.now) (g.K.Sink.faults c.args.sink.now) in
+    let has = side (g.K.Sink.taken wrote.new.sink) (g.K.Sink.faults wrote.new.sink) in
+    Keeps-found SpellsCommand reads_input IsDue words source source_now command input found had has
+    wrote.result wrote.ensures.later
+    (answered-due (IsDue command input) c.answer_to-in-Ok-read_all.result (search rules) had has
+    wrote.result wrote.ensures.answers)

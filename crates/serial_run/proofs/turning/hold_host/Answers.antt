@@ -2,9 +2,9 @@ use Rattle.std.proofs.Common.{true, ◌∙◌, ℕ, Bool, ap, refl, sym, subst}
 use Rattle.plant_types.specs.declared.net.HostPlan.{HostPlan}
 use Rattle.plant_types.specs.declared.net.NetPlan.{NetPlan}
 use Rattle.comm_port.specs.HostTurns.{HoldsHostTurn}
+use Rattle.comm_port.specs.HostStands.{own_side}
 use Rattle.turn_laws.specs.KeepsOn.{HostKeepsOn, HostStandsTied}
 use Rattle.turn_laws.proofs.Stands.{host-stands-of}
-use Rattle.serial_run.specs.Stations.{ring_side}
 use Rattle.serial_run.proofs.Keeping.{after-budget, after-node, left-from}
 use Rattle.serial_run.proofs.turning.hold_host.Goals as goal
 
@@ -35,12 +35,12 @@ returns c =
           (subst (λ (n : ℕ). HoldsHostTurn true ring.net n s.host.plan s.worker.budget
           s.host.history host.history ring.history new_ring.history left)
           (sym plan_node) o.held)
-          (host-stands-of s.worker.node s.host (ring_side ring.net) ring.history
+          (host-stands-of s.worker.node s.host (own_side ring.net) ring.history
           c.requires.stands.ties)
           (subst (λ (p : HostPlan). HostStandsTied p ring.net host.history new_ring.history)
           o.step.plan
           (subst (λ (n : NetPlan). HostStandsTied host.plan n host.history new_ring.history) net
-          (host-stands-of w.node host (ring_side new_ring.net) new_ring.history o.ties)))
+          (host-stands-of w.node host (own_side new_ring.net) new_ring.history o.ties)))
           (subst (λ (b : Bool). HostKeepsOn s.host.plan ring.net s.host.history ring.history b)
           c.requires.here c.requires.keeps);
     }

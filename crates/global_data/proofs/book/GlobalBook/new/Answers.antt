@@ -1,12 +1,12 @@
 use Rattle.std.proofs.Common.{rules, refl, ◌≡◌, ◌<◌, length, get_or, ◌∙◌}
 use Rattle.std.proofs.lemmas.List.{length-set}
-use Rattle.global_data.specs.Places.{book_places}
+use Rattle.global_data.specs.Places.{byte_addresses}
 use Rattle.global_data.proofs.Members.{joined-first, joined-next}
 use Rattle.global_data.proofs.book.GlobalBook.new.Goals as goal
 
 pub loop-member-init : goal.loop-member-init
 loop-member-init c =
-    let size : length c.loop.places.items ≡ book_places = search rules in
+    let size : length c.loop.places.items ≡ byte_addresses = search rules in
     (size, joined-first c.loop.places.items c.args.members.now c.loop.counter c.loop.invariant)
 
 pub loop-member-preserved : goal.loop-member-preserved

@@ -1,5 +1,5 @@
 use Rattle.std.proofs.Common.{ap, ◌∙◌, nat_cmp}
-use Rattle.global_data.specs.Places.{filled}
+use Rattle.global_data.specs.Places.{map_of_places}
 use Rattle.global_data.proofs.Places.{numbered-read}
 use Rattle.global_data.proofs.Changes.{has_place, no_member, put-written}
 use Rattle.global_data.proofs.book.GlobalBook.put.Goals as goal
@@ -11,7 +11,7 @@ returns c =
     let low = has_place _ _ c.ranges.node.fits c.self.invariant in
     elim c.match-index_mut.branch [
       | in-Some w ↦
-          ap (λ f. filled {R = nat_cmp} (λ i. i) f.places.items) w.self-inside-is
+          ap (λ f. map_of_places {R = nat_cmp} (λ i. i) f.places.items) w.self-inside-is
           ∙ put-written places c.args.self.now c.args.node c.args.words.now _ w.in-Some.place
           w.put.new.self c.self.view_is low
           c.index_mut.ensures.value w.in-Some.is w.put.ensures

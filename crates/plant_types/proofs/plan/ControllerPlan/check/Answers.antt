@@ -4,7 +4,7 @@ use Rattle.plant_types.specs.Fault.{controller_place, at_place}
 use Rattle.plant_types.specs.FirstFault.{first_failed, tests_of_each}
 use Rattle.plant_types.specs.Checks.{sizes_of}
 use Rattle.plant_types.specs.PlanTests.{placed, table_tests, segment_tests, order_tests}
-use Rattle.plant_types.specs.PlanTests.{panel_tests}
+use Rattle.plant_types.specs.PlanTests.{power_tests, panel_tests}
 use Rattle.plant_types.proofs.FaultLemmas.{parts-failed, parts-held}
 use Rattle.plant_types.proofs.PlanLemmas.{placed-first}
 use Rattle.plant_types.proofs.plan.ControllerPlan.check.Goals as goal
@@ -17,7 +17,8 @@ returns-in_err-check_segments c =
     let table = placed (controller_place 1) (table_tests plan) in
     let segments = tests_of_each (segment_tests plan) plan.segments in
     let rest = tests_of_each (order_tests plan) plan.orders
-    ++ tests_of_each (panel_tests (sizes_of plan)) plan.panel in
+    ++ (tests_of_each (power_tests plan) plan.power
+    ++ tests_of_each (panel_tests (sizes_of plan)) plan.panel) in
     let front : Ok tt ≡ first_failed table = sym c.in_ok-locate.was ∙ c.locate.ensures
     ∙ ap (λ place. at_place place c.check_table.result) c.controller.ensures
     ∙ ap (at_place (controller_place 1)) c.check_table.ensures
@@ -34,24 +35,28 @@ returns-in_err-check_orders c =
     let table = placed (controller_place 1) (table_tests plan) in
     let segments = tests_of_each (segment_tests plan) plan.segments in
     let orders = tests_of_each (order_tests plan) plan.orders in
-    let panel = tests_of_each (panel_tests (sizes_of plan)) plan.panel in
+    let rest = tests_of_each (power_tests plan) plan.power
+    ++ tests_of_each (panel_tests (sizes_of plan)) plan.panel in
     let front : Ok tt ≡ first_failed table = sym c.in_ok-locate.was ∙ c.locate.ensures
     ∙ ap (λ place. at_place place c.check_table.result) c.controller.ensures
     ∙ ap (at_place (controller_place 1)) c.check_table.ensures
     ∙ placed-first (controller_place 1) (table_tests plan) in
     let held : Ok tt ≡ first_failed segments = sym c.in_ok-check_segments.was
     ∙ rw c.as_slice.ensures at c.check_segments.ensures in
-    rw (p.1, p.2) (parts-failed orders panel c.in_err-check_orders.field-0.0
+    rw (p.1, p.2) (parts-failed orders rest c.in_err-check_orders.field-0.0
     (sym c.in_err-check_orders.was ∙ rw c.as_slice-2.ensures at c.check_orders.ensures)
-    ∙ parts-held segments (orders ++ panel) held
-    ∙ parts-held table (segments ++ (orders ++ panel)) front)
+    ∙ parts-held segments (orders ++ rest) held
+    ∙ parts-held table (segments ++ (orders ++ rest)) front)
 
-pub returns : goal.returns
-returns c =
+pub returns-in_err-check_power : goal.returns-in_err-check_power
+returns-in_err-check_power c =
+    let p = err_from_is_err_and c.from_residual-in_err-check_power.result
+    c.from_residual-in_err-check_power.ensures.1 in
     let plan = c.args.self.now in
     let table = placed (controller_place 1) (table_tests plan) in
     let segments = tests_of_each (segment_tests plan) plan.segments in
     let orders = tests_of_each (order_tests plan) plan.orders in
+    let power = tests_of_each (power_tests plan) plan.power in
     let panel = tests_of_each (panel_tests (sizes_of plan)) plan.panel in
     let front : Ok tt ≡ first_failed table = sym c.in_ok-locate.was ∙ c.locate.ensures
     ∙ ap (λ place. at_place place c.check_table.result) c.controller.ensures
@@ -61,6 +66,31 @@ returns c =
     ∙ rw c.as_slice.ensures at c.check_segments.ensures in
     let solved : Ok tt ≡ first_failed orders = sym c.in_ok-check_orders.was
     ∙ rw c.as_slice-2.ensures at c.check_orders.ensures in
-    rw (c.sizes.ensures, c.as_slice-3.ensures) at c.check_panel.ensures
-    ∙ parts-held orders panel solved ∙ parts-held segments (orders ++ panel) held
-    ∙ parts-held table (segments ++ (orders ++ panel)) front
+    rw (p.1, p.2) (parts-failed power panel c.in_err-check_power.field-0.0
+    (sym c.in_err-check_power.was ∙ rw c.as_slice-3.ensures at c.check_power.ensures)
+    ∙ parts-held orders (power ++ panel) solved
+    ∙ parts-held segments (orders ++ (power ++ panel)) held
+    ∙ parts-held table (segments ++ (orders ++ (power ++ panel))) front)
+
+pub returns : goal.returns
+returns c =
+    let plan = c.args.self.now in
+    let table = placed (controller_place 1) (table_tests plan) in
+    let segments = tests_of_each (segment_tests plan) plan.segments in
+    let orders = tests_of_each (order_tests plan) plan.orders in
+    let power = tests_of_each (power_tests plan) plan.power in
+    let panel = tests_of_each (panel_tests (sizes_of plan)) plan.panel in
+    let front : Ok tt ≡ first_failed table = sym c.in_ok-locate.was ∙ c.locate.ensures
+    ∙ ap (λ place. at_place place c.check_table.result) c.controller.ensures
+    ∙ ap (at_place (controller_place 1)) c.check_table.ensures
+    ∙ placed-first (controller_place 1) (table_tests plan) in
+    let held : Ok tt ≡ first_failed segments = sym c.in_ok-check_segments.was
+    ∙ rw c.as_slice.ensures at c.check_segments.ensures in
+    let solved : Ok tt ≡ first_failed orders = sym c.in_ok-check_orders.was
+    ∙ rw c.as_slice-2.ensures at c.check_orders.ensures in
+    let failed : Ok tt ≡ first_failed power = sym c.in_ok-check_power.was
+    ∙ rw c.as_slice-3.ensures at c.check_power.ensures in
+    rw (c.sizes.ensures, c.as_slice-4.ensures) at c.check_panel.ensures
+    ∙ parts-held power panel failed ∙ parts-held orders (power ++ panel) solved
+    ∙ parts-held segments (orders ++ (power ++ panel)) held
+    ∙ parts-held table (segments ++ (orders ++ (power ++ panel))) front

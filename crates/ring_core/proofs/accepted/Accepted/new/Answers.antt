@@ -1,5 +1,5 @@
 use Rattle.std.proofs.Common.{ap, ◌∙◌, Option, List, ℕ}
-use Rattle.global_data.specs.Places.{filled}
+use Rattle.global_data.specs.Places.{map_of_places}
 use Rattle.global_data.proofs.Places.{filled-none}
 use Rattle.ring_core.specs.Machine.{source_cmp}
 use Rattle.ring_core.specs.Sources.{source_at}
@@ -7,5 +7,5 @@ use Rattle.ring_core.proofs.accepted.Accepted.new.Goals as goal
 
 pub returns : goal.returns
 returns c =
-    ap (λ (l : List (Option ℕ)). filled {R = source_cmp} source_at l) c.loop.invariant
+    ap (λ (l : List (Option ℕ)). map_of_places {R = source_cmp} source_at l) c.loop.invariant
     ∙ filled-none source_at c.loop.counter
