@@ -1,0 +1,5 @@
+pub mod Cutting
+pub mod Pieces
+pub mod Values
+pub mod Stages
+pub mod Texts
