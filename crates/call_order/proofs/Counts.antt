@@ -9,6 +9,7 @@ use Rattle.controller_core.specs.declared.call.CallKind.{CallKind}
 use Rattle.controller_core.specs.declared.call.CallKind.TheVariants as call_kinds
 use Rattle.controller_core.specs.declared.entry.Entry.TheVariants.{Begin, Input, Solve, Output}
 use Rattle.controller_core.specs.declared.entry.Entry.TheVariants.{End, Collect, Peer, Finish}
+use Rattle.controller_core.specs.declared.entry.Entry.TheVariants.{Fail, Dark, Off}
 use Rattle.host_port.specs.declared.entry.HostEntry.TheVariants as hosts
 use Rattle.mstr_block.specs.declared.call.CallId.{CallId}
 use Rattle.ring_core.specs.Statistics.{is_stats}
@@ -75,8 +76,11 @@ note-asked s (ByController (Input row)) = omega arith
 note-asked s (ByController (Solve row)) = omega arith
 note-asked s (ByController (Output row words)) = omega arith
 note-asked s (ByController End) = omega arith
+note-asked s (ByController Fail) = omega arith
+note-asked s (ByController Dark) = omega arith
 note-asked s (ByController (Collect calls)) = calls-asked s calls
 note-asked s (ByController (Peer id request reply)) = omega arith
+note-asked s (ByController (Off id request)) = omega arith
 note-asked s (ByController (Finish id result)) = omega arith
 note-asked s (ByHost (hosts.Ask id to pdu)) = refl
 note-asked s (ByHost (hosts.Served id request reply)) = omega arith
@@ -88,8 +92,11 @@ note-served s (ByController (Input row)) = omega arith
 note-served s (ByController (Solve row)) = omega arith
 note-served s (ByController (Output row words)) = omega arith
 note-served s (ByController End) = omega arith
+note-served s (ByController Fail) = omega arith
+note-served s (ByController Dark) = omega arith
 note-served s (ByController (Collect calls)) = let a = (calls-served s calls).0 in omega (arith, a)
 note-served s (ByController (Peer id request reply)) = refl
+note-served s (ByController (Off id request)) = omega arith
 note-served s (ByController (Finish id result)) = omega arith
 note-served s (ByHost (hosts.Ask id to pdu)) = omega arith
 note-served s (ByHost (hosts.Served id request reply)) = refl
@@ -101,8 +108,11 @@ note-ended s (ByController (Input row)) = omega arith
 note-ended s (ByController (Solve row)) = omega arith
 note-ended s (ByController (Output row words)) = omega arith
 note-ended s (ByController End) = omega arith
+note-ended s (ByController Fail) = omega arith
+note-ended s (ByController Dark) = omega arith
 note-ended s (ByController (Collect calls)) = let a = (calls-served s calls).1 in omega (arith, a)
 note-ended s (ByController (Peer id request reply)) = omega arith
+note-ended s (ByController (Off id request)) = omega arith
 note-ended s (ByController (Finish id result)) = refl
 note-ended s (ByHost (hosts.Ask id to pdu)) = omega arith
 note-ended s (ByHost (hosts.Served id request reply)) = omega arith

@@ -8,6 +8,7 @@ use Rattle.std.proofs.lemmas.List.Elements.{filter_map-append}
 use Rattle.controller_core.specs.declared.entry.Entry.{Entry}
 use Rattle.controller_core.specs.declared.entry.Entry.TheVariants.{Begin, Input, Solve, Output}
 use Rattle.controller_core.specs.declared.entry.Entry.TheVariants.{End, Collect, Peer, Finish}
+use Rattle.controller_core.specs.declared.entry.Entry.TheVariants.{Fail, Dark, Off}
 use Rattle.host_port.specs.declared.entry.HostEntry.{HostEntry}
 use Rattle.host_port.specs.declared.entry.HostEntry.TheVariants as hosts
 use Rattle.ring_core.specs.declared.frame.Frame.{Frame}
@@ -126,6 +127,8 @@ asks-on a (Input row ∷ es) = asks-on a es
 asks-on a (Solve row ∷ es) = asks-on a es
 asks-on a (Output row words ∷ es) = asks-on a es
 asks-on a (End ∷ es) = asks-on a es
+asks-on a (Fail ∷ es) = asks-on a es
+asks-on a (Dark ∷ es) = asks-on a es
 asks-on a (Collect calls ∷ es) =
     asks-on (item_next a (Collect calls)) es
     ∙ (ap (λ (l : List Asked). l ++ flat_map asks_in (map ByController es))
@@ -133,6 +136,7 @@ asks-on a (Collect calls ∷ es) =
     ∙ append_assoc (filter_map net_ask a.calls) (filter_map net_ask (map called_of calls))
     (flat_map asks_in (map ByController es)))
 asks-on a (Peer id request reply ∷ es) = asks-on (item_next a (Peer id request reply)) es
+asks-on a (Off id request ∷ es) = asks-on (item_next a (Off id request)) es
 asks-on a (Finish id result ∷ es) = asks-on (item_next a (Finish id result)) es
 
 answers-on : (a : Items) (es : List Entry)
@@ -143,11 +147,14 @@ answers-on a (Input row ∷ es) = answers-on a es
 answers-on a (Solve row ∷ es) = answers-on a es
 answers-on a (Output row words ∷ es) = answers-on a es
 answers-on a (End ∷ es) = answers-on a es
+answers-on a (Fail ∷ es) = answers-on a es
+answers-on a (Dark ∷ es) = answers-on a es
 answers-on a (Collect calls ∷ es) = answers-on (item_next a (Collect calls)) es
 answers-on a (Peer id request reply ∷ es) =
     answers-on (item_next a (Peer id request reply)) es
     ∙ append_assoc a.answers (record { id = id; request = Some request; reply = reply } ∷ [])
     (flat_map answers_in (map ByController es))
+answers-on a (Off id request ∷ es) = answers-on a es
 answers-on a (Finish id result ∷ es) = answers-on (item_next a (Finish id result)) es
 
 ends-on : (a : Items) (es : List Entry)
@@ -159,8 +166,11 @@ ends-on a (Input row ∷ es) = ends-on a es
 ends-on a (Solve row ∷ es) = ends-on a es
 ends-on a (Output row words ∷ es) = ends-on a es
 ends-on a (End ∷ es) = ends-on a es
+ends-on a (Fail ∷ es) = ends-on a es
+ends-on a (Dark ∷ es) = ends-on a es
 ends-on a (Collect calls ∷ es) = ends-on (item_next a (Collect calls)) es
 ends-on a (Peer id request reply ∷ es) = ends-on (item_next a (Peer id request reply)) es
+ends-on a (Off id request ∷ es) = ends-on (item_next a (Off id request)) es
 ends-on a (Finish id result ∷ es) =
     ends-on (item_next a (Finish id result)) es
     ∙ (ap (λ (l : List _). l ++ flat_map ends_in (map ByController es))

@@ -103,6 +103,7 @@ given-lead-but {P} {Q} rest alone alone' n p id word ram ram' known known' side 
     subst (λ (s : RamSideIs P). Turning n rest s known' side' ring' (set w p None)) (sym same)
     (record {
       node = t.node;
+      power = t.power;
       own_turn = turn-on side side' ring ring' n same' t.own_turn legal kept;
       tied = subst (λ (a : Items). TiedBut AController rest a (own n ring')) (sym items_is)
           (subst (TiedBut AController rest a') (sym own_is)
@@ -148,6 +149,7 @@ stays-lead {P} {Q} alone n rest ram known side side' ring ring' w same legal kep
     ∙ append-nil (own n ring) in
     record {
       node = t.node;
+      power = t.power;
       own_turn = turn-on side side' ring ring' n same t.own_turn legal kept;
       tied = subst (TiedBut AController rest (items_of known)) (sym own_is) t.tied;
       waits = subst (λ (l : List RingEntry). AreWaiting n (items_of known) l w) (sym own_is)
@@ -177,6 +179,7 @@ sent-lead {P} {Q} alone n heard ram known side side' ring ring' w same legal sen
     let own_is = grew-ours alone (is_of n) ring (e ∷ []) ring' sent.grew in
     record {
       node = t.node;
+      power = t.power;
       own_turn = turn-on side side' ring ring' n same t.own_turn legal sent.kept;
       tied = subst (TiedBut AController [] (items_of known)) (sym own_is)
           (tied-quiet AController [] (items_of known) (own n ring)

@@ -277,6 +277,7 @@ posted-lead {P} {Q} alone n c rest to pdu ram known side side' ring ring' w same
     record {
       turning = record {
         node = o.turning.node;
+        power = o.turning.power;
         own_turn = turn-on side side' ring ring' n same o.turning.own_turn legal kept;
         tied = subst (TiedBut AController rest (items_of known)) (sym own_is)
             (tied-posted AController rest c (items_of known)
@@ -403,6 +404,7 @@ done-lead {P} {Q} alone alone' n c rest op ram ram' known known' side side' ring
       turning = subst (λ (s : RamSideIs P). Turning n rest s known' side' ring' w) (sym same)
           (record {
             node = o.turning.node;
+            power = o.turning.power;
             own_turn = turn-on side side' ring ring' n same' o.turning.own_turn legal kept;
             tied = subst (λ (a : Items). TiedBut AController rest a (own n ring')) (sym items_is)
                 (subst (TiedBut AController rest a') (sym own_is)
@@ -452,6 +454,7 @@ collected-lead {P} {Q} alone n calls ram ram' known known' side ring w same went
     record {
       turning = subst (λ (s : RamSideIs P). Turning n cs s known' side ring w) (sym same) (record {
         node = t.node;
+        power = t.power;
         own_turn = t.own_turn;
         tied = subst (λ (a : Items). TiedBut AController cs a (own n ring)) (sym items_is)
             (tied-called AController cs (items_of
@@ -481,6 +484,7 @@ ram-still {P} {Q} alone n rest ram ram' known known' side ring w same went t =
     let items_is = items-same alone known known' went in
     subst (λ (s : RamSideIs P). Turning n rest s known' side ring w) (sym same) (record {
       node = t.node;
+      power = t.power;
       own_turn = t.own_turn;
       tied = subst (λ (a : Items). TiedBut AController rest a (own n ring)) (sym items_is) t.tied;
       waits = subst (λ (a : Items). AreWaiting n a (own n ring) w) (sym items_is) t.waits;

@@ -1,7 +1,7 @@
 -- What is taken, answered and ended leaves the lists tied.
 use Rattle.std.proofs.Common.{◌≡◌, ◌≢◌, ℕ, ◌<◌, ◌==◌, Bool, true, false, cond, List, [], ◌∷◌, ◌++◌}
-use Rattle.std.proofs.Common.{filter, get_or, set, length, Option, Some, None, refl, sym, ap, ◌∙◌}
-use Rattle.std.proofs.Common.{subst, inl, inr, ◌⊎◌, ⊎_elim, arith, append-nil, append_assoc}
+use Rattle.std.proofs.Common.{get_or, set, length, Option, Some, None, refl, sym, ap, ◌∙◌}
+use Rattle.std.proofs.Common.{subst, ◌⊎◌, ⊎_elim, arith, append_assoc}
 use Rattle.std.proofs.Common.{get_or-set_same, get_or-set_other, eq-eqb, ne_eqb}
 use Rattle.std.proofs.lemmas.Bool.{cases_eq, cond-true, cond-false}
 use Rattle.std.proofs.lemmas.List.{length-set}
@@ -98,6 +98,7 @@ take-lead {P} {Q} alone n f ram known side side' ring ring' w same legal went t 
       before = own n ring;
       own_is = m.own_is;
       node = t.node;
+      power = t.power;
       own_turn = record {
         serves = t.own_turn.serves;
         on = on-ring side ring ring' n t.own_turn
@@ -160,6 +161,7 @@ end-lead {P} {Q} alone n f ask ram ram' known known' side ring w same kind slot 
     (tied-got AController [] (items_of known) t.before n f kind made.made t.tied) in
     subst (λ (s : RamSideIs P). Turning n [] s known' side ring (set w q None)) (sym same) (record {
       node = t.node;
+      power = t.power;
       own_turn = t.own_turn;
       tied = subst (λ (a : Items). TiedBut AController [] a (own n ring)) (sym items_is)
           (subst (TiedBut AController []
@@ -209,6 +211,7 @@ answer-lead {P} {Q} alone alone' n f reply ram ram' known known' side side' ring
     (record { id = f.id; request = Some f.pdu; reply = reply }) in
     subst (λ (s : RamSideIs P). Turning n [] s known' side' ring' w) (sym same) (record {
       node = t.node;
+      power = t.power;
       own_turn = turn-on side side' ring ring' n same' t.own_turn legal kept;
       tied = subst (λ (a : Items). TiedBut AController [] a (own n ring')) (sym items_is)
           (subst (TiedBut AController [] a') (sym own_is)
@@ -240,6 +243,7 @@ port-lead {P} {Q} alone' n f ram known side side' ring ring' w same' kind stats 
     [])) in
     record {
       node = t.node;
+      power = t.power;
       own_turn = turn-on side side' ring ring' n same' t.own_turn legal kept;
       tied = subst (TiedBut AController [] (items_of known)) (sym own_is)
           (tied-told AController [] (items_of known) t.before n f g told.op told.result kind stats
@@ -279,6 +283,7 @@ ring-still {P} {Q} alone n rest ram known side side' ring ring' w same legal wen
     t.own_turn.free in
     subst (λ (s : RingSideIs Q). Turning n rest ram known s ring' w) (sym same) (record {
       node = t.node;
+      power = t.power;
       own_turn = record {
         serves = t.own_turn.serves;
         on = on-ring side ring ring' n t.own_turn

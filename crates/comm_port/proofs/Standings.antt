@@ -5,6 +5,7 @@ use Rattle.std.proofs.Common.{refl, sym, ◌∙◌, subst, append-nil}
 use Rattle.std.proofs.Common.{ap, arith, get_or-set_same, ◌<◌}
 use Rattle.std.proofs.lemmas.List.{length-replicate}
 use Rattle.plant_types.specs.declared.net.NetPlan.{NetPlan}
+use Rattle.plant_types.specs.Plans.{KeepsPower}
 use Rattle.controller_core.specs.declared.entry.Entry.{Entry}
 use Rattle.ring_core.specs.declared.frame.Frame.{Frame}
 use Rattle.ring_core.specs.declared.path.Path.{Path}
@@ -87,7 +88,7 @@ nothing-tied = record { asks = refl; peers = refl; port = refl; replies = refl; 
 
 -- a new worker, a controller that has scanned at most, and a ring on which nothing has happened
 pub standing-new : {P Q : Type 0} (n : ℕ) (net : NetPlan) (budget : Bool) (ram : RamSideIs P)
-    (known : List Entry) (side : RingSideIs Q) → ram.fixed.plan.node ≡ n
+    (known : List Entry) (side : RingSideIs Q) → ram.fixed.plan.node ≡ n → KeepsPower ram.fixed.plan
     → side.net ≡ net → MayWrite side.writer n → filter is_ours known ≡ []
     → Standing (record {
       node = n;
@@ -96,10 +97,11 @@ pub standing-new : {P Q : Type 0} (n : ℕ) (net : NetPlan) (budget : Bool) (ram
       waiting = replicate path_places
           None;
     }) ram known side []
-standing-new n net budget ram known side node same serves none =
+standing-new n net budget ram known side node power same serves none =
     let is : items_of known ≡ no_items = scans [] known none in
     record {
       node = node;
+      power = power;
       net = same;
       serves = serves;
       legal = tt;
@@ -119,6 +121,7 @@ standing-scans w ram known more side ring none s =
     let is = scans known more none in
     record {
       node = s.node;
+      power = s.power;
       net = s.net;
       serves = s.serves;
       legal = s.legal;
@@ -137,6 +140,7 @@ standing-others w ram known side ring more on none s =
     let is : own w.node (ring ++ more) ≡ own w.node ring = own-found w.node ring more none in
     record {
       node = s.node;
+      power = s.power;
       net = s.net;
       serves = s.serves;
       legal = on.legal;

@@ -54,6 +54,7 @@ handed-lead {P} {Q} alone n done words cause ram known side side' ring ring' w s
     let own_is = grew-ours alone (is_of n) ring (e ∷ []) ring' h.grew in
     subst (λ (s : RingSideIs Q). Rested n ram known s ring' w) (sym same) (record {
       node = t.node;
+      power = t.power;
       serves = t.own_turn.serves;
       on = on-ring side ring ring' n t.own_turn legal;
       tied = subst (Tied AController (items_of known)) (sym own_is)
@@ -72,6 +73,7 @@ pub left-lead : {P Q : Type 0} (n : ℕ) (ram : RamSideIs P) (known : List Entry
     → Turning n [] ram known side ring w
 left-lead n ram known side ring w gone r = record {
   node = r.node;
+  power = r.power;
   own_turn = record { serves = r.serves; on = r.on; free = inr gone };
   tied = tied-none AController (items_of known) (own n ring) r.tied;
   waits = r.waits;

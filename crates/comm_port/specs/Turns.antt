@@ -2,6 +2,7 @@
 use Rattle.std.specs.Prelude.{◌≡◌, ◌≢◌, ℕ, ◌<◌, List, [], ◌∷◌, ◌++◌, length, get_or, Option}
 use Rattle.std.specs.Prelude.{Some, None}
 use Rattle.plant_types.specs.declared.net.NetPlan.{NetPlan}
+use Rattle.plant_types.specs.Plans.{KeepsPower}
 use Rattle.controller_core.specs.declared.entry.Entry.{Entry}
 use Rattle.ring_core.specs.Machine.{path_places, ring_node, ring_after}
 use Rattle.ring_core.specs.declared.frame.FrameKind.TheVariants.{Request, Reply}
@@ -38,12 +39,13 @@ pub record AreWaiting (n : ℕ) (a : Items) (b : List RingEntry) (waiting : List
   pub asks : (p : ℕ) (f : Frame) → get_or waiting p None ≡ Some f → IsAsk n p f
   pub outs : (p : ℕ) (f : Frame) → get_or waiting p None ≡ Some f → IsOutAs a f.id NetCall
 
--- A worker stands between its controller and the ring: their lists are tied, but for calls that
--- were not posted yet.
+-- A worker stands between its controller, which keeps its power, and the ring: their lists are tied,
+-- but for calls that were not posted yet.
 pub record Turning {P Q : Type 0} (n : ℕ) (rest : List Called) (ram : RamSideIs P)
     (known : List Entry) (side : RingSideIs Q) (ring : List RingEntry)
     (waiting : List (Option Frame)) : Type 0 where
   pub node : ram.fixed.plan.node ≡ n
+  pub power : KeepsPower ram.fixed.plan
   pub own_turn : IsOwnTurn side ring n
   pub tied : TiedBut AController rest (items_of known) (own n ring)
   pub waits : AreWaiting n (items_of known) (own n ring) waiting
@@ -55,6 +57,7 @@ pub record Taking {P Q : Type 0} (n : ℕ) (f : Frame) (ram : RamSideIs P) (know
   pub before : List RingEntry
   pub own_is : own n ring ≡ before ++ Take n f ∷ []
   pub node : ram.fixed.plan.node ≡ n
+  pub power : KeepsPower ram.fixed.plan
   pub own_turn : IsOwnTurn side ring n
   pub tied : TiedBut AController [] (items_of known) before
   pub waits : AreWaiting n (items_of known) before waiting
@@ -68,6 +71,7 @@ pub record Taking {P Q : Type 0} (n : ℕ) (f : Frame) (ram : RamSideIs P) (know
 pub record Rested {P Q : Type 0} (n : ℕ) (ram : RamSideIs P) (known : List Entry)
     (side : RingSideIs Q) (ring : List RingEntry) (waiting : List (Option Frame)) : Type 0 where
   pub node : ram.fixed.plan.node ≡ n
+  pub power : KeepsPower ram.fixed.plan
   pub serves : MayWrite side.writer n
   pub on : IsOnRing side.net ring n
   pub tied : Tied AController (items_of known) (own n ring)

@@ -1,6 +1,7 @@
 -- What a contract sees of a controller's worker. This project's own.
 use Rattle.std.specs.Prelude.{◌≡◌, ℕ, ◌<◌, Bool, List, All, Option, None, replicate}
 use Rattle.plant_types.specs.declared.net.NetPlan.{NetPlan}
+use Rattle.plant_types.specs.Plans.{KeepsPower}
 use Rattle.controller_core.specs.declared.entry.Entry.{Entry}
 use Rattle.ring_core.specs.Machine.{addresses, path_places}
 use Rattle.ring_core.specs.Legal.{IsMember, IsLegalRing}
@@ -34,12 +35,13 @@ pub record IsMemberWorker (net : NetPlan) (n : ℕ) : Type 0 where
   pub member : IsMember net n
   pub answer : 0 < net.answer
 
--- A worker stands between two turns: its node is that of the controller, its net that of the ring,
--- the lists of both are tied, its Requests are those of its node's own list, and nothing of the
+-- A worker stands between two turns: its node is that of the controller, which keeps its power, its
+-- net that of the ring, the lists of both are tied, its Requests are those of its node's own list, and nothing of the
 -- node is to be sent or has failed.
 pub record Standing {P Q : Type 0} (w : WorkerIs) (ram : RamSideIs P) (known : List Entry)
     (side : RingSideIs Q) (ring : List RingEntry) : Type 0 where
   pub node : ram.fixed.plan.node ≡ w.node
+  pub power : KeepsPower ram.fixed.plan
   pub net : side.net ≡ w.net
   pub serves : MayWrite side.writer w.node
   pub legal : IsLegalRing side.net ring

@@ -31,7 +31,8 @@ impl RamSide for Controller {
     }
 
     fn peer(&mut self, id: CallId, request: &Pdu) -> Result<Pdu, AllocError> {
-        Controller::peer(self, id, request)
+        let reply = Controller::peer(self, id, request)?;
+        Ok(reply.unwrap())
     }
 
     fn finish(&mut self, id: CallId, outcome: MstrResult) -> Result<(), AllocError> {

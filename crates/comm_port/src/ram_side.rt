@@ -1,5 +1,6 @@
 //! A controller as its worker has it: by itself, or behind a gate that its scan passes too.
 ghost use Rattle.std.specs.Prelude.{◌≡◌, ◌∷◌, [], List, Bool, true, IfOk};
+ghost use Rattle.plant_types.specs.Plans.{KeepsPower};
 ghost use Rattle.controller_core.specs.Controller.{IsLegal};
 ghost use Rattle.controller_core.specs.declared.entry.Entry.TheVariants.{Collect, Peer, Finish};
 ghost use Rattle.tied_lists.specs.Calls.{IsOut};
@@ -45,8 +46,9 @@ pub trait RamSide {
         ensures legal { IsLegal (side self.old).fixed (known self.new) }
         ensures same { side self.new ≡ side self.old };
 
-    /// Answers a request of another node.
+    /// Answers a request of another node, where the controller keeps its power.
     fn peer(&mut self, id: CallId, request: &Pdu) -> Result<Pdu, AllocError>
+        requires { KeepsPower (side self.old).fixed.plan }
         ensures went { CallNotes alone known reserved self.old self.new result
             (λ reply. Peer id request.now reply ∷ []) }
         ensures legal { IsLegal (side self.old).fixed (known self.new) }

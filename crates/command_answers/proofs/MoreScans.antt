@@ -25,8 +25,11 @@ apply-same plant plan n m s (entries.Input row) = refl
 apply-same plant plan n m s (entries.Solve row) = refl
 apply-same plant plan n m s (entries.Output row words) = refl
 apply-same plant plan n m s entries.End = refl
+apply-same plant plan n m s entries.Fail = refl
+apply-same plant plan n m s entries.Dark = refl
 apply-same plant plan n m s (entries.Collect calls) = refl
 apply-same plant plan n m s (entries.Peer id request reply) = refl
+apply-same plant plan n m s (entries.Off id request) = refl
 apply-same plant plan n m s (entries.Finish id result) = refl
 
 -- and fits where it did
@@ -37,8 +40,11 @@ fits-same plant plan n m s (entries.Input row) fits = fits
 fits-same plant plan n m s (entries.Solve row) fits = fits
 fits-same plant plan n m s (entries.Output row words) fits = fits
 fits-same plant plan n m s entries.End fits = fits
+fits-same plant plan n m s entries.Fail fits = fits
+fits-same plant plan n m s entries.Dark fits = fits
 fits-same plant plan n m s (entries.Collect calls) fits = fits
 fits-same plant plan n m s (entries.Peer id request reply) fits = fits
+fits-same plant plan n m s (entries.Off id request) fits = fits
 fits-same plant plan n m s (entries.Finish id result) fits = fits
 
 -- so do all

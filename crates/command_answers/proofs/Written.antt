@@ -14,10 +14,9 @@ use Rattle.panel_text.specs.Panel.{panel}
 use Rattle.command_answers.specs.declared.status.Status.{Status}
 use Rattle.command_answers.specs.declared.status.Status.TheVariants as ends
 use Rattle.command_words.specs.declared.words.Command.TheVariants.{Do}
-use Rattle.command_words.specs.declared.words.Task.{Task}
 use Rattle.command_words.specs.declared.words.Task.TheVariants.{Trace, Check, Replay}
 use Rattle.command_answers.specs.Cut.{IsCut}
-use Rattle.command_answers.specs.Due.{Due, IsDue, IsDueOf, IsLiveDueOf, refused, task_text}
+use Rattle.command_answers.specs.Due.{Due, IsDue, IsDueOf, IsLiveDueOf, refused}
 use Rattle.command_answers.specs.OneDue.{OneDue}
 use Rattle.command_answers.specs.Written.{IsAccepted, TellsOneRun, WrittenIsLegal, with_ok}
 

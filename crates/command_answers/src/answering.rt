@@ -8,8 +8,8 @@ ghost use Rattle.journal_text.specs.Fronts.{IsJournalOf};
 ghost use Rattle.journal_text.specs.Journal.{journal};
 ghost use Rattle.panel_text.specs.Panel.{panel};
 ghost use Rattle.command_words.specs.Words.{IsCommandInRange, IsNumberOfScans};
-ghost use Rattle.command_answers.specs.Due.{IsDue, IsDueOf, IsDueWith, IsFound, illegal_text, judges};
-ghost use Rattle.command_answers.specs.Due.{refusal_text, refused, task_text, as_due};
+ghost use Rattle.command_answers.specs.Due.{IsDue, IsDueOf, IsDueWith, IsFound, as_due};
+ghost use Rattle.command_answers.specs.Due.{illegal_text, judges, refusal_text, refused, task_text};
 
 use crate::answered::Answer;
 use crate::cutting::cut;

@@ -119,15 +119,6 @@ Spells-gen behind read reads (Gen number scans) = (
       ap gen_made ((reads number scans).1 (spells.numbers, spells.in_range.0, spells.in_range.1)),
 )
 
--- a name that is none spells nothing
-pub Spells-none : (name : List ℕ) (behind : List (List ℕ)) → (codes "gen" ≡ name → ⊥)
-    → ((task : Task) → task_name task ≡ name → ⊥)
-    → (command : Command) → (None ≡ Some command) ↔ SpellsBehind name behind command
-Spells-none name behind no_gen no_task (Do task scans) =
-    (λ e. absurd (cc), λ spells. absurd (no_task task spells.named))
-Spells-none name behind no_gen no_task (Gen number scans) =
-    (λ e. absurd (cc), λ spells. absurd (no_gen spells.named))
-
 -- a live run with the scans that were read behind its name
 pub Spells-live : {E : Type 0} (name : List ℕ) (behind : List (List ℕ)) (read : Result (Option ℕ) E)
     → name ≡ codes "live"

@@ -9,6 +9,7 @@ use Rattle.plant_types.specs.declared.plan.OrderRow.{OrderRow}
 use Rattle.ladder_solver.specs.Laws.{SegmentsKeepCalls}
 use Rattle.mstr_block.specs.Call.{is_same_call}
 use Rattle.mstr_block.specs.Laws.{CallsAreTakenInOrder, FinishesEndOneCall}
+use Rattle.mstr_block.specs.Laws.{PowerFailuresKeepCalls}
 use Rattle.mstr_block.specs.declared.state.BlockState.{BlockState}
 use Rattle.mstr_block.specs.declared.state.BlockState.TheVariants.{Idle, Waiting, Active, Aborted}
 use Rattle.mstr_block.specs.declared.state.BlockState.TheVariants.{Ready}
@@ -23,9 +24,9 @@ use Rattle.controller_core.specs.declared.entry.Entry.TheVariants as entries
 use Rattle.controller_core.specs.declared.entry.Maker.TheVariants as makers
 use Rattle.controller_core.specs.declared.fixed.Fixed.{Fixed}
 use Rattle.controller_core.specs.Calls.{call_of, calls_of}
-use Rattle.controller_core.specs.Controller.{AreOf, ControllerIs, answering, due_step, grown}
-use Rattle.controller_core.specs.Controller.{has_ended, made, state_of}
-use Rattle.controller_core.specs.Event.{entry_of, maker_of}
+use Rattle.controller_core.specs.Controller.{AreOf, ControllerIs, due_step, grown, has_ended, made}
+use Rattle.controller_core.specs.Controller.{reply_to, state_of}
+use Rattle.controller_core.specs.Event.{entry_of, maker_of, peer_entry}
 use Rattle.controller_core.specs.Laws.{CallsFollow, ConditionsStay, KeepsCallsOf, is_call_among}
 use Rattle.controller_core.specs.Replay.{ControllerState, apply, control_is_on, read_in}
 use Rattle.controller_core.specs.Replay.{segment_solved}
@@ -66,24 +67,40 @@ keeps_solve law segments (Some row) s = either (control_is_on s.solving.map row.
     either true = keeps_segment law segments row.segment s
     either false = keeps_same (table_of s) (table_of s) refl
 
-keeps_entry : SegmentsKeepCalls → (f : Fixed) (s : ControllerState) (e : Entry)
-    → maker_of e ≡ makers.Scan → Keeps (table_of s) (table_of (apply f s e))
-keeps_entry law f s entries.Begin of = keeps_same _ _ refl
-keeps_entry law f s (entries.Input row) of = keeps_same (table_of s) _ (keeps_read f.plan.drops _ s)
-keeps_entry law f s (entries.Solve row) of = keeps_solve law f.plan.segments (row_of f.plan row) s
-keeps_entry law f s (entries.Output row words) of = keeps_same _ _ refl
-keeps_entry law f s entries.End of = keeps_same _ _ refl
-keeps_entry law f s (entries.Collect calls) of = absurd cc
-keeps_entry law f s (entries.Peer id request reply) of = absurd cc
-keeps_entry law f s (entries.Finish id result) of = absurd cc
+-- what solves and power failures keep
+record CallsAreKept : Type 0 where
+  solves : SegmentsKeepCalls
+  failures : PowerFailuresKeepCalls
 
-keeps_entries : SegmentsKeepCalls → (f : Fixed) (s : ControllerState) (added : List Entry)
+keeps_failure : CallsAreKept → (f : Fixed) (s : ControllerState)
+    → Keeps (table_of s) (table_of (apply f s entries.Fail))
+keeps_failure laws f s =
+    let calls = laws.failures.keeps (table_of s) in
+    record { started = calls.started; out = calls.out }
+
+keeps_entry : CallsAreKept → (f : Fixed) (s : ControllerState) (e : Entry)
+    → maker_of e ≡ makers.Scan → Keeps (table_of s) (table_of (apply f s e))
+keeps_entry laws f s entries.Begin of = keeps_same _ _ refl
+keeps_entry laws f s (entries.Input row) of =
+    keeps_same (table_of s) _ (keeps_read f.plan.drops _ s)
+keeps_entry laws f s (entries.Solve row) of =
+    keeps_solve laws.solves f.plan.segments (row_of f.plan row) s
+keeps_entry laws f s (entries.Output row words) of = keeps_same _ _ refl
+keeps_entry laws f s entries.End of = keeps_same _ _ refl
+keeps_entry laws f s entries.Fail of = keeps_failure laws f s
+keeps_entry laws f s entries.Dark of = keeps_same _ _ refl
+keeps_entry laws f s (entries.Collect calls) of = absurd cc
+keeps_entry laws f s (entries.Peer id request reply) of = absurd cc
+keeps_entry laws f s (entries.Off id request) of = absurd cc
+keeps_entry laws f s (entries.Finish id result) of = absurd cc
+
+keeps_entries : CallsAreKept → (f : Fixed) (s : ControllerState) (added : List Entry)
     → AreOf makers.Scan added
     → Keeps (table_of s) (table_of (fold (apply f) s added))
-keeps_entries law f s [] of = keeps_same (table_of s) (table_of s) refl
-keeps_entries law f s (e ∷ added) of =
-    let one = keeps_entry law f s e of.0 in
-    let rest = keeps_entries law f (apply f s e) added of.1 in
+keeps_entries laws f s [] of = keeps_same (table_of s) (table_of s) refl
+keeps_entries laws f s (e ∷ added) of =
+    let one = keeps_entry laws f s e of.0 in
+    let rest = keeps_entries laws f (apply f s e) added of.1 in
     record {
       started = λ yes. rest.started (one.started yes);
       out = λ id yes. rest.out id (one.out id yes);
@@ -98,19 +115,19 @@ keeps_of v w t is keeps = record {
   out = λ id yes. ap (λ (x : BlockTable). is_taken_out x id) is ∙ keeps.out id yes;
 }
 
-keeps_scans : SegmentsKeepCalls → (v : ControllerIs) (added : List Entry) (reserved : Bool)
+keeps_scans : CallsAreKept → (v : ControllerIs) (added : List Entry) (reserved : Bool)
     → AreOf makers.Scan added
     → KeepsCallsOf v (grown v added reserved)
-keeps_scans law v added reserved of =
+keeps_scans laws v added reserved of =
     keeps_of v (grown v added reserved) (table_of (fold (apply v.fixed) (state_of v) added))
     (ap table_of (replay_append v.fixed (start v.fixed.plan) v.history added))
-    (keeps_entries law v.fixed (state_of v) added of)
+    (keeps_entries laws v.fixed (state_of v) added of)
 
-keeps_made : SegmentsKeepCalls → (v : ControllerIs) (due : Option ScanStep)
+keeps_made : CallsAreKept → (v : ControllerIs) (due : Option ScanStep)
     → KeepsCallsOf v (made v due)
-keeps_made law v None = keeps_of v v (table_of (state_of v)) refl (keeps_same _ _ refl)
-keeps_made law v (Some step) =
-    keeps_scans law v (entry_of v.fixed (state_of v) step ∷ []) (made v (Some step)).reserved
+keeps_made laws v None = keeps_of v v (table_of (state_of v)) refl (keeps_same _ _ refl)
+keeps_made laws v (Some step) =
+    keeps_scans laws v (entry_of v.fixed (state_of v) step ∷ []) (made v (Some step)).reserved
     (maker_of_made v.fixed (state_of v) step, tt)
 
 -- the table with one more entry
@@ -118,14 +135,24 @@ more : (v : ControllerIs) (e : Entry) (reserved : Bool)
     → state_of (grown v (e ∷ []) reserved) ≡ apply v.fixed (state_of v) e
 more v e reserved = replay_more v.fixed (start v.fixed.plan) v.history e
 
-pub conditions : SegmentsKeepCalls → ConditionsStay
-conditions law = record {
-  steps = λ v. keeps_made law v (due_step v);
+-- a request leaves the blocks as they are, whether it has a reply or none
+keeps_peer : (v : ControllerIs) (id : CallId) (request : List ℕ) (reply : Option (List ℕ))
+    → KeepsCallsOf v (grown v (peer_entry id request reply ∷ []) v.reserved)
+keeps_peer v id request (Some reply) =
+    keeps_of v _ (table_of (state_of v)) (ap table_of (more v _ v.reserved)) (keeps_same _ _ refl)
+keeps_peer v id request None =
+    keeps_of v _ (table_of (state_of v)) (ap table_of (more v _ v.reserved)) (keeps_same _ _ refl)
+
+conditions_by : CallsAreKept → ConditionsStay
+conditions_by laws = record {
+  steps = λ v. keeps_made laws v (due_step v);
   ended = λ v ended. ap has_ended (stays v ended) ∙ ended;
-  scans = keeps_scans law;
-  peers = λ v id request. keeps_of v (answering v id request) (table_of (state_of v))
-      (ap table_of (more v _ v.reserved)) (keeps_same _ _ refl);
+  scans = keeps_scans laws;
+  peers = λ v id request. keeps_peer v id request (reply_to v request);
 }
+
+pub conditions : SegmentsKeepCalls → PowerFailuresKeepCalls → ConditionsStay
+conditions solves failures = conditions_by (record { solves = solves; failures = failures })
 
 one_taken : (b : BlockState) → is_untaken (call_taken b) ≡ false
 one_taken Idle = refl

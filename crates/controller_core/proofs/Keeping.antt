@@ -3,7 +3,7 @@ use Rattle.std.proofs.Common.{◌≡◌, ◌≤◌, ◌<◌, ◌==◌, ℕ, suc,
 use Rattle.std.proofs.Common.{[], ◌∷◌, ◌++◌, length, drop, Option, Some, None, refl, sym, ap, ◌∙◌}
 use Rattle.std.proofs.Common.{subst, arith, append_assoc, append-nil, length-append}
 use Rattle.std.specs.Prelude.{fold, not, if◌then◌else◌}
-use Rattle.std.specs.List.{cons_option, flat_map, range_with_len}
+use Rattle.std.specs.List.{cons_option}
 use Rattle.std.proofs.lemmas.List.Elements.{filter_map-append}
 use Rattle.std.proofs.Math.Seq.{drop-append_seam}
 use Rattle.plant_types.specs.declared.drops.IoDrop.{IoDrop}
@@ -15,8 +15,12 @@ use Rattle.scan_order.specs.declared.due.ScanPlace.{ScanPlace}
 use Rattle.scan_order.specs.declared.due.ScanPlace.TheVariants as places
 use Rattle.scan_order.specs.declared.due.ScanStep.{ScanStep}
 use Rattle.scan_order.specs.declared.due.ScanStep.TheVariants as steps
-use Rattle.scan_order.specs.Due.{output_steps, row_of, row_steps, rows_from, due_after, rest_after}
-use Rattle.scan_order.specs.Due.{place_after, IsStep}
+use Rattle.scan_order.specs.declared.power.ScanPower.{ScanPower}
+use Rattle.scan_order.specs.declared.power.ScanPower.TheVariants as powers
+use Rattle.scan_order.specs.Power.{power_in}
+use Rattle.scan_order.specs.Due.{row_of, due_after, rest_after}
+use Rattle.scan_order.specs.Due.{due_with}
+use Rattle.scan_order.specs.Due.{place_after, up_to_failure, IsStep}
 use Rattle.controller_core.specs.declared.fixed.Fixed.{Fixed}
 use Rattle.mstr_block.specs.declared.call.CallId.{CallId}
 use Rattle.mstr_block.specs.declared.call.MstrResult.{MstrResult}
@@ -24,20 +28,19 @@ use Rattle.controller_core.specs.declared.call.Call.{Call}
 use Rattle.controller_core.specs.declared.entry.Entry.{Entry}
 use Rattle.controller_core.specs.declared.entry.Entry.TheVariants as entries
 use Rattle.controller_core.specs.declared.entry.Maker.TheVariants as makers
-use Rattle.controller_core.specs.declared.entry.StepEnd.TheVariants as ends
 use Rattle.controller_core.specs.declared.machine.Machine.{Machine}
-use Rattle.controller_core.specs.Replay.{ControllerState, apply, control_is_on, read_in, replay}
+use Rattle.controller_core.specs.Replay.{ControllerState, apply, control_is_on, read_in}
 use Rattle.controller_core.specs.Replay.{segment_solved, solved, start, table_of, watchdog_stop}
 use Rattle.controller_core.specs.Event.{entry_of, maker_of, scan_steps, step_of}
 use Rattle.controller_core.specs.Machine.{state_is, CanSolve, DoesEntry, IsSound, IsTimely, Tells}
 use Rattle.controller_core.specs.Machine.{most_steps}
-use Rattle.controller_core.specs.Scans.{all_due, closes_scan, ended_after, is_done, is_over}
+use Rattle.controller_core.specs.Scans.{all_due, closes_scan, gone_after, is_done}
 use Rattle.controller_core.specs.Scans.{remaining, scans_at, scans_from}
 use Rattle.controller_core.specs.Controller.{ControllerIs, EachFits, Fits, GoesOn, IsLegal}
 use Rattle.controller_core.specs.Controller.{ControllerWentOn}
-use Rattle.controller_core.specs.Controller.{answered, due_step, first_step, grown, left_of}
+use Rattle.controller_core.specs.Controller.{first_step, grown}
 use Rattle.controller_core.specs.Controller.{state_of}
-use Rattle.controller_core.specs.Controller.{has_ended, is_none, made, step_end, stepped, store_of}
+use Rattle.controller_core.specs.Controller.{made, store_of}
 use Rattle.controller_core.specs.Kept.{IsKept, IsWatched}
 use Rattle.controller_core.proofs.Lengths.{scans_few}
 
@@ -61,6 +64,8 @@ one_step f s (steps.In row) = refl
 one_step f s (steps.Solve row) = refl
 one_step f s (steps.Out row) = refl
 one_step f s steps.End = refl
+one_step f s steps.Fail = refl
+one_step f s steps.Dark = refl
 
 pub scan_steps-more : (f : Fixed) (s : ControllerState) (h : List Entry) (step : ScanStep)
     → scan_steps (h ++ entry_of f s step ∷ []) ≡ scan_steps h ++ (step ∷ [])
@@ -75,30 +80,34 @@ fits_made f s (steps.In row) goes = goes
 fits_made f s (steps.Solve row) goes = goes
 fits_made f s (steps.Out row) goes = (goes, refl)
 fits_made f s steps.End goes = goes
+fits_made f s steps.Fail goes = goes
+fits_made f s steps.Dark goes = goes
 
-pub read_ended : (drops : List IoDrop) (drop : Option ℕ) (s : ControllerState)
-    → (read_in drops drop s).ended ≡ s.ended
-read_ended drops None s = refl
-read_ended drops (Some drop) s = refl
+pub read_gone : (drops : List IoDrop) (drop : Option ℕ) (s : ControllerState)
+    → (read_in drops drop s).gone ≡ s.gone
+read_gone drops None s = refl
+read_gone drops (Some drop) s = refl
 
-pub solved_ended : (segments : List Segment) (row : Option OrderRow) (s : ControllerState)
-    → (solved segments row s).ended ≡ s.ended
-solved_ended segments None s = refl
-solved_ended segments (Some row) s = either_ended (control_is_on s.solving.map row.control)
+pub solved_gone : (segments : List Segment) (row : Option OrderRow) (s : ControllerState)
+    → (solved segments row s).gone ≡ s.gone
+solved_gone segments None s = refl
+solved_gone segments (Some row) s = either_gone (control_is_on s.solving.map row.control)
   where
-    either_ended : (b : Bool)
-        → (if b then segment_solved segments row.segment s else s).ended ≡ s.ended
-    either_ended true = refl
-    either_ended false = refl
+    either_gone : (b : Bool)
+        → (if b then segment_solved segments row.segment s else s).gone ≡ s.gone
+    either_gone true = refl
+    either_gone false = refl
 
--- a step ends a scan or none
-pub ended_made : (f : Fixed) (s : ControllerState) (step : ScanStep)
-    → (apply f s (entry_of f s step)).ended ≡ ended_after step s.ended
-ended_made f s steps.Begin = refl
-ended_made f s (steps.In row) = read_ended f.plan.drops _ s
-ended_made f s (steps.Solve row) = solved_ended f.plan.segments (row_of f.plan row) s
-ended_made f s (steps.Out row) = refl
-ended_made f s steps.End = refl
+-- a scan is gone behind its last step, and behind no other
+pub gone_made : (f : Fixed) (s : ControllerState) (step : ScanStep)
+    → (apply f s (entry_of f s step)).gone ≡ gone_after step s.gone
+gone_made f s steps.Begin = refl
+gone_made f s (steps.In row) = read_gone f.plan.drops _ s
+gone_made f s (steps.Solve row) = solved_gone f.plan.segments (row_of f.plan row) s
+gone_made f s (steps.Out row) = refl
+gone_made f s steps.End = refl
+gone_made f s steps.Fail = refl
+gone_made f s steps.Dark = refl
 
 -- what the communication does is no step
 pub scan_steps-quiet : (h : List Entry) (e : Entry) → step_of e ≡ None
@@ -133,51 +142,67 @@ solved_left segments (Some row) s left goes =
         segment_left s.stop after.left (after.left == 0) refl goes
     either_left false goes = left
 
--- a step but Begin and End is made where networks are left to the watchdog
+-- a step within a scan is made where networks are left to the watchdog
 abbrev WasWatched : ScanStep → ControllerState → Type 0
-WasWatched steps.Begin s = Unit {0}
-WasWatched step s = 0 < s.solving.left
+WasWatched (steps.In row) s = 0 < s.solving.left
+WasWatched (steps.Solve row) s = 0 < s.solving.left
+WasWatched (steps.Out row) s = 0 < s.solving.left
+WasWatched _ s = Unit {0}
 
 was_of : (step : ScanStep) (s : ControllerState) → 0 < s.solving.left → WasWatched step s
 was_of steps.Begin s left = tt
 was_of (steps.In row) s left = left
 was_of (steps.Solve row) s left = left
 was_of (steps.Out row) s left = left
-was_of steps.End s left = left
+was_of steps.End s left = tt
+was_of steps.Fail s left = tt
+was_of steps.Dark s left = tt
 
 first_same : {x y : ScanStep} {xs ys : List ScanStep} → x ∷ xs ≡ y ∷ ys → x ≡ y
 first_same is = cc
 
-left_made : (f : Fixed) (s : ControllerState) (step : ScanStep) → 1 ≤ f.watchdog → WasWatched step s
-    → (apply f s (entry_of f s step)).stop ≡ 0
-    → 0 < (apply f s (entry_of f s step)).solving.left
-left_made f s steps.Begin watchdog left goes = watchdog
-left_made f s (steps.In row) watchdog left goes =
-    subst (λ n. 0 < n) (sym (read_left f.plan.drops _ s)) left
-left_made f s (steps.Solve row) watchdog left goes =
-    solved_left f.plan.segments (row_of f.plan row) s left goes
-left_made f s (steps.Out row) watchdog left goes = left
-left_made f s steps.End watchdog left goes = left
+left_as : (n : Machine) (s : ControllerState) → state_is n ≡ s → 0 < s.solving.left
+    → 0 < n.watch.left
+left_as n s is left =
+    subst (λ x. 0 < x) (sym (ap (λ (t : ControllerState). t.solving.left) is)) left
 
-watched_at : (step : ScanStep) (m : Machine) → (m.stop ≡ 0 → 0 < m.watch.left)
-    → IsWatched (place_after step) m
-watched_at steps.Begin m watched = watched
-watched_at (steps.In row) m watched = watched
-watched_at (steps.Solve row) m watched = watched
-watched_at (steps.Out row) m watched = watched
-watched_at steps.End m watched = tt
+-- behind it networks are still left, where a scan runs
+left_made : (f : Fixed) (s : ControllerState) (step : ScanStep) (n : Machine) → 1 ≤ f.watchdog
+    → WasWatched step s → state_is n ≡ apply f s (entry_of f s step)
+    → IsWatched (place_after step) n
+left_made f s steps.Begin n watchdog left is = λ goes. left_as n _ is watchdog
+left_made f s (steps.In row) n watchdog left is = λ goes.
+    left_as n _ is (subst (λ x. 0 < x) (sym (read_left f.plan.drops _ s)) left)
+left_made f s (steps.Solve row) n watchdog left is = λ goes.
+    left_as n _ is (solved_left f.plan.segments (row_of f.plan row) s left
+    (sym (ap (λ (t : ControllerState). t.stop) is) ∙ goes))
+left_made f s (steps.Out row) n watchdog left is = λ goes. left_as n _ is left
+left_made f s steps.End n watchdog left is = tt
+left_made f s steps.Fail n watchdog left is = tt
+left_made f s steps.Dark n watchdog left is = tt
 
--- the step that is next behind a place, in the scan behind those that have ended
+-- the step that is next behind a place, in the scan behind those that have gone
 abbrev pub IsNext : Fixed → Machine → ScanPlace → ScanStep → Type 0
 IsNext f m at step =
-    due_after f.plan (m.ended + 1) at ≡ step ∷ rest_after f.plan (m.ended + 1) step
+    due_after f.plan (m.gone + 1) at ≡ step ∷ rest_after f.plan (m.gone + 1) step
+
+-- a scan begins, or is dark
+start_watched : (plan : ControllerPlan) (step : ScanStep) (s : ControllerState) (power : ScanPower)
+    {rest : List ScanStep} → due_with plan power ≡ step ∷ rest → WasWatched step s
+unfolding up_to_failure
+start_watched plan step s powers.Stays next =
+    subst (λ (x : ScanStep). WasWatched x s) (first_same next) tt
+start_watched plan step s (powers.Fails row) next =
+    subst (λ (x : ScanStep). WasWatched x s) (first_same next) tt
+start_watched plan step s powers.Dark next =
+    subst (λ (x : ScanStep). WasWatched x s) (first_same next) tt
 
 -- what is due at a place is watched there
 due_watched : (f : Fixed) (m : Machine) (at : ScanPlace) (step : ScanStep)
     → IsNext f m at step → m.stop ≡ 0
     → IsWatched at m → WasWatched step (state_is m)
 due_watched f m places.Start step next goes watched =
-    subst (λ (x : ScanStep). WasWatched x (state_is m)) (first_same next) tt
+    start_watched f.plan step (state_is m) (power_in f.plan (m.gone + 1)) next
 due_watched f m places.Began step next goes watched = was_of step (state_is m) (watched goes)
 due_watched f m (places.DidIn row) step next goes watched = was_of step (state_is m) (watched goes)
 due_watched f m (places.DidSolve row) step next goes watched =
@@ -193,84 +218,95 @@ can_solve f m at (steps.Solve row) next goes watched =
     due_watched f m at (steps.Solve row) next goes watched
 can_solve f m at (steps.Out row) next goes watched = tt
 can_solve f m at steps.End next goes watched = tt
+can_solve f m at steps.Fail next goes watched = tt
+can_solve f m at steps.Dark next goes watched = tt
 
 -- ---- what is left
 
+after_scan : (f : Fixed) (gone : ℕ)
+    → remaining f (gone + 1) places.Start ≡ scans_from f (gone + 1 + 1) (f.scans - suc gone)
+after_scan f gone =
+    let e : f.scans - (gone + 1) ≡ f.scans - suc gone = omega arith in
+    ap (scans_from f (gone + 1 + 1)) e
+
 -- behind a step is left what was left behind its place
-after_step : (f : Fixed) (ended : ℕ) (step : ScanStep)
-    → remaining f (ended_after step ended) (place_after step)
-    ≡ rest_after f.plan (ended + 1) step ++ scans_from f (ended + 1 + 1) (f.scans - suc ended)
-after_step f ended steps.Begin = refl
-after_step f ended (steps.In row) = refl
-after_step f ended (steps.Solve row) = refl
-after_step f ended (steps.Out row) = refl
-after_step f ended steps.End = let e : f.scans - (ended + 1) ≡ f.scans - suc ended =
-    omega arith in ap (scans_from f (ended + 1 + 1)) e
+after_step : (f : Fixed) (gone : ℕ) (step : ScanStep)
+    → remaining f (gone_after step gone) (place_after step)
+    ≡ rest_after f.plan (gone + 1) step ++ scans_from f (gone + 1 + 1) (f.scans - suc gone)
+after_step f gone steps.Begin = refl
+after_step f gone (steps.In row) = refl
+after_step f gone (steps.Solve row) = refl
+after_step f gone (steps.Out row) = refl
+after_step f gone steps.End = after_scan f gone
+after_step f gone steps.Fail = after_scan f gone
+after_step f gone steps.Dark = after_scan f gone
 
 -- where a scan is due, what is left begins with what is due behind the place
-remains : (f : Fixed) (ended : ℕ) (at : ScanPlace) → ended < f.scans → remaining f ended at
-    ≡ due_after f.plan (ended + 1) at ++ scans_from f (ended + 1 + 1) (f.scans - suc ended)
-remains f ended places.Start lt = let e : f.scans - ended ≡ suc (f.scans - suc ended) =
-    omega arith in ap (scans_from f (ended + 1)) e
-remains f ended places.Began lt = refl
-remains f ended (places.DidIn row) lt = refl
-remains f ended (places.DidSolve row) lt = refl
-remains f ended (places.DidOut row) lt = refl
+pub remains : (f : Fixed) (gone : ℕ) (at : ScanPlace) → gone < f.scans → remaining f gone at
+    ≡ due_after f.plan (gone + 1) at ++ scans_from f (gone + 1 + 1) (f.scans - suc gone)
+remains f gone places.Start lt = let e : f.scans - gone ≡ suc (f.scans - suc gone) =
+    omega arith in ap (scans_from f (gone + 1)) e
+remains f gone places.Began lt = refl
+remains f gone (places.DidIn row) lt = refl
+remains f gone (places.DidSolve row) lt = refl
+remains f gone (places.DidOut row) lt = refl
 
 -- the steps so far, the due step in front of what is left behind it
 in_front : (f : Fixed) (m : Machine) (h : List Entry) (at : ScanPlace) (step : ScanStep)
-    → IsKept f m h at → m.ended < f.scans
+    → IsKept f m h at → m.gone < f.scans
     → IsNext f m at step
-    → scan_steps h ++ (step ∷ (rest_after f.plan (m.ended + 1) step
-    ++ scans_from f (m.ended + 1 + 1) (f.scans - suc m.ended))) ≡ all_due f
+    → scan_steps h ++ (step ∷ (rest_after f.plan (m.gone + 1) step
+    ++ scans_from f (m.gone + 1 + 1) (f.scans - suc m.gone))) ≡ all_due f
 in_front f m h at step k lt next =
-    let later = scans_from f (m.ended + 1 + 1) (f.scans - suc m.ended) in
+    let later = scans_from f (m.gone + 1 + 1) (f.scans - suc m.gone) in
     ap (λ (l : List ScanStep). scan_steps h ++ l)
-    (sym (remains f m.ended at lt ∙ ap (λ (l : List ScanStep). l ++ later) next)) ∙ k.steps
+    (sym (remains f m.gone at lt ∙ ap (λ (l : List ScanStep). l ++ later) next)) ∙ k.steps
 
 pub due_first : (f : Fixed) (m : Machine) (h : List Entry) (at : ScanPlace) (step : ScanStep)
-    → IsKept f m h at → m.ended < f.scans
+    → IsKept f m h at → m.gone < f.scans
     → IsNext f m at step → first_step (drop (length (scan_steps h)) (all_due f)) ≡ Some step
 due_first f m h at step k lt next =
-    let later = scans_from f (m.ended + 1 + 1) (f.scans - suc m.ended) in
+    let later = scans_from f (m.gone + 1 + 1) (f.scans - suc m.gone) in
     ap (λ (l : List ScanStep). first_step (drop (length (scan_steps h)) l))
     (sym (in_front f m h at step k lt next))
     ∙ ap first_step
-    (drop-append_seam (scan_steps h) (step ∷ (rest_after f.plan (m.ended + 1) step ++ later)))
+    (drop-append_seam (scan_steps h) (step ∷ (rest_after f.plan (m.gone + 1) step ++ later)))
 
-due_none : (f : Fixed) (m : Machine) (h : List Entry) → IsKept f m h places.Start
-    → m.ended ≡ f.scans
+pub due_none : (f : Fixed) (m : Machine) (h : List Entry) → IsKept f m h places.Start
+    → m.gone ≡ f.scans
     → first_step (drop (length (scan_steps h)) (all_due f)) ≡ None
 due_none f m h k all =
-    let none : f.scans - m.ended ≡ 0 = omega arith in
+    let none : f.scans - m.gone ≡ 0 = omega arith in
     let is : scan_steps h ++ [] ≡ all_due f =
-    ap (λ n. scan_steps h ++ scans_from f (m.ended + 1) n) (sym none) ∙ k.steps in
+    ap (λ n. scan_steps h ++ scans_from f (m.gone + 1) n) (sym none) ∙ k.steps in
     ap (λ (l : List ScanStep). first_step (drop (length (scan_steps h)) l)) (sym is)
     ∙ ap first_step (drop-append_seam (scan_steps h) [])
 
 -- ---- the invariant
 
-within_after : (step : ScanStep) (ended scans : ℕ) → ended < scans
-    → scans_at (place_after step) (ended_after step ended) ≤ scans
-within_after steps.Begin ended scans lt = omega arith
-within_after (steps.In row) ended scans lt = omega arith
-within_after (steps.Solve row) ended scans lt = omega arith
-within_after (steps.Out row) ended scans lt = omega arith
-within_after steps.End ended scans lt = omega arith
+within_after : (step : ScanStep) (gone scans : ℕ) → gone < scans
+    → scans_at (place_after step) (gone_after step gone) ≤ scans
+within_after steps.Begin gone scans lt = omega arith
+within_after (steps.In row) gone scans lt = omega arith
+within_after (steps.Solve row) gone scans lt = omega arith
+within_after (steps.Out row) gone scans lt = omega arith
+within_after steps.End gone scans lt = omega arith
+within_after steps.Fail gone scans lt = omega arith
+within_after steps.Dark gone scans lt = omega arith
 
 pub kept_step : (f : Fixed) (m n : Machine) (h : List Entry) (at : ScanPlace) (step : ScanStep)
-    → IsKept f m h at → m.stop ≡ 0 → m.ended < f.scans
+    → IsKept f m h at → m.stop ≡ 0 → m.gone < f.scans
     → IsNext f m at step → IsStep f.plan step → DoesEntry (entry_of f (state_is m) step) m n
     → IsKept f n (h ++ entry_of f (state_is m) step ∷ []) (place_after step)
 kept_step f m n h at step k goes lt next is does =
     let s = state_is m in
     let e = entry_of f s step in
-    let later = scans_from f (m.ended + 1 + 1) (f.scans - suc m.ended) in
+    let later = scans_from f (m.gone + 1 + 1) (f.scans - suc m.gone) in
     let watchdog : 1 ≤ f.watchdog =
     subst (λ (g : Fixed). 1 ≤ g.watchdog) k.fixed_is k.sound.runs.watchdog in
     let now : state_is n ≡ apply f s e = does.state ∙ ap (λ (g : Fixed). apply g s e) k.fixed_is in
-    let ended : n.ended ≡ ended_after step m.ended = ap (λ (t : ControllerState). t.ended) now
-    ∙ ended_made f s step in
+    let gone : n.gone ≡ gone_after step m.gone = ap (λ (t : ControllerState). t.gone) now
+    ∙ gone_made f s step in
     let more = scan_steps-more f s h step in
     let long : length (scan_steps h) + 1 ≡ length (scan_steps (h ++ e ∷ [])) =
     omega (arith, ap length more, length-append (scan_steps h) (step ∷ [])) in
@@ -281,18 +317,15 @@ kept_step f m n h at step k goes lt next is does =
           (subst (λ (t : ControllerState). Fits f t e) k.state (fits_made f s step goes));
       state = now ∙ ap (λ (t : ControllerState). apply f t e) k.state
           ∙ sym (replay_more f (start f.plan) h e);
-      steps = ap (λ x. scan_steps (h ++ e ∷ []) ++ remaining f x (place_after step)) ended
-          ∙ ap (λ (l : List ScanStep). scan_steps (h ++ e ∷ []) ++ l) (after_step f m.ended step)
-          ∙ ap (λ (l : List ScanStep). l ++ (rest_after f.plan (m.ended + 1) step ++ later)) more
-          ∙ append_assoc (scan_steps h) (step ∷ []) (rest_after f.plan (m.ended + 1) step ++ later)
+      steps = ap (λ x. scan_steps (h ++ e ∷ []) ++ remaining f x (place_after step)) gone
+          ∙ ap (λ (l : List ScanStep). scan_steps (h ++ e ∷ []) ++ l) (after_step f m.gone step)
+          ∙ ap (λ (l : List ScanStep). l ++ (rest_after f.plan (m.gone + 1) step ++ later)) more
+          ∙ append_assoc (scan_steps h) (step ∷ []) (rest_after f.plan (m.gone + 1) step ++ later)
           ∙ in_front f m h at step k lt next;
       place = is;
-      watched = watched_at step n
-          (λ stop. subst (λ x. 0 < x) (sym (ap (λ (t : ControllerState). t.solving.left) now))
-          (left_made f s step watchdog (due_watched f m at step next goes k.watched)
-          (sym (ap (λ (t : ControllerState). t.stop) now) ∙ stop)));
-      within = subst (λ x. scans_at (place_after step) x ≤ f.scans) (sym ended)
-          (within_after step m.ended f.scans lt);
+      watched = left_made f s step n watchdog (due_watched f m at step next goes k.watched) now;
+      within = subst (λ x. scans_at (place_after step) x ≤ f.scans) (sym gone)
+          (within_after step m.gone f.scans lt);
       timely = subst (IsTimely n) long (does.timely (length (scan_steps h)) k.timely);
     }
 
@@ -321,8 +354,10 @@ pub record IsTold (e : Entry) : Type 0 where
   pub maker : maker_of e ≡ makers.Communication
   pub step : step_of e ≡ None
   pub left : (f : Fixed) (s : ControllerState) → (apply f s e).solving.left ≡ s.solving.left
-  pub ended : (f : Fixed) (s : ControllerState) → (apply f s e).ended ≡ s.ended
+  pub gone : (f : Fixed) (s : ControllerState) → (apply f s e).gone ≡ s.gone
   pub stop : (f : Fixed) (s : ControllerState) → (apply f s e).stop ≡ s.stop
+  pub powered : (f : Fixed) (s : ControllerState) → (apply f s e).powered ≡ s.powered
+  pub failures : (f : Fixed) (s : ControllerState) → (apply f s e).failures ≡ s.failures
 
 pub collect_told : (calls : List Call) → IsTold (entries.Collect calls)
 collect_told calls =
@@ -330,8 +365,10 @@ collect_told calls =
       maker = refl;
       step = refl;
       left = λ f s. refl;
-      ended = λ f s. refl;
+      gone = λ f s. refl;
       stop = λ f s. refl;
+      powered = λ f s. refl;
+      failures = λ f s. refl;
     }
 
 pub peer_told : (id : CallId) (request reply : List ℕ) → IsTold (entries.Peer id request reply)
@@ -340,8 +377,22 @@ peer_told id request reply =
       maker = refl;
       step = refl;
       left = λ f s. refl;
-      ended = λ f s. refl;
+      gone = λ f s. refl;
       stop = λ f s. refl;
+      powered = λ f s. refl;
+      failures = λ f s. refl;
+    }
+
+pub off_told : (id : CallId) (request : List ℕ) → IsTold (entries.Off id request)
+off_told id request =
+    record {
+      maker = refl;
+      step = refl;
+      left = λ f s. refl;
+      gone = λ f s. refl;
+      stop = λ f s. refl;
+      powered = λ f s. refl;
+      failures = λ f s. refl;
     }
 
 pub finish_told : (id : CallId) (result : MstrResult) → IsTold (entries.Finish id result)
@@ -350,8 +401,10 @@ finish_told id result =
       maker = refl;
       step = refl;
       left = λ f s. refl;
-      ended = λ f s. refl;
+      gone = λ f s. refl;
       stop = λ f s. refl;
+      powered = λ f s. refl;
+      failures = λ f s. refl;
     }
 
 pub told_entry : (e : Entry) → maker_of e ≡ makers.Communication → IsTold e
@@ -360,8 +413,11 @@ told_entry (entries.Input row) of = absurd cc
 told_entry (entries.Solve row) of = absurd cc
 told_entry (entries.Output row words) of = absurd cc
 told_entry entries.End of = absurd cc
+told_entry entries.Fail of = absurd cc
+told_entry entries.Dark of = absurd cc
 told_entry (entries.Collect calls) of = collect_told calls
 told_entry (entries.Peer id request reply) of = peer_told id request reply
+told_entry (entries.Off id request) of = off_told id request
 told_entry (entries.Finish id result) of = finish_told id result
 
 pub kept_told : (f : Fixed) (m n : Machine) (h : List Entry) (at : ScanPlace) (e : Entry) → IsTold e
@@ -372,8 +428,8 @@ kept_told f m n h at e told k tells fits =
     let fixed : m.fixed ≡ f = k.fixed_is in
     let after : state_is n ≡ apply f (state_is m) e = tells.state
     ∙ ap (λ (g : Fixed). apply g (state_is m) e) fixed in
-    let ended : n.ended ≡ m.ended = ap (λ (t : ControllerState). t.ended) after
-    ∙ told.ended f (state_is m) in
+    let gone : n.gone ≡ m.gone = ap (λ (t : ControllerState). t.gone) after
+    ∙ told.gone f (state_is m) in
     record {
       fixed_is = tells.fixed ∙ fixed;
       sound = tells.sound;
@@ -381,13 +437,13 @@ kept_told f m n h at e told k tells fits =
           (subst (λ (t : ControllerState). Fits f t e) k.state fits);
       state = after ∙ ap (λ (t : ControllerState). apply f t e) k.state
           ∙ sym (replay_more f (start f.plan) h e);
-      steps = ap (λ (l : List ScanStep). l ++ remaining f n.ended at) same
-          ∙ ap (λ x. scan_steps h ++ remaining f x at) ended ∙ k.steps;
+      steps = ap (λ (l : List ScanStep). l ++ remaining f n.gone at) same
+          ∙ ap (λ x. scan_steps h ++ remaining f x at) gone ∙ k.steps;
       place = k.place;
       watched = watched_told at m n (ap (λ (t : ControllerState). t.stop) after
           ∙ told.stop f (state_is m))
           (ap (λ (t : ControllerState). t.solving.left) after ∙ told.left f (state_is m)) k.watched;
-      within = subst (λ x. scans_at at x ≤ f.scans) (sym ended) k.within;
+      within = subst (λ x. scans_at at x ≤ f.scans) (sym gone) k.within;
       timely = subst (λ (l : List ScanStep). IsTimely n (length l)) (sym same)
           (tells.timely (length (scan_steps h)) k.timely);
     }
@@ -402,7 +458,7 @@ kept_with f m n h l at e told k tells fits items =
 
 pub legal_of : (f : Fixed) (m : Machine) (h : List Entry) (at : ScanPlace)
     → IsKept f m h at → IsLegal f h
-legal_of f m h at k = record { each = k.each; due = (remaining f m.ended at, k.steps) }
+legal_of f m h at k = record { each = k.each; due = (remaining f m.gone at, k.steps) }
 
 -- a history of all scans is short enough for the counts of a machine
 pub timely_enough : (f : Fixed) (m : Machine) (h : List Entry) (at : ScanPlace) → IsKept f m h at
@@ -411,25 +467,26 @@ pub timely_enough : (f : Fixed) (m : Machine) (h : List Entry) (at : ScanPlace) 
 timely_enough f m h at k scans rows =
     let few = scans_few f 1 f.scans rows in
     let all = ap length k.steps in
-    let parts = length-append (scan_steps h) (remaining f m.ended at) in
+    let parts = length-append (scan_steps h) (remaining f m.gone at) in
     let short : length (scan_steps h) ≤ 196000 = omega arith in
     record {
       clock = let t = k.timely.clock in omega arith;
       exchanges = λ i. let t = k.timely.exchanges i in omega arith;
-      ended = let t = k.timely.ended in omega arith;
+      gone = let t = k.timely.gone in omega arith;
+      failures = let t = k.timely.failures in omega arith;
     }
 
-pub not_done : (scans : ℕ) (at : ScanPlace) (ended : ℕ) → scans_at at ended ≤ scans
-    → is_done scans at ended ≡ false → ended < scans
-not_done scans places.Start ended within not = grind arith
-not_done scans places.Began ended within not = omega arith
-not_done scans (places.DidIn row) ended within not = omega arith
-not_done scans (places.DidSolve row) ended within not = omega arith
-not_done scans (places.DidOut row) ended within not = omega arith
+pub not_done : (scans : ℕ) (at : ScanPlace) (gone : ℕ) → scans_at at gone ≤ scans
+    → is_done scans at gone ≡ false → gone < scans
+not_done scans places.Start gone within not = grind arith
+not_done scans places.Began gone within not = omega arith
+not_done scans (places.DidIn row) gone within not = omega arith
+not_done scans (places.DidSolve row) gone within not = omega arith
+not_done scans (places.DidOut row) gone within not = omega arith
 
 -- what a step leaves is kept, in what its calls answer
 pub kept_made : (f : Fixed) (m n : Machine) (h l : List Entry) (at to : ScanPlace) (step : ScanStep)
-    → IsKept f m h at → m.stop ≡ 0 → m.ended < f.scans
+    → IsKept f m h at → m.stop ≡ 0 → m.gone < f.scans
     → IsNext f m at step → IsStep f.plan step → DoesEntry (entry_of f (state_is m) step) m n
     → l ≡ h ++ entry_of f (state_is m) step ∷ [] → to ≡ place_after step → IsKept n.fixed n l to
 kept_made f m n h l at to step k goes lt next is does items place =
@@ -446,6 +503,8 @@ maker_of_made f s (steps.In row) = refl
 maker_of_made f s (steps.Solve row) = refl
 maker_of_made f s (steps.Out row) = refl
 maker_of_made f s steps.End = refl
+maker_of_made f s steps.Fail = refl
+maker_of_made f s steps.Dark = refl
 
 pub went_on_step : (f : Fixed) (m n : Machine) (h l : List Entry) (at to : ScanPlace)
     (r after : Bool) (step : ScanStep) (v : ControllerIs)
@@ -469,6 +528,12 @@ pub bank_is : (f : Fixed) (m : Machine) (h : List Entry) (at : ScanPlace) (r : B
     → m.bank ≡ table_of (state_of v)
 bank_is f m h at r v is k =
     ap table_of k.state ∙ ap (λ (u : ControllerIs). table_of (state_of u)) is
+
+pub state_as : (f : Fixed) (m : Machine) (h : List Entry) (at : ScanPlace) (r : Bool)
+    (v : ControllerIs)
+    → record { fixed = f; history = h; reserved = r } ≡ v → IsKept f m h at
+    → state_is m ≡ state_of v
+state_as f m h at r v is k = k.state ∙ ap state_of is
 
 pub store_is : (f : Fixed) (m : Machine) (h : List Entry) (at : ScanPlace) (r : Bool)
     (v : ControllerIs)
@@ -500,196 +565,19 @@ went_on_told f m n h l at r e v told is new fixed items = record {
   legal = legal_of n.fixed n l at new;
 }
 
--- ---- what a step gives
-
--- the step that is due in a controller that goes on, and in one that has stopped
-goes_due : (f : Fixed) (m : Machine) (h : List Entry) (at : ScanPlace) (r : Bool)
-    → IsKept f m h at → m.stop ≡ 0
-    → due_step (record { fixed = f; history = h; reserved = r }) ≡ first_step (left_of f h)
-goes_due f m h at r k goes =
-    let stop : (replay f h).stop ≡ 0 = ap (λ (t : ControllerState). t.stop) (sym k.state) ∙ goes in
-    ap (λ n. if n == 0 then first_step (left_of f h) else None) stop
-
-pub step_made : (f : Fixed) (m n : Machine) (h : List Entry) (at : ScanPlace) (r : Bool)
-    (step : ScanStep) (v : ControllerIs)
-    → record { fixed = f; history = h; reserved = r } ≡ v → IsKept f m h at → m.stop ≡ 0
-    → m.ended < f.scans
-    → IsNext f m at step → state_is n ≡ apply f (state_is m) (entry_of f (state_is m) step)
-    → (stepped v ≡ record {
-      fixed = f;
-      history = h ++ entry_of f (state_is m) step ∷ [];
-      reserved = r && not (closes_scan step n.stop);
-    })
-    × (step_end v ≡ ends.Did step) × (has_ended v ≡ false)
-step_made f m n h at r step v is k goes lt next after =
-    let w : ControllerIs = record { fixed = f; history = h; reserved = r } in
-    let due : due_step w ≡ Some step = goes_due f m h at r k goes
-    ∙ due_first f m h at step k lt next in
-    let one : stepped w ≡ made w (Some step) = ap (made w) due in
-    let two : made w (Some step) ≡ grown w (entry_of f (state_is m) step ∷ [])
-    (r && not (closes_scan step (apply f (state_is m) (entry_of f (state_is m) step)).stop)) =
-    ap (λ (t : ControllerState). grown w (entry_of f t step ∷ [])
-    (r && not (closes_scan step (apply f t (entry_of f t step)).stop))) (sym k.state) in
-    let three : grown w (entry_of f (state_is m) step ∷ [])
-    (r && not (closes_scan step (apply f (state_is m) (entry_of f (state_is m) step)).stop))
-    ≡ grown w (entry_of f (state_is m) step ∷ []) (r && not (closes_scan step n.stop)) =
-    ap (λ (t : ControllerState). grown w (entry_of f (state_is m) step ∷ [])
-    (r && not (closes_scan step t.stop))) (sym after) in
-    let P : ControllerIs
-    → Type 0 = λ u. (stepped u ≡ grown w (entry_of f (state_is m) step ∷ [])
-    (r && not (closes_scan step n.stop))) × (step_end u ≡ ends.Did step) × (has_ended u ≡ false) in
-    subst P is (one ∙ two ∙ three, ap (answered (state_of w).stop) due, ap is_none due)
-
-pub step_none : (f : Fixed) (m : Machine) (h : List Entry) (at : ScanPlace) (r : Bool)
-    (v : ControllerIs)
-    → record { fixed = f; history = h; reserved = r } ≡ v → IsKept f m h at → m.stop ≡ 0
-    → is_done f.scans at m.ended ≡ true
-    → (stepped v ≡ v) × (step_end v ≡ ends.Ended)
-step_none f m h places.Start r v is k goes done =
-    let w : ControllerIs = record { fixed = f; history = h; reserved = r } in
-    let all : m.ended ≡ f.scans = grind arith in
-    let due : due_step w ≡ None = goes_due f m h places.Start r k goes ∙ due_none f m h k all in
-    let stop : (state_of w).stop ≡ 0 = ap (λ (t : ControllerState). t.stop) (sym k.state) ∙ goes in
-    let P : ControllerIs → Type 0 = λ u. (stepped u ≡ u) × (step_end u ≡ ends.Ended) in
-    subst P is
-    (ap (made w) due, ap (answered (state_of w).stop) due ∙ ap (λ n. answered n None) stop)
-step_none f m h places.Began r v is k goes done = absurd cc
-step_none f m h (places.DidIn row) r v is k goes done = absurd cc
-step_none f m h (places.DidSolve row) r v is k goes done = absurd cc
-step_none f m h (places.DidOut row) r v is k goes done = absurd cc
-
-not_over : (scans : ℕ) (at : ScanPlace) (ended : ℕ) (b : Bool)
-    → (if b then is_done scans at ended else true) ≡ false
-    → (b ≡ true) × (is_done scans at ended ≡ false)
-not_over scans at ended true is = (refl, is)
-not_over scans at ended false is = absurd cc
-
-pub due_is : (f : Fixed) (m : Machine) (h : List Entry) (at : ScanPlace) (r : Bool)
-    (v : ControllerIs) (step : ScanStep)
-    → record { fixed = f; history = h; reserved = r } ≡ v → IsKept f m h at
-    → is_over m.stop f.scans at m.ended ≡ false
-    → IsNext f m at step → due_step v ≡ Some step
-due_is f m h at r v step is k over next =
-    let two = not_over f.scans at m.ended (m.stop == 0) over in
-    let none : m.stop ≡ 0 = let e = two.0 in grind arith in
-    let lt = not_done f.scans at m.ended k.within two.1 in
-    let P : ControllerIs → Type 0 = λ u. due_step u ≡ Some step in
-    subst P is (goes_due f m h at r k none ∙ due_first f m h at step k lt next)
-
--- a controller that has stopped
-stopped_due : (f : Fixed) (h : List Entry) (r : Bool) (stop : ℕ) → (replay f h).stop ≡ stop
-    → (stop == 0) ≡ false
-    → (due_step (record { fixed = f; history = h; reserved = r }) ≡ None)
-    × (step_end (record { fixed = f; history = h; reserved = r }) ≡ ends.Stopped stop)
-stopped_due f h r stop is not =
-    let w : ControllerIs = record { fixed = f; history = h; reserved = r } in
-    let no : ((replay f h).stop == 0) ≡ false = ap (λ n. n == 0) is ∙ not in
-    let due : due_step w ≡ None = ap (λ b. if b then first_step (left_of f h) else None) no in
-    let told : answered (replay f h).stop None ≡ ends.Stopped (replay f h).stop =
-    ap (λ b. if b then ends.Ended else ends.Stopped (replay f h).stop) no in
-    (due, ap (answered (replay f h).stop) due ∙ told ∙ ap ends.Stopped is)
-
-pub step_stopped : (f : Fixed) (m : Machine) (h : List Entry) (at : ScanPlace) (r : Bool)
-    (v : ControllerIs)
-    → record { fixed = f; history = h; reserved = r } ≡ v → IsKept f m h at → (m.stop == 0) ≡ false
-    → (stepped v ≡ v) × (step_end v ≡ ends.Stopped m.stop) × (has_ended v ≡ true)
-step_stopped f m h at r v is k not =
-    let w : ControllerIs = record { fixed = f; history = h; reserved = r } in
-    let both = stopped_due f h r m.stop (ap (λ (t : ControllerState). t.stop) (sym k.state)) not in
-    let P : ControllerIs → Type 0 =
-    λ u. (stepped u ≡ u) × (step_end u ≡ ends.Stopped m.stop) × (has_ended u ≡ true) in
-    subst P is (ap (made w) both.0, both.1, ap is_none both.0)
-
--- ---- whether all scans are done
-
--- a list with a step at its end begins with one
-front_of : (xs : List ScanStep) (y : ScanStep)
-    → (x : ScanStep) × (rest : List ScanStep) × (xs ++ y ∷ [] ≡ x ∷ rest)
-front_of [] y = (y, [], refl)
-front_of (x ∷ xs) y = (x, xs ++ y ∷ [], refl)
-
-rows_some : (plan : ControllerPlan) (row : ℕ)
-    → (x : ScanStep) × (rest : List ScanStep) × (rows_from plan row ≡ x ∷ rest)
-unfolding rows_from
-rows_some plan row = front_of
-    (flat_map (row_steps plan) (range_with_len row (suc (length plan.orders) - row))) steps.End
-
-behind_some : (xs ys : List ScanStep) → (x : ScanStep) × (rest : List ScanStep) × (ys ≡ x ∷ rest)
-    → (x : ScanStep) × (rest : List ScanStep) × (xs ++ ys ≡ x ∷ rest)
-behind_some [] ys some = some
-behind_some (x ∷ xs) ys some = (x, xs ++ ys, refl)
-
--- something is due at each place
-some_due : (plan : ControllerPlan) (scan : ℕ) (at : ScanPlace)
-    → (x : ScanStep) × (rest : List ScanStep) × (due_after plan scan at ≡ x ∷ rest)
-some_due plan scan places.Start = (steps.Begin, rows_from plan 1, refl)
-some_due plan scan places.Began = rows_some plan 1
-some_due plan scan (places.DidIn row) =
-    (steps.Solve row, output_steps plan row ++ rows_from plan (row + 1), refl)
-some_due plan scan (places.DidSolve row) =
-    behind_some (output_steps plan row) (rows_from plan (row + 1)) (rows_some plan (row + 1))
-some_due plan scan (places.DidOut row) = rows_some plan (row + 1)
-
-goes_on : (f : Fixed) (m : Machine) (h : List Entry) (at : ScanPlace) → IsKept f m h at
-    → m.ended < f.scans
-    → is_none (first_step (drop (length (scan_steps h)) (all_due f))) ≡ false
-goes_on f m h at k lt =
-    let later = scans_from f (m.ended + 1 + 1) (f.scans - suc m.ended) in
-    let some = some_due f.plan (m.ended + 1) at in
-    let front : scan_steps h ++ (some.0 ∷ (some.1 ++ later)) ≡ all_due f =
-    ap (λ (l : List ScanStep). scan_steps h ++ l)
-    (sym (remains f m.ended at lt ∙ ap (λ (l : List ScanStep). l ++ later) some.2)) ∙ k.steps in
-    ap (λ (l : List ScanStep). is_none (first_step (drop (length (scan_steps h)) l))) (sym front)
-    ∙ ap (λ (l : List ScanStep). is_none (first_step l))
-    (drop-append_seam (scan_steps h) (some.0 ∷ (some.1 ++ later)))
-
-all_ended : (f : Fixed) (m : Machine) (h : List Entry) (at : ScanPlace) → IsKept f m h at
-    → is_done f.scans at m.ended ≡ true
-    → is_none (first_step (drop (length (scan_steps h)) (all_due f))) ≡ true
-all_ended f m h places.Start k done =
-    let all : m.ended ≡ f.scans = grind arith in ap is_none (due_none f m h k all)
-all_ended f m h places.Began k done = absurd cc
-all_ended f m h (places.DidIn row) k done = absurd cc
-all_ended f m h (places.DidSolve row) k done = absurd cc
-all_ended f m h (places.DidOut row) k done = absurd cc
-
-done_either : (f : Fixed) (m : Machine) (h : List Entry) (at : ScanPlace) → IsKept f m h at
-    → (b : Bool) → is_done f.scans at m.ended ≡ b
-    → b ≡ is_none (first_step (drop (length (scan_steps h)) (all_due f)))
-done_either f m h at k true e = sym (all_ended f m h at k e)
-done_either f m h at k false e = sym (goes_on f m h at k (not_done f.scans at m.ended k.within e))
-
-ended_by : (f : Fixed) (m : Machine) (h : List Entry) (at : ScanPlace) (r : Bool) → IsKept f m h at
-    → (b : Bool) → (m.stop == 0) ≡ b
-    → (if b then is_done f.scans at m.ended else true)
-    ≡ has_ended (record { fixed = f; history = h; reserved = r })
-ended_by f m h at r k true is =
-    let none : m.stop ≡ 0 = grind arith in
-    done_either f m h at k (is_done f.scans at m.ended) refl
-    ∙ sym (ap is_none (goes_due f m h at r k none))
-ended_by f m h at r k false is =
-    let both = stopped_due f h r m.stop (ap (λ (t : ControllerState). t.stop) (sym k.state)) is in
-    sym (ap is_none both.0)
-
-pub ended_is : (f : Fixed) (m : Machine) (h : List Entry) (at : ScanPlace) (r : Bool)
-    (v : ControllerIs)
-    → record { fixed = f; history = h; reserved = r } ≡ v → IsKept f m h at
-    → is_over m.stop f.scans at m.ended ≡ has_ended v
-ended_is f m h at r v is k =
-    let P : ControllerIs → Type 0 = λ u. is_over m.stop f.scans at m.ended ≡ has_ended u in
-    subst P is (ended_by f m h at r k (m.stop == 0) refl)
-
 -- a step that does not close its scan leaves one step less of it
 pub room_step : (r : Bool) (f : Fixed) (m : Machine) (at : ScanPlace) (step : ScanStep) (stop : ℕ)
     → (r && not (closes_scan step stop)) ≡ true → IsNext f m at step → (r ≡ true)
-    × (length (due_after f.plan (m.ended + 1) at)
-    ≡ suc (length (due_after f.plan (ended_after step m.ended + 1) (place_after step))))
+    × (length (due_after f.plan (m.gone + 1) at)
+    ≡ suc (length (due_after f.plan (gone_after step m.gone + 1) (place_after step))))
 room_step false f m at step stop is next = cc
 room_step true f m at steps.Begin stop is next = (refl, ap length next)
 room_step true f m at (steps.In row) stop is next = (refl, ap length next)
 room_step true f m at (steps.Solve row) stop is next = (refl, ap length next)
 room_step true f m at (steps.Out row) stop is next = (refl, ap length next)
 room_step true f m at steps.End stop is next = cc
+room_step true f m at steps.Fail stop is next = cc
+room_step true f m at steps.Dark stop is next = cc
 
 -- a controller when it starts
 pub kept_new : (f : Fixed) (m : Machine) (h : List Entry) → m.fixed ≡ f → state_is m ≡ start f.plan
@@ -697,11 +585,11 @@ pub kept_new : (f : Fixed) (m : Machine) (h : List Entry) → m.fixed ≡ f → 
     → IsSound m → IsKept f m h places.Start
 unfolding EachFits
 kept_new f m h fixed state none timely sound =
-    let ended : m.ended ≡ 0 = ap (λ (t : ControllerState). t.ended) state in
-    let all : f.scans - m.ended ≡ f.scans = omega arith in
+    let gone : m.gone ≡ 0 = ap (λ (t : ControllerState). t.gone) state in
+    let all : f.scans - m.gone ≡ f.scans = omega arith in
     let P : List Entry → Type 0 = λ l. IsKept f m l places.Start in
-    let first : scans_from f (m.ended + 1) (f.scans - m.ended) ≡ all_due f =
-    ap (λ n. scans_from f (n + 1) (f.scans - m.ended)) ended
+    let first : scans_from f (m.gone + 1) (f.scans - m.gone) ≡ all_due f =
+    ap (λ n. scans_from f (n + 1) (f.scans - m.gone)) gone
     ∙ ap (scans_from f 1) all in
     subst P (sym none) (record {
       fixed_is = fixed;

@@ -1,9 +1,12 @@
 pub mod MachineLemmas
 pub mod Lengths
 pub mod Keeping
+pub mod Stepping
 pub mod RunLemmas
 pub mod NoteLemmas
 pub mod NotedLineLemmas
 pub mod NextEntry
 pub mod Counting
 pub mod CallLaws
+pub mod CoilsOff
+pub mod Powered

@@ -86,7 +86,8 @@ pub later : (machine : Machine) (steps : ℕ) → IsTimely machine steps → IsT
 later machine steps timely = record {
   clock = let h = timely.clock in omega arith;
   exchanges = λ i. let h = timely.exchanges i in omega arith;
-  ended = let h = timely.ended in omega arith;
+  gone = let h = timely.gone in omega arith;
+  failures = let h = timely.failures in omega arith;
 }
 
 -- a machine that stays as it is does an event that leaves the state as it is

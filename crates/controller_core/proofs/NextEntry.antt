@@ -3,12 +3,11 @@ use Rattle.std.proofs.Common.{◌≡◌, ◌==◌, ℕ, Bool, true, false, List,
 use Rattle.std.proofs.Common.{Option, Some, None, refl, sym, ap, subst, ◌∙◌, append_assoc}
 use Rattle.std.proofs.Common.{append-nil, arith}
 use Rattle.std.specs.Prelude.{fold, if◌then◌else◌}
-use Rattle.std.specs.Prelude.{nat_eq, IfOk, OnErr, Result, Ok, Err}
-use Rattle.std.specs.Cmp.Lexicographic.{same_text, other_text}
-use lib.Pointwise.{pointwise}
+use Rattle.std.specs.Prelude.{IfOk, OnErr, Result, Ok, Err}
 use Rattle.std.specs.List.{cons_option}
 use Rattle.std.proofs.lemmas.List.Elements.{filter_map-append}
 use Rattle.std.proofs.Math.Seq.{drop-append_seam}
+use Rattle.modbus_exec.specs.Answer.{answer_of}
 use Rattle.mstr_block.specs.declared.call.CallId.{CallId}
 use Rattle.scan_order.specs.declared.due.ScanStep.{ScanStep}
 use Rattle.scan_order.specs.declared.due.ScanStep.TheVariants as steps
@@ -19,17 +18,20 @@ use Rattle.controller_core.specs.declared.entry.Entry.TheVariants as entries
 use Rattle.controller_core.specs.declared.entry.Maker.{Maker}
 use Rattle.controller_core.specs.declared.entry.Maker.TheVariants as makers
 use Rattle.controller_core.specs.Replay.{ControllerState, apply, start}
-use Rattle.controller_core.specs.Event.{entry_of, maker_of, scan_steps, step_of}
+use Rattle.controller_core.specs.Event.{entry_of, maker_of, peer_entry, reply_in, scan_steps}
+use Rattle.controller_core.specs.Event.{step_of}
 use Rattle.controller_core.specs.Scans.{all_due}
 use Rattle.controller_core.specs.Controller.{AreOf, ControllerIs, EachFits, Fits, GoesOn, IsLegal}
 use Rattle.controller_core.specs.Controller.{ControllerWentOn, due_entry, due_step, entry_for}
 use Rattle.controller_core.specs.Controller.{first_step}
-use Rattle.controller_core.specs.Controller.{grown, has_ended, is_none, left_of, made, reply_to}
-use Rattle.controller_core.specs.Controller.{state_of, stepped, uncollected, collecting}
+use Rattle.controller_core.specs.Controller.{grown, has_ended, is_none, left_of, made}
+use Rattle.controller_core.specs.Controller.{reply_to, state_of, store_of}
+use Rattle.controller_core.specs.Controller.{stepped, uncollected, collecting}
 use Rattle.controller_core.specs.Controller.{has_started}
 use Rattle.controller_core.specs.Following.{HasWords, MayFollow, followed, followed_step}
 use Rattle.controller_core.proofs.Keeping.{EachFits-more, fits_made, scan_steps-more}
-use Rattle.controller_core.proofs.Keeping.{scan_steps-quiet, told_entry}
+use Rattle.controller_core.proofs.Keeping.{scan_steps-quiet, told_entry, off_told, peer_told}
+use Rattle.controller_core.proofs.Keeping.{IsTold}
 
 -- ---- the last entry of a legal history
 
@@ -77,8 +79,11 @@ entry_is f s (entries.Solve row) step is words = ap (entry_of f s) (sym (the_ste
 entry_is f s (entries.Output row given) step is words =
     ap (entry_of f s) (sym (the_step is)) ∙ ap (entries.Output row) (sym words)
 entry_is f s entries.End step is words = ap (entry_of f s) (sym (the_step is))
+entry_is f s entries.Fail step is words = ap (entry_of f s) (sym (the_step is))
+entry_is f s entries.Dark step is words = ap (entry_of f s) (sym (the_step is))
 entry_is f s (entries.Collect calls) step is words = absurd cc
 entry_is f s (entries.Peer id request reply) step is words = absurd cc
+entry_is f s (entries.Off id request) step is words = absurd cc
 entry_is f s (entries.Finish id result) step is words = absurd cc
 
 -- an entry of a step that fits is made where the controller goes on, and has the words of its row
@@ -89,8 +94,11 @@ fits_goes f s (entries.Input row) step is fits = (fits, tt)
 fits_goes f s (entries.Solve row) step is fits = (fits, tt)
 fits_goes f s (entries.Output row given) step is fits = fits
 fits_goes f s entries.End step is fits = (fits, tt)
+fits_goes f s entries.Fail step is fits = (fits, tt)
+fits_goes f s entries.Dark step is fits = (fits, tt)
 fits_goes f s (entries.Collect calls) step is fits = absurd cc
 fits_goes f s (entries.Peer id request reply) step is fits = absurd cc
+fits_goes f s (entries.Off id request) step is fits = absurd cc
 fits_goes f s (entries.Finish id result) step is fits = absurd cc
 
 -- an entry of a scan is a step
@@ -100,8 +108,11 @@ scan_step (entries.Input row) of = (steps.In row, refl)
 scan_step (entries.Solve row) of = (steps.Solve row, refl)
 scan_step (entries.Output row words) of = (steps.Out row, refl)
 scan_step entries.End of = (steps.End, refl)
+scan_step entries.Fail of = (steps.Fail, refl)
+scan_step entries.Dark of = (steps.Dark, refl)
 scan_step (entries.Collect calls) of = absurd cc
 scan_step (entries.Peer id request reply) of = absurd cc
+scan_step (entries.Off id request) of = absurd cc
 scan_step (entries.Finish id result) of = absurd cc
 
 steps_with : (h : List Entry) (e : Entry) (step : ScanStep) → step_of e ≡ Some step
@@ -171,27 +182,63 @@ may_of v e legal is =
 pub fits_last : (v : ControllerIs) (e : Entry) → MayFollow v e → Fits v.fixed (state_of v) e
 fits_last v e may = each_last v.fixed (start v.fixed.plan) v.history e may.each
 
+fits_by : (f : Fixed) (s : ControllerState) (id : CallId) (request : List ℕ) (powered : Bool)
+    → s.powered ≡ powered → Fits f s (peer_entry id request
+    (if powered then Some (answer_of request s.solving.map).reply else None))
+fits_by f s id request true is = (is, refl)
+fits_by f s id request false is = is
+
+-- the entry of a request fits, whatever comes of it
+pub peer_fits : (f : Fixed) (s : ControllerState) (id : CallId) (request : List ℕ)
+    (reply : Option (List ℕ)) → reply ≡ reply_in s request
+    → Fits f s (peer_entry id request reply)
+peer_fits f s id request reply is =
+    subst (λ (r : Option (List ℕ)). Fits f s (peer_entry id request r)) (sym is)
+    (fits_by f s id request s.powered refl)
+
+-- and leaves the scan as it is
+pub peer_entry-told : (id : CallId) (request : List ℕ) (reply : Option (List ℕ))
+    → IsTold (peer_entry id request reply)
+peer_entry-told id request (Some reply) = peer_told id request reply
+peer_entry-told id request None = off_told id request
+
 pub legal_went : (maker : Maker) (added : List Entry) (old new : ControllerIs)
     → ControllerWentOn maker added old new → IsLegal old.fixed (old.history ++ added)
 legal_went maker added old new went =
     subst (λ (f : Fixed). IsLegal f (old.history ++ added)) went.fixed
     (subst (λ (h : List Entry). IsLegal new.fixed h) went.history went.legal)
 
--- a reply may come next exactly where it is the one that was made
-pub peer_may : (v : ControllerIs) (id : CallId) (request reply given : List ℕ)
+-- what a request comes to where its entry fits
+peer_reply : (v : ControllerIs) (request reply : List ℕ)
+    → ((state_of v).powered ≡ true) × (reply ≡ (answer_of request (store_of v)).reply)
+    → reply_to v request ≡ Some reply
+peer_reply v request reply fits =
+    ap (λ b. if b then Some (answer_of request (store_of v)).reply else None) fits.0
+    ∙ ap Some (sym fits.1)
+
+no_reply : (v : ControllerIs) (request : List ℕ) → (state_of v).powered ≡ false
+    → reply_to v request ≡ None
+no_reply v request off =
+    ap (λ b. if b then Some (answer_of request (store_of v)).reply else None) off
+
+-- what a request comes to where its entry fits
+made_reply : (v : ControllerIs) (id : CallId) (request : List ℕ) (reply : Option (List ℕ))
+    → Fits v.fixed (state_of v) (peer_entry id request reply) → reply_to v request ≡ reply
+made_reply v id request (Some reply) fits = peer_reply v request reply fits
+made_reply v id request None fits = no_reply v request fits
+
+-- a reply, or none, may come next exactly where it is the one that was made
+pub reply_may : (v : ControllerIs) (id : CallId) (request : List ℕ) (reply given : Option (List ℕ))
     → given ≡ reply_to v request
-    → IsLegal v.fixed (v.history ++ entries.Peer id request given ∷ []) → (b : Bool)
-    → b ≡ pointwise nat_eq given reply
-    → (b ≡ true → MayFollow v (entries.Peer id request reply))
-    × (MayFollow v (entries.Peer id request reply) → b ≡ true)
-peer_may v id request reply given due legal true eq =
-    let same : entries.Peer id request given ≡ entries.Peer id request reply =
-    ap (entries.Peer id request) (same_text given reply eq) in
-    (λ yes. subst (λ (x : Entry). IsLegal v.fixed (v.history ++ x ∷ [])) same legal, λ may. refl)
-peer_may v id request reply given due legal false eq = (
-  λ no. absurd cc,
-  λ may. absurd
-      (other_text given reply eq (due ∙ sym (fits_last v (entries.Peer id request reply) may))),
+    → IsLegal v.fixed (v.history ++ peer_entry id request given ∷ []) → (b : Bool)
+    → ((b ≡ true → given ≡ reply) × (given ≡ reply → b ≡ true))
+    → (b ≡ true → MayFollow v (peer_entry id request reply))
+    × (MayFollow v (peer_entry id request reply) → b ≡ true)
+reply_may v id request reply given due legal b both = (
+  λ yes. subst (λ (r : Option (List ℕ)).
+      IsLegal v.fixed (v.history ++ peer_entry id request r ∷ [])) (both.0 yes) legal,
+  λ may. both.1 (due ∙ made_reply v id request reply
+      (fits_last v (peer_entry id request reply) may)),
 )
 
 -- so may calls exactly where they are those that were collected
@@ -276,13 +323,18 @@ takes v (entries.Input row) may = step_takes v (entries.Input row) refl may
 takes v (entries.Solve row) may = step_takes v (entries.Solve row) refl may
 takes v (entries.Output row words) may = step_takes v (entries.Output row words) refl may
 takes v entries.End may = step_takes v entries.End refl may
+takes v entries.Fail may = step_takes v entries.Fail refl may
+takes v entries.Dark may = step_takes v entries.Dark refl may
 takes v (entries.Collect calls) may =
     let fits = fits_last v (entries.Collect calls) may in
     ap (λ b. (if b then collecting v else v).history) fits.0
     ∙ ap (λ (l : List Call). v.history ++ entries.Collect l ∷ []) (sym fits.1)
 takes v (entries.Peer id request reply) may =
-    ap (λ (l : List ℕ). v.history ++ entries.Peer id request l ∷ [])
-    (sym (fits_last v (entries.Peer id request reply) may))
+    ap (λ (r : Option (List ℕ)). v.history ++ peer_entry id request r ∷ [])
+    (peer_reply v request reply (fits_last v (entries.Peer id request reply) may))
+takes v (entries.Off id request) may =
+    ap (λ (r : Option (List ℕ)). v.history ++ peer_entry id request r ∷ [])
+    (no_reply v request (fits_last v (entries.Off id request) may))
 takes v (entries.Finish id result) may = refl
 
 made_fixed : (v : ControllerIs) (due : Option ScanStep) → (made v due).fixed ≡ v.fixed
@@ -299,12 +351,15 @@ fixed_stays v (entries.Input row) same = step_fixed v same
 fixed_stays v (entries.Solve row) same = step_fixed v same
 fixed_stays v (entries.Output row words) same = step_fixed v same
 fixed_stays v entries.End same = step_fixed v same
+fixed_stays v entries.Fail same = step_fixed v same
+fixed_stays v entries.Dark same = step_fixed v same
 fixed_stays v (entries.Collect calls) same = either (has_started v)
   where
     either : (b : Bool) → (if b then collecting v else v).fixed ≡ v.fixed
     either true = refl
     either false = refl
 fixed_stays v (entries.Peer id request reply) same = refl
+fixed_stays v (entries.Off id request) same = refl
 fixed_stays v (entries.Finish id result) true = refl
 fixed_stays v (entries.Finish id result) false = refl
 

@@ -45,8 +45,11 @@ same_after f n s (entries.Input row) = refl
 same_after f n s (entries.Solve row) = refl
 same_after f n s (entries.Output row words) = refl
 same_after f n s entries.End = refl
+same_after f n s entries.Fail = refl
+same_after f n s entries.Dark = refl
 same_after f n s (entries.Collect calls) = refl
 same_after f n s (entries.Peer id request reply) = refl
+same_after f n s (entries.Off id request) = refl
 same_after f n s (entries.Finish id result) = refl
 
 same_fold : (f : Fixed) (n : ℕ) (s : ControllerState) (h : List Entry)
@@ -70,7 +73,7 @@ pub notes_same : (f : Fixed) (n : ℕ) (h : List Entry)
 notes_same f n h =
     let values = same_from f n (start f.plan) h in
     let state = same_fold f n (start f.plan) h in
-    λ i. record { values = values i; ended = (state i).ended; stop = (state i).stop }
+    λ i. record { values = values i; gone = (state i).gone; stop = (state i).stop }
 
 -- ---- what a controller has noted
 

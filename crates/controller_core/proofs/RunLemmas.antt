@@ -25,6 +25,8 @@ step_of_made f s (steps.In row) = refl
 step_of_made f s (steps.Solve row) = refl
 step_of_made f s (steps.Out row) = refl
 step_of_made f s steps.End = refl
+step_of_made f s steps.Fail = refl
+step_of_made f s steps.Dark = refl
 
 pub lines_more : (f : Fixed) (s : ControllerState) (h : List Entry) (e : Entry)
     → lines_from f s (h ++ e ∷ [])

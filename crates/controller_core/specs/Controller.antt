@@ -18,7 +18,8 @@ use Rattle.controller_core.specs.declared.entry.StepEnd.{StepEnd}
 use Rattle.controller_core.specs.declared.entry.StepEnd.TheVariants as ends
 use Rattle.controller_core.specs.Calls.{calls_of}
 use Rattle.controller_core.specs.Replay.{ControllerState, apply, replay, start, table_of}
-use Rattle.controller_core.specs.Event.{entry_of, maker_of, outputs_at, scan_steps}
+use Rattle.controller_core.specs.Event.{entry_of, maker_of, outputs_at, peer_entry, reply_in}
+use Rattle.controller_core.specs.Event.{scan_steps}
 use Rattle.controller_core.specs.Scans.{all_due, closes_scan}
 
 -- The fixed part, the history, and whether the steps of the scan that runs have their memory.
@@ -44,12 +45,15 @@ GoesOn s = s.stop ≡ 0
 -- What holds of an entry where it is made: an event of a scan is made where the controller has
 -- not stopped; the words of an Output are those of the row's drop. The others are made also where
 -- it has stopped: a Collect has all calls that were started and not yet collected, in block order,
--- and at least one; the reply of a Peer is the answer to its request; a Finish names a call that
--- was collected and has no result. This project's own.
+-- and at least one; a Peer is made where there is power, and its reply is the answer to its
+-- request; an Off is made where there is none; a Finish names a call that was collected and has no
+-- result. This project's own.
 abbrev pub Fits : Fixed → ControllerState → Entry → Type 0
 Fits fixed s (entries.Collect calls) =
     (has_untaken (table_of s) ≡ true) × (calls ≡ calls_of (table_of s))
-Fits fixed s (entries.Peer id request reply) = reply ≡ (answer_of request s.solving.map).reply
+Fits fixed s (entries.Peer id request reply) =
+    (s.powered ≡ true) × (reply ≡ (answer_of request s.solving.map).reply)
+Fits fixed s (entries.Off id request) = s.powered ≡ false
 Fits fixed s (entries.Finish id result) = is_taken_out (table_of s) id ≡ true
 Fits fixed s (entries.Output row words) = GoesOn s × (words ≡ outputs_at fixed s row)
 Fits fixed s _ = GoesOn s
@@ -106,7 +110,7 @@ abbrev pub due_entry : ControllerIs → Option Entry
 due_entry v = entry_for v (due_step v)
 
 -- A controller after the step that is due: its history grows by the entry of that step, and the
--- memory of a scan is kept until its End or its stop. This project's own.
+-- memory of a scan is kept until its last event or its stop. This project's own.
 abbrev pub made : ControllerIs → Option ScanStep → ControllerIs
 made v None = v
 made v (Some step) =
@@ -132,23 +136,29 @@ is_none (Some step) = false
 abbrev pub has_ended : ControllerIs → Bool
 has_ended v = is_none (due_step v)
 
--- The reply to a request. This project's own.
-abbrev pub reply_to : ControllerIs → List ℕ → List ℕ
-reply_to v request = (answer_of request (store_of v)).reply
+-- There is no power. This project's own.
+abbrev pub is_off : ControllerIs → Bool
+is_off v = not (state_of v).powered
 
--- A controller after it answered a request. This project's own.
+-- The reply to a request; none where there is no power. This project's own.
+abbrev pub reply_to : ControllerIs → List ℕ → Option (List ℕ)
+reply_to v request = reply_in (state_of v) request
+
+-- A controller after it took a request. This project's own.
 abbrev pub answering : ControllerIs → CallId → List ℕ → ControllerIs
-answering v id request = grown v (entries.Peer id request (reply_to v request) ∷ []) v.reserved
+answering v id request =
+    grown v (peer_entry id request (reply_to v request) ∷ []) v.reserved
 
 -- The entries that a step made, by what it answered. This project's own.
 abbrev pub step_entries : ControllerIs → StepEnd → List Entry
 step_entries v (ends.Did step) = entry_of v.fixed (state_of v) step ∷ []
 step_entries v _ = []
 
--- The entries that answering a request made: one, with the reply that was given. This project's
--- own.
-abbrev pub peer_entries : {E : Type 0} → CallId → List ℕ → Result (List ℕ) E → List Entry
-peer_entries id request (Ok reply) = entries.Peer id request reply ∷ []
+-- The entries that taking a request made: one, with the reply that was given, if one was. This
+-- project's own.
+abbrev pub peer_entries : {E : Type 0} → CallId → List ℕ → Result (Option (List ℕ)) E
+    → List Entry
+peer_entries id request (Ok reply) = peer_entry id request reply ∷ []
 peer_entries id request (Err end) = []
 
 -- A call is there that was started and not yet collected. This project's own.

@@ -29,10 +29,11 @@ followed_step v true = stepped (record v { reserved = true })
 followed_step v false = v
 
 -- A controller after it followed an entry: a step is made if it is the one of the entry; calls are
--- collected if there are any, and a request is answered, whatever the entry says of them; a call
--- that is out comes to its result. This project's own.
+-- collected if there are any, and a request is taken, whatever the entry says of them; a call that
+-- is out comes to its result. This project's own.
 abbrev pub followed : ControllerIs → Entry → Bool → ControllerIs
 followed v (entries.Collect calls) same = if has_started v then collecting v else v
 followed v (entries.Peer id request reply) same = answering v id request
+followed v (entries.Off id request) same = answering v id request
 followed v (entries.Finish id result) same = if same then finishing v id result else v
 followed v entry same = followed_step v same

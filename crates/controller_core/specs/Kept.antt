@@ -27,9 +27,9 @@ pub record IsKept (fixed : Fixed) (machine : Machine) (history : List Entry)
   pub sound : IsSound machine
   pub each : EachFits fixed (start fixed.plan) history
   pub state : state_is machine ≡ replay fixed history
-  pub steps : scan_steps history ++ remaining fixed machine.ended at ≡ all_due fixed
+  pub steps : scan_steps history ++ remaining fixed machine.gone at ≡ all_due fixed
   pub place : IsPlace fixed.plan at
-  pub within : scans_at at machine.ended ≤ fixed.scans
+  pub within : scans_at at machine.gone ≤ fixed.scans
   pub watched : IsWatched at machine
   pub timely : IsTimely machine (length (scan_steps history))
 
@@ -39,5 +39,5 @@ pub record IsWhole (machine : Machine) (history : List Entry) (at : ScanPlace) (
     (capacity : ℕ) (values : List ℕ) (values_capacity : ℕ) : Type 0 where
   pub kept : IsKept machine.fixed machine history at
   pub room : reserved ≡ true
-      → length history + length (due_after machine.fixed.plan (machine.ended + 1) at) ≤ capacity
+      → length history + length (due_after machine.fixed.plan (machine.gone + 1) at) ≤ capacity
   pub noted : IsPanelNoted machine.fixed history reserved values values_capacity

@@ -1,11 +1,13 @@
 -- What stays true of the calls of a controller, and what its histories share. This project's own.
 use Rattle.std.specs.Prelude.{◌≡◌, ℕ, Bool, true, false, ◌||◌, List, [], ◌∷◌, ◌++◌}
-use Rattle.std.specs.List.{list_any}
+use Rattle.std.specs.List.{list_any, AllByRecursion}
+use Rattle.plant_types.specs.Plans.{KeepsPower}
 use Rattle.mstr_block.specs.Call.{is_same_call}
 use Rattle.mstr_block.specs.declared.call.CallId.{CallId}
 use Rattle.mstr_block.specs.declared.call.MstrResult.{MstrResult}
 use Rattle.controller_core.specs.declared.call.Call.{Call}
 use Rattle.controller_core.specs.declared.entry.Entry.{Entry}
+use Rattle.controller_core.specs.declared.entry.Entry.TheVariants as entries
 use Rattle.controller_core.specs.declared.entry.Maker.TheVariants as makers
 use Rattle.controller_core.specs.declared.fixed.Fixed.{Fixed}
 use Rattle.controller_core.specs.Event.{step_of}
@@ -61,3 +63,21 @@ abbrev pub EntriesAddTheirLines : Type 0
 EntriesAddTheirLines = (fixed : Fixed) (front : List Entry) (entry : Entry)
     → panel_lines fixed (front ++ entry ∷ []) ≡ panel_lines fixed front
     ++ line_of_step fixed.plan (step_of entry) (replay fixed (front ++ entry ∷ []))
+
+-- An entry is one of a power failure, or was made where there was no power.
+abbrev pub is_of_failure : Entry → Bool
+is_of_failure entries.Fail = true
+is_of_failure entries.Dark = true
+is_of_failure (entries.Off id request) = true
+is_of_failure _ = false
+
+-- There is power behind a history, it never failed, and no entry is of a failure.
+pub record HasKeptPower (fixed : Fixed) (history : List Entry) : Type 0 where
+  pub powered : (replay fixed history).powered ≡ true
+  pub failures : (replay fixed history).failures ≡ 0
+  pub entries : AllByRecursion (λ entry. is_of_failure entry ≡ false) history
+
+-- This holds of a legal history where the plan keeps its power.
+abbrev pub KeptPowerIsOn : Type 0
+KeptPowerIsOn = (fixed : Fixed) (history : List Entry) → KeepsPower fixed.plan
+    → IsLegal fixed history → HasKeptPower fixed history

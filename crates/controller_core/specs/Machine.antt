@@ -1,5 +1,7 @@
 -- What the fields of a machine stand for, and what they keep.
 use Rattle.std.specs.Prelude.{◌≡◌, ◌≤◌, ◌<◌, ℕ, ◌+◌, ◌*◌, List, length, slice_index}
+use Rattle.std.specs.List.{AllByRecursion}
+use Rattle.plant_types.specs.declared.reference.Ref.{Ref}
 use Rattle.plant_types.specs.Checks.{sizes_of}
 use Rattle.plant_types.specs.Discretes.{discretes_on}
 use Rattle.plant_types.specs.Limits.{most_scans, scan_time_limit}
@@ -7,7 +9,7 @@ use Rattle.plant_types.specs.PlanTests.{drop_limit}
 use Rattle.plant_types.specs.Standing.{message_limit}
 use Rattle.plant_types.specs.declared.sizes.Sizes.{Sizes}
 use Rattle.plant_types.specs.Sizes.{cleared, discretes}
-use Rattle.plant_types.specs.Store.{Contents, Keeps}
+use Rattle.plant_types.specs.Store.{Contents, HasDiscrete, Keeps}
 use Rattle.grid_compile.specs.Layout.{grids_of}
 use Rattle.ladder_solver.specs.Numbers.{mstr_blocks}
 use Rattle.ladder_solver.specs.State.{solve_state}
@@ -39,8 +41,10 @@ state_is machine = record {
       solve_state machine.ram (discretes_on machine.past) machine.ladder.edges machine.bank
       machine.clock machine.watch.left;
   exchanges = machine.exchanges.items;
-  ended = machine.ended;
+  gone = machine.gone;
   stop = machine.stop;
+  powered = machine.powered;
+  failures = machine.failures;
 }
 
 -- The discretes of some store with the references of these sizes. This project's own.
@@ -62,6 +66,10 @@ pub record IsSound (machine : Machine) : Type 0 where
   pub few : length machine.bank.blocks ≤ message_limit
   pub exchanges : length machine.exchanges.items ≡ drop_limit
 
+-- A store has each of these coils. This project's own.
+abbrev pub HasCoils : Contents → List Ref → Type 0
+HasCoils m coils = AllByRecursion (HasDiscrete m) coils
+
 -- The most steps that scans make: 98 in each of 2000. This project's own.
 abbrev pub most_steps : ℕ
 most_steps = 196000
@@ -71,7 +79,8 @@ most_steps = 196000
 pub record IsTimely (machine : Machine) (steps : ℕ) : Type 0 where
   pub clock : machine.clock.now ≤ scan_time_limit * steps
   pub exchanges : (i : ℕ) → slice_index machine.exchanges.items i ≤ steps
-  pub ended : machine.ended ≤ steps
+  pub gone : machine.gone ≤ steps
+  pub failures : machine.failures ≤ steps
 
 -- A call does what an event does, once, and keeps what a machine's fields keep. This project's own.
 pub record DoesEntry (entry : Entry) (old new : Machine) : Type 0 where

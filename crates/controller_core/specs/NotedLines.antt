@@ -1,10 +1,12 @@
 -- The panel lines of a controller by what it noted. All of it is this project's own.
-use Rattle.std.specs.Prelude.{◌≡◌, ℕ, zero, suc, ◌+◌, ◌==◌, if◌then◌else◌, codes, List, [], ◌∷◌, ◌++◌}
+use Rattle.std.specs.Prelude.{◌≡◌, ℕ, zero, suc, ◌+◌, ◌==◌, if◌then◌else◌, codes, List, [], ◌∷◌}
+use Rattle.std.specs.Prelude.{◌++◌}
 use Rattle.std.specs.Prelude.{drop, length}
 use Rattle.std.specs.Fmt.{decimal}
 use Rattle.std.specs.List.{flat_map, zip}
 use Rattle.plant_types.specs.declared.reference.Ref.{Ref}
 use Rattle.plant_types.specs.declared.plan.ControllerPlan.{ControllerPlan}
+use Rattle.scan_order.specs.Power.{ends_off, power_in}
 use Rattle.controller_core.specs.declared.fixed.Fixed.{Fixed}
 use Rattle.controller_core.specs.declared.entry.Entry.{Entry}
 use Rattle.controller_core.specs.declared.notes.Notes.{Notes}
@@ -20,28 +22,30 @@ noted_text of = label_of of.0 ++ decimal of.1
 abbrev pub noted_texts : List Ref → List ℕ → List ℕ
 noted_texts panel values = flat_map noted_text (zip panel values)
 
--- The line of a scan that has ended, by the values from its own on.
-abbrev pub ended_line : ControllerPlan → ℕ → List ℕ → List ℕ
-ended_line plan scan values = line_text scan plan.node (noted_texts plan.panel values)
+-- The line of a scan that is gone, by the values from its own on: OFF where it ended without power.
+abbrev pub gone_line : ControllerPlan → ℕ → List ℕ → List ℕ
+gone_line plan scan values =
+    line_text scan plan.node
+    (if ends_off (power_in plan scan) then codes " OFF" else noted_texts plan.panel values)
 
--- The lines of so many scans that ended behind others, by the values from theirs on.
-unfoldable pub ended_lines : ControllerPlan → ℕ → ℕ → List ℕ → List (List ℕ)
-ended_lines plan before zero values = []
-ended_lines plan before (suc count) values =
-    ended_line plan (before + 1) values
-    ∷ ended_lines plan (before + 1) count (drop (length plan.panel) values)
+-- The lines of so many scans that are gone behind others, by the values from theirs on.
+unfoldable pub gone_lines : ControllerPlan → ℕ → ℕ → List ℕ → List (List ℕ)
+gone_lines plan before zero values = []
+gone_lines plan before (suc count) values =
+    gone_line plan (before + 1) values
+    ∷ gone_lines plan (before + 1) count (drop (length plan.panel) values)
 
--- The line of the scan in which a controller stopped, if it did, behind those that ended.
+-- The line of the scan in which a controller stopped, if it did, behind those that are gone.
 abbrev pub stopped_lines : ControllerPlan → ℕ → ℕ → List (List ℕ)
-stopped_lines plan ended stop =
+stopped_lines plan gone stop =
     if stop == 0
     then []
-    else line_text (ended + 1) plan.node (codes " STOP " ++ decimal stop) ∷ []
+    else line_text (gone + 1) plan.node (codes " STOP " ++ decimal stop) ∷ []
 
 -- The lines of a controller by what it noted.
 abbrev pub noted_lines : ControllerPlan → Notes → List (List ℕ)
 noted_lines plan notes =
-    ended_lines plan 0 notes.ended notes.values ++ stopped_lines plan notes.ended notes.stop
+    gone_lines plan 0 notes.gone notes.values ++ stopped_lines plan notes.gone notes.stop
 
 -- What a legal history has noted tells its panel lines.
 abbrev pub NotesTellTheLines : Type 0

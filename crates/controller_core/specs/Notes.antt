@@ -34,12 +34,12 @@ noted_from fixed s (entry ∷ entries) =
 abbrev pub noted_values : Fixed → List Entry → List ℕ
 noted_values fixed history = noted_from fixed (start fixed.plan) history
 
--- What a history has noted: the values, how many scans have ended, and the code with which the
+-- What a history has noted: the values, how many scans are gone, and the code with which the
 -- controller stopped, which is 0 where it did not.
 abbrev pub notes_of : Fixed → List Entry → Notes
 notes_of fixed history = record {
   values = noted_values fixed history;
-  ended = (replay fixed history).ended;
+  gone = (replay fixed history).gone;
   stop = (replay fixed history).stop;
 }
 

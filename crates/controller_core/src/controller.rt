@@ -1,13 +1,16 @@
 //! The controller: its machine, its place in the scan and its history.
 ghost use Rattle.std.specs.Prelude.{◌≡◌, ◌+◌, ◌*◌, length, ◌<◌, ◌≤◌, ◌&&◌, true, false, not, []};
 ghost use Rattle.std.specs.Prelude.{◌∷◌, ◌++◌};
-ghost use Rattle.std.specs.Prelude.{IfOk, IfSome, IsOk, OnErr, OnOk, vec_capacity, vec_len};
+ghost use Rattle.std.specs.Prelude.{IfOk, IfSome, IsOk, IsSome, OnErr, OnOk, vec_capacity};
+ghost use Rattle.std.specs.Prelude.{vec_len};
 ghost use Rattle.std.specs.FinMap.{contains_key};
 ghost use Rattle.plant_types.specs.Checks.{HasPanel};
+ghost use Rattle.plant_types.specs.Plans.{KeepsPower};
 ghost use Rattle.plant_types.specs.Store.{value_at};
 ghost use Rattle.controller_core.specs.Controller.{answering, has_ended, reply_to, state_of};
 ghost use Rattle.controller_core.specs.Controller.{step_end, step_entries, stepped, store_of};
-ghost use Rattle.controller_core.specs.Controller.{due_step, has_started, is_out, peer_entries};
+ghost use Rattle.controller_core.specs.Controller.{due_step, has_started, is_off, is_out};
+ghost use Rattle.controller_core.specs.Controller.{peer_entries};
 ghost use Rattle.controller_core.specs.Controller.{collect_entries, collecting, uncollected};
 ghost use Rattle.controller_core.specs.Controller.{finish_entries, finishing};
 ghost use Rattle.controller_core.specs.Controller.{at_start, fixed_with, IsLegal, ControllerWentOn};
@@ -27,7 +30,7 @@ use mstr_block::{CallId, MstrResult};
 use plant_types::{
     ControllerPlan, Copied, List, Pdu, Ref, RefStore, checked_plans_find_all, kept_stores_find_all,
 };
-use scan_order::{ScanPlace, ScanStep, next_due, place_after};
+use scan_order::{ScanPlace, ScanStep, kept_power_stays, next_due, place_after};
 use state_ram::PackedRam;
 use std::alloc::{AllocError, Global};
 use std::marker::Model;
@@ -72,22 +75,22 @@ fn note(history: &mut Vec<Entry>, entry: Entry)
     let _ = history.push(entry);
 }
 
-/// Whether all scans are done.
-fn is_done(scans: u32, at: ScanPlace, ended: u32) -> bool
-    ensures { result ≡ is_done scans at ended }
+/// Whether all scans are gone.
+fn is_done(scans: u32, at: ScanPlace, gone: u32) -> bool
+    ensures { result ≡ is_done scans at gone }
 {
     match at {
-        ScanPlace::Start => ended == scans,
+        ScanPlace::Start => gone == scans,
         _ => false,
     }
 }
 
 /// Whether nothing is due any more.
-fn is_over(stop: u16, scans: u32, at: ScanPlace, ended: u32) -> bool
-    ensures { result ≡ is_over stop scans at ended }
+fn is_over(stop: u16, scans: u32, at: ScanPlace, gone: u32) -> bool
+    ensures { result ≡ is_over stop scans at gone }
 {
     if stop == 0 {
-        is_done(scans, at, ended)
+        is_done(scans, at, gone)
     } else {
         true
     }
@@ -166,11 +169,25 @@ impl Controller {
         self.machine.ram()
     }
 
-    /// How many scans have ended.
-    pub fn scans_ended(&self) -> u32
-        ensures { result ≡ (state_of self.now).ended }
+    /// How many scans are gone: they ended, failed or were dark.
+    pub fn scans_gone(&self) -> u32
+        ensures { result ≡ (state_of self.now).gone }
     {
-        self.machine.ended
+        self.machine.gone
+    }
+
+    /// How often power failed.
+    pub fn failures(&self) -> u32
+        ensures { result ≡ (state_of self.now).failures }
+    {
+        self.machine.failures
+    }
+
+    /// Whether there is no power.
+    pub fn is_off(&self) -> bool
+        ensures { result ≡ is_off self.now }
+    {
+        !self.machine.powered
     }
 
     /// The code with which it stopped; 0 while it goes on.
@@ -205,12 +222,12 @@ impl Controller {
         value_at(self.ram(), at)
     }
 
-    /// Whether all scans are done, or it has stopped.
+    /// Whether all scans are gone, or it has stopped.
     pub fn has_ended(&self) -> bool
         ensures { result ≡ has_ended self.now }
     {
         let scans = self.machine.fixed.scans;
-        is_over(self.machine.stop, scans, self.at, self.machine.ended)
+        is_over(self.machine.stop, scans, self.at, self.machine.gone)
     }
 
     /// The most events of a scan: Begin, three of each row, and End.
@@ -243,7 +260,7 @@ impl Controller {
     {
         let notes = Notes {
             values: List::from_vec(self.values),
-            ended: self.machine.ended,
+            gone: self.machine.gone,
             stop: self.machine.stop,
         };
         (List::from_vec(self.history), notes)
@@ -263,16 +280,16 @@ impl Controller {
         self.machine.is_out(id)
     }
 
-    /// The step that is due; none where all scans are done or it has stopped.
+    /// The step that is due; none where all scans are gone or it has stopped.
     pub fn due(&self) -> Option<ScanStep>
         ensures due { result ≡ due_step self.now }
         ensures step { IfSome result (IsStep self.now.fixed.plan) }
     {
         let scans = self.machine.fixed.scans;
-        if is_over(self.machine.stop, scans, self.at, self.machine.ended) {
+        if is_over(self.machine.stop, scans, self.at, self.machine.gone) {
             return None;
         }
-        let scan = self.machine.ended + 1;
+        let scan = self.machine.gone + 1;
         Some(next_due(&self.machine.fixed.plan, scan, self.at))
     }
 
@@ -289,7 +306,8 @@ impl Controller {
         }
     }
 
-    /// Until the next End, or a stop, all steps have their memory. A scan that has it takes none.
+    /// Until the last event of the scan, or a stop, all steps have their memory. A scan that has it
+    /// takes none.
     pub fn reserve_scan(&mut self) -> Result<(), AllocError>
         ensures ok { OnOk result (self.new ≡ record self.old { reserved = true }) }
         ensures once { self.old.reserved ≡ true → IsOk result }
@@ -317,10 +335,10 @@ impl Controller {
         if self.machine.stop != 0 {
             return StepEnd::Stopped(self.machine.stop);
         }
-        if is_done(self.machine.fixed.scans, self.at, self.machine.ended) {
+        if is_done(self.machine.fixed.scans, self.at, self.machine.gone) {
             return StepEnd::Ended;
         }
-        let scan = self.machine.ended + 1;
+        let scan = self.machine.gone + 1;
         let step = next_due(&self.machine.fixed.plan, scan, self.at);
         let entry = self.machine.perform(step);
         let at = place_after(step);
@@ -333,7 +351,7 @@ impl Controller {
     }
 
     /// Collects the calls that were started and not yet collected, in the order of their blocks.
-    /// Goes also where all scans are done or the controller has stopped.
+    /// Goes also where all scans are gone or the controller has stopped.
     pub fn collect(&mut self) -> Result<List<Call>, AllocError>
         requires { has_started self.old ≡ true }
         ensures ok { OnOk result (self.new ≡ collecting self.old) }
@@ -352,30 +370,27 @@ impl Controller {
         Ok(calls)
     }
 
-    /// Answers a request of another node, named by who asked: the bytes of the reply, which may be
-    /// those of an exception. Answers too where all scans are done or the controller has stopped.
-    pub fn peer(&mut self, id: CallId, request: &Pdu) -> Result<Pdu, AllocError>
+    /// Takes a request of another node, named by who asked: the bytes of the reply, which may be
+    /// those of an exception; none, and nothing is changed by the request, where there is no power.
+    /// Answers too where all scans are gone or the controller has stopped.
+    pub fn peer(&mut self, id: CallId, request: &Pdu) -> Result<Option<Pdu>, AllocError>
         ensures ok { OnOk result (self.new ≡ answering self.old id request.now) }
         ensures reply { IfOk result (λ reply. reply ≡ reply_to self.old request.now) }
+        ensures power { KeepsPower self.old.fixed.plan → IfOk result IsSome }
         ensures err { OnErr result (self.new ≡ self.old) }
         ensures went_on { ControllerWentOn Maker.Communication (peer_entries id request.now result)
             self.old self.new }
     {
+        kept_power_stays();
         let most = self.longest_scan() + 1;
         self.history.try_reserve(most)?;
-        let kept = request.copied(self.alloc)?;
-        let (reply, copy) = self.machine.serve(self.alloc, request)?;
-        let entry = Entry::Peer {
-            id,
-            request: kept,
-            reply: copy,
-        };
+        let (reply, entry) = self.machine.take_request(self.alloc, id, request)?;
         note(&mut self.history, entry);
         Ok(reply)
     }
 
     /// Gives a call that was collected its result, which its block finds when it is solved next.
-    /// Goes also where all scans are done or the controller has stopped.
+    /// Goes also where all scans are gone or the controller has stopped.
     pub fn finish(&mut self, id: CallId, outcome: MstrResult) -> Result<(), AllocError>
         requires { is_out self.old id ≡ true }
         ensures ok { OnOk result (self.new ≡ finishing self.old id outcome) }

@@ -36,11 +36,17 @@ impl Copied for Entry {
                 words: words.copied(alloc)?,
             }),
             Entry::End => Ok(Entry::End),
+            Entry::Fail => Ok(Entry::Fail),
+            Entry::Dark => Ok(Entry::Dark),
             Entry::Collect(calls) => Ok(Entry::Collect(calls.copied(alloc)?)),
             Entry::Peer { id, request, reply } => Ok(Entry::Peer {
                 id: *id,
                 request: request.copied(alloc)?,
                 reply: reply.copied(alloc)?,
+            }),
+            Entry::Off { id, request } => Ok(Entry::Off {
+                id: *id,
+                request: request.copied(alloc)?,
             }),
             Entry::Finish { id, result } => Ok(Entry::Finish {
                 id: *id,

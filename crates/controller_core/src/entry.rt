@@ -23,6 +23,10 @@ pub enum Entry {
     },
     /// A scan ended.
     End,
+    /// Power failed, which ended the scan.
+    Fail,
+    /// A scan went by without power.
+    Dark,
     /// The calls that its MSTR blocks had started were handed on, in the order of the blocks.
     Collect(List<Call>),
     /// A request of another node was answered; it is named by who asked.
@@ -30,6 +34,11 @@ pub enum Entry {
         id: CallId,
         request: Pdu,
         reply: Pdu,
+    },
+    /// A request of another node came where there was no power, and has no reply.
+    Off {
+        id: CallId,
+        request: Pdu,
     },
     /// A call that was handed on came to its result.
     Finish {
@@ -58,7 +67,10 @@ impl Entry {
             Entry::Solve(row) => Some(ScanStep::Solve(*row)),
             Entry::Output { row, .. } => Some(ScanStep::Out(*row)),
             Entry::End => Some(ScanStep::End),
-            Entry::Collect(_) | Entry::Peer { .. } | Entry::Finish { .. } => None,
+            Entry::Fail => Some(ScanStep::Fail),
+            Entry::Dark => Some(ScanStep::Dark),
+            Entry::Collect(_) | Entry::Peer { .. } | Entry::Off { .. } | Entry::Finish { .. } =>
+                None,
         }
     }
 
@@ -67,10 +79,10 @@ impl Entry {
         ensures { result ≡ maker_of self.now }
     {
         match self {
-            Entry::Begin | Entry::Input(_) | Entry::Solve(_) | Entry::End => Maker::Scan,
-            Entry::Output { .. } => Maker::Scan,
-            Entry::Collect(_) => Maker::Communication,
-            Entry::Peer { .. } | Entry::Finish { .. } => Maker::Communication,
+            Entry::Begin | Entry::Input(_) | Entry::Solve(_) => Maker::Scan,
+            Entry::Output { .. } | Entry::End | Entry::Fail | Entry::Dark => Maker::Scan,
+            Entry::Collect(_) | Entry::Finish { .. } => Maker::Communication,
+            Entry::Peer { .. } | Entry::Off { .. } => Maker::Communication,
         }
     }
 }
@@ -80,7 +92,7 @@ impl Entry {
 pub enum StepEnd {
     /// This event was made.
     Did(ScanStep),
-    /// All scans are done, and no event was made.
+    /// All scans are gone, and no event was made.
     Ended,
     /// The controller had stopped with this code, and no event was made.
     Stopped(u16),

@@ -1,5 +1,6 @@
 //! Following a history entry by entry, on the calls of a controller.
-ghost use Rattle.std.specs.Prelude.{◌≡◌, ◌↔◌, Some, true, false, [], ◌∷◌, ◌++◌, IfOk, OnErr};
+ghost use Rattle.std.specs.Prelude.{◌≡◌, ◌↔◌, Some, None, true, false, [], ◌∷◌, ◌++◌};
+ghost use Rattle.std.specs.Prelude.{IfOk, IsTrue, OnErr};
 ghost use Rattle.controller_core.specs.Controller.{answering, due_entry};
 ghost use Rattle.controller_core.specs.Event.{maker_of};
 ghost use Rattle.controller_core.specs.Following.{followed, followed_step, HasWords, MayFollow};
@@ -10,6 +11,26 @@ use crate::entry::{Entry, Maker};
 use mstr_block::{CallId, MstrResult};
 use plant_types::{Copied, List, Pdu};
 use std::alloc::AllocError;
+
+/// Whether a request has this reply.
+fn is_reply(made: &Option<Pdu>, reply: &Pdu) -> bool
+    ensures { IsTrue result ↔ (made.now ≡ Some reply.now) }
+{
+    match made {
+        Some(made) => made.bytes() == reply.bytes(),
+        None => false,
+    }
+}
+
+/// Whether a request has no reply.
+fn is_silence(made: &Option<Pdu>) -> bool
+    ensures { IsTrue result ↔ (made.now ≡ None) }
+{
+    match made {
+        Some(_) => false,
+        None => true,
+    }
+}
 
 impl Controller {
     /// Whether an entry is that of the step that is due.
@@ -56,7 +77,7 @@ impl Controller {
         Ok(same_calls(made.as_slice(), calls.as_slice()))
     }
 
-    /// Answers a request, and answers whether this is the reply.
+    /// Takes a request, and answers whether this is the reply.
     fn follow_peer(&mut self, id: CallId, request: &Pdu, reply: &Pdu) -> Result<bool, AllocError>
         ensures state { IfOk result (λ same.
             self.new ≡ answering self.old id request.now) }
@@ -65,7 +86,19 @@ impl Controller {
         ensures err { OnErr result (self.new ≡ self.old) }
     {
         let made = self.peer(id, request)?;
-        Ok(made.bytes() == reply.bytes())
+        Ok(is_reply(&made, reply))
+    }
+
+    /// Takes a request, and answers whether it has no reply.
+    fn follow_off(&mut self, id: CallId, request: &Pdu) -> Result<bool, AllocError>
+        ensures state { IfOk result (λ same.
+            self.new ≡ answering self.old id request.now) }
+        ensures legal { IfOk result (λ same.
+            (same ≡ true) ↔ MayFollow self.old (Entry.Off id request.now)) }
+        ensures err { OnErr result (self.new ≡ self.old) }
+    {
+        let made = self.peer(id, request)?;
+        Ok(is_silence(&made))
     }
 
     /// Gives a call its result, if it is one that was collected and has none, and answers whether
@@ -94,6 +127,7 @@ impl Controller {
         match entry {
             Entry::Collect(calls) => self.follow_collect(calls),
             Entry::Peer { id, request, reply } => self.follow_peer(*id, request, reply),
+            Entry::Off { id, request } => self.follow_off(*id, request),
             Entry::Finish { id, result } => self.follow_finish(*id, result),
             _ => self.follow_step(entry),
         }
@@ -101,8 +135,8 @@ impl Controller {
 
     /// Follows an entry, and answers whether it may come next: the step that is due is made if it
     /// is the one of the entry; calls are collected, and compared with those of the entry; a
-    /// request is answered, and its reply compared; a call that is out comes to its result. Where
-    /// the answer is false, the entry isn't legal here.
+    /// request is taken, and its reply compared, if it has one; a call that is out comes to its
+    /// result. Where the answer is false, the entry isn't legal here.
     pub fn follow(&mut self, entry: &Entry) -> Result<bool, AllocError>
         ensures state { IfOk result (λ same. self.new ≡ followed self.old entry.now same) }
         ensures legal { IfOk result (λ same. (same ≡ true) ↔ MayFollow self.old entry.now) }

@@ -5,14 +5,15 @@ ghost use Rattle.controller_core.specs.Controller.{ControllerIs, has_ended, stat
 ghost use Rattle.controller_core.specs.Controller.{due_step, grown, step_end, stepped, AreOf};
 ghost use Rattle.controller_core.specs.Panel.{line_of_end, panel_lines};
 ghost use Rattle.controller_core.specs.Run.{ends_with, run_of};
-ghost use Rattle.controller_core.specs.Laws.{CallsFollow, ConditionsStay};
+ghost use Rattle.controller_core.specs.Laws.{CallsFollow, ConditionsStay, KeptPowerIsOn};
 ghost use Rattle.controller_core.specs.Laws.{EntriesAddTheirLines, FrontsAreLegal};
 ghost use Rattle.controller_core.specs.Notes.{EntriesAddTheirNotes, NotesAskNoScans};
 ghost use Rattle.controller_core.specs.NotedLines.{NotesTellTheLines};
 
 use crate::entry::Maker;
 use ladder_solver::segments_keep_calls;
-use mstr_block::{calls_are_taken_in_order, finishes_end_one_call};
+use mstr_block::{calls_are_taken_in_order, finishes_end_one_call, power_failures_keep_calls};
+use scan_order::{kept_power_stays, scans_end_once};
 
 /// A controller that makes nothing but steps ends with the run of its fixed part: this holds at
 /// its start, each step keeps it, and its history is that run once it has ended.
@@ -40,7 +41,7 @@ pub fn answers_leave_the_scan()
         → (state_of (grown v added v.reserved)).stop ≡ (state_of v).stop }
 {}
 
-/// A step leaves a controller as it is where all scans are done or it has stopped.
+/// A step leaves a controller as it is where all scans are gone or it has stopped.
 pub fn ended_controllers_stay()
     ensures { (v : ControllerIs) → has_ended v ≡ true → stepped v ≡ v }
 {}
@@ -51,6 +52,7 @@ pub fn conditions_stay()
     ensures { ConditionsStay }
 {
     segments_keep_calls();
+    power_failures_keep_calls();
 }
 
 /// A Collect takes all calls that were started; a Finish ends its call alone.
@@ -59,6 +61,13 @@ pub fn calls_follow()
 {
     calls_are_taken_in_order();
     finishes_end_one_call();
+}
+
+/// A legal history of a plan that keeps its power never lacks it.
+pub fn kept_power_is_on()
+    ensures { KeptPowerIsOn }
+{
+    kept_power_stays();
 }
 
 /// A prefix of a legal history is legal.
@@ -84,4 +93,6 @@ pub fn notes_ask_no_scans()
 /// What a legal history has noted tells its panel lines.
 pub fn notes_tell_the_lines()
     ensures { NotesTellTheLines }
-{}
+{
+    scans_end_once();
+}

@@ -5,6 +5,7 @@ mod call;
 mod controller;
 mod copied;
 mod entry;
+mod failing;
 mod fixed;
 mod following;
 mod laws;
@@ -18,7 +19,7 @@ pub use entry::{Entry, Maker, StepEnd};
 pub use fixed::Fixed;
 pub use laws::{
     answers_leave_the_scan, calls_follow, conditions_stay, ended_controllers_stay,
-    entries_add_their_lines, entries_add_their_notes, fronts_are_legal, notes_ask_no_scans,
-    notes_tell_the_lines, steps_add_their_lines, steps_make_the_run,
+    entries_add_their_lines, entries_add_their_notes, fronts_are_legal, kept_power_is_on,
+    notes_ask_no_scans, notes_tell_the_lines, steps_add_their_lines, steps_make_the_run,
 };
 pub use notes::Notes;

@@ -4,7 +4,7 @@ ghost use Rattle.std.specs.Prelude.{Some, vec_capacity, vec_len};
 ghost use Rattle.controller_core.specs.Notes.{note_of_step};
 ghost use Rattle.modbus_exec.specs.Answer.{answer_of};
 ghost use Rattle.scan_order.specs.Due.{IsRow, IsStep};
-ghost use Rattle.controller_core.specs.Event.{entry_of, outputs_at};
+ghost use Rattle.controller_core.specs.Event.{entry_of, outputs_at, peer_entry, reply_in};
 ghost use Rattle.controller_core.specs.Replay.{control_is_on, start};
 ghost use Rattle.traffic_cop.specs.Rows.{HasControl, HasDrop};
 ghost use Rattle.controller_core.specs.Machine.{state_is, DoesEntry, Exchanges};
@@ -17,15 +17,18 @@ ghost use Rattle.mstr_block.specs.Table.{has_untaken, is_taken_out};
 
 use crate::call::Call;
 use crate::entry::Entry;
+use crate::failing::switch_coils_off;
 use crate::fixed::Fixed;
 use crate::notes::{closes_scan, push_values};
 use crate::parts::{Parts, Solver, Stores, parts_of};
 use ladder_solver::{Ladder, SolveEnd, Watch, grids_ask_no_more, segments_keep_calls};
 use modbus_exec::answer_twice;
-use mstr_block::{CallId, MstrBank, MstrResult, calls_are_taken_in_order};
+use mstr_block::{
+    CallId, MstrBank, MstrResult, calls_are_taken_in_order, power_failures_keep_calls,
+};
 use plant_types::{
-    Block, List, Pdu, Ref, RefStore, checked_plans_find_all, discretes_are_on, discretes_follow,
-    kept_stores_find_all,
+    Block, Copied, List, Pdu, Ref, RefStore, checked_plans_find_all, discretes_are_on,
+    discretes_follow, kept_stores_find_all,
 };
 use scan_order::{ScanStep, row_of};
 use state_ram::PackedRam;
@@ -44,17 +47,21 @@ pub(crate) struct Machine {
     bank: MstrBank,
     cop: Cop,
     ram: PackedRam,
-    /// The discretes as the scan before ended.
+    /// The discretes as the last scan ended or failed.
     past: PackedRam,
     clock: Clock,
     /// The networks that are left to the watchdog.
     watch: Watch,
     /// How many input exchanges each drop had, by its number.
     exchanges: Vec<u32>,
-    /// How many scans have ended.
-    pub(crate) ended: u32,
+    /// How many scans are gone.
+    pub(crate) gone: u32,
     /// The code with which the controller stopped; 0 while it goes on.
     pub(crate) stop: u16,
+    /// Whether there is power.
+    pub(crate) powered: bool,
+    /// How often power failed.
+    pub(crate) failures: u32,
 }
 
 /// The stop code behind a solve.
@@ -103,8 +110,10 @@ impl Machine {
             clock: Clock { before: 0, now: 0 },
             watch: Watch { left: 0 },
             exchanges,
-            ended: 0,
+            gone: 0,
             stop: 0,
+            powered: true,
+            failures: 0,
         })
     }
 
@@ -151,6 +160,7 @@ impl Machine {
         self.watch = Watch {
             left: self.fixed.watchdog,
         };
+        self.powered = true;
     }
 
     /// The next input exchange of a drop.
@@ -252,7 +262,34 @@ impl Machine {
     {
         discretes_follow();
         self.past.copy_from(&self.ram);
-        self.ended += 1;
+        self.gone += 1;
+    }
+
+    /// Power fails: the coils of all COs go off, and the discretes are kept. Takes no memory.
+    fn fail(&mut self)
+        requires sound { IsSound self.old }
+        requires timely { IsTimely self.old most_steps }
+        ensures { DoesEntry Entry.Fail self.old self.new }
+    {
+        checked_plans_find_all();
+        kept_stores_find_all();
+        discretes_follow();
+        power_failures_keep_calls();
+        switch_coils_off(&mut self.ram, self.fixed.plan.segments.as_slice());
+        self.past.copy_from(&self.ram);
+        self.bank.power_fail();
+        self.powered = false;
+        self.failures += 1;
+        self.gone += 1;
+    }
+
+    /// A scan goes by without power.
+    fn go_dark(&mut self)
+        requires sound { IsSound self.old }
+        requires timely { IsTimely self.old most_steps }
+        ensures { DoesEntry Entry.Dark self.old self.new }
+    {
+        self.gone += 1;
     }
 
     /// Whether a call was started and not yet collected.
@@ -293,7 +330,7 @@ impl Machine {
 
     /// Executes a request of another node, and answers the bytes of its reply twice. Their memory
     /// is taken before anything changes.
-    pub(crate) fn serve(&mut self, alloc: Global, request: &Pdu) -> Result<(Pdu, Pdu), AllocError>
+    fn serve(&mut self, alloc: Global, request: &Pdu) -> Result<(Pdu, Pdu), AllocError>
         requires { IsSound self.old }
         ensures serves { OnOk result (AnswersRequest request.now self.old self.new) }
         ensures reply { IfOk result (λ pair.
@@ -302,6 +339,33 @@ impl Machine {
         ensures unchanged { OnErr result (self.new ≡ self.old) }
     {
         answer_twice(alloc, request.bytes(), &mut self.ram)
+    }
+
+    /// Takes a request of another node: its reply, where there is power, and the entry that notes
+    /// both. Their memory is taken before anything changes.
+    pub(crate) fn take_request(
+        &mut self,
+        alloc: Global,
+        id: CallId,
+        request: &Pdu,
+    ) -> Result<(Option<Pdu>, Entry), AllocError>
+        requires { IsSound self.old }
+        ensures does { IfOk result (λ pair. Tells pair.1 self.old self.new) }
+        ensures reply { IfOk result (λ pair. pair.0 ≡ reply_in (state_is self.old) request.now) }
+        ensures entry { IfOk result (λ pair. pair.1 ≡ peer_entry id request.now pair.0) }
+        ensures unchanged { OnErr result (self.new ≡ self.old) }
+    {
+        let kept = request.copied(alloc)?;
+        if !self.powered {
+            return Ok((None, Entry::Off { id, request: kept }));
+        }
+        let (reply, copy) = self.serve(alloc, request)?;
+        let entry = Entry::Peer {
+            id,
+            request: kept,
+            reply: copy,
+        };
+        Ok((Some(reply), entry))
     }
 
     /// A call comes to its result. Takes no memory.
@@ -343,6 +407,14 @@ impl Machine {
             ScanStep::End => {
                 self.end();
                 Entry::End
+            }
+            ScanStep::Fail => {
+                self.fail();
+                Entry::Fail
+            }
+            ScanStep::Dark => {
+                self.go_dark();
+                Entry::Dark
             }
         }
     }

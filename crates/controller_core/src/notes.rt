@@ -7,7 +7,7 @@ ghost use Rattle.controller_core.specs.Notes.{values_of};
 ghost use Rattle.controller_core.specs.Scans.{closes_scan};
 
 use plant_types::{List, Ref, RefKind, RefStore};
-use scan_order::ScanStep;
+use scan_order::{ScanStep, ends_scan};
 use state_ram::PackedRam;
 
 /// What the panel of a controller showed. This project's own.
@@ -15,8 +15,8 @@ use state_ram::PackedRam;
 pub struct Notes {
     /// The values of the panel's references as each scan was over, one scan after another.
     pub values: List<u16>,
-    /// How many scans have ended.
-    pub ended: u32,
+    /// How many scans are gone: they ended, failed or were dark.
+    pub gone: u32,
     /// The code with which the controller stopped; 0 where it did not.
     pub stop: u16,
 }
@@ -26,9 +26,8 @@ pub(crate) fn closes_scan(step: ScanStep, stop: u16) -> bool
     ensures { result ≡ closes_scan step stop }
 {
     match step {
-        ScanStep::End => true,
         ScanStep::Solve(_) => stop != 0,
-        _ => false,
+        _ => ends_scan(step),
     }
 }
 

@@ -4,6 +4,7 @@ mod acts;
 mod messages;
 mod notes;
 mod plans;
+mod power;
 mod requests;
 mod scans;
 
@@ -23,8 +24,8 @@ pub struct Case {
     pub events: usize,
     /// The values of the panel as each scan was over.
     pub values: &'static [u16],
-    /// How many scans have ended, and the code with which it stopped.
-    pub ended: u32,
+    /// How many scans are gone, and the code with which it stopped.
+    pub gone: u32,
     pub stop: u16,
 }
 
@@ -59,9 +60,6 @@ pub fn show(rt: &(impl Abort + AllocGlobal), case: &Case) -> Result<(), Fail> {
     assert_eq!(rt; left.wrong, None);
     assert_eq!(rt; left.history.as_slice().len(), case.events);
     assert!(rt; left.notes.values.as_slice() == case.values);
-    assert_eq!(rt;
-        (left.notes.ended, left.notes.stop),
-        (case.ended, case.stop)
-    );
+    assert_eq!(rt; (left.notes.gone, left.notes.stop), (case.gone, case.stop));
     Ok(())
 }

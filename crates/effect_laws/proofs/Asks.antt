@@ -106,6 +106,9 @@ fit-next laws fixed h (entries.Input row) legal fits f = f
 fit-next laws fixed h (entries.Solve row) legal fits f = f
 fit-next laws fixed h (entries.Output row words) legal fits f = f
 fit-next laws fixed h entries.End legal fits f = f
+fit-next laws fixed h entries.Fail legal fits f = f
+fit-next laws fixed h entries.Dark legal fits f = f
+fit-next laws fixed h (entries.Off id request) legal fits f = f
 fit-next laws fixed h (entries.Collect calls) legal fits f =
     let T = table_of (replay fixed h) in
     let follows = history-follows laws fixed h legal in
@@ -124,7 +127,7 @@ fit-next laws fixed h (entries.Peer id request reply) legal fits f = record {
     last ask is net =
         let same : request ≡ ask = cc in
         subst (λ (l : List ℕ). Fitting l reply) same
-        (subst (λ (l : List ℕ). Fitting request l) (sym fits)
+        (subst (λ (l : List ℕ). Fitting request l) (sym fits.1)
         (answer-fits request (replay fixed h).solving.map (subst NetAsk (sym same) net)))
 fit-next laws fixed h (entries.Finish id result) legal fits f =
     record { asks = f.asks; answers = f.answers }

@@ -161,12 +161,15 @@ facts-next laws fixed h (entries.Input row) legal fits f = f
 facts-next laws fixed h (entries.Solve row) legal fits f = f
 facts-next laws fixed h (entries.Output row words) legal fits f = f
 facts-next laws fixed h entries.End legal fits f = f
+facts-next laws fixed h entries.Fail legal fits f = f
+facts-next laws fixed h entries.Dark legal fits f = f
 facts-next laws fixed h (entries.Collect calls) legal fits f =
     subst (λ (l : List Call). CallFacts (item_next (items_of h) (entries.Collect l))) (sym fits.1)
     (collect-facts fixed.plan.node (items_of h)
     (map called_of (uncollected (controller_at fixed h))) (collected-new laws fixed h legal) f)
 facts-next laws fixed h (entries.Peer id request reply) legal fits f =
     record { calls = f.calls; ends = f.ends; kinds = f.kinds }
+facts-next laws fixed h (entries.Off id request) legal fits f = f
 facts-next laws fixed h (entries.Finish id result) legal fits f =
     let follows = history-follows laws fixed h legal in
     let two = and_parts (list_any (is_called id) (items_of h).calls)

@@ -204,7 +204,10 @@ joint = record {
 target-legal : IsLegal (fixed_of plant 1 controller) target
 unfolding EachFits
 target-legal =
-    record { each = (refl, (refl, tt)); due = (all_due (fixed_of plant 1 controller), refl) }
+    record {
+      each = ((refl, refl), ((refl, refl), tt));
+      due = (all_due (fixed_of plant 1 controller), refl);
+    }
 
 asker-legal : IsHostHistory host asker
 asker-legal =

@@ -1,5 +1,5 @@
 -- A reply that a host got is the answer of the node that it asked.
-use Rattle.std.proofs.Common.{◌≡◌, ℕ, ◌==◌, Bool, true, false, List, [], ◌∷◌, ◌++◌, map, Some}
+use Rattle.std.proofs.Common.{◌≡◌, ℕ, ◌==◌, Bool, true, false, List, [], ◌∷◌, ◌++◌, Some}
 use Rattle.std.proofs.Common.{None}
 use Rattle.std.proofs.Common.{refl, sym, ap, ◌∙◌, subst, inl, inr, ◌⊎◌, ⊎_elim, arith}
 use Rattle.std.specs.Prelude.{Contains, if◌then◌else◌}
@@ -20,17 +20,16 @@ use Rattle.ring_core.specs.Words.{maker}
 use Rattle.ring_laws.specs.Once.{posts}
 use Rattle.ring_laws.proofs.Law.{only-its-target, posted-once, reply-by-taker}
 use Rattle.ring_laws.proofs.Lists.{only-one}
-use Rattle.controller_core.specs.declared.call.Call.{Call}
 use Rattle.controller_core.specs.declared.entry.Entry.{Entry}
 use Rattle.controller_core.specs.declared.entry.Entry.TheVariants as entries
 use Rattle.host_port.specs.declared.entry.HostEntry.{HostEntry}
 use Rattle.host_port.specs.declared.entry.HostEntry.TheVariants as host_entries
 use Rattle.host_port.specs.declared.entry.HostResult.TheVariants as results
 use Rattle.tied_lists.specs.Own.{own}
-use Rattle.tied_lists.specs.Items.{AController, AHost, Answered, Asked, Called, CallSort, Ended}
-use Rattle.tied_lists.specs.Items.{AtHome, OverNet, Items, answered_for, answered_of, asked_by}
+use Rattle.tied_lists.specs.Items.{AController, AHost, Answered, Asked, Called, Ended}
+use Rattle.tied_lists.specs.Items.{OverNet, Items, answered_for, answered_of, asked_by}
 use Rattle.tied_lists.specs.Items.{asked_in, asked_of, net_ask, no_items, port_answers, reply_of}
-use Rattle.tied_lists.specs.Items.{Came, Outcome, Replied, outcome_of_word, request_of}
+use Rattle.tied_lists.specs.Items.{Came, Replied, outcome_of_word, request_of}
 use Rattle.joint_history.specs.declared.joint.ControllerLog.{ControllerLog}
 use Rattle.joint_history.specs.declared.joint.HostLog.{HostLog}
 use Rattle.joint_history.specs.declared.joint.Joint.{Joint}
@@ -80,6 +79,8 @@ peer-in a (e ∷ h) answer there =
     last (entries.Solve row) old = inl old
     last (entries.Output row words) old = inl old
     last entries.End old = inl old
+    last entries.Fail old = inl old
+    last entries.Dark old = inl old
     last (entries.Collect calls) old = inl old
     last (entries.Finish id result) old = inl old
     last (entries.Peer id request reply) old =
@@ -94,6 +95,7 @@ peer-in a (e ∷ h) answer there =
         })))
         (Contains-push_cases a.answers (record { id = id; request = Some request; reply = reply })
         answer old)
+    last (entries.Off id request) old = inl old
 
 -- so is one of a host's
 abbrev IsServed : Answered → HostEntry → Type 0

@@ -63,8 +63,11 @@ ends-grow a (entries.Input row) end' there = there
 ends-grow a (entries.Solve row) end' there = there
 ends-grow a (entries.Output row words) end' there = there
 ends-grow a entries.End end' there = there
+ends-grow a entries.Fail end' there = there
+ends-grow a entries.Dark end' there = there
 ends-grow a (entries.Collect calls) end' there = there
 ends-grow a (entries.Peer id request reply) end' there = there
+ends-grow a (entries.Off id request) end' there = there
 ends-grow a (entries.Finish id result) end' there = Contains-append_left a.ends _ end' there
 
 ends-stay : (a : Items) (h : List Entry) (end' : Ended) → Contains a.ends end'

@@ -1,6 +1,6 @@
 -- Passes dealt to writers.
 use Rattle.std.proofs.Common.{◌≡◌, ℕ, zero, suc, ◌<◌, ◌||◌, false, List, [], ◌∷◌, ◌++◌, All, Some}
-use Rattle.std.proofs.Common.{length, map, reverse, refl, sym, ap, ◌∙◌, ne_eqb, arith}
+use Rattle.std.proofs.Common.{reverse, refl, sym, ap, ◌∙◌, ne_eqb, arith}
 use Rattle.std.proofs.lemmas.List.{map-append, reverse-append}
 use Rattle.std.proofs.lemmas.List.Elements.{All-append}
 use Rattle.turn_gate.specs.Known.{GateName, GateFacts, first_pass, is_among}

@@ -1,6 +1,6 @@
 -- The Requests that the paths of a host have without an answer.
-use Rattle.std.proofs.Common.{◌≡◌, ◌+◌, ◌==◌, ◌||◌, ◌&&◌, ℕ, Bool, true, false, not, cond, List, []}
-use Rattle.std.proofs.Common.{◌∷◌, ◌++◌, Option, Some, None, map}
+use Rattle.std.proofs.Common.{◌≡◌, ◌+◌, ◌==◌, ◌||◌, ◌&&◌, ℕ, true, false, cond, List, []}
+use Rattle.std.proofs.Common.{◌∷◌, ◌++◌, Some, None, map}
 use Rattle.std.proofs.Common.{reverse, sym, ap, subst, ◌∙◌, inl, inr, append_assoc}
 use Rattle.std.specs.Prelude.{if◌then◌else◌}
 use Rattle.std.specs.Option.{option_or}
@@ -10,13 +10,12 @@ use Rattle.std.proofs.lemmas.List.{map-append, reverse-append, reverse-reverse}
 use Rattle.std.proofs.lemmas.List.Elements.{filter_map-append}
 use Rattle.std.proofs.lemmas.List.Folds.{find-append}
 use Rattle.plant_types.specs.declared.net.HostPlan.{HostPlan}
-use Rattle.mstr_block.specs.declared.call.CallId.{CallId}
 use Rattle.mstr_block.specs.Table.{network_paths}
 use Rattle.ring_core.specs.declared.frame.Frame.{Frame}
 use Rattle.ring_core.specs.declared.frame.FrameKind.TheVariants.{Request}
 use Rattle.ring_core.specs.Legal.{IsPath}
 use Rattle.host_port.specs.declared.entry.HostEntry.{HostEntry}
-use Rattle.host_port.specs.declared.entry.HostEntry.TheVariants.{Ask, Answer, Served}
+use Rattle.host_port.specs.declared.entry.HostEntry.TheVariants.{Ask, Answer}
 use Rattle.host_port.specs.declared.host.Path.{Path}
 use Rattle.host_port.specs.Calls.{request_by, requests_in, unanswered_in, is_ask, is_request_of}
 use Rattle.host_port.specs.Calls.{goes_on_path, open_on}

@@ -23,7 +23,7 @@ use Rattle.mstr_block.specs.Running.{AsksFor, MayBeAsked, IsTable}
 use Rattle.mstr_block.specs.Running.{RunsAt}
 use Rattle.mstr_block.specs.Table.{BlockTable, call_ended, finished, idle_table}
 use Rattle.mstr_block.specs.Table.{is_awaited, is_taken_out, own_path, running_in}
-use Rattle.mstr_block.specs.Table.{started_calls, untaken, with_result}
+use Rattle.mstr_block.specs.Table.{power_failed, started_calls, untaken, with_result}
 use Rattle.mstr_block.specs.declared.call.CallId.{CallId}
 use Rattle.mstr_block.specs.declared.call.MstrAsk.{MstrAsk}
 use Rattle.mstr_block.specs.declared.call.MstrAsk.TheVariants as asks
@@ -34,6 +34,7 @@ use Rattle.mstr_block.specs.declared.state.BlockState.{BlockState}
 use Rattle.mstr_block.specs.declared.state.BlockState.TheVariants.{Idle, Waiting, Active, Aborted}
 use Rattle.mstr_block.specs.declared.state.BlockState.TheVariants.{Ready}
 use Rattle.mstr_block.specs.declared.state.Running.{Running}
+use Rattle.mstr_block.proofs.Failing.{power_failures-keep_calls}
 use Rattle.scan_order.specs.Due.{row_of}
 use Rattle.controller_core.specs.declared.call.Call.{Call}
 use Rattle.controller_core.specs.declared.entry.Entry.{Entry}
@@ -322,6 +323,12 @@ follows-entry laws n f s a (entries.Solve row) fits old =
     follows-row laws n f.plan.segments (row_of f.plan row) s a old
 follows-entry laws n f s a (entries.Output row words) fits old = old
 follows-entry laws n f s a entries.End fits old = old
+follows-entry laws n f s a entries.Fail fits old =
+    let T = table_of s in
+    follows-solve n T (power_failed T) a (power_failures-keep_calls.keeps T)
+    (power_failures-keep_calls.new T)
+    (laws.tables.failed T old.table) old
+follows-entry laws n f s a entries.Dark fits old = old
 follows-entry laws n f s a (entries.Collect calls) fits old =
     follows-collect n (table_of s) a (item_next a (entries.Collect calls)) laws.taking
     (ap (λ (l : List Call). a.calls ++ map called_of l) fits.1) refl old
@@ -333,6 +340,7 @@ follows-entry laws n f s a (entries.Peer id request reply) fits old = record {
   above = old.above;
   made = old.made;
 }
+follows-entry laws n f s a (entries.Off id request) fits old = old
 follows-entry laws n f s a (entries.Finish id result) fits old =
     follows-finish n (table_of s) a (item_next a (entries.Finish id result)) _ result laws.finishing
     laws.tables fits refl refl old

@@ -3,6 +3,7 @@ use Rattle.std.proofs.Common.{◌≡◌, Bool, List, [], ◌∷◌, ◌++◌, fi
 use Rattle.std.proofs.Common.{ap, ◌∙◌}
 use Rattle.controller_core.specs.declared.entry.Entry.{Entry}
 use Rattle.controller_core.specs.declared.entry.Entry.TheVariants.{Begin, Input, Solve, Output, End}
+use Rattle.controller_core.specs.declared.entry.Entry.TheVariants.{Fail, Dark, Off}
 use Rattle.controller_core.specs.declared.entry.Entry.TheVariants.{Collect, Peer, Finish}
 use Rattle.tied_lists.specs.Own.{WentOn}
 use Rattle.tied_lists.specs.Items.{Items, no_items}
@@ -21,8 +22,11 @@ items_after-others a (Input row ∷ xs) none = items_after-others a xs none
 items_after-others a (Solve row ∷ xs) none = items_after-others a xs none
 items_after-others a (Output row words ∷ xs) none = items_after-others a xs none
 items_after-others a (End ∷ xs) none = items_after-others a xs none
+items_after-others a (Fail ∷ xs) none = items_after-others a xs none
+items_after-others a (Dark ∷ xs) none = items_after-others a xs none
 items_after-others a (Collect calls ∷ xs) none = absurd (cc)
 items_after-others a (Peer id request reply ∷ xs) none = absurd (cc)
+items_after-others a (Off id request ∷ xs) none = absurd (cc)
 items_after-others a (Finish id result ∷ xs) none = absurd (cc)
 
 items-went : (alone : Bool) (known added known' : List Entry)

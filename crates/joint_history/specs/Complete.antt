@@ -17,7 +17,7 @@ use Rattle.tied_lists.specs.Items.{Called, Ended, Items, asked_by, replied_by, t
 use Rattle.tied_lists.specs.Waits.{HasLeft}
 use Rattle.controller_core.specs.declared.fixed.Fixed.{Fixed}
 use Rattle.controller_core.specs.declared.entry.Entry.{Entry}
-use Rattle.controller_core.specs.declared.entry.Entry.TheVariants.{End}
+use Rattle.controller_core.specs.declared.entry.Entry.TheVariants.{End, Fail, Dark}
 use Rattle.controller_core.specs.Replay.{replay}
 use Rattle.joint_history.specs.declared.joint.ControllerLog.{ControllerLog}
 use Rattle.joint_history.specs.declared.joint.HostLog.{HostLog}
@@ -32,15 +32,17 @@ EndsEachCall items = All
     (λ (call : Called). count_by (λ (end : Ended). is_same_call end.id call.id) items.ends ≡ 1)
     items.calls
 
--- The last event of a scan.
-abbrev pub is_end : Entry → Bool
-is_end End = true
-is_end _ = false
+-- The last event of a scan, with which it is gone: it ended, power failed in it, or it was dark.
+abbrev pub is_scan_end : Entry → Bool
+is_scan_end End = true
+is_scan_end Fail = true
+is_scan_end Dark = true
+is_scan_end _ = false
 
--- A controller has made all its scans, or has stopped; each call that its blocks started was
+-- All scans of a controller are gone, or it has stopped; each call that its blocks started was
 -- handed on, and has ended once.
 pub record ControllerIsComplete (fixed : Fixed) (entries : List Entry) : Type 0 where
-  pub scans : (count_by is_end entries ≡ fixed.scans) ⊎ ((replay fixed entries).stop ≢ 0)
+  pub scans : (count_by is_scan_end entries ≡ fixed.scans) ⊎ ((replay fixed entries).stop ≢ 0)
   pub collected : has_started_at fixed entries ≡ false
   pub finished : EndsEachCall (items_of entries)
 

@@ -18,6 +18,7 @@ use Rattle.tied_lists.specs.Items.{Lacked, Items, no_items, with_calls, with_ans
 abbrev pub is_ours : Entry → Bool
 is_ours (entries.Collect calls) = true
 is_ours (entries.Peer id request reply) = true
+is_ours (entries.Off id request) = true
 is_ours (entries.Finish id result) = true
 is_ours _ = false
 
@@ -29,7 +30,8 @@ sort_of (kinds.Local op) = AtHome op
 abbrev pub called_of : Call → Called
 called_of c = record { id = c.id; sort = sort_of c.kind }
 
--- What an entry of a controller adds to the items.
+-- What an entry of a controller adds to the items. A request that comes where there is no power
+-- adds none yet: no controller that the laws are kept for is without power.
 abbrev pub item_next : Items → Entry → Items
 item_next a (entries.Collect calls) = with_calls a (map called_of calls)
 item_next a (entries.Peer id request reply) =

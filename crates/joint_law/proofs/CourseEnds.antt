@@ -22,7 +22,7 @@ use Rattle.joint_history.specs.Complete.{ControllerIsComplete, EndsEachCall}
 use Rattle.joint_history.specs.JointLaws.{IsLegalHostLog, IsLegalLog, fixed_of}
 use Rattle.joint_history.specs.Noted.{notes_by_log, notes_in}
 use Rattle.joint_history.specs.Reading.{host_items_of}
-use Rattle.joint_law.specs.AllCourses.{AreDone, AreHostsDone, AreWholeCourses}
+use Rattle.joint_law.specs.AllCourses.{AreHostsDone, AreWholeCourses}
 use Rattle.joint_law.specs.Differing.{BreaksAt}
 use Rattle.joint_law.specs.Spots.{AreLegalHostLogs, AreLegalLogs, ControllerSpot, HasSections}
 use Rattle.joint_law.specs.Spots.{HostSpot}

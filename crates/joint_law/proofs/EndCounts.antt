@@ -17,7 +17,7 @@ use Rattle.std.specs.Prelude.{◌↔◌, IsTrue, if◌then◌else◌}
 use Rattle.std.proofs.lemmas.Bool.{cases_lt, eqb-true}
 use Rattle.controller_core.specs.declared.fixed.Fixed.{Fixed}
 use Rattle.controller_core.specs.Replay.{replay}
-use Rattle.joint_history.specs.Complete.{ControllerIsComplete, is_end}
+use Rattle.joint_history.specs.Complete.{ControllerIsComplete, is_scan_end}
 use Rattle.joint_history.specs.Reading.{has_started_at}
 use Rattle.joint_law.specs.Ends.{CountsEnds, once_of}
 use Rattle.joint_law.specs.Named.{value_of_call}
@@ -37,8 +37,11 @@ end-id kinds (entries.Input row) = refl
 end-id kinds (entries.Solve row) = refl
 end-id kinds (entries.Output row words) = refl
 end-id kinds entries.End = refl
+end-id kinds entries.Fail = refl
+end-id kinds entries.Dark = refl
 end-id kinds (entries.Collect calls) = refl
 end-id kinds (entries.Peer id request reply) = refl
+end-id kinds (entries.Off id request) = refl
 end-id kinds (entries.Finish id result) = refl
 
 host-end-id : (kinds : CallId → Option Kind) (e : HostEntry)
@@ -119,7 +122,7 @@ each-iff a calls ends each calls-are ends-are h = (
 
 -- a controller is complete where its scans are, nothing is left to collect and each call has ended
 pub done-iff : (fixed : Fixed) (entries : List Entry) (each : Bool)
-    → (count_by is_end entries ≡ fixed.scans) ⊎ ((replay fixed entries).stop ≢ 0)
+    → (count_by is_scan_end entries ≡ fixed.scans) ⊎ ((replay fixed entries).stop ≢ 0)
     → has_started_at fixed entries ≡ false → IsTrue each ↔ EndsEachCall (items_of entries)
     → IsTrue each ↔ ControllerIsComplete fixed entries
 done-iff fixed entries each scans started h = (

@@ -4,7 +4,7 @@ ghost use Rattle.plant_types.specs.Plans.{IsHostPlan};
 ghost use Rattle.controller_core.specs.Controller.{IsLegal};
 ghost use Rattle.controller_core.specs.Machine.{IsRunnable};
 ghost use Rattle.host_port.specs.Legal.{IsHostHistory};
-ghost use Rattle.joint_history.specs.Complete.{ControllerIsComplete, EndsEachCall, is_end};
+ghost use Rattle.joint_history.specs.Complete.{ControllerIsComplete, EndsEachCall, is_scan_end};
 ghost use Rattle.joint_history.specs.JointLaws.{fixed_of};
 ghost use Rattle.joint_history.specs.Reading.{host_items_of};
 ghost use Rattle.joint_law.specs.Courses.{FollowedTo, HasFollowed, IsControllerCourse, IsCourse};
@@ -53,12 +53,13 @@ fn follow_entries(
     Ok(None)
 }
 
+/// How many scans are gone.
 fn count_scans(entries: &[Entry]) -> usize
-    ensures { result ≡ count_by is_end entries.now }
+    ensures { result ≡ count_by is_scan_end entries.now }
 {
     entries
         .iter()
-        .filter(|entry| matches!(entry, Entry::End))
+        .filter(|entry| matches!(entry, Entry::End | Entry::Fail | Entry::Dark))
         .count()
 }
 

@@ -43,8 +43,11 @@ entry_body (entries.Input row) = codes "I " ++ decimal row
 entry_body (entries.Solve row) = codes "S " ++ decimal row
 entry_body (entries.Output row words) = codes "O " ++ (decimal row ++ 32 ∷ hex_words words)
 entry_body entries.End = codes "E"
+entry_body entries.Fail = codes "X"
+entry_body entries.Dark = codes "K"
 entry_body (entries.Collect calls) = codes "L" ++ flat_map call_text calls
 entry_body (entries.Peer id request reply) = peer_body id request reply
+entry_body (entries.Off id request) = codes "N " ++ (id_text id ++ 32 ∷ hex_bytes request)
 entry_body (entries.Finish id result) = codes "F " ++ (id_text id ++ 32 ∷ call_result_text result)
 
 abbrev pub IsEntry : Entry → Type 0
@@ -56,8 +59,11 @@ entry_ended (entries.Input row) = refl
 entry_ended (entries.Solve row) = refl
 entry_ended (entries.Output row words) = simp append_assoc
 entry_ended entries.End = refl
+entry_ended entries.Fail = refl
+entry_ended entries.Dark = refl
 entry_ended (entries.Collect calls) = refl
 entry_ended (entries.Peer id request reply) = simp append_assoc
+entry_ended (entries.Off id request) = simp append_assoc
 entry_ended (entries.Finish id result) = simp append_assoc
 
 -- the kinds of a controller's lines
@@ -143,9 +149,12 @@ entry_again (entries.Input row) is = rw (word_number_field.again row is.0) refl
 entry_again (entries.Solve row) is = rw (word_number_field.again row is.0) refl
 entry_again (entries.Output row words) is = rw (output_field.again (row, words) is.0) refl
 entry_again entries.End is = refl
+entry_again entries.Fail is = absurd is.1
+entry_again entries.Dark is = absurd is.1
 entry_again (entries.Collect calls) is = collect_again calls (calls_of_entry calls is)
 entry_again (entries.Peer id request reply) is =
     rw (served_field.again (id, (request, reply)) (is.0.0, (is.0.1, is.0.2))) refl
+entry_again (entries.Off id request) is = absurd is.1
 entry_again (entries.Finish id result) is = rw (finish_field.again (id, result) is.0) refl
 
 entry_lie : (entry : Entry) → IsEntry entry → all_lie 32 102 (entry_body entry) ≡ true
@@ -154,12 +163,15 @@ entry_lie (entries.Input row) is = lie_in word_number_field 32 102 refl row is.0
 entry_lie (entries.Solve row) is = lie_in word_number_field 32 102 refl row is.0
 entry_lie (entries.Output row words) is = output_field.lie (row, words) is.0
 entry_lie entries.End is = refl
+entry_lie entries.Fail is = absurd is.1
+entry_lie entries.Dark is = absurd is.1
 entry_lie (entries.Collect calls) is =
     let are = calls_of_entry calls is in
     subst (λ (t : List ℕ). all_lie 32 102 t ≡ true) (calls_front calls are)
     (calls_field.lie calls are)
 entry_lie (entries.Peer id request reply) is =
     served_field.lie (id, (request, reply)) (is.0.0, (is.0.1, is.0.2))
+entry_lie (entries.Off id request) is = absurd is.1
 entry_lie (entries.Finish id result) is = finish_field.lie (id, result) is.0
 
 pub entry_field : IsField read_entry entry_body IsEntry 32 102

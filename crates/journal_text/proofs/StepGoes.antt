@@ -107,8 +107,11 @@ entry_no_head (entries.Input row) = refl
 entry_no_head (entries.Solve row) = refl
 entry_no_head (entries.Output row words) = refl
 entry_no_head entries.End = refl
+entry_no_head entries.Fail = refl
+entry_no_head entries.Dark = refl
 entry_no_head (entries.Collect calls) = refl
 entry_no_head (entries.Peer id request reply) = refl
+entry_no_head (entries.Off id request) = refl
 entry_no_head (entries.Finish id result) = refl
 
 host_no_head : (entry : HostEntry) → read_head (host_body entry) ≡ None

@@ -45,8 +45,12 @@ controller_line (entries.Solve row) = codes "S " ++ decimal row ++ codes "\n"
 controller_line (entries.Output row words) =
     codes "O " ++ decimal row ++ codes " " ++ hex_words words ++ codes "\n"
 controller_line entries.End = codes "E\n"
+controller_line entries.Fail = codes "X\n"
+controller_line entries.Dark = codes "K\n"
 controller_line (entries.Collect calls) = codes "L" ++ flat_map call_text calls ++ codes "\n"
 controller_line (entries.Peer id request reply) = peer_line id request reply
+controller_line (entries.Off id request) =
+    codes "N " ++ id_text id ++ codes " " ++ hex_bytes request ++ codes "\n"
 controller_line (entries.Finish id result) =
     codes "F " ++ id_text id ++ codes " " ++ call_result_text result ++ codes "\n"
 

@@ -76,6 +76,7 @@ FitsEntry (entries.Solve row) = IsWord row
 FitsEntry (entries.Output row words) = IsWord row × AreBlockWords words
 FitsEntry (entries.Collect calls) = All FitsCall calls
 FitsEntry (entries.Peer id request reply) = IsId id × IsPdu request × IsPdu reply
+FitsEntry (entries.Off id request) = IsId id × IsPdu request
 FitsEntry (entries.Finish id result) = IsId id × FitsResult result
 FitsEntry _ = Unit {0}
 

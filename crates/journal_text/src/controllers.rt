@@ -3,7 +3,7 @@ ghost use Rattle.std.specs.Prelude.{codes, ◌≡◌, ◌++◌, OnOk, string_byt
 ghost use Rattle.std.specs.List.{flat_map};
 ghost use Rattle.journal_text.specs.Lines.{call_text, controller_line, kind_text, peer_line};
 ghost use Rattle.std.specs.Fmt.{decimal};
-ghost use Rattle.journal_text.specs.Fields.{hex_words, id_text, call_result_text};
+ghost use Rattle.journal_text.specs.Fields.{hex_bytes, hex_words, id_text, call_result_text};
 ghost use Rattle.journal_text.specs.Journal.{controller_section};
 
 use crate::fields::{Name, push_bytes, push_op, push_result, push_words};
@@ -79,6 +79,16 @@ pub(crate) fn push_peer(
     text.push_str("\n")
 }
 
+fn push_off(text: &mut String, id: CallId, request: &Pdu) -> Result<(), AllocError>
+    ensures { OnOk result (string_bytes text.new ≡ string_bytes text.old
+        ++ (codes "N " ++ id_text id ++ codes " " ++ hex_bytes request.now ++ codes "\n")) }
+{
+    let id = Name(id);
+    write!(text, "N {id} ")?;
+    push_bytes(text, request.bytes())?;
+    text.push_str("\n")
+}
+
 fn push_finish(text: &mut String, id: CallId, outcome: &MstrResult) -> Result<(), AllocError>
     ensures { OnOk result (string_bytes text.new ≡ string_bytes text.old
         ++ (codes "F " ++ id_text id ++ codes " " ++ call_result_text outcome.now ++ codes "\n")) }
@@ -99,8 +109,11 @@ fn push_entry(text: &mut String, entry: &Entry) -> Result<(), AllocError>
         Entry::Solve(row) => write!(text, "S {row}\n"),
         Entry::Output { row, words } => push_output(text, *row, words.words()),
         Entry::End => text.push_str("E\n"),
+        Entry::Fail => text.push_str("X\n"),
+        Entry::Dark => text.push_str("K\n"),
         Entry::Collect(calls) => push_collect(text, calls.as_slice()),
         Entry::Peer { id, request, reply } => push_peer(text, *id, request, reply),
+        Entry::Off { id, request } => push_off(text, *id, request),
         Entry::Finish { id, result } => push_finish(text, *id, result),
     }
 }

@@ -105,7 +105,7 @@ fn entry(entry: &Entry)
     ensures { FitsEntry entry.now }
 {
     match entry {
-        Entry::Begin | Entry::End => {}
+        Entry::Begin | Entry::End | Entry::Fail | Entry::Dark => {}
         Entry::Input(row) | Entry::Solve(row) => word(*row),
         Entry::Output { row, words } => {
             word(*row);
@@ -116,6 +116,10 @@ fn entry(entry: &Entry)
             name(*id);
             pdu(request);
             pdu(reply);
+        }
+        Entry::Off { id, request } => {
+            name(*id);
+            pdu(request);
         }
         Entry::Finish { id, result } => {
             name(*id);

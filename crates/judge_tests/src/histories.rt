@@ -378,7 +378,7 @@ fn scans_noted(alloc: Global) -> Result<Option<u32>, AllocError> {
     let plant = plant(alloc)?;
     let joint = joint(alloc, Change::Nothing)?;
     match judge_noted(alloc, &plant, &joint, 1)? {
-        Judgement::Legal(notes) => Ok(notes.as_slice().first().map(|noted| noted.ended)),
+        Judgement::Legal(notes) => Ok(notes.as_slice().first().map(|noted| noted.gone)),
         Judgement::Illegal(_) => Ok(None),
     }
 }

@@ -12,15 +12,15 @@ use Rattle.plant_types.specs.Reference.{coil_at}
 use Rattle.ladder_solver.specs.declared.relays.Relay.TheVariants as relays
 
 -- The input of a number. Modicon Ladder Logic Block Library User Guide.
-abbrev pub numbered_input : ℕ → Ref
-numbered_input number = record { kind = kinds.Input; number = number }
+abbrev pub input_ref : ℕ → Ref
+input_ref number = record { kind = kinds.Input; number = number }
 
 -- The element that a relay is; what is no relay is this other one. This project's own.
 abbrev pub relay_element : Relay → Element → Element
 relay_element (relays.OpenCoil number) other = Open (coil_at number)
 relay_element (relays.ClosedCoil number) other = Closed (coil_at number)
-relay_element (relays.OpenInput number) other = Open (numbered_input number)
-relay_element (relays.ClosedInput number) other = Closed (numbered_input number)
+relay_element (relays.OpenInput number) other = Open (input_ref number)
+relay_element (relays.ClosedInput number) other = Closed (input_ref number)
 relay_element (relays.Coil number) other = Coil (coil_at number)
 relay_element (relays.Latch number) other = Latch (coil_at number)
 relay_element relays.Wire other = Wire

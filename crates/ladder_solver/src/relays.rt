@@ -1,7 +1,7 @@
 //! Contacts, coils and shorts in the form that a solve reads.
 ghost use Rattle.std.specs.Prelude.{◌≡◌};
 ghost use Rattle.plant_types.specs.Reference.{coil_at};
-ghost use Rattle.ladder_solver.specs.Relays.{numbered_input, of_kind, relay_of};
+ghost use Rattle.ladder_solver.specs.Relays.{input_ref, of_kind, relay_of};
 
 use plant_types::{Element, Ref, RefKind};
 
@@ -68,8 +68,8 @@ pub(crate) fn coil_at(number: u16) -> Ref
 }
 
 /// The input of a number.
-pub(crate) fn numbered_input(number: u16) -> Ref
-    ensures { result ≡ numbered_input number }
+pub(crate) fn input_ref(number: u16) -> Ref
+    ensures { result ≡ input_ref number }
 {
     Ref {
         kind: RefKind::Input,

@@ -16,7 +16,7 @@ use Rattle.joint_history.specs.JointLaws.{fixed_of}
 use Rattle.joint_history.specs.Reading.{is_ours}
 use Rattle.comm_port.specs.Sides.{RingSideIs}
 use Rattle.comm_port.specs.Worker.{WorkerIs}
-use Rattle.turn_laws.specs.KeepsOn.{HasFinished, HostHasFinished, KeepsOn, NoneSpent}
+use Rattle.turn_laws.specs.KeepsOn.{KeepsOn, NoneSpent}
 use Rattle.turn_laws.specs.KeepsOn.{StandsTied}
 use Rattle.turn_laws.proofs.Passes.{cancel-none}
 use Rattle.turn_laws.proofs.Rests.{ended-alone}

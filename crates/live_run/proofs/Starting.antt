@@ -5,7 +5,7 @@ use Rattle.std.specs.List.{All}
 use Rattle.plant_types.specs.declared.net.HostPlan.{HostPlan}
 use Rattle.plant_types.specs.declared.net.NetPlan.{NetPlan}
 use Rattle.plant_types.specs.declared.plan.Plant.{Plant}
-use Rattle.plant_types.specs.Plans.{IsNetPlan}
+use Rattle.plant_types.specs.Plans.{IsNetPlan, KeepsPower}
 use Rattle.ring_core.specs.declared.entry.RingEntry.{RingEntry}
 use Rattle.ring_core.specs.Legal.{IsMember}
 use Rattle.ring_core.specs.Machine.{addresses, path_places}
@@ -83,11 +83,11 @@ attends-start plant plan w host side ring u host_is worker_is =
     (host-talks plan plant.net side u.sound u.member u.net u.writer)))
 
 controller-talks : {P Q : Type 0} (n : ℕ) (net : NetPlan) (ram : RamSideIs P) (side : RingSideIs Q)
-    → ram.fixed.plan.node ≡ n → IsNetPlan net → IsMember net n
+    → ram.fixed.plan.node ≡ n → KeepsPower ram.fixed.plan → IsNetPlan net → IsMember net n
     → side.net ≡ net → side.writer ≡ Some n
     → TalksOn (record { node = n; net = net; budget = false; waiting = replicate path_places None })
     ram [] side [] false
-controller-talks n net ram side node sound member same writer =
+controller-talks n net ram side node power sound member same writer =
     let on : IsOnRing side.net [] n = subst (λ m. IsOnRing m [] n) (sym same)
     (on-start net n sound member) in
     record {
@@ -98,7 +98,7 @@ controller-talks n net ram side node sound member same writer =
             (let low = sound.answer.from in omega (arith, low));
       };
       budget = refl;
-      standing = standing-new n net false ram [] side node same
+      standing = standing-new n net false ram [] side node power same
           (serves-as side.writer n writer) refl;
       here = λ is. subst (λ m. Rattle.comm_port.specs.Leaving.IsHere m [] n) (sym same)
           (member-there net n (low-member net n sound member) member);
@@ -113,11 +113,12 @@ controller-talks n net ram side node sound member same writer =
 
 pub talks-start : {P Q : Type 0} (plant : Plant) (n : ℕ) (w : WorkerIs) (ram : RamSideIs P)
     (known : List Entry) (side : RingSideIs Q) (ring : List RingEntry)
-    → ram.fixed.plan.node ≡ n → known ≡ [] → IsUnused plant n side ring
+    → ram.fixed.plan.node ≡ n → KeepsPower ram.fixed.plan → known ≡ []
+    → IsUnused plant n side ring
     → w ≡ record { node = n; net = plant.net; budget = false; waiting = replicate path_places None }
     → TalksOn w ram known side ring false
-talks-start plant n w ram known side ring node none u worker_is =
+talks-start plant n w ram known side ring node power none u worker_is =
     subst (λ l. TalksOn w ram known side l false) (sym u.nothing)
     (subst (λ l. TalksOn w ram l side [] false) (sym none)
     (subst (λ v. TalksOn v ram [] side [] false) (sym worker_is)
-    (controller-talks n plant.net ram side node u.sound u.member u.net u.writer)))
+    (controller-talks n plant.net ram side node power u.sound u.member u.net u.writer)))

@@ -18,6 +18,7 @@ use Rattle.ring_core.specs.Words.{maker}
 use Rattle.controller_core.specs.declared.entry.Entry.{Entry}
 use Rattle.controller_core.specs.declared.entry.Entry.TheVariants.{Begin, Input, Solve, Output, End}
 use Rattle.controller_core.specs.declared.entry.Entry.TheVariants.{Collect, Peer, Finish}
+use Rattle.controller_core.specs.declared.entry.Entry.TheVariants.{Fail, Dark, Off}
 use Rattle.turn_gate.specs.Known.{PassFacts, PassFinds, PassAdds, made_by}
 use Rattle.tied_lists.specs.Own.{is_of, own, added_if, WentOn}
 use Rattle.tied_lists.specs.Waits.{IsOnRing, last_number}
@@ -76,8 +77,11 @@ ours-is (Input row) = refl
 ours-is (Solve row) = refl
 ours-is (Output row words) = refl
 ours-is End = refl
+ours-is Fail = refl
+ours-is Dark = refl
 ours-is (Collect calls) = refl
 ours-is (Peer id request reply) = refl
+ours-is (Off id request) = refl
 ours-is (Finish id result) = refl
 
 ours-filter : (es : List Entry) → filter is_ours es ≡ made_by maker_number 2 es
@@ -187,8 +191,11 @@ of-scan (Input row ∷ es) none = (refl, of-scan es none)
 of-scan (Solve row ∷ es) none = (refl, of-scan es none)
 of-scan (Output row words ∷ es) none = (refl, of-scan es none)
 of-scan (End ∷ es) none = (refl, of-scan es none)
+of-scan (Fail ∷ es) none = (refl, of-scan es none)
+of-scan (Dark ∷ es) none = (refl, of-scan es none)
 of-scan (Collect calls ∷ es) none = absurd (cc)
 of-scan (Peer id request reply ∷ es) none = absurd (cc)
+of-scan (Off id request ∷ es) none = absurd (cc)
 of-scan (Finish id result ∷ es) none = absurd (cc)
 
 -- a call that was started is still there

@@ -173,8 +173,11 @@ through-all plant scans gate zero one two three four old new host_old host_new l
 pub can-run : (plant : Plant) (scans : ℕ) → CanRunPlant plant → scans ≤ 2000
     → CanRunAll plant scans plant.controllers
 can-run plant scans can few k d within = record {
-  plan = can.controllers k d within;
-  scan_time = can.sound.scan_time.to;
-  watchdog = can.sound.watchdog.from;
-  scans = few;
+  program = record {
+    plan = can.controllers k d within;
+    scan_time = can.sound.scan_time.to;
+    watchdog = can.sound.watchdog.from;
+    scans = few;
+  };
+  power = can.power k d within;
 }

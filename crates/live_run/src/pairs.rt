@@ -2,11 +2,9 @@
 ghost use Rattle.std.specs.Prelude.{◌≡◌, true, false, IfOk};
 ghost use Rattle.std.specs.Thread.{IsSync};
 ghost use Rattle.turn_gate.specs.Known.{IsPassReady, first_pass};
-ghost use Rattle.controller_core.specs.Machine.{IsRunnable};
-ghost use Rattle.joint_history.specs.JointLaws.{fixed_of};
 ghost use Rattle.live_run.specs.Cells.{maker_number};
 ghost use Rattle.live_run.specs.Pairs.{IsBack, StaysAt, TalksAt, ram_side};
-ghost use Rattle.live_run.specs.Stations.{IsUnused, CameNoted};
+ghost use Rattle.live_run.specs.Stations.{CanRun, IsUnused, CameNoted};
 ghost use Rattle.live_run.specs.Talking.{TalksOn};
 
 use crate::cells::RamCell;
@@ -103,7 +101,7 @@ pub(crate) fn run_controller<
     M: Meet + Sync,
     R: Threads + Wait + Clock + Sync,
 >(run: &Run<'_, M, R>, plan: &ControllerPlan, ring: &mut G) -> Result<NotedLog, AllocError>
-    requires runnable { IsRunnable (fixed_of run.now.plant.now run.now.scans plan.now) }
+    requires runnable { CanRun run.now.plant.now run.now.scans plan.now }
     requires unused { IsUnused run.now.plant.now plan.now.node (G.side ring.old)
         (G.known ring.old) }
     ensures ended { IfOk result

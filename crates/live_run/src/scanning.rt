@@ -11,7 +11,7 @@ use crate::crews::Crew;
 use crate::meets::Meet;
 use crate::pauses::Stint;
 use controller_core::{Controller, Maker, StepEnd};
-use scan_order::ScanStep;
+use scan_order::{ScanStep, ends_scan};
 use std::alloc::AllocError;
 use std::sync::Wait;
 use std::time::Clock;
@@ -54,7 +54,7 @@ fn step_in<M: Meet, R: Wait>(
     answer
 }
 
-/// Makes events until all scans have ended or the controller has stopped; whether it came so far.
+/// Makes events until all scans are gone or the controller has stopped; whether it came so far.
 pub(crate) fn scan_all<M: Meet, R: Wait + Clock>(
     rt: &R,
     crew: &Crew,
@@ -74,8 +74,11 @@ pub(crate) fn scan_all<M: Meet, R: Wait + Clock>(
             return false;
         }
         match step_in(rt, meet, gate, pass, node) {
-            Ok(StepEnd::Did(ScanStep::End)) => stint.scan_ended(rt),
-            Ok(StepEnd::Did(_)) => {}
+            Ok(StepEnd::Did(step)) => {
+                if ends_scan(step) {
+                    stint.scan_ended(rt);
+                }
+            }
             Ok(_) => return true,
             Err(_) => {
                 watch.raise();

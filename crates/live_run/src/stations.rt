@@ -1,12 +1,10 @@
 //! The stations of a run, each half in a thread where one can be made.
 ghost use Rattle.std.specs.Prelude.{◌≡◌, ◌<◌, length};
 ghost use Rattle.std.specs.Thread.{IsSync};
-ghost use Rattle.controller_core.specs.Machine.{IsRunnable};
 ghost use Rattle.plant_types.specs.Plans.{IsHostPlan};
-ghost use Rattle.joint_history.specs.JointLaws.{fixed_of};
 ghost use Rattle.live_run.specs.Stations.{IsFresh, AreControllersFresh, AreHostsFresh};
 ghost use Rattle.live_run.specs.Stations.{HasRun, HostHasRun, AllRan, AllServed};
-ghost use Rattle.live_run.specs.Stations.{CanRunAll, CanServeAll};
+ghost use Rattle.live_run.specs.Stations.{CanRun, CanRunAll, CanServeAll};
 
 use crate::crews::Run;
 use crate::hosting::run_host;
@@ -65,7 +63,7 @@ fn run_one<G: RingSide + Outside + Send, M: Meet + Sync, R: Threads + Wait + Clo
     plan: &ControllerPlan,
     station: &mut Station<G, NotedLog>,
 )
-    requires runnable { IsRunnable (fixed_of run.now.plant.now run.now.scans plan.now) }
+    requires runnable { CanRun run.now.plant.now run.now.scans plan.now }
     requires fresh { IsFresh G.side G.known run.now.plant.now plan.now.node station.old }
     ensures ran { HasRun G.known run.now.plant.now run.now.scans plan.now station.new }
     ensures side { G.side station.new.ring ≡ G.side station.old.ring }

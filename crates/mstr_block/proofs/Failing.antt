@@ -1,5 +1,5 @@
 -- A power failure leaves the calls of a table as they are.
-use Rattle.std.proofs.Common.{◌≡◌, Bool, List, [], ◌∷◌, map, is_some, refl, ap, ◌∙◌, inl, arith}
+use Rattle.std.proofs.Common.{◌≡◌, List, [], ◌∷◌, map, is_some, refl, ap, ◌∙◌, inl, arith}
 use Rattle.std.specs.Prelude.{option_and_then}
 use Rattle.std.specs.List.{filter_map, cons_option, list_any}
 use Rattle.std.proofs.lemmas.List.{length-map}

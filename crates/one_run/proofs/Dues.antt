@@ -218,7 +218,7 @@ module _ (fixed : Fixed) (net : NetPlan) (n : ℕ) where
           (may-as fixed net n _ _ _ _ (ap (λ l. known ++ l) a.1) refl m).legal in
           let second = fits_last (controller_at fixed known) (entries.Peer f.id f.pdu b.0)
           (may-as fixed net n _ _ _ _ (ap (λ l. known ++ l) b.1) refl m').legal in
-          let same : a.0 ≡ b.0 = first ∙ sym second in
+          let same : a.0 ≡ b.0 = first.1 ∙ sym second.1 in
           by known noted noted' (entries.Peer f.id f.pdu a.0 ∷ [])
           (entries.Peer f.id f.pdu b.0 ∷ []) ring done done'
           (Take n f ∷ Post n (reply_frame f.id a.0) ∷ []) a.1 b.1 a.2

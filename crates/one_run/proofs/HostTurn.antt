@@ -21,7 +21,7 @@ use Rattle.ring_core.specs.declared.frame.Frame.{Frame}
 use Rattle.ring_core.specs.declared.path.Await.{Await}
 use Rattle.ring_core.specs.declared.path.Await.TheVariants.{Nothing, Out, Arrived, Failed}
 use Rattle.ring_core.specs.declared.entry.RingEntry.{RingEntry}
-use Rattle.ring_core.specs.declared.entry.RingEntry.TheVariants.{Post, Send, Take, Local}
+use Rattle.ring_core.specs.declared.entry.RingEntry.TheVariants.{Post, Take, Local}
 use Rattle.ring_core.specs.declared.refusal.RingNo.{RingNo}
 use Rattle.host_port.specs.Calls.{goes_on_path}
 use Rattle.host_port.specs.Host.{due_request, host_is_done, request_for}

@@ -198,8 +198,12 @@ ends-one a (entries.Solve row) = record { more = []; is = sym (append-nil a.ends
 ends-one a (entries.Output row words) =
     record { more = []; is = sym (append-nil a.ends); long = refl }
 ends-one a entries.End = record { more = []; is = sym (append-nil a.ends); long = refl }
+ends-one a entries.Fail = record { more = []; is = sym (append-nil a.ends); long = refl }
+ends-one a entries.Dark = record { more = []; is = sym (append-nil a.ends); long = refl }
 ends-one a (entries.Collect calls) = record { more = []; is = sym (append-nil a.ends); long = refl }
 ends-one a (entries.Peer id request reply) =
+    record { more = []; is = sym (append-nil a.ends); long = refl }
+ends-one a (entries.Off id request) =
     record { more = []; is = sym (append-nil a.ends); long = refl }
 ends-one a (entries.Finish id result) =
     record {

@@ -232,6 +232,8 @@ module _ (plant : Plant) (scans : ℕ) where
   step-silent fixed s (steps.Solve row) = omega arith
   step-silent fixed s (steps.Out row) = omega arith
   step-silent fixed s steps.End = omega arith
+  step-silent fixed s steps.Fail = omega arith
+  step-silent fixed s steps.Dark = omega arith
 
   record Stepped (entries new : List Entry) : Type 0 where
     noted : List Entry

@@ -38,6 +38,8 @@ silent-entry fixed s (steps.In row) more = omega arith
 silent-entry fixed s (steps.Solve row) more = omega arith
 silent-entry fixed s (steps.Out row) more = omega arith
 silent-entry fixed s steps.End more = omega arith
+silent-entry fixed s steps.Fail more = omega arith
+silent-entry fixed s steps.Dark more = omega arith
 
 silent-scan : (fixed : Fixed) (s : ControllerState) (rest : List ScanStep)
     → endings (entries_from fixed s rest) ≡ 0
@@ -64,14 +66,14 @@ scanned-so fixed entries = at (has_ended_at fixed entries)
   where
     at : (b : Bool)
         → Scanned entries (if b then entries else entries ++ entries_from fixed
-        (replay fixed entries) (due fixed.plan ((replay fixed entries).ended + 1)))
+        (replay fixed entries) (due fixed.plan ((replay fixed entries).gone + 1)))
     at true = record { noted = []; is = sym (append-nil entries); silent = refl }
     at false = record {
       noted = entries_from fixed (replay fixed entries)
-          (due fixed.plan ((replay fixed entries).ended + 1));
+          (due fixed.plan ((replay fixed entries).gone + 1));
       is = refl;
       silent = silent-scan fixed (replay fixed entries)
-          (due fixed.plan ((replay fixed entries).ended + 1));
+          (due fixed.plan ((replay fixed entries).gone + 1));
     }
 
 module _ (plant : Plant) (scans : ℕ) (laws : CallLaws) where

@@ -5,14 +5,13 @@ use Rattle.std.proofs.Common.{List, [], ◌∷◌, ◌++◌, length, get_or, dro
 use Rattle.std.proofs.Common.{add-one, append-nil, append_assoc, arith, drop-cons, length-append}
 use native.Mathlib.Nat.{suc-mul}
 use Rattle.std.specs.Prelude.{if◌then◌else◌, OnOk, Result, Ok, Err}
-use Rattle.std.specs.List.{zip}
 use Rattle.std.proofs.lemmas.List.{drop-drop, get_or-append_right}
 use Rattle.std.proofs.lemmas.List.{get_or_append_left, get_or_past}
 use Rattle.plant_types.specs.declared.reference.Ref.{Ref}
 use Rattle.plant_types.specs.declared.plan.ControllerPlan.{ControllerPlan}
 use Rattle.controller_core.specs.declared.notes.Notes.{Notes}
 use Rattle.controller_core.specs.Panel.{line_text}
-use Rattle.controller_core.specs.NotedLines.{ended_line, ended_lines, noted_lines, noted_text}
+use Rattle.controller_core.specs.NotedLines.{gone_line, gone_lines, noted_lines, noted_text}
 use Rattle.controller_core.specs.NotedLines.{noted_texts, stopped_lines}
 use Rattle.panel_text.specs.declared.lines.Reading.{Reading}
 use Rattle.panel_text.specs.Scans.{lines_noted, stopped_told}
@@ -57,84 +56,84 @@ value_step readings values at reading now next whole within is so_far added =
     (sym (cut_at readings at reading within is))
     ∙ so_far
 
--- ---- the lines of the scans that ended
+-- ---- the lines of the scans that are gone
 
-pub ended_many : (plan : ControllerPlan) (before many : ℕ) (values : List ℕ)
-    → length (ended_lines plan before many values) ≡ many
-unfolding ended_lines
-ended_many plan before zero values = refl
-ended_many plan before (suc many) values =
-    ap suc (ended_many plan (before + 1) many (drop (length plan.panel) values))
+pub gone_many : (plan : ControllerPlan) (before many : ℕ) (values : List ℕ)
+    → length (gone_lines plan before many values) ≡ many
+unfolding gone_lines
+gone_many plan before zero values = refl
+gone_many plan before (suc many) values =
+    ap suc (gone_many plan (before + 1) many (drop (length plan.panel) values))
 
 -- the line at a place among them
-ended_at : (plan : ControllerPlan) (before many scan : ℕ) (values : List ℕ) → scan < many
-    → get_or (ended_lines plan before many values) scan []
-    ≡ ended_line plan (before + scan + 1) (drop (scan * length plan.panel) values)
-unfolding ended_lines
-ended_at plan before zero scan values within = absurd (omega arith)
-ended_at plan before (suc many) zero values within =
+gone_at : (plan : ControllerPlan) (before many scan : ℕ) (values : List ℕ) → scan < many
+    → get_or (gone_lines plan before many values) scan []
+    ≡ gone_line plan (before + scan + 1) (drop (scan * length plan.panel) values)
+unfolding gone_lines
+gone_at plan before zero scan values within = absurd (omega arith)
+gone_at plan before (suc many) zero values within =
     let width = length plan.panel in
     let none : 0 * width ≡ 0 = omega arith in
-    ap (λ number. ended_line plan number values) (omega arith)
-    ∙ ap (λ n. ended_line plan (before + 0 + 1) (drop n values)) (sym none)
-ended_at plan before (suc many) (suc scan) values within =
+    ap (λ number. gone_line plan number values) (omega arith)
+    ∙ ap (λ n. gone_line plan (before + 0 + 1) (drop n values)) (sym none)
+gone_at plan before (suc many) (suc scan) values within =
     let width = length plan.panel in
     let more : width + scan * width ≡ suc scan * width = omega (arith, suc-mul scan width) in
-    ended_at plan (before + 1) many scan (drop width values) (omega arith)
-    ∙ ap (λ number. ended_line plan number (drop (scan * width) (drop width values))) (omega arith)
-    ∙ ap (λ left. ended_line plan (before + suc scan + 1) left)
+    gone_at plan (before + 1) many scan (drop width values) (omega arith)
+    ∙ ap (λ number. gone_line plan number (drop (scan * width) (drop width values))) (omega arith)
+    ∙ ap (λ left. gone_line plan (before + suc scan + 1) left)
     (drop-drop (scan * width) width values)
-    ∙ ap (λ n. ended_line plan (before + suc scan + 1) (drop n values)) more
+    ∙ ap (λ n. gone_line plan (before + suc scan + 1) (drop n values)) more
 
 -- how many lines a controller has
 pub noted_many : (plan : ControllerPlan) (notes : Notes)
     → length (noted_lines plan notes) ≡ lines_noted notes
 noted_many plan notes =
-    length-append (ended_lines plan 0 notes.ended notes.values)
-    (stopped_lines plan notes.ended notes.stop)
-    ∙ ap (λ n. n + length (stopped_lines plan notes.ended notes.stop))
-    (ended_many plan 0 notes.ended notes.values)
+    length-append (gone_lines plan 0 notes.gone notes.values)
+    (stopped_lines plan notes.gone notes.stop)
+    ∙ ap (λ n. n + length (stopped_lines plan notes.gone notes.stop))
+    (gone_many plan 0 notes.gone notes.values)
     ∙ at_stop (notes.stop == 0)
   where
     at_stop : (runs : Bool)
-        → notes.ended + length (if runs then []
-        else line_text (notes.ended + 1) plan.node (stopped_told notes.stop) ∷ [])
-        ≡ (if runs then notes.ended else notes.ended + 1)
+        → notes.gone + length (if runs then []
+        else line_text (notes.gone + 1) plan.node (stopped_told notes.stop) ∷ [])
+        ≡ (if runs then notes.gone else notes.gone + 1)
     at_stop true = omega arith
     at_stop false = refl
 
--- the line of a scan that ended
-pub line_ended : (plan : ControllerPlan) (notes : Notes) (scan : ℕ) → scan < notes.ended
+-- the line of a scan that is gone
+pub line_gone : (plan : ControllerPlan) (notes : Notes) (scan : ℕ) → scan < notes.gone
     → get_or (noted_lines plan notes) scan []
-    ≡ ended_line plan (scan + 1) (drop (scan * length plan.panel) notes.values)
-line_ended plan notes scan within =
-    let ended = ended_lines plan 0 notes.ended notes.values in
-    let many = ended_many plan 0 notes.ended notes.values in
-    get_or_append_left ended (stopped_lines plan notes.ended notes.stop) [] scan (omega arith)
-    ∙ ended_at plan 0 notes.ended scan notes.values within
-    ∙ ap (λ number. ended_line plan number (drop (scan * length plan.panel) notes.values))
+    ≡ gone_line plan (scan + 1) (drop (scan * length plan.panel) notes.values)
+line_gone plan notes scan within =
+    let gone = gone_lines plan 0 notes.gone notes.values in
+    let many = gone_many plan 0 notes.gone notes.values in
+    get_or_append_left gone (stopped_lines plan notes.gone notes.stop) [] scan (omega arith)
+    ∙ gone_at plan 0 notes.gone scan notes.values within
+    ∙ ap (λ number. gone_line plan number (drop (scan * length plan.panel) notes.values))
     (omega arith)
 
-stops_there : (runs : Bool) (ended scan : ℕ) → ended ≤ scan
-    → scan < (if runs then ended else ended + 1) → (runs ≡ false) × (scan ≡ ended)
-stops_there true ended scan past within = absurd (omega (arith, past, within))
-stops_there false ended scan past within = (refl, omega (arith, past, within))
+stops_there : (runs : Bool) (gone scan : ℕ) → gone ≤ scan
+    → scan < (if runs then gone else gone + 1) → (runs ≡ false) × (scan ≡ gone)
+stops_there true gone scan past within = absurd (omega (arith, past, within))
+stops_there false gone scan past within = (refl, omega (arith, past, within))
 
 -- the line of the scan in which the controller stopped
-pub line_stopped : (plan : ControllerPlan) (notes : Notes) (scan : ℕ) → notes.ended ≤ scan
+pub line_stopped : (plan : ControllerPlan) (notes : Notes) (scan : ℕ) → notes.gone ≤ scan
     → scan < lines_noted notes
     → get_or (noted_lines plan notes) scan []
     ≡ line_text (scan + 1) plan.node (stopped_told notes.stop)
 line_stopped plan notes scan past within =
-    let ended = ended_lines plan 0 notes.ended notes.values in
-    let stopped = stopped_lines plan notes.ended notes.stop in
-    let many = ended_many plan 0 notes.ended notes.values in
+    let gone = gone_lines plan 0 notes.gone notes.values in
+    let stopped = stopped_lines plan notes.gone notes.stop in
+    let many = gone_many plan 0 notes.gone notes.values in
     let line = λ (n : ℕ). line_text (n + 1) plan.node (stopped_told notes.stop) in
-    let there = stops_there (notes.stop == 0) notes.ended scan past within in
-    get_or-append_right ended stopped notes.ended scan [] many past
-    ∙ ap (λ place. get_or stopped (place - notes.ended) []) there.1
+    let there = stops_there (notes.stop == 0) notes.gone scan past within in
+    get_or-append_right gone stopped notes.gone scan [] many past
+    ∙ ap (λ place. get_or stopped (place - notes.gone) []) there.1
     ∙ ap (λ place. get_or stopped place []) (omega arith)
-    ∙ ap (λ runs. get_or (if runs then [] else line notes.ended ∷ []) 0 []) there.0
+    ∙ ap (λ runs. get_or (if runs then [] else line notes.gone ∷ []) 0 []) there.0
     ∙ ap line (sym there.1)
 
 -- no line where the controller did not come so far

@@ -21,7 +21,7 @@ by_scan runs = flat_map (scan_lines runs) (range_with_len 0 (longest runs))
 
 -- How many lines a controller has by what it noted: one for each scan that is over.
 abbrev pub lines_noted : Notes → ℕ
-lines_noted notes = if notes.stop == 0 then notes.ended else notes.ended + 1
+lines_noted notes = if notes.stop == 0 then notes.gone else notes.gone + 1
 
 -- What is told of the scan in which a controller stopped with a code.
 abbrev pub stopped_told : ℕ → List ℕ

@@ -1,13 +1,14 @@
 //! The panel lines of a controller, by what it noted.
 ghost use Rattle.std.specs.Prelude.{◌≡◌, ◌*◌, ◌++◌, [], ◌∷◌, drop, get_or, map};
 ghost use Rattle.std.specs.Prelude.{IfOk, OnOk, string_bytes};
-ghost use Rattle.controller_core.specs.NotedLines.{ended_line, noted_lines, noted_texts};
+ghost use Rattle.controller_core.specs.NotedLines.{gone_line, noted_lines, noted_texts};
 ghost use Rattle.controller_core.specs.Panel.{label_of, line_text};
 ghost use Rattle.panel_text.specs.Scans.{lines_noted, stopped_told};
 
 use controller_core::Notes;
 use itoa::Buffer;
 use plant_types::{ControllerPlan, Ref};
+use scan_order::power_in;
 use std::alloc::{AllocError, Global};
 use std::fmt::Write;
 
@@ -41,8 +42,8 @@ pub(crate) fn readings_of(alloc: Global, panel: &[Ref]) -> Result<Vec<Reading>, 
 pub(crate) fn lines_noted(notes: &Notes) -> usize
     ensures { result ≡ lines_noted notes.now }
 {
-    let ended = notes.ended as usize;
-    if notes.stop == 0 { ended } else { ended + 1 }
+    let gone = notes.gone as usize;
+    if notes.stop == 0 { gone } else { gone + 1 }
 }
 
 /// The values from those of a scan on, which is counted from 0, where each scan has so many.
@@ -83,21 +84,25 @@ fn push_values(text: &mut String, readings: &[Reading], values: &[u16]) -> Resul
     Ok(())
 }
 
-/// Adds the line of a scan that has ended, by the values from its own on.
-fn push_ended(
+/// Adds the line of a scan that is gone, by the values from its own on.
+fn push_gone(
     text: &mut String,
-    scan: usize,
+    scan: u32,
     plan: &ControllerPlan,
     readings: &[Reading],
     values: &[u16],
 ) -> Result<(), AllocError>
     requires { map (λ reading. reading.at) readings.now ≡ plan.now.panel }
     ensures { OnOk result (string_bytes text.new ≡ string_bytes text.old
-        ++ ended_line plan.now scan values.now) }
+        ++ gone_line plan.now scan values.now) }
 {
     let node = plan.node;
     write!(text, "S {scan} N {node}")?;
-    push_values(text, readings, values)?;
+    if power_in(plan, scan).ends_off() {
+        text.push_str(" OFF")?;
+    } else {
+        push_values(text, readings, values)?;
+    }
     text.push_str("\n")
 }
 
@@ -121,10 +126,10 @@ pub(crate) fn push_line(
     ensures { OnOk result (string_bytes text.new ≡ string_bytes text.old
         ++ get_or (noted_lines plan.now notes.now) scan []) }
 {
-    let ended = notes.ended as usize;
-    if scan < ended {
+    let gone = notes.gone as usize;
+    if scan < gone {
         let values = values_from(notes.values.as_slice(), scan, readings.len());
-        return push_ended(text, scan + 1, plan, readings, values);
+        return push_gone(text, scan as u32 + 1, plan, readings, values);
     }
     let lines = lines_noted(notes);
     if scan < lines {

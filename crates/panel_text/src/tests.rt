@@ -104,13 +104,9 @@ fn plan_at(alloc: Global, node: u8) -> Result<ControllerPlan, AllocError> {
     })
 }
 
-fn notes_of(alloc: Global, values: &[u16], ended: u32, stop: u16) -> Result<Notes, AllocError> {
+fn notes_of(alloc: Global, values: &[u16], gone: u32, stop: u16) -> Result<Notes, AllocError> {
     let values = List::from_vec(Vec::from_slice(alloc, values)?);
-    Ok(Notes {
-        values,
-        ended,
-        stop,
-    })
+    Ok(Notes { values, gone, stop })
 }
 
 #[test]

@@ -11,7 +11,7 @@ use Rattle.command_answers.specs.declared.answered.Answer.{Answer}
 use Rattle.command_answers.specs.Due.{Due, as_due}
 use Rattle.command_answers.specs.Status.{goes_with_text}
 use Rattle.plant984.specs.Promise.{HasAnswered, AskedFor, CanRead, EndsAsDue, Failed, HasRead}
-use Rattle.plant984.specs.Promise.{IsSomeCommand, KeepsPromise, Side, Wrote, input_limit}
+use Rattle.plant984.specs.Promise.{KeepsPromise, Side, Wrote, input_limit}
 
 -- What a call has found out before it writes: what was asked, and what was read for it.
 pub record Found {C : Type 0} (Spells : List (List ℕ) → C → Type 0) (reads : C → Bool)
@@ -30,15 +30,6 @@ pub one-command : {C : Type 0} (Spells : List (List ℕ) → C → Type 0) (word
 one-command Spells words asked command reads is other spells =
     let that : asked ≡ Some other = (reads other).1 spells in
     cc
-
--- words that nothing was read from are no command
-pub not-asked : {C : Type 0} (Spells : List (List ℕ) → C → Type 0) (words : List (List ℕ))
-    (asked : Option C)
-    → ((command : C) → (asked ≡ Some command) ↔ Spells words command)
-    → asked ≡ None → IsSomeCommand Spells words → ⊥
-not-asked Spells words asked reads none command =
-    let some : asked ≡ Some command.0 = (reads command.0).1 command.1 in
-    absurd (cc)
 
 -- a command that is spelled is in its range
 pub in_range : (words : List (List ℕ)) (command : Command) → SpellsCommand words command

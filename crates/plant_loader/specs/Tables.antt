@@ -1,5 +1,5 @@
 -- The keys of each table of a plant file. This project's own.
-use Rattle.std.specs.Prelude.{codes, List, [], ◌∷◌, Result}
+use Rattle.std.specs.Prelude.{codes, [], ◌∷◌, Result}
 use Rattle.toml.specs.Data.{Members}
 use Rattle.plant_types.specs.declared.fault.Place.{Place}
 use Rattle.plant_loader.specs.declared.tables.Version.TheVariants.{One}

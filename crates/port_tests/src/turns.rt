@@ -1,5 +1,6 @@
 //! Turns of a controller that reads two registers of node 5, with ample memory.
 ghost use Rattle.std.specs.Prelude.{◌≡◌, ◌∷◌, ◌<◌, [], All, filter, length, IfOk, IfSome};
+ghost use Rattle.plant_types.specs.Plans.{KeepsPower};
 ghost use Rattle.traffic_cop.specs.Rows.{IsRunnablePlan};
 ghost use Rattle.ring_core.specs.Machine.{addresses, ring_after};
 ghost use Rattle.joint_history.specs.Reading.{is_ours};
@@ -102,8 +103,10 @@ fn checked(plan: ControllerPlan) -> Option<ControllerPlan>
     requires rows { plan.orders ≡ ROW ∷ [] }
     requires segment { length plan.segments ≡ 1 }
     requires node { plan.node ≡ 2 }
+    requires power { KeepsPower plan }
     ensures runs { IfSome result IsRunnablePlan }
     ensures node { IfSome result (λ plan. plan.node ≡ 2) }
+    ensures power { IfSome result KeepsPower }
 {
     checks_are_exact();
     match plan.check() {
@@ -116,6 +119,7 @@ fn checked(plan: ControllerPlan) -> Option<ControllerPlan>
 fn plan_of(alloc: Global) -> Result<Option<ControllerPlan>, AllocError>
     ensures runs { IfOk result (λ plan. IfSome plan IsRunnablePlan) }
     ensures node { IfOk result (λ plan. IfSome plan (λ plan. plan.node ≡ 2)) }
+    ensures power { IfOk result (λ plan. IfSome plan KeepsPower) }
 {
     let orders = one_row(alloc)?;
     let segments = one_segment(alloc)?;
@@ -136,6 +140,7 @@ fn plan_of(alloc: Global) -> Result<Option<ControllerPlan>, AllocError>
 /// The controller of node 2, which has not begun.
 fn reader(alloc: Global) -> Result<Controller, Fail>
     ensures node { IfOk result (λ controller. controller.fixed.plan.node ≡ 2) }
+    ensures power { IfOk result (λ controller. KeepsPower controller.fixed.plan) }
     ensures history { IfOk result (λ controller. controller.history ≡ []) }
 {
     match plan_of(alloc)? {
@@ -183,6 +188,7 @@ fn turn_on(
     ring: &mut Ring,
 ) -> Result<(), AllocError>
     requires node { controller.old.fixed.plan.node ≡ 2 }
+    requires power { KeepsPower controller.old.fixed.plan }
     requires events { filter is_ours controller.old.history ≡ [] }
     requires first { HasFirst 2 net.now.members }
     requires answer { net.now.answer ≡ 20 }
@@ -204,6 +210,7 @@ fn turn_at(
     controller: &mut Controller,
 ) -> Result<List<RingEntry>, AllocError>
     requires node { controller.old.fixed.plan.node ≡ 2 }
+    requires power { KeepsPower controller.old.fixed.plan }
     requires events { filter is_ours controller.old.history ≡ [] }
     requires first { HasFirst 2 net.now.members }
     requires answer { net.now.answer ≡ 20 }
@@ -227,6 +234,7 @@ fn scan_and_turn(
     controller: &mut Controller,
 ) -> Result<List<RingEntry>, AllocError>
     requires node { controller.old.fixed.plan.node ≡ 2 }
+    requires power { KeepsPower controller.old.fixed.plan }
     requires events { filter is_ours controller.old.history ≡ [] }
     requires first { HasFirst 2 net.now.members }
     requires answer { net.now.answer ≡ 20 }

@@ -73,7 +73,10 @@ fn scan_letter(entry: &Entry) -> Option<u8> {
         Entry::Solve(_) => Some(b'S'),
         Entry::Output { .. } => Some(b'O'),
         Entry::End => Some(b'E'),
-        Entry::Collect(_) | Entry::Peer { .. } | Entry::Finish { .. } => None,
+        Entry::Fail => Some(b'X'),
+        Entry::Dark => Some(b'K'),
+        Entry::Collect(_) | Entry::Finish { .. } => None,
+        Entry::Peer { .. } | Entry::Off { .. } => None,
     }
 }
 

@@ -2,7 +2,7 @@
 ghost use Rattle.std.specs.Prelude.{◌≡◌, ◌≤◌, length, IfOk, IfSome, ◌∷◌, [], map, All};
 ghost use Rattle.std.specs.List.{AllByRecursion};
 ghost use Rattle.traffic_cop.specs.Rows.{IsRunnablePlan};
-ghost use Rattle.plant_types.specs.Plans.{IsNetPlan, PassesTests};
+ghost use Rattle.plant_types.specs.Plans.{IsNetPlan, KeepsPower, PassesTests};
 ghost use Rattle.joint_history.specs.Runnable.{CanRunPlant};
 
 use plant_types::{
@@ -138,8 +138,10 @@ fn checked(plan: ControllerPlan) -> Option<ControllerPlan>
     requires rows { AllByRecursion (λ row. row ≡ ROW) plan.orders }
     requires few { length plan.orders ≤ 3 }
     requires segment { length plan.segments ≡ 1 }
+    requires power { KeepsPower plan }
     ensures runs { IfSome result IsRunnablePlan }
     ensures passes { IfSome result PassesTests }
+    ensures power { IfSome result KeepsPower }
     ensures node { IfSome result (λ checked. checked.node ≡ plan.node) }
 {
     checks_are_exact();
@@ -157,6 +159,7 @@ fn controller(
 ) -> Result<Option<ControllerPlan>, AllocError>
     ensures runs { IfOk result (λ plan. IfSome plan IsRunnablePlan) }
     ensures passes { IfOk result (λ plan. IfSome plan PassesTests) }
+    ensures power { IfOk result (λ plan. IfSome plan KeepsPower) }
     ensures node { IfOk result (λ plan. IfSome plan (λ plan. plan.node ≡ node)) }
 {
     Ok(checked(ControllerPlan {
@@ -176,9 +179,11 @@ fn controller(
 fn one_plan(alloc: Global, plan: Option<ControllerPlan>) -> Result<List<ControllerPlan>, AllocError>
     requires runs { IfSome plan IsRunnablePlan }
     requires passes { IfSome plan PassesTests }
+    requires power { IfSome plan KeepsPower }
     requires node { IfSome plan (λ plan. plan.node ≡ 2) }
     ensures runs { IfOk result (All IsRunnablePlan) }
     ensures passes { IfOk result (All PassesTests) }
+    ensures power { IfOk result (All KeepsPower) }
     ensures nodes { IfOk result (λ plans. map (λ plan. plan.node) plans ≡ 2 ∷ []) }
 {
     let mut plans = List::new(alloc);
@@ -195,12 +200,15 @@ fn two_plans(
 ) -> Result<List<ControllerPlan>, AllocError>
     requires all_run { All IsRunnablePlan plans }
     requires all_pass { All PassesTests plans }
+    requires all_keep { All KeepsPower plans }
     requires nodes { map (λ plan. plan.node) plans ≡ 2 ∷ [] }
     requires runs { IfSome plan IsRunnablePlan }
     requires passes { IfSome plan PassesTests }
+    requires power { IfSome plan KeepsPower }
     requires node { IfSome plan (λ plan. plan.node ≡ 5) }
     ensures runs { IfOk result (All IsRunnablePlan) }
     ensures passes { IfOk result (All PassesTests) }
+    ensures power { IfOk result (All KeepsPower) }
     ensures nodes { IfOk result (λ plans. map (λ plan. plan.node) plans ≡ 2 ∷ 5 ∷ []) }
 {
     match plan {
@@ -213,6 +221,7 @@ fn two_plans(
 fn controllers(alloc: Global, to: u16) -> Result<List<ControllerPlan>, AllocError>
     ensures runs { IfOk result (All IsRunnablePlan) }
     ensures passes { IfOk result (All PassesTests) }
+    ensures power { IfOk result (All KeepsPower) }
     ensures nodes { IfOk result (λ plans. map (λ plan. plan.node) plans ≡ 2 ∷ 5 ∷ []) }
 {
     let two = controller(alloc, 2, 20, asking(alloc, to)?)?;
@@ -244,6 +253,7 @@ fn plant_of(alloc: Global, net: NetPlan, controllers: List<ControllerPlan>) -> P
     requires members { net.members ≡ 2 ∷ 5 ∷ [] }
     requires runs { All IsRunnablePlan controllers }
     requires passes { All PassesTests controllers }
+    requires power { All KeepsPower controllers }
     requires nodes { map (λ plan. plan.node) controllers ≡ 2 ∷ 5 ∷ [] }
     ensures { CanRunPlant result }
 {

@@ -19,8 +19,11 @@ fn controller_letter(entry: &Entry) -> u8 {
         Entry::Solve(_) => b'S',
         Entry::Output { .. } => b'O',
         Entry::End => b'E',
+        Entry::Fail => b'X',
+        Entry::Dark => b'K',
         Entry::Collect(_) => b'L',
         Entry::Peer { .. } => b'P',
+        Entry::Off { .. } => b'N',
         Entry::Finish { result, .. } => match result {
             MstrResult::Good(_) => b'F',
             MstrResult::Bad(_) => b'f',

@@ -6,8 +6,8 @@ use Rattle.std.proofs.lemmas.Option.{slice_get_cases}
 use Rattle.plant_types.specs.declared.plan.ControllerPlan.{ControllerPlan}
 use Rattle.scan_order.specs.declared.due.ScanPlace.TheVariants as places
 use Rattle.scan_order.specs.declared.due.ScanStep.TheVariants as steps
-use Rattle.scan_order.specs.Due.{row_of, input_of, step_with, row_steps, output_steps}
-use Rattle.scan_order.specs.Due.{rows_from, due_after}
+use Rattle.scan_order.specs.Due.{row_of, input_of, step_with, row_steps, output_steps, rows_from}
+use Rattle.scan_order.specs.Due.{full_after}
 
 -- the steps from a row of the plan on are those of the row, and those from the next row on
 pub rows_from-row : (plan : ControllerPlan) (row : ℕ) → row ≤ length plan.orders
@@ -31,19 +31,19 @@ rows_from-end plan row h =
     ap (λ n. flat_map (row_steps plan) (range_with_len row n) ++ steps.End ∷ []) count
 
 -- the steps of a row that names an input drop begin with its In
-pub rows_from-in : (plan : ControllerPlan) (scan row drop : ℕ) → row ≤ length plan.orders
+pub rows_from-in : (plan : ControllerPlan) (row drop : ℕ) → row ≤ length plan.orders
     → input_of (row_of plan row) ≡ Some drop
-    → rows_from plan row ≡ steps.In row ∷ due_after plan scan (places.DidIn row)
-rows_from-in plan scan row drop h named =
+    → rows_from plan row ≡ steps.In row ∷ full_after plan (places.DidIn row)
+rows_from-in plan row drop h named =
     rows_from-row plan row h
     ∙ ap (λ d. (step_with d (steps.In row) ++ (steps.Solve row ∷ output_steps plan row))
     ++ rows_from plan (row + 1)) named
 
 -- and those of a row that names none with its Solve
-pub rows_from-solve : (plan : ControllerPlan) (scan row : ℕ) → row ≤ length plan.orders
+pub rows_from-solve : (plan : ControllerPlan) (row : ℕ) → row ≤ length plan.orders
     → input_of (row_of plan row) ≡ None
-    → rows_from plan row ≡ steps.Solve row ∷ due_after plan scan (places.DidSolve row)
-rows_from-solve plan scan row h none =
+    → rows_from plan row ≡ steps.Solve row ∷ full_after plan (places.DidSolve row)
+rows_from-solve plan row h none =
     rows_from-row plan row h
     ∙ ap (λ d. (step_with d (steps.In row) ++ (steps.Solve row ∷ output_steps plan row))
     ++ rows_from plan (row + 1)) none

@@ -1,8 +1,10 @@
 //! The due list of a scan, walked by a place and a next step.
 ghost use Rattle.std.specs.Prelude.{◌≡◌, ◌≤◌, ◌-◌, ◌∷◌, length, slice_get};
-ghost use Rattle.scan_order.specs.Due.{due_after, rest_after, rows_from, place_after};
-ghost use Rattle.scan_order.specs.Due.{input_of, output_of, row_of, IsPlace, IsStep};
+ghost use Rattle.scan_order.specs.Due.{due_after, rest_after, rows_from, place_after, ends_scan};
+ghost use Rattle.scan_order.specs.Due.{full_after, full_rest, is_failing, last_off, row_of};
+ghost use Rattle.scan_order.specs.Due.{IsPlace, IsStep, ScansEndOnce};
 
+use crate::power::{ScanPower, power_in};
 use plant_types::{ControllerPlan, OrderRow};
 
 /// What was done last in the scan that runs, the rows of the order of solve counted from 1.
@@ -24,6 +26,10 @@ pub enum ScanStep {
     Solve(u16),
     Out(u16),
     End,
+    /// Power fails, which ends the scan.
+    Fail,
+    /// A whole scan without power.
+    Dark,
 }
 
 /// A row of the order of solve, counted from 1.
@@ -34,10 +40,10 @@ pub fn row_of(plan: &ControllerPlan, row: u16) -> Option<OrderRow>
     plan.orders.as_slice().get(usize::from(row - 1)).copied()
 }
 
-/// The first step of a scan from a row on.
-fn first_from(plan: &ControllerPlan, scan: u32, row: u16) -> ScanStep
+/// The first step of a scan with power from a row on.
+fn first_from(plan: &ControllerPlan, row: u16) -> ScanStep
     requires { 1 ≤ row }
-    ensures next { rows_from plan.now row ≡ result ∷ rest_after plan.now scan result }
+    ensures next { rows_from plan.now row ≡ result ∷ full_rest plan.now result }
     ensures step { IsStep plan.now result }
 {
     let Some(found) = row_of(plan, row) else {
@@ -49,20 +55,58 @@ fn first_from(plan: &ControllerPlan, scan: u32, row: u16) -> ScanStep
     }
 }
 
-/// The first step of a scan behind the Solve of a row.
-fn first_behind(plan: &ControllerPlan, scan: u32, row: u16) -> ScanStep
+/// The first step of a scan with power behind the Solve of a row.
+fn first_behind(plan: &ControllerPlan, row: u16) -> ScanStep
     requires row { IsPlace plan.now (ScanPlace.DidSolve row) }
     requires rows { length plan.now.orders ≤ 32 }
-    ensures next { due_after plan.now scan (ScanPlace.DidSolve row)
-        ≡ result ∷ rest_after plan.now scan result }
+    ensures next { full_after plan.now (ScanPlace.DidSolve row)
+        ≡ result ∷ full_rest plan.now result }
     ensures step { IsStep plan.now result }
 {
     let Some(found) = row_of(plan, row) else {
-        return first_from(plan, scan, row + 1);
+        return first_from(plan, row + 1);
     };
     match found.output {
         Some(_) => ScanStep::Out(row),
-        None => first_from(plan, scan, row + 1),
+        None => first_from(plan, row + 1),
+    }
+}
+
+/// The step that is due behind a place in a scan with power.
+fn full_next(plan: &ControllerPlan, at: ScanPlace) -> ScanStep
+    requires place { IsPlace plan.now at }
+    requires rows { length plan.now.orders ≤ 32 }
+    ensures next { full_after plan.now at ≡ result ∷ full_rest plan.now result }
+    ensures step { IsStep plan.now result }
+{
+    match at {
+        ScanPlace::Start => ScanStep::Begin,
+        ScanPlace::Began => first_from(plan, 1),
+        ScanPlace::DidIn(row) => ScanStep::Solve(row),
+        ScanPlace::DidSolve(row) => first_behind(plan, row),
+        ScanPlace::DidOut(row) => first_from(plan, row + 1),
+    }
+}
+
+/// Whether power that fails at a row fails at this place.
+fn is_failing(row: u16, at: ScanPlace) -> bool
+    ensures { result ≡ is_failing row at }
+{
+    match at {
+        ScanPlace::Began => row == 0,
+        ScanPlace::DidSolve(solved) => row == solved,
+        ScanPlace::Start | ScanPlace::DidIn(_) | ScanPlace::DidOut(_) => false,
+    }
+}
+
+/// The event with which a scan ends at a place for want of power, if it does.
+fn last_off(power: ScanPower, at: ScanPlace) -> Option<ScanStep>
+    ensures { result ≡ last_off power at }
+{
+    match (power, at) {
+        (ScanPower::Fails(row), _) => is_failing(row, at).then_some(ScanStep::Fail),
+        (ScanPower::Dark, ScanPlace::Start) => Some(ScanStep::Dark),
+        _ => None,
     }
 }
 
@@ -74,13 +118,17 @@ pub fn next_due(plan: &ControllerPlan, scan: u32, at: ScanPlace) -> ScanStep
     ensures next { due_after plan.now scan at ≡ result ∷ rest_after plan.now scan result }
     ensures step { IsStep plan.now result }
 {
-    match at {
-        ScanPlace::Start => ScanStep::Begin,
-        ScanPlace::Began => first_from(plan, scan, 1),
-        ScanPlace::DidIn(row) => ScanStep::Solve(row),
-        ScanPlace::DidSolve(row) => first_behind(plan, scan, row),
-        ScanPlace::DidOut(row) => first_from(plan, scan, row + 1),
+    match last_off(power_in(plan, scan), at) {
+        Some(step) => step,
+        None => full_next(plan, at),
     }
+}
+
+/// Whether an event is the last of its scan.
+pub fn ends_scan(step: ScanStep) -> bool
+    ensures { result ≡ ends_scan step }
+{
+    matches!(step, ScanStep::End | ScanStep::Fail | ScanStep::Dark)
 }
 
 /// The place behind an event.
@@ -92,6 +140,12 @@ pub fn place_after(step: ScanStep) -> ScanPlace
         ScanStep::In(row) => ScanPlace::DidIn(row),
         ScanStep::Solve(row) => ScanPlace::DidSolve(row),
         ScanStep::Out(row) => ScanPlace::DidOut(row),
-        ScanStep::End => ScanPlace::Start,
+        ScanStep::End | ScanStep::Fail | ScanStep::Dark => ScanPlace::Start,
     }
 }
+
+/// Of the events that are due in a scan just one is a last one, and what becomes of the power says
+/// which.
+pub fn scans_end_once()
+    ensures { ScansEndOnce }
+{}

@@ -2,5 +2,7 @@
 #![tactic(auto)]
 
 mod due;
+mod power;
 
-pub use due::{ScanPlace, ScanStep, next_due, place_after, row_of};
+pub use due::{ScanPlace, ScanStep, ends_scan, next_due, place_after, row_of, scans_end_once};
+pub use power::{ScanPower, kept_power_stays, power_in};

@@ -14,6 +14,7 @@ use Rattle.controller_core.specs.declared.call.CallKind.TheVariants as kinds
 use Rattle.controller_core.specs.declared.entry.Entry.{Entry}
 use Rattle.controller_core.specs.declared.entry.Entry.TheVariants.{Begin, Input, Solve, Output, End}
 use Rattle.controller_core.specs.declared.entry.Entry.TheVariants.{Collect, Peer, Finish}
+use Rattle.controller_core.specs.declared.entry.Entry.TheVariants.{Fail, Dark, Off}
 use Rattle.controller_core.specs.Controller.{uncollected}
 use Rattle.controller_core.specs.Laws.{CallsFollow}
 use Rattle.controller_core.specs.Replay.{ControllerState, start, table_of}
@@ -82,8 +83,11 @@ module _ (laws : CallsFollow) (fixed : Fixed) where
   quiet-finishes h (Solve row ∷ xs) all = absurd all.0
   quiet-finishes h (Output row words ∷ xs) all = absurd all.0
   quiet-finishes h (End ∷ xs) all = absurd all.0
+  quiet-finishes h (Fail ∷ xs) all = absurd all.0
+  quiet-finishes h (Dark ∷ xs) all = absurd all.0
   quiet-finishes h (Collect calls ∷ xs) all = absurd all.0
   quiet-finishes h (Peer id request reply ∷ xs) all = absurd all.0
+  quiet-finishes h (Off id request ∷ xs) all = absurd all.0
 
   collects-all : (h : List Entry) (calls : List Call)
       → has_started_at fixed (h ++ Collect calls ∷ []) ≡ false

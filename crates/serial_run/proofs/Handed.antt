@@ -6,30 +6,27 @@ use Rattle.std.specs.List.{AllZip, count_by, sum_by, zip}
 use Rattle.std.proofs.lemmas.List.Sums.{sum_by-cons}
 use Rattle.plant_types.specs.declared.plan.ControllerPlan.{ControllerPlan}
 use Rattle.plant_types.specs.declared.plan.Plant.{Plant}
-use Rattle.plant_types.specs.Plans.{IsPlant}
-use Rattle.plant_types.specs.Store.{Contents, is_on}
+use Rattle.plant_types.specs.Store.{is_on}
 use Rattle.controller_core.specs.declared.entry.Entry.{Entry}
 use Rattle.controller_core.specs.declared.entry.Entry.TheVariants as entries
 use Rattle.controller_core.specs.declared.fixed.Fixed.{Fixed}
-use Rattle.controller_core.specs.declared.notes.Notes.{Notes}
 use Rattle.controller_core.specs.Notes.{NotesAskNoScans, notes_of}
 use Rattle.controller_core.specs.Replay.{ControllerState, apply, replay, start}
 use Rattle.effect_laws.specs.Effects.{EffectsAreRight}
 use Rattle.entry_causes.specs.Joint.{IsInOneOrder}
-use Rattle.joint_history.specs.declared.joint.ControllerLog.{ControllerLog}
 use Rattle.joint_history.specs.declared.joint.Joint.{Joint}
 use Rattle.joint_history.specs.declared.noted.Noted.{Noted}
 use Rattle.summary_text.specs.Coils.{all_coils, coils_at_end, coils_by_log}
 use Rattle.joint_history.specs.Complete.{IsComplete}
-use Rattle.joint_history.specs.JointLaws.{IsJoint, IsLegalJoint, fixed_of, logged, most_scans}
-use Rattle.joint_history.specs.Noted.{IsNoted, notes_by_log, notes_in}
+use Rattle.joint_history.specs.JointLaws.{IsJoint, IsLegalJoint, fixed_of, most_scans}
+use Rattle.joint_history.specs.Noted.{notes_by_log, notes_in}
 use Rattle.serial_run.specs.declared.stations.ControllerStation.{ControllerStation}
 use Rattle.serial_run.specs.declared.stations.Stations.{Stations}
 use Rattle.serial_run.specs.Over.{AreOver, IsNotedRun}
 use Rattle.serial_run.specs.Serial.{IsSerial}
 use Rattle.serial_run.specs.Stations.{StandAll, StandsController, joint_of, log_of}
 use Rattle.serial_run.specs.Stations.{station_coils, station_notes}
-use Rattle.serial_run.proofs.Laws.{stand-in-time, stand-joint, stand-legal}
+use Rattle.serial_run.proofs.Laws.{stand-joint, stand-legal}
 
 -- ---- what the controllers noted
 
@@ -69,8 +66,11 @@ same-after f n s (entries.Input row) = refl
 same-after f n s (entries.Solve row) = refl
 same-after f n s (entries.Output row words) = refl
 same-after f n s entries.End = refl
+same-after f n s entries.Fail = refl
+same-after f n s entries.Dark = refl
 same-after f n s (entries.Collect calls) = refl
 same-after f n s (entries.Peer id request reply) = refl
+same-after f n s (entries.Off id request) = refl
 same-after f n s (entries.Finish id result) = refl
 
 same-fold : (f : Fixed) (n : ℕ) (s : ControllerState) (h : List Entry)

@@ -58,10 +58,14 @@ all-ours (entries.Solve row ∷ more) mine = absurd (not-ours (entries.Solve row
 all-ours (entries.Output row words ∷ more) mine = absurd
     (not-ours (entries.Output row words) more mine)
 all-ours (entries.End ∷ more) mine = absurd (not-ours entries.End more mine)
+all-ours (entries.Fail ∷ more) mine = absurd (not-ours entries.Fail more mine)
+all-ours (entries.Dark ∷ more) mine = absurd (not-ours entries.Dark more mine)
 all-ours (entries.Collect calls ∷ more)
     mine = (refl, all-ours more (rest-ours (entries.Collect calls) more mine))
 all-ours (entries.Peer id request reply ∷ more)
     mine = (refl, all-ours more (rest-ours (entries.Peer id request reply) more mine))
+all-ours (entries.Off id request ∷ more)
+    mine = (refl, all-ours more (rest-ours (entries.Off id request) more mine))
 all-ours (entries.Finish id result ∷ more)
     mine = (refl, all-ours more (rest-ours (entries.Finish id result) more mine))
 
@@ -74,7 +78,7 @@ keep-further v w fixed f =
     subst (KeepsStepsLeft v) (sym same) quiet
 
 keep-same : (v : ControllerIs) → KeepsStepsLeft v v
-keep-same v = record { fixed = refl; left = refl; stop = refl }
+keep-same v = record { fixed = refl; left = refl; gone = refl; stop = refl }
 
 zip-self : {X : Type 0} (R : X → X → Type 0) → ((x : X) → R x x) → (xs : List X) → AllZip R xs xs
 zip-self R same [] = tt

@@ -126,6 +126,7 @@ keep-both : (u v w : ControllerIs) → KeepsStepsLeft u v → KeepsStepsLeft v w
 keep-both u v w a b = record {
   fixed = b.fixed ∙ a.fixed;
   left = b.left ∙ a.left;
+  gone = b.gone ∙ a.gone;
   stop = b.stop
       ∙ a.stop;
 }

@@ -6,15 +6,12 @@ use Rattle.std.proofs.Common.{sym}
 use Rattle.std.proofs.Common.{ap, subst, ◌∙◌, arith, append_assoc, append-nil, length-append, inl}
 use Rattle.std.proofs.Common.{inr}
 use Rattle.std.proofs.Common.{⊎_elim}
-use Rattle.std.specs.Prelude.{if◌then◌else◌}
-use Rattle.std.specs.List.{flat_map, range_with_len}
+use Rattle.std.specs.Prelude.{fold, if◌then◌else◌}
 use Rattle.std.proofs.lemmas.Bool.{eqb-true, eq-eqb, ne_eqb}
 use Rattle.scan_order.specs.declared.due.ScanStep.{ScanStep}
 use Rattle.scan_order.specs.declared.due.ScanStep.TheVariants as steps
-use Rattle.scan_order.specs.Due.{due, rows_from, row_steps, input_steps, output_steps, step_with}
-use Rattle.scan_order.specs.Due.{input_of, output_of, row_of}
+use Rattle.scan_order.specs.Due.{due, ends_scan, input_of, row_of}
 use Rattle.plant_types.specs.declared.drops.IoDrop.{IoDrop}
-use Rattle.plant_types.specs.declared.plan.ControllerPlan.{ControllerPlan}
 use Rattle.controller_core.specs.declared.fixed.Fixed.{Fixed}
 use Rattle.controller_core.specs.declared.entry.Entry.{Entry}
 use Rattle.controller_core.specs.Replay.{ControllerState, apply, replay, start, read_in}
@@ -29,8 +26,9 @@ use Rattle.serial_run.specs.Serial.{with_scan}
 use Rattle.serial_run.specs.Stations.{MadeEvents}
 use Rattle.serial_run.specs.Scans.{LessensScan}
 use Rattle.controller_core.proofs.Keeping.{replay_more, scan_steps-more, scan_steps-quiet}
-use Rattle.controller_core.proofs.Keeping.{told_entry}
-use Rattle.controller_core.proofs.NextEntry.{stop_stays}
+use Rattle.controller_core.proofs.Keeping.{gone_made, told_entry}
+use Rattle.controller_core.proofs.NextEntry.{replay_append, stop_stays}
+use Rattle.turn_laws.proofs.ScanEnds.{EndsOnce, IsNoEnd, NoEnds, due-once}
 use Rattle.serial_run.specs.Scans.{IsBetweenScans, KeepsStepsLeft}
 
 drop-first : (n : ℕ) (xs : List ScanStep) (x : ScanStep) (rest : List ScanStep)
@@ -73,48 +71,6 @@ entries-end : (f : Fixed) (s : ControllerState) → entries_from f s [] ≡ []
 unfolding entries_from
 entries-end f s = refl
 
--- ---- the steps of a scan: End is the last, and no other is End
-
-abbrev IsNoEnd : ScanStep → Type 0
-IsNoEnd steps.End = ⊥
-IsNoEnd _ = Unit {0}
-
-abbrev NoEnds : List ScanStep → Type 0
-NoEnds [] = Unit {0}
-NoEnds (step ∷ rest) = IsNoEnd step × NoEnds rest
-
--- what is left of a scan: nothing, or steps up to its End
-pub record EndsOnce (rest : List ScanStep) : Type 0 where
-  pub front : List ScanStep
-  pub none : NoEnds front
-  pub is : rest ≡ front ++ steps.End ∷ []
-
-no-ends-both : (xs ys : List ScanStep) → NoEnds xs → NoEnds ys → NoEnds (xs ++ ys)
-no-ends-both [] ys a b = b
-no-ends-both (x ∷ xs) ys a b = (a.0, no-ends-both xs ys a.1 b)
-
-no-ends-with : (drop : Option ℕ) (step : ScanStep) → IsNoEnd step → NoEnds (step_with drop step)
-no-ends-with None step no' = tt
-no-ends-with (Some d) step no' = (no', tt)
-
-no-ends-row : (plan : ControllerPlan) (row : ℕ) → NoEnds (row_steps plan row)
-no-ends-row plan row = no-ends-both (input_steps plan row) (steps.Solve row ∷ output_steps plan row)
-    (no-ends-with (input_of (row_of plan row)) (steps.In row) tt)
-    (tt, no-ends-with (output_of (row_of plan row)) (steps.Out row) tt)
-
-no-ends-rows : (plan : ControllerPlan) (rows : List ℕ) → NoEnds (flat_map (row_steps plan) rows)
-no-ends-rows plan [] = tt
-no-ends-rows plan (row ∷ rows) = no-ends-both (row_steps plan row) (flat_map (row_steps plan) rows)
-    (no-ends-row plan row) (no-ends-rows plan rows)
-
-due-once : (plan : ControllerPlan) (scan : ℕ) → EndsOnce (due plan scan)
-unfolding rows_from
-due-once plan scan = record {
-  front = steps.Begin ∷ flat_map (row_steps plan) (range_with_len 1 (suc (length plan.orders) - 1));
-  none = (tt, no-ends-rows plan (range_with_len 1 (suc (length plan.orders) - 1)));
-  is = refl;
-}
-
 -- ---- one step of a scan
 
 read-stop : (drops : List IoDrop) (drop : Option ℕ) (s : ControllerState)
@@ -147,7 +103,19 @@ closes f s (steps.Solve row) zero' no' = solved-closes
         twice true is = refl
         twice false is = absurd (cc)
 closes f s (steps.Out row) zero' no' = goes-on (steps.Out row) _ refl zero'
-closes f s steps.End zero' no' = absurd no'
+closes f s steps.End zero' no' = absurd (let no'' : true ≡ false = no' in cc)
+closes f s steps.Fail zero' no' = absurd (let no'' : true ≡ false = no' in cc)
+closes f s steps.Dark zero' no' = absurd (let no'' : true ≡ false = no' in cc)
+
+-- the last step of a scan closes it
+ends-close : (step : ScanStep) (stop : ℕ) → ends_scan step ≡ true → closes_scan step stop ≡ true
+ends-close steps.Begin stop is = absurd (let no' : false ≡ true = is in cc)
+ends-close (steps.In row) stop is = absurd (let no' : false ≡ true = is in cc)
+ends-close (steps.Solve row) stop is = absurd (let no' : false ≡ true = is in cc)
+ends-close (steps.Out row) stop is = absurd (let no' : false ≡ true = is in cc)
+ends-close steps.End stop is = refl
+ends-close steps.Fail stop is = refl
+ends-close steps.Dark stop is = refl
 
 -- a controller within a scan that ends with this history
 pub record InScan (target : List Entry) (v : ControllerIs) : Type 0 where
@@ -157,8 +125,10 @@ pub record InScan (target : List Entry) (v : ControllerIs) : Type 0 where
   pub runs : v.history ++ entries_from v.fixed (state_of v) rest ≡ target
   pub left : (state_of v).stop ≡ 0
       → left_of v.fixed v.history ≡ rest ++ scans_from v.fixed next many
-  pub goes : v.reserved ≡ true → ((state_of v).stop ≡ 0) × EndsOnce rest
-  pub over : v.reserved ≡ false → ((state_of v).stop ≢ 0) ⊎ (rest ≡ [])
+  pub goes : v.reserved ≡ true
+      → ((state_of v).stop ≡ 0) × EndsOnce rest × (next ≡ (state_of v).gone + 2)
+  pub over : v.reserved ≡ false
+      → ((state_of v).stop ≢ 0) ⊎ ((rest ≡ []) × (next ≡ (state_of v).gone + 1))
 
 module _ (target : List Entry) (v : ControllerIs) (scan : InScan target v)
     (kept : v.reserved ≡ true) where
@@ -199,32 +169,47 @@ module _ (target : List Entry) (v : ControllerIs) (scan : InScan target v)
       (closes_scan step (apply v.fixed (state_of v) (entry_of v.fixed (state_of v) step)).stop))
       kept
 
-  made-end : scan.rest ≡ steps.End ∷ [] → InScan target (made v (Some steps.End))
-  made-end is = record {
+  made-gone : (step : ScanStep) (ends : Bool) → ends_scan step ≡ ends
+      → (state_of (made v (Some step))).gone
+      ≡ (if ends then (state_of v).gone + 1 else (state_of v).gone)
+  made-gone step ends is = ap (λ (t : ControllerState). t.gone)
+      (replay_more v.fixed (start v.fixed.plan) v.history (entry_of v.fixed (state_of v) step))
+      ∙ gone_made v.fixed (state_of v) step
+      ∙ ap (λ b. if b then (state_of v).gone + 1 else (state_of v).gone) is
+
+  next-is : scan.next ≡ (state_of v).gone + 2
+  next-is = (scan.goes kept).2
+
+  made-last : (last : ScanStep) → ends_scan last ≡ true → scan.rest ≡ last ∷ []
+      → InScan target (made v (Some last))
+  made-last last ends is = record {
     rest = [];
     next = scan.next;
     many = scan.many;
-    runs = made-runs steps.End [] is;
-    left = λ _. made-left steps.End [] is;
-    goes = λ on. absurd (let no' : false ≡ true = sym (made-kept steps.End) ∙ on in cc);
-    over = λ _. inr refl;
+    runs = made-runs last [] is;
+    left = λ _. made-left last [] is;
+    goes = λ on.
+        let shut : not (closes_scan last _) ≡ false = ap not (ends-close last _ ends) in
+        absurd (let no' : false ≡ true = sym shut ∙ (sym (made-kept last) ∙ on) in cc);
+    over = λ _. inr (refl, let more = made-gone last true ends in omega (arith, next-is, more));
   }
 
-  made-on : (step : ScanStep) (front : List ScanStep) → IsNoEnd step → NoEnds front
-      → scan.rest ≡ step ∷ (front ++ steps.End ∷ [])
+  made-on : (step : ScanStep) (front : List ScanStep) (last : ScanStep) → IsNoEnd step
+      → NoEnds front → ends_scan last ≡ true → scan.rest ≡ step ∷ (front ++ last ∷ [])
       → InScan target (made v (Some step))
-  made-on step front no' none is =
+  made-on step front last no' none ends is =
       let c = closes v.fixed (state_of v) step stop-is no' in
       record {
-        rest = front ++ steps.End ∷ [];
+        rest = front ++ last ∷ [];
         next = scan.next;
         many = scan.many;
-        runs = made-runs step (front ++ steps.End ∷ []) is;
-        left = λ _. made-left step (front ++ steps.End ∷ []) is;
+        runs = made-runs step (front ++ last ∷ []) is;
+        left = λ _. made-left step (front ++ last ∷ []) is;
         goes = λ on. (
           made-stop step ∙ c.goes_on (opened _ (sym (made-kept step) ∙ on)),
           record
-              { front = front; none = none; is = refl },
+              { front = front; last = last; none = none; ends = ends; is = refl },
+          let same = made-gone step false no' in omega (arith, next-is, same),
         );
         over = λ off. inl (λ z. c.over (closed _ (sym (made-kept step) ∙ off))
             (sym (made-stop step) ∙ z));
@@ -251,19 +236,21 @@ module _ (target : List Entry) (v : ControllerIs) (scan : InScan target v)
     pub is : scan.rest ≡ step ∷ rest
     pub within : InScan target (made v (Some step))
 
-  next-by : (front : List ScanStep) → NoEnds front → scan.rest ≡ front ++ steps.End ∷ [] → Next
-  next-by [] none is = record { step = steps.End; rest = []; is = is; within = made-end is }
-  next-by (step ∷ front) none is =
+  next-by : (front : List ScanStep) (last : ScanStep) → NoEnds front → ends_scan last ≡ true
+      → scan.rest ≡ front ++ last ∷ [] → Next
+  next-by [] last none ends is =
+      record { step = last; rest = []; is = is; within = made-last last ends is }
+  next-by (step ∷ front) last none ends is =
       record {
         step = step;
-        rest = front ++ steps.End ∷ [];
+        rest = front ++ last ∷ [];
         is = is;
-        within = made-on step front
-            none.0 none.1 is;
+        within = made-on step front last none.0 none.1 ends is;
       }
 
   the-next : Next
-  the-next = let once = (scan.goes kept).1 in next-by once.front once.none once.is
+  the-next =
+      let once = (scan.goes kept).1 in next-by once.front once.last once.none once.ends once.is
 
   pub scan-goes-on : InScan target (stepped v)
   scan-goes-on = subst (λ (due : Option ScanStep). InScan target (made v due))
@@ -299,9 +286,8 @@ scan-over target v scan off = sym (append-nil v.history)
       nothing = ⊎_elim
           (λ (stopped : (state_of v).stop ≢ 0). entries-none v.fixed (state_of v) scan.rest
           (is-not (state_of v).stop stopped))
-          (λ (none : scan.rest ≡ []). ap (entries_from v.fixed (state_of v)) none
-          ∙ entries-end v.fixed
-          (state_of v))
+          (λ (none : (scan.rest ≡ []) × (scan.next ≡ (state_of v).gone + 1)).
+          ap (entries_from v.fixed (state_of v)) none.0 ∙ entries-end v.fixed (state_of v))
           (scan.over off)
 
 -- a controller that has not ended goes on
@@ -320,36 +306,47 @@ open-left v open' = sym (ap (λ n. is_none
     (if n == 0 then first_step (left_of v.fixed v.history) else None)) (open-stop v open')) ∙ open'
 
 -- one whole scan is to come
-record Whole (v : ControllerIs) : Type 0 where
-  pub next : ℕ
+record Whole (v : ControllerIs) (next : ℕ) : Type 0 where
   pub many : ℕ
   pub left : left_of v.fixed v.history ≡ due v.fixed.plan next ++ scans_from v.fixed (next + 1) many
 
 whole-by : (v : ControllerIs) (next many : ℕ) → has_ended v ≡ false
-    → left_of v.fixed v.history ≡ scans_from v.fixed next many → Whole v
+    → left_of v.fixed v.history ≡ scans_from v.fixed next many → Whole v next
 whole-by v next zero open' left =
     let none : is_none (first_step (left_of v.fixed v.history)) ≡ true = ap
     (λ (l : List ScanStep). is_none (first_step l)) left in
     let no' : true ≡ false = sym none ∙ open-left v open' in absurd (cc)
-whole-by v next (suc many) open' left = record { next = next; many = many; left = left }
+whole-by v next (suc many) open' left = record { many = many; left = left }
 
 -- where a scan begins
-pub scan-begins : (v : ControllerIs) (scan : ℕ) → has_ended v ≡ false → IsBetweenScans v
-    → InScan (v.history ++ entries_from v.fixed (state_of v) (due v.fixed.plan scan))
-    (record v { reserved = true })
-scan-begins v scan open' between =
-    let w = whole-by v between.next between.many open' (between.left (open-stop v open')) in
+pub scan-begins : (v : ControllerIs) → has_ended v ≡ false → IsBetweenScans v
+    → InScan (v.history ++ entries_from v.fixed (state_of v)
+    (due v.fixed.plan ((state_of v).gone + 1))) (record v { reserved = true })
+scan-begins v open' between =
+    let scan = (state_of v).gone + 1 in
+    let w = whole-by v scan between.many open' (between.left (open-stop v open')) in
     record {
       rest = due v.fixed.plan scan;
-      next = w.next + 1;
+      next = scan + 1;
       many = w.many;
       runs = refl;
       left = λ _. w.left;
-      goes = λ _. (open-stop v open', due-once v.fixed.plan scan);
+      goes = λ _. (open-stop v open', due-once v.fixed.plan scan, omega arith);
       over = λ off. absurd (let no' : true ≡ false = off in cc);
     }
 
 -- ---- what the communication leaves of the scans
+
+gone-from : (f : Fixed) (s : ControllerState) (added : List Entry) → AreOf Communication added
+    → (fold (apply f) s added).gone ≡ s.gone
+gone-from f s [] of = refl
+gone-from f s (e ∷ added) of = gone-from f (apply f s e) added of.1 ∙ (told_entry e of.0).gone f s
+
+gone-stays : (v : ControllerIs) (added : List Entry) → AreOf Communication added
+    → (state_of (grown v added v.reserved)).gone ≡ (state_of v).gone
+gone-stays v added of =
+    ap (λ (t : ControllerState). t.gone) (replay_append v.fixed (start v.fixed.plan) v.history added)
+    ∙ gone-from v.fixed (state_of v) added of
 
 pub quiet-scan : (v : ControllerIs) (added : List Entry) (reserved : Bool)
     → AreOf Communication added → KeepsStepsLeft v (grown v added reserved)
@@ -357,6 +354,7 @@ quiet-scan v added reserved of = record {
   fixed = refl;
   left = ap (λ (l : List ScanStep). drop (length l) (all_due v.fixed))
       (steps-stay v.history added of);
+  gone = gone-stays v added of;
   stop = stop_stays v added of;
 } where
   steps-stay : (h added : List Entry) → AreOf Communication added
@@ -368,10 +366,9 @@ quiet-scan v added reserved of = record {
 
 pub between-kept : (v w : ControllerIs) → KeepsStepsLeft v w → IsBetweenScans v → IsBetweenScans w
 between-kept v w keeps b = record {
-  next = b.next;
   many = b.many;
-  left = λ goes. keeps.left ∙ (b.left (sym keeps.stop ∙ goes) ∙ ap
-      (λ (f : Fixed). scans_from f b.next b.many) (sym keeps.fixed));
+  left = λ goes. keeps.left ∙ (b.left (sym keeps.stop ∙ goes)
+      ∙ (λ i. scans_from (sym keeps.fixed i) (sym keeps.gone i + 1) b.many));
 }
 
 -- ---- a scan that runs
@@ -400,10 +397,10 @@ went-both xs ys u v w a b = record {
 -- the history with which a scan ends, where the controller goes on
 pub scan-target : (v : ControllerIs) → has_ended v ≡ false
     → with_scan v.fixed v.history ≡ v.history ++ entries_from v.fixed (state_of v)
-    (due v.fixed.plan ((state_of v).ended + 1))
+    (due v.fixed.plan ((state_of v).gone + 1))
 scan-target v open' =
     ap (λ b. if b then v.history else v.history ++ entries_from v.fixed (state_of v)
-    (due v.fixed.plan ((state_of v).ended + 1))) open'
+    (due v.fixed.plan ((state_of v).gone + 1))) open'
 
 pub scanning-begins : (v w : ControllerIs) (events : List Entry) → has_ended v ≡ false
     → IsBetweenScans v → w ≡ record v { reserved = true }
@@ -411,8 +408,8 @@ pub scanning-begins : (v w : ControllerIs) (events : List Entry) → has_ended v
 scanning-begins v w events open' between is went = record {
   within = subst (λ (target : List Entry). InScan target w) (sym (scan-target v open'))
       (subst (InScan (v.history ++ entries_from v.fixed (state_of v)
-      (due v.fixed.plan ((state_of v).ended + 1)))) (sym is)
-      (scan-begins v ((state_of v).ended + 1) open' between));
+      (due v.fixed.plan ((state_of v).gone + 1)))) (sym is)
+      (scan-begins v open' between));
   events = events;
   went_on = went;
   no_more =
@@ -452,6 +449,17 @@ scanning-made first v s off = record {
   events = s.events;
   went_on = s.went_on;
 }
+
+pub scanning-between : (first v : ControllerIs) → IsScanning first v → v.reserved ≡ false
+    → IsBetweenScans v
+scanning-between first v s off = record { many = s.within.many; left = λ goes. all goes }
+  where
+    all : (state_of v).stop ≡ 0
+        → left_of v.fixed v.history ≡ scans_from v.fixed ((state_of v).gone + 1) s.within.many
+    all goes = s.within.left goes ∙ elim (s.within.over off) [
+      | inl stopped ↦ absurd (stopped goes)
+      | inr done ↦ λ i. done.0 i ++ scans_from v.fixed (done.1 i) s.within.many
+    ]
 
 pub scanning-lessens : (first v : ControllerIs) → IsScanning first v → v.reserved ≡ false
     → LessensScan first v

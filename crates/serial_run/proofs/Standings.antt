@@ -108,8 +108,11 @@ no-items (entries.Input row ∷ added) of = no-items added of.1
 no-items (entries.Solve row ∷ added) of = no-items added of.1
 no-items (entries.Output row words ∷ added) of = no-items added of.1
 no-items (entries.End ∷ added) of = no-items added of.1
+no-items (entries.Fail ∷ added) of = no-items added of.1
+no-items (entries.Dark ∷ added) of = no-items added of.1
 no-items (entries.Collect calls ∷ added) of = absurd (let is = of.0 in cc)
 no-items (entries.Peer id request reply ∷ added) of = absurd (let is = of.0 in cc)
+no-items (entries.Off id request ∷ added) of = absurd (let is = of.0 in cc)
 no-items (entries.Finish id result ∷ added) of = absurd (let is = of.0 in cc)
 
 comm-scans : (net : NetPlan) (worker : WorkerIs) (added : List Entry) (v w : ControllerIs)

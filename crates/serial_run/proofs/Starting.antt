@@ -1,11 +1,11 @@
 -- Stations at their start.
-use Rattle.std.proofs.Common.{◌≡◌, ℕ, true, false, List, [], None}
-use Rattle.std.proofs.Common.{replicate, refl, sym, ap, subst, arith}
+use Rattle.std.proofs.Common.{◌≡◌, ℕ, ◌+◌, true, false, List, [], None}
+use Rattle.std.proofs.Common.{replicate, refl, sym, ap, subst, ◌∙◌, arith}
 use Rattle.std.specs.Prelude.{not}
 use Rattle.plant_types.specs.declared.net.HostPlan.{HostPlan}
 use Rattle.plant_types.specs.declared.plan.ControllerPlan.{ControllerPlan}
 use Rattle.plant_types.specs.declared.plan.Plant.{Plant}
-use Rattle.plant_types.specs.Plans.{IsPlant}
+use Rattle.plant_types.specs.Plans.{IsPlant, KeepsPower}
 use Rattle.ring_core.specs.Machine.{path_places}
 use Rattle.ring_core.specs.Legal.{IsMember}
 use Rattle.controller_core.specs.Controller.{ControllerIs, IsLegal}
@@ -21,6 +21,8 @@ use Rattle.ring_core.specs.declared.entry.RingEntry.{RingEntry}
 use Rattle.ring_core.specs.Legal.{IsLegalRing}
 use Rattle.controller_core.specs.declared.entry.Entry.{Entry}
 use Rattle.controller_core.specs.Controller.{left_of}
+use Rattle.controller_core.specs.Replay.{replay}
+use Rattle.controller_core.specs.Scans.{scans_from}
 use Rattle.serial_run.specs.declared.stations.Stations.{Stations}
 use Rattle.serial_run.specs.Turns.{empty_host_log, empty_log, has_left}
 use Rattle.serial_run.specs.Scans.{IsBetweenScans}
@@ -42,7 +44,7 @@ nobody-left plant sound n member =
     ap not (sym (member-there plant.net n (omega arith) member))
 
 pub start-controller : (plant : Plant) (scans : ℕ) (plan : ControllerPlan) (v : ControllerIs)
-    (w : WorkerIs) → IsPlant plant → IsMember plant.net plan.node
+    (w : WorkerIs) → IsPlant plant → IsMember plant.net plan.node → KeepsPower plan
     → IsLegal (fixed_of plant scans plan) []
     → v ≡ record { fixed = fixed_of plant scans plan; history = []; reserved = false }
     → w ≡ record {
@@ -54,7 +56,7 @@ pub start-controller : (plant : Plant) (scans : ℕ) (plan : ControllerPlan) (v 
     }
     → StartsController plant scans plan
     (record { node = plan.node; controller = v; worker = w; left = false })
-start-controller plant scans plan v w sound member legal v-is w-is =
+start-controller plant scans plan v w sound member power legal v-is w-is =
     subst (λ (v : ControllerIs). StartsController plant scans plan
     (record { node = plan.node; controller = v; worker = w; left = false })) (sym v-is)
     (subst (λ (w : WorkerIs). StartsController plant scans plan (record {
@@ -72,7 +74,7 @@ start-controller plant scans plan v w sound member legal v-is w-is =
         legal = legal;
         standing = standing-new plan.node plant.net true
             (record { fixed = fixed_of plant scans plan; place = tt }) [] (own_side plant.net) refl
-            refl tt refl;
+            power refl tt refl;
         left = nobody-left plant sound plan.node member;
         keeps = starts (fixed_of plant scans plan) plant.net plan.node [] refl;
       };
@@ -145,9 +147,10 @@ start-all plant scans run sound ring controllers hosts = record {
       (λ (s : ControllerStation). IsBetweenScans s.controller) plant.controllers
       run.controllers.items
       controllers (λ x y s. record {
-        next = 1;
         many = y.controller.fixed.scans;
-        left = λ goes. ap (λ (h : List Entry). left_of y.controller.fixed h) s.nothing;
+        left = λ goes. ap (λ (h : List Entry). left_of y.controller.fixed h) s.nothing
+            ∙ sym (ap (λ (h : List Entry). scans_from y.controller.fixed
+            ((replay y.controller.fixed h).gone + 1) y.controller.fixed.scans) s.nothing);
       });
   here = zip-each (StartsController plant scans) (λ (s : ControllerStation). s.left ≡ false)
       plant.controllers run.controllers.items

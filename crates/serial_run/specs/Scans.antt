@@ -1,25 +1,28 @@
 -- Where controllers stand between their scans. This project's own.
-use Rattle.std.specs.Prelude.{◌≡◌, ◌<◌, ◌≤◌, ℕ, Bool, false, length}
+use Rattle.std.specs.Prelude.{◌≡◌, ◌<◌, ◌≤◌, ℕ, ◌+◌, Bool, false, length}
 use Rattle.std.specs.List.{All, AllZip, list_all, sum_by}
 use Rattle.controller_core.specs.Scans.{scans_from}
 use Rattle.controller_core.specs.Controller.{ControllerIs, has_ended, left_of, state_of}
 use Rattle.serial_run.specs.declared.stations.ControllerStation.{ControllerStation}
 use Rattle.serial_run.specs.declared.stations.Stations.{Stations}
 
--- A controller stands between two scans: whole scans are left of what is due, from one on.
+-- A controller stands between two scans: whole scans are left of what is due, from the one behind
+-- those that are gone.
 pub record IsBetweenScans (v : ControllerIs) : Type 0 where
-  pub next : ℕ
   pub many : ℕ
-  pub left : (state_of v).stop ≡ 0 → left_of v.fixed v.history ≡ scans_from v.fixed next many
+  pub left : (state_of v).stop ≡ 0
+      → left_of v.fixed v.history ≡ scans_from v.fixed ((state_of v).gone + 1) many
 
 abbrev pub AreBetweenScans : Stations → Type 0
 AreBetweenScans run =
     All (λ (station : ControllerStation). IsBetweenScans station.controller) run.controllers.items
 
--- A controller has as many steps left as before, and it has stopped if it had.
+-- A controller has as many steps left as before, as many scans are gone, and it has stopped if it
+-- had.
 pub record KeepsStepsLeft (v w : ControllerIs) : Type 0 where
   pub fixed : w.fixed ≡ v.fixed
   pub left : left_of w.fixed w.history ≡ left_of v.fixed v.history
+  pub gone : (state_of w).gone ≡ (state_of v).gone
   pub stop : (state_of w).stop ≡ (state_of v).stop
 
 abbrev pub KeepScans : Stations → Stations → Type 0

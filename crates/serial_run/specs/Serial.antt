@@ -24,7 +24,7 @@ abbrev pub with_scan : Fixed → List Entry → List Entry
 with_scan fixed entries =
     let now = replay fixed entries in
     if has_ended_at fixed entries then entries
-    else entries ++ entries_from fixed now (due fixed.plan (now.ended + 1))
+    else entries ++ entries_from fixed now (due fixed.plan (now.gone + 1))
 
 abbrev pub log_with_scan : Plant → ℕ → ControllerPlan × ControllerLog → ControllerLog
 log_with_scan plant scans of = record {
@@ -37,7 +37,7 @@ abbrev pub scanned : Plant → ℕ → Joint → Joint
 scanned plant scans joint =
     record joint { controllers = map (log_with_scan plant scans) (logged plant joint) }
 
--- The scans of all controllers have ended, or they have stopped.
+-- The scans of all controllers are gone, or they have stopped.
 abbrev pub log_has_ended : Plant → ℕ → ControllerPlan × ControllerLog → Bool
 log_has_ended plant scans of = has_ended_at (fixed_of plant scans of.0) of.1.entries
 

@@ -1,6 +1,6 @@
 -- Counters that run along, against counts from scratch.
 use Rattle.std.proofs.Common.{◌≡◌, ℕ, ◌+◌, ◌%◌, ◌==◌, Bool, true, false, cond, List, [], ◌∷◌, ◌++◌}
-use Rattle.std.proofs.Common.{get_or, set, map, replicate, count_by, refl, sym, ap, ◌∙◌, add-zero}
+use Rattle.std.proofs.Common.{get_or, set, map, count_by, refl, sym, ap, ◌∙◌, add-zero}
 use Rattle.std.proofs.lemmas.List.Sums.{sum_by_push}
 use Rattle.std.proofs.Math.Nat.{mod-add-mod}
 use Rattle.station_stats.specs.declared.event.StatEvent.{StatEvent}
@@ -12,7 +12,7 @@ use Rattle.station_stats.specs.declared.event.StatEvent.TheVariants.{ReplyDroppe
 use Rattle.station_stats.specs.declared.event.StatEvent.TheVariants.{ReplyTaken, GiveUp, OwnLocal}
 use Rattle.station_stats.specs.declared.event.StatEvent.TheVariants.{OtherLocal}
 use Rattle.station_stats.specs.Counts.{place_of, modulus, StatNote, since_clear, is_at, how_often}
-use Rattle.station_stats.specs.Counts.{places, counts_of, StatsIs, cleared_counters, counted, noted}
+use Rattle.station_stats.specs.Counts.{places, counts_of}
 use Rattle.station_stats.specs.Counts.{running}
 use Rattle.station_stats.specs.Counts.{CountsAreFromScratch}
 use Rattle.station_stats.specs.Counts.StatNote.{Counted, Cleared}

@@ -109,6 +109,9 @@ F 2.0.4 B 20a
 F 2.0.4 B -
 F 2.0.4 C 200a
 F 2.0.4 G
+X
+K
+N 2.4.1 01
 Q 2.1.1 5 03";
 
 /// Lines of a host, each right.

@@ -1,19 +1,17 @@
 -- What a node's own list has asked, and what its paths wait for.
 use Rattle.std.proofs.Common.{◌≡◌, ◌≢◌, ℕ, ◌<◌, ◌==◌, ◌&&◌, Bool, true, false, cond, List, [], ◌∷◌}
-use Rattle.std.proofs.Common.{◌++◌, filter_map, get_or, set, length, Option, Some, None, refl, sym}
-use Rattle.std.proofs.Common.{ap, ◌∙◌, subst, inl, inr, ◌⊎◌, ⊎_elim, arith, append-nil}
-use Rattle.std.proofs.Common.{append_assoc, get_or-set_same, get_or-set_other}
-use Rattle.std.specs.List.{cons_option, AllByRecursion as Each}
-use Rattle.std.proofs.lemmas.Bool.{eqb-true, eq-eqb, ne_eqb, cases_eq, cases_Bool, cond-true}
+use Rattle.std.proofs.Common.{◌++◌, Option, Some, None, refl, sym}
+use Rattle.std.proofs.Common.{ap, ◌∙◌, subst, ◌⊎◌, ⊎_elim}
+use Rattle.std.specs.List.{cons_option}
+use Rattle.std.proofs.lemmas.Bool.{eq-eqb, ne_eqb, cases_eq, cond-true}
 use Rattle.std.proofs.lemmas.Bool.{cond-false}
 use Rattle.ring_core.specs.Words.{is_same_call}
 use Rattle.tied_lists.specs.Words.{CallId, FrameKind, Request, Reply, Frame, RingEntry, Post, Send}
 use Rattle.tied_lists.specs.Words.{Take, Local, GiveUp, Pass, Leave}
-use Rattle.tied_lists.specs.Items.{Asked, asked_in, asked_of, asked_by, or_some, last_asked, Called}
-use Rattle.tied_lists.specs.Items.{Ended, Kind, Outcome, kind_in, kind_of_sort, CallSort}
+use Rattle.tied_lists.specs.Items.{asked_in, asked_of, asked_by, or_some, last_asked, Called}
+use Rattle.tied_lists.specs.Items.{Ended, Kind, kind_in, kind_of_sort}
 use Rattle.tied_lists.specs.Calls.{NoEnd}
-use Rattle.tied_lists.specs.Waits.{waits_posted, waits_taken, waits_next, waits_after, waiting}
-use Rattle.tied_lists.specs.Waits.{number_posted, number_next, number_after, last_number}
+use Rattle.tied_lists.specs.Waits.{waits_posted, waits_taken, waits_after, waiting}
 
 -- two names
 pub same-refl : (a : CallId) → is_same_call a a ≡ true

@@ -1,43 +1,41 @@
 -- Each legal history keeps what a node's paths and boxes follow.
 use Rattle.std.proofs.Common.{◌≡◌, ◌≢◌, ℕ, zero, suc, ◌+◌, ◌<◌, ◌≤◌, ◌==◌, ◌&&◌, nat_le, Bool, true}
-use Rattle.std.proofs.Common.{false, cond, not, List, [], ◌∷◌, ◌++◌, get_or, set, map, drop, length}
-use Rattle.std.proofs.Common.{filter, replicate, count_by, All, Option, Some, None, refl, sym, ap}
+use Rattle.std.proofs.Common.{false, cond, List, [], ◌∷◌, ◌++◌, get_or, set, map, drop, length}
+use Rattle.std.proofs.Common.{replicate, All, Option, Some, None, refl, sym, ap}
 use Rattle.std.proofs.Common.{◌∙◌, subst, inl, inr, ◌⊎◌, ⊎_elim, arith, get_or-set_same}
 use Rattle.std.proofs.Common.{get_or-set_other, append-nil, append_assoc}
 use Rattle.std.specs.List.{AllByRecursion as Each}
 use Rattle.std.proofs.lemmas.Bool.{eqb-true, eq-eqb, ne_eqb, cases_eq, cases_Bool, cond_both}
-use Rattle.std.proofs.lemmas.Bool.{cond-true, cond-false, leb-false, leb-true}
+use Rattle.std.proofs.lemmas.Bool.{leb-false, leb-true}
 use Rattle.std.proofs.lemmas.List.{length-set, length-replicate}
 use Rattle.std.proofs.lemmas.List.Elements.{filter-append, All-contains}
 use Rattle.ring_core.specs.declared.refusal.RingNo.{RingNo}
 use Rattle.ring_core.specs.declared.refusal.RingNo.TheVariants.{NotMember, NotHolder, NotAwaited}
-use Rattle.ring_core.specs.declared.refusal.RingNo.TheVariants.{PathTaken, Untaken}
 use Rattle.ring_core.specs.declared.path.Await.{Await}
 use Rattle.ring_core.specs.declared.path.Await.TheVariants.{Nothing, Out, Arrived, Failed}
 use Rattle.ring_core.specs.declared.path.Path.{Path}
 use Rattle.plant_types.specs.declared.net.Fate.{Fate}
-use Rattle.ring_core.specs.Words.{asks, is_request, is_same_call, asks_for, maker}
+use Rattle.ring_core.specs.Words.{asks, maker}
 use Rattle.ring_core.specs.Machine.{NodeIs, RingIs, addresses, path_places, no_path, fresh, part_of}
 use Rattle.ring_core.specs.Machine.{ring_node, path_of, asked, awaiting, posted, paths_after_take}
 use Rattle.ring_core.specs.Machine.{took, gave_up, aged, after_pass, gone, is_repeat, is_full}
 use Rattle.ring_core.specs.Machine.{waits_for, fell, with_frame, arrives, arrival, arrived}
 use Rattle.ring_core.specs.Machine.{heard_of, fate_at, heard_by, failed, silence_word, busy_word}
-use Rattle.ring_core.specs.Machine.{sent_off, sent_head, sent_one, after, after_all, opening}
-use Rattle.ring_core.specs.Machine.{opening_nodes, with_members, ring_after, awaited_number}
-use Rattle.ring_core.specs.Machine.{fate_reaches}
-use Rattle.ring_core.specs.Refusals.{or_no, turn_no, free_no, post_no, path_no, taken_no, boxes_no}
-use Rattle.ring_core.specs.Refusals.{unsent_no, untaken_no, pass_no, leave_no, give_up_no}
+use Rattle.ring_core.specs.Machine.{sent_off, sent_head, sent_one, after, opening}
+use Rattle.ring_core.specs.Machine.{with_members, ring_after, awaited_number}
+use Rattle.ring_core.specs.Refusals.{or_no, turn_no, free_no, post_no, path_no, taken_no}
+use Rattle.ring_core.specs.Refusals.{unsent_no, untaken_no, pass_no, give_up_no}
 use Rattle.ring_core.specs.Refusals.{awaited_no, other_no, answer_after}
-use Rattle.ring_core.specs.Legal.{IsMember, IsPath, IsFrom, IsNextNumber, IsFirst, IsLawful}
-use Rattle.ring_core.specs.Legal.{IsTimelyEntry, IsRingStep, IsRun, IsLegalRing}
+use Rattle.ring_core.specs.Legal.{IsMember, IsFrom, IsNextNumber, IsFirst}
+use Rattle.ring_core.specs.Legal.{IsTimelyEntry, IsRingStep, IsRun}
 use Rattle.ring_core.proofs.Runs.{after_all-push}
 use Rattle.tied_lists.specs.Words.{CallId, FrameKind, Request, Reply, Frame, NetPlan, Heard, Acked}
 use Rattle.tied_lists.specs.Words.{Silent, Busy, LeaveCause, RingEntry, Post, Send, Take, Local}
 use Rattle.tied_lists.specs.Words.{GiveUp, Pass, Leave}
 use Rattle.tied_lists.specs.Own.{is_of, own}
-use Rattle.tied_lists.specs.Waits.{waiting, last_number, IsAsk, AwaitsThis, IsOnRing}
-use Rattle.tied_lists.proofs.Boxes.{each-push, each-drop, each-map, each-filter, asks_on}
-use Rattle.tied_lists.proofs.Boxes.{replies_on, HasCome, CameOn, come-apart, has_arrived, waits-out}
+use Rattle.tied_lists.specs.Waits.{AwaitsThis, IsOnRing}
+use Rattle.tied_lists.proofs.Boxes.{each-push, each-drop, each-map, each-filter}
+use Rattle.tied_lists.proofs.Boxes.{HasCome, CameOn, come-apart, has_arrived}
 use Rattle.tied_lists.proofs.Paths.{Follows, quiet-own, post-request, post-reply, take-request}
 use Rattle.tied_lists.proofs.Paths.{take-reply, give-up, fail-request, drop-first, come-request}
 use Rattle.tied_lists.proofs.Paths.{come-reply, pass-on, empty-box}

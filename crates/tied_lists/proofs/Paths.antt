@@ -1,31 +1,31 @@
 -- What the paths and boxes of a node follow: its own list.
-use Rattle.std.proofs.Common.{◌≡◌, ◌≢◌, ℕ, zero, suc, ◌+◌, ◌<◌, ◌≤◌, ◌==◌, ◌&&◌, nat_le, Bool, true}
+use Rattle.std.proofs.Common.{◌≡◌, ◌≢◌, ℕ, zero, suc, ◌+◌, ◌<◌, ◌≤◌, ◌==◌, ◌&&◌, Bool, true}
 use Rattle.std.proofs.Common.{false, cond, not, List, [], ◌∷◌, ◌++◌, get_or, set, map, drop, length}
-use Rattle.std.proofs.Common.{filter, count_by, Option, Some, None, refl, sym, ap, ◌∙◌, subst, inl}
-use Rattle.std.proofs.Common.{inr, ◌⊎◌, ⊎_elim, arith, get_or-set_same, get_or-set_other}
+use Rattle.std.proofs.Common.{count_by, Option, Some, None, refl, sym, ap, ◌∙◌, subst}
+use Rattle.std.proofs.Common.{◌⊎◌, ⊎_elim, arith, get_or-set_same, get_or-set_other}
 use Rattle.std.specs.List.{AllByRecursion as Each}
-use Rattle.std.proofs.lemmas.Bool.{eqb-true, eq-eqb, ne_eqb, cases_eq, cases_Bool, cond_both}
+use Rattle.std.proofs.lemmas.Bool.{eqb-true, eq-eqb, ne_eqb, cases_eq}
 use Rattle.std.proofs.lemmas.Bool.{cond-true, cond-false}
 use Rattle.std.proofs.lemmas.List.{length-set}
 use Rattle.ring_core.specs.declared.path.Await.{Await}
 use Rattle.ring_core.specs.declared.path.Await.TheVariants.{Nothing, Out, Arrived, Failed}
 use Rattle.ring_core.specs.declared.path.Path.{Path}
-use Rattle.ring_core.specs.Words.{asks, is_request, is_same_call, asks_for}
+use Rattle.ring_core.specs.Words.{asks, is_same_call, asks_for}
 use Rattle.ring_core.specs.Machine.{NodeIs, no_path, path_of, path_places, waits_for, awaiting}
-use Rattle.ring_core.specs.Machine.{asked, paths_after_take, failed, aged, aged_await, gave_up}
+use Rattle.ring_core.specs.Machine.{aged, aged_await, gave_up}
 use Rattle.ring_core.specs.Machine.{awaited_number}
 use Rattle.ring_core.specs.Legal.{IsPath}
-use Rattle.tied_lists.specs.Words.{CallId, FrameKind, Request, Reply, Frame, RingEntry, Post, Send}
-use Rattle.tied_lists.specs.Words.{Take, Local, GiveUp, Pass, Leave}
+use Rattle.tied_lists.specs.Words.{CallId, FrameKind, Request, Reply, Frame, RingEntry, Post}
+use Rattle.tied_lists.specs.Words.{Take, GiveUp, Pass}
 use Rattle.tied_lists.specs.Waits.{waits_next, waits_after, waiting, waits_posted, waits_taken}
 use Rattle.tied_lists.specs.Waits.{number_next, number_after, last_number, number_posted, IsAsk}
 use Rattle.tied_lists.specs.Waits.{AwaitsThis}
-use Rattle.tied_lists.proofs.Boxes.{each-push, each-drop, each-map, each-filter, one-if, none-if}
+use Rattle.tied_lists.proofs.Boxes.{each-push, each-drop, each-filter, one-if, none-if}
 use Rattle.tied_lists.proofs.Boxes.{at-most-one, count-cons, count-push, count-drop, count-filter}
 use Rattle.tied_lists.proofs.Boxes.{asks_on, replies_on, OutOn, CameOn, IsSent, HasCome, is_out}
 use Rattle.tied_lists.proofs.Boxes.{has_arrived, waits-out, out-not-arrived, arrived-not-out}
 use Rattle.tied_lists.proofs.Boxes.{sent-apart, come-apart, sent-rest, come-rest, none-out, none-in}
-use Rattle.tied_lists.proofs.Boxes.{out-apart, came-apart}
+use Rattle.tied_lists.proofs.Boxes.{out-apart}
 
 -- one more own entry
 waits-push : (p : ℕ) (now : Option Frame) (b : List RingEntry) (e : RingEntry)

@@ -1,20 +1,20 @@
 -- The laws of a station and its node, as both lists go on.
-use Rattle.std.proofs.Common.{◌≡◌, ◌≢◌, ℕ, ◌==◌, Bool, true, false, cond, List, [], ◌∷◌, ◌++◌, map}
-use Rattle.std.proofs.Common.{filter_map, Option, Some, None, refl, sym, ap, ◌∙◌, subst}
+use Rattle.std.proofs.Common.{◌≡◌, ◌≢◌, ℕ, ◌==◌, true, false, cond, List, [], ◌∷◌, ◌++◌, map}
+use Rattle.std.proofs.Common.{filter_map, Option, Some, None, refl, sym, ap, ◌∙◌}
 use Rattle.std.proofs.Common.{append_assoc, append-nil, eq-eqb, ne_eqb}
 use Rattle.std.specs.List.{cons_option}
 use Rattle.std.proofs.lemmas.Bool.{cond-true, cond-false}
 use Rattle.std.proofs.lemmas.List.Elements.{filter_map-append}
 use Rattle.ring_core.specs.Statistics.{is_stats}
-use Rattle.tied_lists.specs.Words.{CallId, FrameKind, Request, Reply, Frame, MstrResult, Good, Bad}
-use Rattle.tied_lists.specs.Words.{LocalOp, Heard, LeaveCause, RingEntry, Post, Send, Take, Local}
-use Rattle.tied_lists.specs.Words.{GiveUp, Pass, Leave}
-use Rattle.tied_lists.specs.Items.{Asked, Called, CallSort, OverNet, AtHome, Answered, Kind}
-use Rattle.tied_lists.specs.Items.{NetCall, LocalCall, Outcome, Came, Ended, Station, Items}
+use Rattle.tied_lists.specs.Words.{CallId, Request, Reply, Frame, MstrResult}
+use Rattle.tied_lists.specs.Words.{LocalOp, RingEntry, Post, Take, Local}
+use Rattle.tied_lists.specs.Words.{GiveUp}
+use Rattle.tied_lists.specs.Items.{Asked, Called, Answered, Kind}
+use Rattle.tied_lists.specs.Items.{NetCall, LocalCall, Outcome, Came, Station, Items}
 use Rattle.tied_lists.specs.Items.{net_ask, kind_in, asked_in, asked_of, asked_by, last_asked}
 use Rattle.tied_lists.specs.Items.{Taken, Plain, ForStats, taken_in, taken_of, taken_by, Item}
 use Rattle.tied_lists.specs.Items.{item_of, plain_items, stats_items, request_of, reply_of}
-use Rattle.tied_lists.specs.Items.{answered_for, answered_of, port_answers, replied_in, replied_of}
+use Rattle.tied_lists.specs.Items.{answered_of, port_answers, replied_in, replied_of}
 use Rattle.tied_lists.specs.Items.{replied_by, replies_in, due_replies, outcome_of_reply}
 use Rattle.tied_lists.specs.Items.{outcome_of_word, ended_in, ended_at_home, ended_of, ended_by}
 use Rattle.tied_lists.specs.Items.{with_calls, with_answer, with_end}

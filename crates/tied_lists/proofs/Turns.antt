@@ -1,35 +1,31 @@
 -- What a node's own call finds and leaves.
-use Rattle.std.proofs.Common.{◌≡◌, ◌≢◌, ℕ, ◌+◌, ◌*◌, ◌-◌, ◌<◌, ◌≤◌, ◌==◌, ◌&&◌, nat_le, Bool, true}
-use Rattle.std.proofs.Common.{false, cond, not, List, [], ◌∷◌, ◌++◌, get_or, set, drop, length}
-use Rattle.std.proofs.Common.{filter, filter_map, All, Option, Some, None, refl, sym, ap, ◌∙◌}
+use Rattle.std.proofs.Common.{◌≡◌, ◌≢◌, ℕ, ◌+◌, ◌*◌, ◌-◌, ◌<◌, ◌≤◌, ◌==◌, ◌&&◌, Bool, true}
+use Rattle.std.proofs.Common.{false, cond, List, [], ◌∷◌, ◌++◌, set}
+use Rattle.std.proofs.Common.{Option, Some, None, refl, sym, ap, ◌∙◌}
 use Rattle.std.proofs.Common.{subst, inl, inr, ◌⊎◌, ⊎_elim, arith, append-nil, append_assoc}
 use Rattle.std.proofs.Common.{get_or-set_same}
-use Rattle.std.specs.List.{cons_option, AllByRecursion as Each}
-use Rattle.std.proofs.lemmas.Bool.{eqb-true, eq-eqb, ne_eqb, cases_eq, cases_Bool, cond_both}
-use Rattle.std.proofs.lemmas.Bool.{cond-true, cond-false, leb-false, leb-true}
+use Rattle.std.specs.List.{AllByRecursion as Each}
+use Rattle.std.proofs.lemmas.Bool.{eq-eqb}
 use Rattle.std.proofs.lemmas.List.Elements.{filter-append, All-contains}
 use Rattle.ring_core.specs.declared.path.Await.{Await}
 use Rattle.ring_core.specs.declared.path.Await.TheVariants.{Nothing, Out, Arrived, Failed}
-use Rattle.ring_core.specs.declared.path.Path.{Path}
-use Rattle.ring_core.specs.declared.refusal.RingNo.{RingNo}
 use Rattle.ring_core.specs.Words.{maker, asks}
-use Rattle.ring_core.specs.Machine.{NodeIs, RingIs, addresses, path_places, no_path, fresh, part_of}
-use Rattle.ring_core.specs.Machine.{ring_node, path_of, posted, took, gave_up, gone, after, opening}
-use Rattle.ring_core.specs.Machine.{ring_after, heard_by, awaited_number, sent_head, after_pass}
-use Rattle.ring_core.specs.Legal.{IsFirst, IsPath, IsFrom, IsLawful, IsTimelyEntry, IsRingStep}
+use Rattle.ring_core.specs.Machine.{NodeIs, RingIs, addresses, fresh, part_of}
+use Rattle.ring_core.specs.Machine.{ring_node, posted, took, gave_up, gone, after, opening}
+use Rattle.ring_core.specs.Machine.{ring_after, after_pass}
+use Rattle.ring_core.specs.Legal.{IsFirst, IsRingStep}
 use Rattle.ring_core.specs.Legal.{IsRun, IsLegalRing}
 use Rattle.ring_core.specs.Stability.{IsLeave, NoLeave, NoneBy, Stays}
 use Rattle.ring_core.proofs.Runs.{after_all-push}
 use Rattle.ring_core.proofs.Stability.{holders-keep, leave-made, membership-stays, outsiders-keep}
-use Rattle.tied_lists.specs.Words.{CallId, FrameKind, Request, Reply, Frame, NetPlan, Heard}
-use Rattle.tied_lists.specs.Words.{LocalOp, MstrResult, LeaveCause, RingEntry, Post, Send, Take}
+use Rattle.tied_lists.specs.Words.{CallId, FrameKind, Request, Reply, Frame, NetPlan}
+use Rattle.tied_lists.specs.Words.{LocalOp, MstrResult, LeaveCause, RingEntry, Post, Take}
 use Rattle.tied_lists.specs.Words.{Local, GiveUp, Pass, Leave}
-use Rattle.tied_lists.specs.Own.{is_of, own, WentOn, Grew}
-use Rattle.tied_lists.specs.Waits.{waiting, waits_after, waits_next, last_number, IsAsk, AwaitsThis}
+use Rattle.tied_lists.specs.Own.{is_of, own, WentOn}
+use Rattle.tied_lists.specs.Waits.{waiting, IsAsk, AwaitsThis}
 use Rattle.tied_lists.specs.Waits.{IsOnRing, Holds, HasLeft, IsFree}
 use Rattle.tied_lists.proofs.Boxes.{CameOn, HasCome}
-use Rattle.tied_lists.proofs.Paths.{Follows}
-use Rattle.tied_lists.proofs.Histories.{RingFollows, legal-follows, own-mine, IsOwn}
+use Rattle.tied_lists.proofs.Histories.{legal-follows, own-mine}
 
 abbrev pub part : NetPlan → List RingEntry → ℕ → NodeIs
 part net history n = ring_node (ring_after net history) n

@@ -1,5 +1,5 @@
 -- Calls that are new, and calls that are out. This project's own.
-use Rattle.std.specs.Prelude.{◌≡◌, ◌≢◌, ℕ, ◌<◌, false, List, [], ◌∷◌, ◌++◌, Option, Some, None}
+use Rattle.std.specs.Prelude.{◌≡◌, ◌≢◌, ℕ, ◌<◌, false, List, [], ◌∷◌, ◌++◌, Some, None}
 use Rattle.std.specs.List.{AllByRecursion}
 use Rattle.ring_core.specs.Legal.{IsPath, HasRoom}
 use Rattle.ring_core.specs.Words.{is_same_call}

@@ -1,14 +1,12 @@
 -- What a node's own list says of its paths. This project's own.
 use Rattle.std.specs.Prelude.{◌≡◌, ◌≢◌, ◌⊎◌, ℕ, ◌<◌, ◌==◌, true, false, if◌then◌else◌, List, []}
-use Rattle.std.specs.Prelude.{◌∷◌, Option, Some, None, Contains, All}
-use Rattle.ring_core.specs.Machine.{addresses, path_of, ring_node, ring_after, is_here}
+use Rattle.std.specs.Prelude.{◌∷◌, Option, Some, None, All}
+use Rattle.ring_core.specs.Machine.{addresses, ring_node, ring_after, is_here}
 use Rattle.ring_core.specs.Legal.{IsMember, IsPath, IsLegalRing}
-use Rattle.ring_core.specs.Words.{is_same_call}
 use Rattle.ring_core.specs.declared.path.Await.{Await}
 use Rattle.ring_core.specs.declared.path.Await.TheVariants.{Nothing, Out, Arrived, Failed}
-use Rattle.tied_lists.specs.Words.{CallId, FrameKind, Request, Reply, Frame, NetPlan, RingEntry}
+use Rattle.tied_lists.specs.Words.{FrameKind, Request, Reply, Frame, NetPlan, RingEntry}
 use Rattle.tied_lists.specs.Words.{Post, Take, GiveUp}
-use Rattle.tied_lists.specs.Own.{own}
 
 -- The Request that a path waits for: the one posted there last, until its Reply is taken or it is
 -- given up.

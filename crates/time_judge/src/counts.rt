@@ -130,7 +130,8 @@ impl StationItem for Entry {
                 ..counts
             }),
             Entry::Begin | Entry::Input(_) | Entry::Solve(_) => Ok(counts),
-            Entry::Output { .. } | Entry::End => Ok(counts),
+            Entry::Output { .. } | Entry::End | Entry::Fail | Entry::Dark => Ok(counts),
+            Entry::Off { .. } => Ok(counts),
         }
     }
 }

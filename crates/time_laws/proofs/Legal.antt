@@ -72,7 +72,10 @@ named-at laws f before after (entries.Input row) legal = tt
 named-at laws f before after (entries.Solve row) legal = tt
 named-at laws f before after (entries.Output row words) legal = tt
 named-at laws f before after entries.End legal = tt
+named-at laws f before after entries.Fail legal = tt
+named-at laws f before after entries.Dark legal = tt
 named-at laws f before after (entries.Peer id request reply) legal = tt
+named-at laws f before after (entries.Off id request) legal = tt
 named-at laws f before after (entries.Finish id result) legal = tt
 
 all-named : CallLaws → (f : Fixed) (h : List Entry) → IsLegal f h → Each (NamesOwn f.plan.node) h

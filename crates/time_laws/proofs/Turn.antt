@@ -68,8 +68,11 @@ scan-quiet s (entries.Input row) q = refl
 scan-quiet s (entries.Solve row) q = refl
 scan-quiet s (entries.Output row words) q = refl
 scan-quiet s entries.End q = refl
+scan-quiet s entries.Fail q = refl
+scan-quiet s entries.Dark q = refl
 scan-quiet s (entries.Collect calls) q = absurd (cc)
 scan-quiet s (entries.Peer id request reply) q = absurd (cc)
+scan-quiet s (entries.Off id request) q = absurd (cc)
 scan-quiet s (entries.Finish id result) q = absurd (cc)
 
 -- lists that went on by what is due

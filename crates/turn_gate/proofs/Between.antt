@@ -26,15 +26,6 @@ idle_of slots Idle out carries = (refl, carries)
 idle_of slots (Waiting t) out carries = absurd carries
 idle_of slots (Inside t) out carries = let no : Some t ≡ None = out in cc
 
--- a pass that is inside carries the emptied slot
-pub inside_of : {V : Type 0} (slots : List (ℕ × Option V)) (p : Phase) (t : ℕ) → stay_of p ≡ Some t
-    → CarriesBetween slots p
-    → (p ≡ Inside t) × (slots ≡ (0, None) ∷ [])
-inside_of slots Idle t stays carries = let no : None ≡ Some t = stays in cc
-inside_of slots (Waiting u) t stays carries = absurd carries
-inside_of slots (Inside u) t stays carries =
-    let same : Some u ≡ Some t = stays in let e : u ≡ t = cc in (ap Inside e, carries)
-
 module _ {V E : Type 0} (m : Me (Option V) (View E))
     (keeps_one : m.0.kept ≡ first_kept m.0.kept ∷ later_kept m.0.kept) where
   -- a pass keeps its own number

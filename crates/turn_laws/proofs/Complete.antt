@@ -1,19 +1,17 @@
 -- A controller whose node is gone is complete.
-use Rattle.std.proofs.Common.{◌≡◌, ◌≢◌, ◌⊎◌, ℕ, suc, ◌+◌, ◌-◌, ◌==◌, Bool, true, false, cond, List}
+use Rattle.std.proofs.Common.{◌≡◌, ◌≢◌, ◌⊎◌, ℕ, suc, ◌+◌, ◌==◌, Bool, true, false, cond, List}
 use Rattle.std.proofs.Common.{[]}
-use Rattle.std.proofs.Common.{◌∷◌, ◌++◌, length, drop, Option, Some, None, inl, inr, refl}
+use Rattle.std.proofs.Common.{◌∷◌, ◌++◌, length, drop, None, inl, inr, refl}
 use Rattle.std.proofs.Common.{sym, ap, ◌∙◌, arith, append-nil}
 use Rattle.std.specs.Prelude.{if◌then◌else◌}
 use Rattle.std.specs.List.{count_by, flat_map, range_with_len}
 use Rattle.std.proofs.Math.Seq.{drop-append_seam}
-use Rattle.std.proofs.lemmas.Bool.{ne_eqb, eqb-true}
 use Rattle.std.proofs.lemmas.List.Sums.{sum_by-append}
 use Rattle.std.proofs.lemmas.List.FromFn.{length-range_with_len}
 use Rattle.plant_types.specs.declared.plan.ControllerPlan.{ControllerPlan}
 use Rattle.scan_order.specs.declared.due.ScanStep.{ScanStep}
 use Rattle.scan_order.specs.declared.due.ScanStep.TheVariants as steps
-use Rattle.scan_order.specs.Due.{due, input_of, input_steps, output_of, output_steps, row_of}
-use Rattle.scan_order.specs.Due.{row_steps, rows_from, step_with}
+use Rattle.scan_order.specs.Due.{due, ends_scan}
 use Rattle.controller_core.specs.declared.entry.Entry.{Entry}
 use Rattle.controller_core.specs.declared.entry.Entry.TheVariants as entries
 use Rattle.controller_core.specs.declared.fixed.Fixed.{Fixed}
@@ -22,18 +20,15 @@ use Rattle.controller_core.specs.Event.{scan_steps}
 use Rattle.controller_core.specs.Replay.{replay}
 use Rattle.controller_core.specs.Scans.{all_due}
 use Rattle.tied_lists.proofs.Boxes.{count-cons}
-use Rattle.joint_history.specs.Complete.{is_end}
+use Rattle.joint_history.specs.Complete.{is_scan_end}
 use Rattle.joint_history.specs.Reading.{has_ended_at}
 use Rattle.joint_history.proofs.Collected.{CallLaws}
 use Rattle.turn_laws.specs.Laws.{ControllersComplete}
 use Rattle.turn_laws.proofs.Rests.{each-ended}
+use Rattle.turn_laws.proofs.ScanEnds.{NoEnds, due-once}
 use Rattle.turn_laws.proofs.Turns.{none-open}
 
--- ---- the Ends of all scans
-
-abbrev closes : ScanStep → Bool
-closes steps.End = true
-closes _ = false
+-- ---- the last steps of all scans
 
 count-join : {X : Type 0} (p : X → Bool) (xs ys : List X)
     → count_by p (xs ++ ys) ≡ count_by p xs + count_by p ys
@@ -53,71 +48,56 @@ one-more p x xs is_so =
     let o : cond {A = ℕ} (p x) 1 0 ≡ 1 = ap (λ b. cond {A = ℕ} b 1 0) is_so in
     omega (arith, c, o)
 
-ends-steps : (h : List Entry) → count_by is_end h ≡ count_by closes (scan_steps h)
+ends-steps : (h : List Entry) → count_by is_scan_end h ≡ count_by ends_scan (scan_steps h)
 ends-steps [] = refl
-ends-steps (entries.Begin ∷ h) = skip is_end entries.Begin h refl ∙ ends-steps h
-    ∙ sym (skip closes steps.Begin (scan_steps h) refl)
-ends-steps (entries.Input row ∷ h) = skip is_end (entries.Input row) h refl ∙ ends-steps h
-    ∙ sym (skip closes (steps.In row) (scan_steps h) refl)
-ends-steps (entries.Solve row ∷ h) = skip is_end (entries.Solve row) h refl ∙ ends-steps h
-    ∙ sym (skip closes (steps.Solve row) (scan_steps h) refl)
+ends-steps (entries.Begin ∷ h) = skip is_scan_end entries.Begin h refl ∙ ends-steps h
+    ∙ sym (skip ends_scan steps.Begin (scan_steps h) refl)
+ends-steps (entries.Input row ∷ h) = skip is_scan_end (entries.Input row) h refl ∙ ends-steps h
+    ∙ sym (skip ends_scan (steps.In row) (scan_steps h) refl)
+ends-steps (entries.Solve row ∷ h) = skip is_scan_end (entries.Solve row) h refl ∙ ends-steps h
+    ∙ sym (skip ends_scan (steps.Solve row) (scan_steps h) refl)
 ends-steps (entries.Output row words ∷ h) =
-    skip is_end (entries.Output row words) h refl ∙ ends-steps h
-    ∙ sym (skip closes (steps.Out row) (scan_steps h) refl)
-ends-steps (entries.End ∷ h) = one-more is_end entries.End h refl ∙ ap suc (ends-steps h)
-    ∙ sym (one-more closes steps.End (scan_steps h) refl)
-ends-steps (entries.Collect calls ∷ h) = skip is_end (entries.Collect calls) h refl ∙ ends-steps h
-ends-steps (entries.Peer id request reply ∷ h) = skip is_end (entries.Peer id request reply) h refl
-    ∙ ends-steps h
-ends-steps (entries.Finish id result ∷ h) = skip is_end (entries.Finish id result) h refl
-    ∙ ends-steps h
+    skip is_scan_end (entries.Output row words) h refl ∙ ends-steps h
+    ∙ sym (skip ends_scan (steps.Out row) (scan_steps h) refl)
+ends-steps (entries.End ∷ h) = one-more is_scan_end entries.End h refl ∙ ap suc (ends-steps h)
+    ∙ sym (one-more ends_scan steps.End (scan_steps h) refl)
+ends-steps (entries.Fail ∷ h) = one-more is_scan_end entries.Fail h refl ∙ ap suc (ends-steps h)
+    ∙ sym (one-more ends_scan steps.Fail (scan_steps h) refl)
+ends-steps (entries.Dark ∷ h) = one-more is_scan_end entries.Dark h refl ∙ ap suc (ends-steps h)
+    ∙ sym (one-more ends_scan steps.Dark (scan_steps h) refl)
+ends-steps (entries.Collect calls ∷ h) =
+    skip is_scan_end (entries.Collect calls) h refl ∙ ends-steps h
+ends-steps (entries.Peer id request reply ∷ h) =
+    skip is_scan_end (entries.Peer id request reply) h refl ∙ ends-steps h
+ends-steps (entries.Off id request ∷ h) =
+    skip is_scan_end (entries.Off id request) h refl ∙ ends-steps h
+ends-steps (entries.Finish id result ∷ h) =
+    skip is_scan_end (entries.Finish id result) h refl ∙ ends-steps h
 
 -- each scan has one
-none-with : (drop' : Option ℕ) (step : ScanStep) → closes step ≡ false
-    → count_by closes (step_with drop' step) ≡ 0
-none-with None step quiet_e = refl
-none-with (Some d) step quiet_e = skip closes step [] quiet_e
+none-count : (front : List ScanStep) → NoEnds front → count_by ends_scan front ≡ 0
+none-count [] none = refl
+none-count (step ∷ front) none = skip ends_scan step front none.0 ∙ none-count front none.1
 
-none-row : (plan : ControllerPlan) (row : ℕ) → count_by closes (row_steps plan row) ≡ 0
-none-row plan row =
-    let ins = none-with (input_of (row_of plan row)) (steps.In row) refl in
-    let outs = none-with (output_of (row_of plan row)) (steps.Out row) refl in
-    let solve = skip closes (steps.Solve row) (output_steps plan row) refl in
-    let all = count-join closes (input_steps plan row) (steps.Solve row ∷ output_steps plan row) in
-    omega (arith, ins, outs, solve, all)
-
-none-rows : (plan : ControllerPlan) (rows : List ℕ)
-    → count_by closes (flat_map (row_steps plan) rows) ≡ 0
-none-rows plan [] = refl
-none-rows plan (row ∷ rows) =
-    let one = none-row plan row in
-    let more = none-rows plan rows in
-    let all = count-join closes (row_steps plan row) (flat_map (row_steps plan) rows) in
-    omega (arith, one, more, all)
-
-one-from : (plan : ControllerPlan) (row : ℕ) → count_by closes (rows_from plan row) ≡ 1
-unfolding rows_from
-one-from plan row =
-    let rows = none-rows plan (range_with_len row (suc (length plan.orders) - row)) in
-    let end = one-more closes steps.End [] refl in
-    let all = count-join closes (flat_map (row_steps plan)
-    (range_with_len row (suc (length plan.orders) - row))) (steps.End ∷ []) in
-    let none : count_by closes [] ≡ 0 = refl in
-    omega (arith, rows, end, all, none)
-
-one-scan : (plan : ControllerPlan) (scan : ℕ) → count_by closes (due plan scan) ≡ 1
-one-scan plan scan = skip closes steps.Begin (rows_from plan 1) refl ∙ one-from plan 1
+one-scan : (plan : ControllerPlan) (scan : ℕ) → count_by ends_scan (due plan scan) ≡ 1
+one-scan plan scan =
+    let once = due-once plan scan in
+    let front = none-count once.front once.none in
+    let last = one-more ends_scan once.last [] once.ends in
+    let none : count_by ends_scan [] ≡ 0 = refl in
+    let all = count-join ends_scan once.front (once.last ∷ []) in
+    ap (count_by ends_scan) once.is ∙ omega (arith, front, last, none, all)
 
 each-scan : (plan : ControllerPlan) (scans : List ℕ)
-    → count_by closes (flat_map (due plan) scans) ≡ length scans
+    → count_by ends_scan (flat_map (due plan) scans) ≡ length scans
 each-scan plan [] = refl
 each-scan plan (scan ∷ scans) =
     let one = one-scan plan scan in
     let more = each-scan plan scans in
-    let all = count-join closes (due plan scan) (flat_map (due plan) scans) in
+    let all = count-join ends_scan (due plan scan) (flat_map (due plan) scans) in
     all ∙ (λ i. one i + more i) ∙ omega arith
 
-all-ends : (fixed : Fixed) → count_by closes (all_due fixed) ≡ fixed.scans
+all-ends : (fixed : Fixed) → count_by ends_scan (all_due fixed) ≡ fixed.scans
 all-ends fixed = each-scan fixed.plan (range_with_len 1 fixed.scans)
     ∙ length-range_with_len 1 fixed.scans
 
@@ -128,12 +108,12 @@ none-left [] is = refl
 none-left (step ∷ left) is = absurd (let no' : false ≡ true = is in cc)
 
 scans-ended : (fixed : Fixed) (h : List Entry) → IsLegal fixed h → has_ended_at fixed h ≡ true
-    → (count_by is_end h ≡ fixed.scans) ⊎ ((replay fixed h).stop ≢ 0)
+    → (count_by is_scan_end h ≡ fixed.scans) ⊎ ((replay fixed h).stop ≢ 0)
 scans-ended fixed h legal ended = at ((replay fixed h).stop == 0) refl ended
   where
     at : (b : Bool) → ((replay fixed h).stop == 0) ≡ b
         → is_none (if b then first_step (left_of fixed h) else None) ≡ true
-        → (count_by is_end h ≡ fixed.scans) ⊎ ((replay fixed h).stop ≢ 0)
+        → (count_by is_scan_end h ≡ fixed.scans) ⊎ ((replay fixed h).stop ≢ 0)
     at false stop is = inr
         (λ none. let is_so = Rattle.std.proofs.lemmas.Bool.eq-eqb (replay fixed h).stop 0 none in
         let both : true ≡ false = sym is_so ∙ stop in cc)
@@ -145,7 +125,7 @@ scans-ended fixed h legal ended = at ((replay fixed h).stop == 0) refl ended
         let none : rest ≡ [] = sym left ∙ none-left (left_of fixed h) is in
         let all : scan_steps h ≡ all_due fixed =
         sym (ap (λ l. scan_steps h ++ l) none ∙ append-nil (scan_steps h)) ∙ legal.due.1 in
-        inl (ends-steps h ∙ ap (count_by closes) all ∙ all-ends fixed)
+        inl (ends-steps h ∙ ap (count_by ends_scan) all ∙ all-ends fixed)
 
 pub complete : CallLaws → ControllersComplete
 complete laws fixed net n entries ring st k ended collected =

@@ -15,7 +15,7 @@ use Rattle.plant_types.specs.declared.net.HostPlan.{HostPlan}
 use Rattle.ring_core.specs.declared.frame.Frame.{Frame}
 use Rattle.host_port.specs.declared.entry.HostEntry.{HostEntry}
 use Rattle.host_port.specs.declared.entry.HostEntry.TheVariants.{Ask, Answer, Served}
-use Rattle.host_port.specs.Calls.{answered_calls, has_answer, is_unanswered, requests_in}
+use Rattle.host_port.specs.Calls.{answered_calls, has_answer, requests_in}
 use Rattle.host_port.specs.Calls.{unanswered_in}
 use Rattle.host_port.specs.Host.{host_is_done}
 use Rattle.host_port.specs.Legal.{IsHostHistory, Question, question_due, question_of, questions_in}

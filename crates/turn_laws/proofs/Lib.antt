@@ -6,6 +6,7 @@ pub mod Went
 pub mod TurnParts
 pub mod Turns
 pub mod Others
+pub mod ScanEnds
 pub mod Complete
 pub mod HostDone
 pub mod HostWent

@@ -16,7 +16,7 @@ use Rattle.controller_core.specs.declared.fixed.Fixed.{Fixed}
 use Rattle.controller_core.specs.Controller.{IsLegal, due_step, entry_for}
 use Rattle.controller_core.specs.Controller.{is_none}
 use Rattle.controller_core.specs.Event.{maker_of}
-use Rattle.controller_core.specs.Replay.{replay, start, table_of}
+use Rattle.controller_core.specs.Replay.{apply, replay, start, table_of}
 use Rattle.controller_core.proofs.Keeping.{replay_more}
 use Rattle.controller_core.proofs.NextEntry.{due_of, ended_stays, fits_last, front_legal, scan_step}
 use Rattle.tied_lists.specs.Calls.{IsOut, NoEnd}
@@ -202,8 +202,11 @@ module _ (f : Fixed) where
   not-ours (entries.Solve row) is = refl
   not-ours (entries.Output row words) is = refl
   not-ours entries.End is = refl
+  not-ours entries.Fail is = refl
+  not-ours entries.Dark is = refl
   not-ours (entries.Collect calls) is = absurd (let no' : true ≡ false = is in cc)
   not-ours (entries.Peer id request reply) is = absurd (let no' : true ≡ false = is in cc)
+  not-ours (entries.Off id request) is = absurd (let no' : true ≡ false = is in cc)
   not-ours (entries.Finish id result) is = absurd (let no' : true ≡ false = is in cc)
 
   pub ended-alone : (h more : List Entry) → has_ended_at f h ≡ true → IsLegal f (h ++ more)
@@ -234,8 +237,11 @@ module _ (laws : CallLaws) (f : Fixed) where
   few-push h (entries.Solve row) id legal few = few
   few-push h (entries.Output row words) id legal few = few
   few-push h entries.End id legal few = few
+  few-push h entries.Fail id legal few = few
+  few-push h entries.Dark id legal few = few
   few-push h (entries.Collect calls) id legal few = few
   few-push h (entries.Peer name request reply) id legal few = few
+  few-push h (entries.Off name request) id legal few = few
   few-push h (entries.Finish name result) id legal few = at (is_same_call name id) refl
     where
       e : Ended
@@ -303,6 +309,31 @@ module _ (laws : CallLaws) (f : Fixed) where
     pub calls : (items_of new).calls ≡ (items_of h).calls
     pub ends : (items_of new).ends ≡ (items_of h).ends
 
+  -- a request of another that is taken changes none of it
+  rests-taken : (h : List Entry) (e : Entry) → maker_of e ≡ makers.Communication
+      → table_of (apply f (replay f h) e) ≡ table_of (replay f h)
+      → (item_next (items_of h) e).calls ≡ (items_of h).calls
+      → (item_next (items_of h) e).ends ≡ (items_of h).ends
+      → IsDone f h → RestsOn h (h ++ e ∷ [])
+  rests-taken h e of table same-calls same-ends r =
+      let is = items-push h e in
+      let calls : (items_of (h ++ e ∷ [])).calls ≡ (items_of h).calls =
+      ap (λ (a : Items). a.calls) is ∙ same-calls in
+      let ends : (items_of (h ++ e ∷ [])).ends ≡ (items_of h).ends =
+      ap (λ (a : Items). a.ends) is ∙ same-ends in
+      record {
+        rest = record {
+          ended = ended_stays (controller_at f h) (e ∷ []) (of, tt) ∙ r.ended;
+          collected = ap (λ s. has_untaken (table_of s)) (replay_more f (start f.plan) h e)
+              ∙ ap has_untaken table ∙ r.collected;
+          finished =
+              subst (λ (l : List Called). EndsEach l (items_of (h ++ e ∷ [])).ends) (sym calls)
+              (subst (λ (l : List Ended). EndsEach (items_of h).calls l) (sym ends) r.finished);
+        };
+        calls = calls;
+        ends = ends;
+      }
+
   rests-push : (h : List Entry) (e : Entry) → IsLegal f (h ++ e ∷ []) → IsDone f h
       → RestsOn h (h ++ e ∷ [])
   rests-push h entries.Begin legal r = absurd (no-step f h entries.Begin r.ended refl legal)
@@ -313,28 +344,15 @@ module _ (laws : CallLaws) (f : Fixed) where
   rests-push h (entries.Output row words) legal r =
       absurd (no-step f h (entries.Output row words) r.ended refl legal)
   rests-push h entries.End legal r = absurd (no-step f h entries.End r.ended refl legal)
+  rests-push h entries.Fail legal r = absurd (no-step f h entries.Fail r.ended refl legal)
+  rests-push h entries.Dark legal r = absurd (no-step f h entries.Dark r.ended refl legal)
   rests-push h (entries.Collect calls) legal r =
       let fits = fits_last (controller_at f h) (entries.Collect calls) legal in
       clash fits.0 r.collected
   rests-push h (entries.Peer id request reply) legal r =
-      let e = entries.Peer id request reply in
-      let is = items-push h e in
-      let calls : (items_of (h ++ e ∷ [])).calls ≡ (items_of h).calls =
-      ap (λ (a : Items). a.calls) is in
-      let ends : (items_of (h ++ e ∷ [])).ends ≡ (items_of h).ends =
-      ap (λ (a : Items). a.ends) is in
-      record {
-        rest = record {
-          ended = ended_stays (controller_at f h) (e ∷ []) (refl, tt) ∙ r.ended;
-          collected = ap (λ s. has_untaken (table_of s)) (replay_more f (start f.plan) h e)
-              ∙ r.collected;
-          finished =
-              subst (λ (l : List Called). EndsEach l (items_of (h ++ e ∷ [])).ends) (sym calls)
-              (subst (λ (l : List Ended). EndsEach (items_of h).calls l) (sym ends) r.finished);
-        };
-        calls = calls;
-        ends = ends;
-      }
+      rests-taken h (entries.Peer id request reply) refl refl refl refl r
+  rests-push h (entries.Off id request) legal r =
+      rests-taken h (entries.Off id request) refl refl refl refl r
   rests-push h (entries.Finish id result) legal r =
       let e = entries.Finish id result in
       clash (fits_last (controller_at f h) e legal)

@@ -18,14 +18,13 @@ use Rattle.controller_core.specs.declared.entry.Entry.{Entry}
 use Rattle.controller_core.specs.declared.fixed.Fixed.{Fixed}
 use Rattle.controller_core.specs.Controller.{IsLegal}
 use Rattle.controller_core.proofs.NextEntry.{front_legal}
-use Rattle.tied_lists.specs.Calls.{IsOut}
 use Rattle.tied_lists.specs.Items.{AController, Called, CallSort, Items, Kind, LocalCall, NetCall}
 use Rattle.tied_lists.specs.Items.{OverNet, AtHome, asked_by, ended_by, kind_in, kind_of_sort}
 use Rattle.tied_lists.specs.Items.{net_ask}
 use Rattle.tied_lists.specs.Items.{replied_by, taken_by}
 use Rattle.tied_lists.specs.Own.{is_of, own}
 use Rattle.tied_lists.specs.Tied.{Tied}
-use Rattle.tied_lists.specs.Waits.{HasLeft, waiting}
+use Rattle.tied_lists.specs.Waits.{waiting}
 use Rattle.tied_lists.proofs.Growth.{grew-ours}
 use Rattle.tied_lists.proofs.Histories.{legal-follows}
 use Rattle.tied_lists.proofs.Paths.{waiting-push}

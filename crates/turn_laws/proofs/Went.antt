@@ -64,9 +64,13 @@ items-ours a (entries.Input row ∷ xs) = items-ours a xs
 items-ours a (entries.Solve row ∷ xs) = items-ours a xs
 items-ours a (entries.Output row words ∷ xs) = items-ours a xs
 items-ours a (entries.End ∷ xs) = items-ours a xs
+items-ours a (entries.Fail ∷ xs) = items-ours a xs
+items-ours a (entries.Dark ∷ xs) = items-ours a xs
 items-ours a (entries.Collect calls ∷ xs) = items-ours (item_next a (entries.Collect calls)) xs
 items-ours a (entries.Peer id request reply ∷ xs) =
     items-ours (item_next a (entries.Peer id request reply)) xs
+items-ours a (entries.Off id request ∷ xs) =
+    items-ours (item_next a (entries.Off id request)) xs
 items-ours a (entries.Finish id result ∷ xs) =
     items-ours (item_next a (entries.Finish id result)) xs
 
@@ -92,8 +96,12 @@ notes-one a (entries.Input row) quiet_e = record { calls = refl; ends = λ id no
 notes-one a (entries.Solve row) quiet_e = record { calls = refl; ends = λ id none. none }
 notes-one a (entries.Output row words) quiet_e = record { calls = refl; ends = λ id none. none }
 notes-one a entries.End quiet_e = record { calls = refl; ends = λ id none. none }
+notes-one a entries.Fail quiet_e = record { calls = refl; ends = λ id none. none }
+notes-one a entries.Dark quiet_e = record { calls = refl; ends = λ id none. none }
 notes-one a (entries.Collect calls) quiet_e = absurd (let no' : true ≡ false = quiet_e in cc)
 notes-one a (entries.Peer id request reply) quiet_e =
+    record { calls = refl; ends = λ id none. none }
+notes-one a (entries.Off id request) quiet_e =
     record { calls = refl; ends = λ id none. none }
 notes-one a (entries.Finish id result) quiet_e =
     record { calls = refl; ends = λ name none. front-none name a.ends _ none }
@@ -150,8 +158,11 @@ finish-ends id a (e ∷ xs) quiet_e some none =
         ended (entries.Solve row) is' none' = let no' : false ≡ true = is' in cc
         ended (entries.Output row words) is' none' = let no' : false ≡ true = is' in cc
         ended entries.End is' none' = let no' : false ≡ true = is' in cc
+        ended entries.Fail is' none' = let no' : false ≡ true = is' in cc
+        ended entries.Dark is' none' = let no' : false ≡ true = is' in cc
         ended (entries.Collect calls) is' none' = let no' : false ≡ true = is' in cc
         ended (entries.Peer name request reply) is' none' = let no' : false ≡ true = is' in cc
+        ended (entries.Off name request) is' none' = let no' : false ≡ true = is' in cc
         ended (entries.Finish name result) is' none' = last a.ends _ is' none'
 
 -- ---- what is due, in order

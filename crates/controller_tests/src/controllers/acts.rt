@@ -20,6 +20,10 @@ pub enum Act {
     HasLine(ScanStep, bool),
     /// Answers a request of another node with this reply.
     Ask(&'static [u8], &'static [u8]),
+    /// Gives a request of another node no reply.
+    Silent(&'static [u8]),
+    /// How often power failed, and whether there is none.
+    Power(u32, bool),
     /// Has this number at a reference.
     Has(Ref, u16),
     /// Hands on a read of two registers of node 5, and no other call.
@@ -58,8 +62,16 @@ fn asks(
     reply: &[u8],
 ) -> Result<bool, Fail> {
     let request = pdu_of(alloc, request)?;
+    match controller.peer(ASKER, &request)? {
+        Some(answer) => Ok(answer.bytes() == reply),
+        None => Ok(false),
+    }
+}
+
+fn is_silent(alloc: Global, controller: &mut Controller, request: &[u8]) -> Result<bool, Fail> {
+    let request = pdu_of(alloc, request)?;
     let answer = controller.peer(ASKER, &request)?;
-    Ok(answer.bytes() == reply)
+    Ok(answer.is_none())
 }
 
 fn steps(controller: &mut Controller, end: StepEnd) -> bool {
@@ -124,6 +136,10 @@ fn goes(alloc: Global, controller: &mut Controller, act: &Act) -> Result<bool, F
         Act::IsReserved(is) => Ok(controller.is_reserved() == *is),
         Act::HasLine(step, has) => Ok(controller.has_line(StepEnd::Did(*step)) == *has),
         Act::Ask(request, reply) => asks(alloc, controller, request, reply),
+        Act::Silent(request) => is_silent(alloc, controller, request),
+        Act::Power(failures, off) => {
+            Ok(controller.failures() == *failures && controller.is_off() == *off)
+        }
         Act::Has(at, value) => Ok(has(controller, *at, *value)),
         Act::Collect => Ok(collects(controller)?),
         Act::Finish(words) => Ok(finishes(controller, words)?),

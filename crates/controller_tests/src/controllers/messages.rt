@@ -76,6 +76,7 @@ const READER: Plan = Plan {
         ],
     ],
     rows: 1,
+    power: &[],
     watchdog: 500,
     scans: 2,
 };
@@ -109,7 +110,7 @@ const READ: Case = Case {
     ],
     events: 8,
     values: &[],
-    ended: 2,
+    gone: 2,
     stop: 0,
 };
 

@@ -33,7 +33,7 @@ const SCANS: Case = Case {
     ],
     events: 12,
     values: &[1, 1, 0, 0],
-    ended: 2,
+    gone: 2,
     stop: 0,
 };
 
@@ -57,7 +57,7 @@ const STOPPED: Case = Case {
     ],
     events: 4,
     values: &[1, 1],
-    ended: 0,
+    gone: 0,
     stop: 1,
 };
 

@@ -5,8 +5,8 @@ ghost use Rattle.plant_types.specs.Passing.{IsChecked};
 
 use controller_core::Controller;
 use plant_types::{
-    Cell, ControllerPlan, Element, List, MathOp, Network, Operand, OrderRow, Ref, RefKind, Segment,
-    checks_are_exact,
+    Cell, ControllerPlan, Element, List, MathOp, Network, Operand, OrderRow, PowerRow, Ref,
+    RefKind, Segment, checks_are_exact,
 };
 use std::alloc::{AllocError, AllocGlobal, Global};
 use std::process::Abort;
@@ -19,6 +19,7 @@ pub struct Plan {
     pub networks: &'static [&'static [Piece]],
     /// How often the segment is solved in a scan: at most 3 times.
     pub rows: usize,
+    pub power: &'static [PowerRow],
     /// From 1 on.
     pub watchdog: u32,
     /// At most 2000.
@@ -106,6 +107,7 @@ fn plan_of(alloc: Global, plan: &Plan) -> Result<ControllerPlan, AllocError>
 {
     let panel = List::from_vec(Vec::from_slice(alloc, plan.panel)?);
     let orders = List::from_vec(vec![in alloc; ROW; plan.rows]?);
+    let power = List::from_vec(Vec::from_slice(alloc, plan.power)?);
     let segments = segments_of(alloc, plan.networks)?;
     Ok(ControllerPlan {
         node: 2,
@@ -115,7 +117,7 @@ fn plan_of(alloc: Global, plan: &Plan) -> Result<ControllerPlan, AllocError>
         registers: 124,
         panel,
         orders,
-        power: List::new(alloc),
+        power,
         drops: List::new(alloc),
         segments,
     })

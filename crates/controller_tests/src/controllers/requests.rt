@@ -11,6 +11,7 @@ const SMALL: Plan = Plan {
     panel: &[],
     networks: &[],
     rows: 0,
+    power: &[],
     watchdog: 500,
     scans: 1,
 };
@@ -39,7 +40,7 @@ const REQUESTS: Case = Case {
     ],
     events: 15,
     values: &[],
-    ended: 0,
+    gone: 0,
     stop: 0,
 };
 
@@ -59,7 +60,7 @@ const EMPTY_SCAN: Case = Case {
     ],
     events: 2,
     values: &[],
-    ended: 1,
+    gone: 1,
     stop: 0,
 };
 
@@ -79,7 +80,7 @@ const SCAN_WITH_A_REQUEST: Case = Case {
     ],
     events: 3,
     values: &[],
-    ended: 1,
+    gone: 1,
     stop: 0,
 };
 
@@ -100,7 +101,7 @@ const FOLLOWED: Case = Case {
     acts: &[Act::FollowBegin],
     events: 1,
     values: &[],
-    ended: 0,
+    gone: 0,
     stop: 0,
 };
 

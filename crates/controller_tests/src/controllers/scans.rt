@@ -18,6 +18,7 @@ pub const THRICE: Plan = Plan {
     panel: &[],
     networks: &[&FOLLOWER],
     rows: 3,
+    power: &[],
     watchdog: 500,
     scans: 2,
 };
@@ -37,7 +38,7 @@ const SWITCHED: Case = Case {
     ],
     events: 4,
     values: &[],
-    ended: 0,
+    gone: 0,
     stop: 0,
 };
 
@@ -65,7 +66,7 @@ const STOPPED: Case = Case {
     ],
     events: 4,
     values: &[],
-    ended: 0,
+    gone: 0,
     stop: 1,
 };
 
@@ -90,7 +91,7 @@ const RESERVED: Case = Case {
     ],
     events: 5,
     values: &[],
-    ended: 1,
+    gone: 1,
     stop: 0,
 };
 

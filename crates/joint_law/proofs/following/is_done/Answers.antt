@@ -2,7 +2,7 @@ use Rattle.std.proofs.Common.{◌≡◌, ◌≢◌, ◌⊎◌, inl, inr, sym, ap
 use Rattle.std.proofs.lemmas.Result.{IfOk-weaker}
 use Rattle.controller_core.specs.declared.entry.Entry.{Entry}
 use Rattle.controller_core.specs.Replay.{replay}
-use Rattle.joint_history.specs.Complete.{is_end}
+use Rattle.joint_history.specs.Complete.{is_scan_end}
 use Rattle.joint_history.specs.Reading.{has_started_at}
 use Rattle.joint_law.proofs.EndCounts.{done-iff}
 use Rattle.joint_law.proofs.following.is_done.Goals.{else-stop_code-eq0-via-then-stop_code-eq0+else-count_scans-scans}
@@ -14,7 +14,7 @@ returns c =
     let fixed = c.args.controller.now.fixed in
     let entries = c.args.entries.now in
     let stop = ap (λ (h : List Entry). (replay fixed h).stop) c.requires.history in
-    let scans : (count_by is_end entries ≡ fixed.scans) ⊎ ((replay fixed entries).stop ≢ 0) =
+    let scans : (count_by is_scan_end entries ≡ fixed.scans) ⊎ ((replay fixed entries).stop ≢ 0) =
     elim c.else-stop_code-eq0.branch [
       | else-stop_code-eq0-via-then-stop_code-eq0+else-count_scans-scans w ↦ inl
           (sym w.count_scans.ensures ∙ (w.if-count_scans-scans.false ∙ sym c.requires.scans))

@@ -4,7 +4,7 @@ use Rattle.plant_types.specs.Reference.{coil_at}
 use Rattle.plant_types.specs.Store.{with_bit}
 use Rattle.relay_ops.specs.Relay.{passes_power}
 use Rattle.relay_ops.specs.declared.ContactKind.TheVariants as contacts
-use Rattle.ladder_solver.specs.Relays.{numbered_input}
+use Rattle.ladder_solver.specs.Relays.{input_ref}
 use Rattle.ladder_solver.proofs.ElementLemmas.{gives_contact, gives_coil, gives_wire}
 use Rattle.ladder_solver.proofs.RelayLemmas.{has_contact, had_contact, has_coil, named_by, coil_by}
 use Rattle.ladder_solver.proofs.elements.spot_output.Goals as goal
@@ -47,39 +47,39 @@ returns-in-ClosedCoil-clause-leaves g c =
 
 pub passes-requires-in-OpenInput-clause-now : goal.passes-requires-in-OpenInput-clause-now
 passes-requires-in-OpenInput-clause-now g c =
-    has_contact _ contacts.Open (numbered_input c.in-OpenInput.number) _ c.args.spot.now.element
-    (named_by _ _ _ c.requires.relay c.in-OpenInput.is) c.numbered_input.ensures c.requires.operands
+    has_contact _ contacts.Open (input_ref c.in-OpenInput.number) _ c.args.spot.now.element
+    (named_by _ _ _ c.requires.relay c.in-OpenInput.is) c.input_ref.ensures c.requires.operands
 
 pub passes-requires-in-OpenInput-clause-before : goal.passes-requires-in-OpenInput-clause-before
 passes-requires-in-OpenInput-clause-before g c =
-    had_contact _ contacts.Open (numbered_input c.in-OpenInput.number) _ c.args.spot.now.element
-    (named_by _ _ _ c.requires.relay c.in-OpenInput.is) c.numbered_input.ensures c.requires.past
+    had_contact _ contacts.Open (input_ref c.in-OpenInput.number) _ c.args.spot.now.element
+    (named_by _ _ _ c.requires.relay c.in-OpenInput.is) c.input_ref.ensures c.requires.past
 
 pub returns-in-OpenInput-clause-leaves : goal.returns-in-OpenInput-clause-leaves
 returns-in-OpenInput-clause-leaves g c =
-    gives_contact contacts.Open (numbered_input c.in-OpenInput.number) c.args.spot.now.element c.args.power _ _ _
+    gives_contact contacts.Open (input_ref c.in-OpenInput.number) c.args.spot.now.element c.args.power _ _ _
     (named_by _ _ _ c.requires.relay c.in-OpenInput.is)
     (c.passes-in-OpenInput.ensures ∙ ap (λ at. c.args.power && passes_power contacts.Open at
     (g.R.RefStore.contents c.args.ram.now)
-    (discretes_on (g.P.RefStore.contents c.args.past.now))) c.numbered_input.ensures)
+    (discretes_on (g.P.RefStore.contents c.args.past.now))) c.input_ref.ensures)
 
 pub passes-requires-in-ClosedInput-clause-now : goal.passes-requires-in-ClosedInput-clause-now
 passes-requires-in-ClosedInput-clause-now g c =
-    has_contact _ contacts.Closed (numbered_input c.in-ClosedInput.number) _ c.args.spot.now.element
-    (named_by _ _ _ c.requires.relay c.in-ClosedInput.is) c.numbered_input-in-ClosedInput.ensures c.requires.operands
+    has_contact _ contacts.Closed (input_ref c.in-ClosedInput.number) _ c.args.spot.now.element
+    (named_by _ _ _ c.requires.relay c.in-ClosedInput.is) c.input_ref-in-ClosedInput.ensures c.requires.operands
 
 pub passes-requires-in-ClosedInput-clause-before : goal.passes-requires-in-ClosedInput-clause-before
 passes-requires-in-ClosedInput-clause-before g c =
-    had_contact _ contacts.Closed (numbered_input c.in-ClosedInput.number) _ c.args.spot.now.element
-    (named_by _ _ _ c.requires.relay c.in-ClosedInput.is) c.numbered_input-in-ClosedInput.ensures c.requires.past
+    had_contact _ contacts.Closed (input_ref c.in-ClosedInput.number) _ c.args.spot.now.element
+    (named_by _ _ _ c.requires.relay c.in-ClosedInput.is) c.input_ref-in-ClosedInput.ensures c.requires.past
 
 pub returns-in-ClosedInput-clause-leaves : goal.returns-in-ClosedInput-clause-leaves
 returns-in-ClosedInput-clause-leaves g c =
-    gives_contact contacts.Closed (numbered_input c.in-ClosedInput.number) c.args.spot.now.element c.args.power _ _ _
+    gives_contact contacts.Closed (input_ref c.in-ClosedInput.number) c.args.spot.now.element c.args.power _ _ _
     (named_by _ _ _ c.requires.relay c.in-ClosedInput.is)
     (c.passes-in-ClosedInput.ensures ∙ ap (λ at. c.args.power && passes_power contacts.Closed at
     (g.R.RefStore.contents c.args.ram.now)
-    (discretes_on (g.P.RefStore.contents c.args.past.now))) c.numbered_input-in-ClosedInput.ensures)
+    (discretes_on (g.P.RefStore.contents c.args.past.now))) c.input_ref-in-ClosedInput.ensures)
 
 pub coil-requires : goal.coil-requires
 coil-requires g c =

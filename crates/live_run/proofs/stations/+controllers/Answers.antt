@@ -1,10 +1,8 @@
 use Rattle.std.proofs.Common.{◌≡◌, slice_index_or, length, sym, subst, ◌∙◌, eqb-true, arith}
-use Rattle.controller_core.specs.Machine.{IsRunnable}
-use Rattle.joint_history.specs.JointLaws.{fixed_of}
 use Rattle.plant_types.specs.declared.plan.ControllerPlan.{ControllerPlan}
 use Rattle.live_run.specs.declared.stations.NotedLog.{NotedLog}
 use Rattle.live_run.specs.declared.stations.Station.{Station}
-use Rattle.live_run.specs.Stations.{HasRun, IsFresh}
+use Rattle.live_run.specs.Stations.{CanRun, HasRun, IsFresh}
 use Rattle.live_run.proofs.Ran.{all-halves, halves, ran-halves, ran-none, ran-one, zip-long}
 use Rattle.live_run.proofs.Ran.{zip-only}
 use Rattle.live_run.proofs.stations.+controllers.Goals as goal
@@ -61,7 +59,7 @@ pub run_controllers-run_halves-requires-clause-runnable_first :
     goal.run_controllers-run_halves-requires-clause-runnable_first
 run_controllers-run_halves-requires-clause-runnable_first g t c κs within =
     let plant = c.args.run.now.plant.now in
-    (all-halves (λ (plan : ControllerPlan). IsRunnable (fixed_of plant c.args.run.now.scans plan))
+    (all-halves (CanRun plant c.args.run.now.scans)
     c.args.plans.now c.split_at.result.0.now c.split_at.result.1.now
     c.split_at.ensures.by_index.0 c.requires.runnable).0
 
@@ -69,7 +67,7 @@ pub run_controllers-run_halves-requires-clause-runnable_second :
     goal.run_controllers-run_halves-requires-clause-runnable_second
 run_controllers-run_halves-requires-clause-runnable_second g t c κs within =
     let plant = c.args.run.now.plant.now in
-    (all-halves (λ (plan : ControllerPlan). IsRunnable (fixed_of plant c.args.run.now.scans plan))
+    (all-halves (CanRun plant c.args.run.now.scans)
     c.args.plans.now c.split_at.result.0.now c.split_at.result.1.now
     c.split_at.ensures.by_index.0 c.requires.runnable).1
 

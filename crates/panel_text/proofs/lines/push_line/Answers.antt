@@ -1,14 +1,14 @@
 use Rattle.std.proofs.Common.{◌≡◌, ◌+◌, ◌*◌, ◌++◌, ◌∙◌, ℕ, List, ap, append-nil, arith, drop}
 use Rattle.std.proofs.Common.{length}
-use Rattle.std.proofs.Common.{map, sym, string_bytes}
+use Rattle.std.proofs.Common.{sym, string_bytes}
 use Rattle.std.proofs.lemmas.List.{length-map}
-use Rattle.controller_core.specs.NotedLines.{ended_line}
+use Rattle.controller_core.specs.NotedLines.{gone_line}
 use Rattle.panel_text.specs.declared.lines.Reading.{Reading}
-use Rattle.panel_text.proofs.LineLemmas.{line_ended, line_stopped, no_line, on_ok}
+use Rattle.panel_text.proofs.LineLemmas.{line_gone, line_stopped, no_line, on_ok}
 use Rattle.panel_text.proofs.lines.push_line.Goals as goal
 
-pub returns-then-scan-ended : goal.returns-then-scan-ended
-returns-then-scan-ended c =
+pub returns-then-scan-gone : goal.returns-then-scan-gone
+returns-then-scan-gone c =
     let plan = c.args.plan.now in
     let notes = c.args.notes.now in
     let readings = c.args.readings.now in
@@ -20,10 +20,10 @@ returns-then-scan-ended c =
     c.values_from-values.ensures
     ∙ ap (λ (all : List ℕ). drop (scan * length readings) all) c.as_slice.ensures
     ∙ ap (λ n. drop (scan * n) notes.values) width in
-    on_ok c.push_ended.result
+    on_ok c.push_gone.result
     (λ added. added ∙ ap (λ line. old ++ line)
-    (ap (ended_line plan (scan + 1)) values ∙ sym (line_ended plan notes scan (omega arith))))
-    c.push_ended.ensures
+    (ap (gone_line plan (scan + 1)) values ∙ sym (line_gone plan notes scan (omega arith))))
+    c.push_gone.ensures
 
 pub returns-then-scan-lines : goal.returns-then-scan-lines
 returns-then-scan-lines c =

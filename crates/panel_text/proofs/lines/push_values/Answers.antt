@@ -1,4 +1,4 @@
-use Rattle.std.proofs.Common.{◌++◌, arith, map, string_bytes}
+use Rattle.std.proofs.Common.{◌++◌, arith, string_bytes}
 use Rattle.controller_core.specs.NotedLines.{noted_texts}
 use Rattle.panel_text.proofs.LineLemmas.{shown, value_step}
 use Rattle.panel_text.proofs.lines.push_values.Goals as goal

@@ -24,8 +24,8 @@ hold_turn-requires-clause-standing c =
     (subst (λ (r : List RingEntry). Standing
     (record { node = 2; net = c.args.net.now; budget = true; waiting = replicate path_places None })
     ram known side r) (sym c.requires.empty)
-    (standing-new 2 c.args.net.now true ram known side c.requires.node c.requires.ring tt
-    c.requires.events))
+    (standing-new 2 c.args.net.now true ram known side c.requires.node c.requires.power
+    c.requires.ring tt c.requires.events))
 
 here-of : (net : NetPlan) (rest : List ℕ) → net.members ≡ 2 ∷ rest
     → (ring_node (ring_after net []) 2).here ≡ true

@@ -13,8 +13,7 @@ pub returns-in-Some-input-clause-next : goal.returns-in-Some-input-clause-next
 returns-in-Some-input-clause-next c =
     let is = sym c.row_of.ensures ∙ c.in-Some.is in
     let within = slice_get_within c.args.plan.now.orders (c.args.row - 1) _ is in
-    rows_from-in c.args.plan.now c.args.scan c.args.row _ (omega arith)
-    (ap input_of is ∙ c.in-Some-input.is)
+    rows_from-in c.args.plan.now c.args.row _ (omega arith) (ap input_of is ∙ c.in-Some-input.is)
 
 pub returns-in-Some-input-clause-step : goal.returns-in-Some-input-clause-step
 returns-in-Some-input-clause-step c =
@@ -26,8 +25,7 @@ pub returns-in-None-clause-next : goal.returns-in-None-clause-next
 returns-in-None-clause-next c =
     let is = sym c.row_of.ensures ∙ c.in-Some.is in
     let within = slice_get_within c.args.plan.now.orders (c.args.row - 1) _ is in
-    rows_from-solve c.args.plan.now c.args.scan c.args.row (omega arith)
-    (ap input_of is ∙ c.in-None.is)
+    rows_from-solve c.args.plan.now c.args.row (omega arith) (ap input_of is ∙ c.in-None.is)
 
 pub returns-in-None-clause-step : goal.returns-in-None-clause-step
 returns-in-None-clause-step c =

@@ -1,6 +1,6 @@
 use Rattle.std.proofs.Common.{sym, ◌∙◌, []}
 use Rattle.serial_run.proofs.ScanSteps.{scanning-begins, scanning-goes-on, scanning-lessens}
-use Rattle.serial_run.proofs.ScanSteps.{scanning-made}
+use Rattle.serial_run.proofs.ScanSteps.{scanning-between, scanning-made}
 use Rattle.serial_run.proofs.ScanSteps.{scanning-shorter}
 use Rattle.serial_run.proofs.scanning.scan.Goals as goal
 
@@ -26,6 +26,11 @@ loop-controller-smaller c =
 pub returns-clause-made : goal.returns-clause-made
 returns-clause-made c =
     scanning-made c.args.controller.now c.loop-controller.controller c.loop-controller.invariant
+    (sym c.is_reserved.ensures ∙ c.loop-controller-test.false)
+
+pub returns-clause-between : goal.returns-clause-between
+returns-clause-between c =
+    scanning-between c.args.controller.now c.loop-controller.controller c.loop-controller.invariant
     (sym c.is_reserved.ensures ∙ c.loop-controller-test.false)
 
 pub returns-clause-less : goal.returns-clause-less

@@ -32,7 +32,7 @@ invariant_of-self-2 c =
       kept = new;
       room = λ is.
           let most = c.in_ok-try_reserve.ensures.ok in
-          let fits = fits_room n.fixed.plan (n.ended + 1) i.at new.place in
+          let fits = fits_room n.fixed.plan (n.gone + 1) i.at new.place in
           let plan = ap (λ (f : Fixed). length f.plan.orders) tells.fixed in
           grind (arith, common_steps, fits, plan, most);
       noted = noted_told i.machine.fixed c.collect.new.self.fixed i.history.items

@@ -1,5 +1,6 @@
 use Rattle.std.proofs.Common.{sym, arith}
-use Rattle.controller_core.proofs.Keeping.{due_is, timely_enough}
+use Rattle.controller_core.proofs.Keeping.{timely_enough}
+use Rattle.controller_core.proofs.Stepping.{due_is}
 use Rattle.controller_core.proofs.controller.Controller.due.Goals as goal
 
 -- scans are few enough to be numbered
@@ -9,7 +10,7 @@ overflow_add-scan c =
     let runs = c.self.invariant.kept.sound.runs in
     let timely = timely_enough i.machine.fixed i.machine i.history.items i.at c.self.invariant.kept
     runs.scans runs.plan.count in
-    let few = timely.ended in
+    let few = timely.gone in
     omega arith
 
 pub returns-clause-due : goal.returns-clause-due

@@ -1,5 +1,5 @@
 use Rattle.std.proofs.Common.{◌∙◌}
-use Rattle.controller_core.proofs.Keeping.{ended_is}
+use Rattle.controller_core.proofs.Stepping.{ended_is}
 use Rattle.controller_core.proofs.controller.Controller.has_ended.Goals as goal
 
 pub returns : goal.returns

@@ -12,5 +12,5 @@ pub returns-clause-notes : goal.returns-clause-notes
 returns-clause-notes c =
     let noted = c.from_vec.ensures ∙ c.self.invariant.noted.are in
     let state = c.self.invariant.kept.state in
-    (λ i. record { values = noted i; ended = (state i).ended; stop = (state i).stop })
+    (λ i. record { values = noted i; gone = (state i).gone; stop = (state i).stop })
     ∙ ap (λ (v : ControllerIs). notes_of v.fixed v.history) c.self.view_is

@@ -10,7 +10,7 @@ pub invariant_of-self-2 : goal.invariant_of-self-2
 invariant_of-self-2 c =
     let i = c.self.inside in
     let fits = fits_room i.machine.fixed.plan
-    (i.machine.ended + 1) i.at c.self.invariant.kept.place in
+    (i.machine.gone + 1) i.at c.self.invariant.kept.place in
     record {
       kept = kept_same i.machine _ _ i.at c.try_reserve.ensures.items c.self.invariant.kept;
       room = λ is. grind (arith, common_steps, fits);

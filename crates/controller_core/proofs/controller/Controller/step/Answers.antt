@@ -9,10 +9,11 @@ use Rattle.controller_core.specs.declared.entry.Entry.{Entry}
 use Rattle.controller_core.specs.Event.{entry_of}
 use Rattle.controller_core.specs.Machine.{state_is}
 use Rattle.controller_core.specs.Replay.{ControllerState}
-use Rattle.controller_core.specs.Scans.{closes_scan, ended_after}
+use Rattle.controller_core.specs.Scans.{closes_scan, gone_after}
 use Rattle.controller_core.specs.Controller.{ControllerIs}
-use Rattle.controller_core.proofs.Keeping.{can_solve, ended_made, kept_made, not_done, room_step}
-use Rattle.controller_core.proofs.Keeping.{step_made, step_none, timely_enough, went_on_step}
+use Rattle.controller_core.proofs.Keeping.{can_solve, gone_made, kept_made, not_done, room_step}
+use Rattle.controller_core.proofs.Keeping.{timely_enough, went_on_step}
+use Rattle.controller_core.proofs.Stepping.{step_made, step_none}
 use Rattle.controller_core.proofs.NoteLemmas.{noted_step}
 use Rattle.controller_core.proofs.controller.Controller.step.Goals as goal
 
@@ -29,7 +30,7 @@ overflow_add-scan c =
     let runs = c.self.invariant.kept.sound.runs in
     let timely = timely_enough i.machine.fixed i.machine i.history.items i.at c.self.invariant.kept
     runs.scans runs.plan.count in
-    let few = timely.ended in
+    let few = timely.gone in
     omega arith
 
 pub perform-entry-requires-clause-timely : goal.perform-entry-requires-clause-timely
@@ -53,7 +54,7 @@ note_panel-requires-clause-room c =
     let kept = c.self.invariant.kept in
     let step = c.next_due-step.result in
     let goes : i.machine.stop ≡ 0 = search rules in
-    let lt = not_done i.machine.fixed.scans i.at i.machine.ended kept.within
+    let lt = not_done i.machine.fixed.scans i.at i.machine.gone kept.within
     (sym c.if-is_done.ensures) in
     let got = step_made i.machine.fixed i.machine c.perform-entry.new.self i.history.items i.at
     i.reserved step
@@ -74,7 +75,7 @@ note-requires c =
     let kept = c.self.invariant.kept in
     let step = c.next_due-step.result in
     let goes : i.machine.stop ≡ 0 = search rules in
-    let lt = not_done i.machine.fixed.scans i.at i.machine.ended kept.within
+    let lt = not_done i.machine.fixed.scans i.at i.machine.gone kept.within
     (sym c.if-is_done.ensures) in
     let got = step_made i.machine.fixed i.machine c.perform-entry.new.self i.history.items i.at
     i.reserved step
@@ -109,7 +110,7 @@ returns-clause-went_on c =
     let l = c.note.new.history.items in
     let to = c.place_after-at.result in
     let goes : i.machine.stop ≡ 0 = search rules in
-    let lt = not_done i.machine.fixed.scans i.at i.machine.ended kept.within
+    let lt = not_done i.machine.fixed.scans i.at i.machine.gone kept.within
     (sym c.if-is_done.ensures) in
     let h : l ≡ i.history.items ++ entry_of i.machine.fixed (state_is i.machine) step ∷ [] =
     c.note.ensures.items
@@ -130,7 +131,7 @@ invariant_of-self c =
     let does = c.perform-entry.ensures.does in
     let n = c.perform-entry.new.self in
     let goes : i.machine.stop ≡ 0 = search rules in
-    let lt = not_done i.machine.fixed.scans i.at i.machine.ended kept.within
+    let lt = not_done i.machine.fixed.scans i.at i.machine.gone kept.within
     (sym c.if-is_done.ensures) in
     let h : c.note.new.history.items
     ≡ i.history.items ++ entry_of i.machine.fixed (state_is i.machine) step ∷ [] =
@@ -151,13 +152,13 @@ invariant_of-self c =
           (sym c.keeps_room-reserved.ensures ∙ is) next in
           let before = c.self.invariant.room two.0 in
           let less = two.1 in
-          let ended = ap (λ (t : ControllerState). t.ended) does.state
-          ∙ ended_made i.machine.fixed (state_is i.machine) step in
+          let gone = ap (λ (t : ControllerState). t.gone) does.state
+          ∙ gone_made i.machine.fixed (state_is i.machine) step in
           let to = c.place_after-at.result in
-          let plan = ap (λ (f : Fixed). length (due_after f.plan (n.ended + 1) to)) does.fixed in
-          let scan = ap (λ x. length (due_after i.machine.fixed.plan (x + 1) to)) ended in
+          let plan = ap (λ (f : Fixed). length (due_after f.plan (n.gone + 1) to)) does.fixed in
+          let scan = ap (λ x. length (due_after i.machine.fixed.plan (x + 1) to)) gone in
           let place = ap (λ (p : ScanPlace). length (due_after i.machine.fixed.plan
-          (ended_after step i.machine.ended + 1) p)) c.place_after-at.ensures in
+          (gone_after step i.machine.gone + 1) p)) c.place_after-at.ensures in
           grind (arith, common_steps, before, less, plan, scan, place);
     }
 
@@ -168,7 +169,7 @@ returns-clause-grows c =
     let step = c.next_due-step.result in
     let does = c.perform-entry.ensures.does in
     let goes : i.machine.stop ≡ 0 = search rules in
-    let lt = not_done i.machine.fixed.scans i.at i.machine.ended kept.within
+    let lt = not_done i.machine.fixed.scans i.at i.machine.gone kept.within
     (sym c.if-is_done.ensures) in
     let got = step_made i.machine.fixed i.machine c.perform-entry.new.self i.history.items i.at
     i.reserved step
@@ -199,7 +200,7 @@ returns-clause-answer c =
     let does = c.perform-entry.ensures.does in
     let kept = c.self.invariant.kept in
     let goes : i.machine.stop ≡ 0 = search rules in
-    let lt = not_done i.machine.fixed.scans i.at i.machine.ended kept.within
+    let lt = not_done i.machine.fixed.scans i.at i.machine.gone kept.within
     (sym c.if-is_done.ensures) in
     let got = step_made i.machine.fixed i.machine c.perform-entry.new.self i.history.items i.at
     i.reserved c.next_due-step.result

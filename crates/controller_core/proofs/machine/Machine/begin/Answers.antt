@@ -22,6 +22,7 @@ returns c =
         clock = let h = timely.clock in let t = sound.runs.scan_time in omega
             (arith, c.from.ensures);
         exchanges = λ i. let h = timely.exchanges i in omega arith;
-        ended = let h = timely.ended in omega arith;
+        gone = let h = timely.gone in omega arith;
+        failures = let h = timely.failures in omega arith;
       };
     }

@@ -37,6 +37,7 @@ returns c =
       timely = λ steps timely. record {
         clock = let h = timely.clock in omega arith;
         exchanges = λ i. let h = timely.exchanges i in omega arith;
-        ended = let h = timely.ended in omega arith;
+        gone = let h = timely.gone in omega arith;
+        failures = let h = timely.failures in omega arith;
       };
     }

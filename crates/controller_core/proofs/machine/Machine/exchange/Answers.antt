@@ -36,8 +36,10 @@ returns c =
         solving = solve_state (map i) (discretes_on machine.past) machine.ladder.edges machine.bank
             machine.clock machine.watch.left;
         exchanges = counts i;
-        ended = machine.ended;
+        gone = machine.gone;
         stop = machine.stop;
+        powered = machine.powered;
+        failures = machine.failures;
       };
       sound = record {
         runs = sound.runs;
@@ -55,6 +57,7 @@ returns c =
         exchanges = λ i.
             subst (λ n. get_or (set xs place (n + 1)) i 0 ≤ steps + 1) (sym count)
             (counted xs place steps timely.exchanges within i);
-        ended = let h = timely.ended in omega arith;
+        gone = let h = timely.gone in omega arith;
+        failures = let h = timely.failures in omega arith;
       };
     }

@@ -1,4 +1,4 @@
-use Rattle.std.proofs.Common.{◌≡◌, ℕ, zero, suc, List, length, get_or, replicate, refl}
+use Rattle.std.proofs.Common.{◌≡◌, ℕ, zero, suc, true, List, length, get_or, replicate, refl}
 use Rattle.std.proofs.Common.{sym, ap, subst, ◌∙◌, arith}
 use Rattle.std.proofs.lemmas.List.{length-replicate}
 use Rattle.std.specs.FinSet.{empty}
@@ -52,8 +52,10 @@ returns-clause-state c =
       solving = solve_state (made.stores.ram i) (past i) (edges i) (made.solver.bank i)
           (record { before = 0; now = 0 }) 0;
       exchanges = made.exchanges i;
-      ended = 0;
+      gone = 0;
       stop = 0;
+      powered = true;
+      failures = 0;
     }
 
 pub returns-clause-timely : goal.returns-clause-timely
@@ -63,5 +65,6 @@ returns-clause-timely c =
       clock = omega arith;
       exchanges = λ i. let e : get_or c.in_ok-parts.parts.exchanges.items i 0 ≡ 0 =
           ap (λ (l : List ℕ). get_or l i 0) items ∙ zero_at 32 i in omega arith;
-      ended = omega arith;
+      gone = omega arith;
+      failures = omega arith;
     }

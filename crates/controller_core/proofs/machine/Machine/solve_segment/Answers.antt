@@ -63,8 +63,10 @@ returns c =
       state = λ i. record {
         solving = done i;
         exchanges = machine.exchanges.items;
-        ended = machine.ended;
+        gone = machine.gone;
         stop = code i;
+        powered = machine.powered;
+        failures = machine.failures;
       };
       clock = refl;
       sound = record {

@@ -1,7 +1,9 @@
-use Rattle.std.proofs.Common.{ap, ◌∙◌, refl}
+use Rattle.std.proofs.Common.{ap, subst, sym, ◌∙◌, refl}
 use Rattle.turn_gate.specs.Known.{PassFacts}
+use Rattle.plant_types.specs.Plans.{KeepsPower}
 use Rattle.controller_core.specs.Controller.{ControllerIs}
 use Rattle.controller_core.specs.declared.entry.Entry.{Entry}
+use Rattle.controller_core.specs.declared.fixed.Fixed.{Fixed}
 use Rattle.joint_history.specs.Reading.{is_ours}
 use Rattle.live_run.specs.Cells.{controller_in, maker_number}
 use Rattle.live_run.specs.Sides.{GatedRamIs}
@@ -30,3 +32,11 @@ returns-clause-went g c =
           (ap (λ (p : PassFacts Entry). p.seen) c.leave.ensures.pass);
       kept = tt;
     }
+
+pub peer-answer-requires : goal.peer-answer-requires
+peer-answer-requires g c =
+    let found = c.get_mut-controller.ensures.value ∙ ap controller_in c.value.ensures.value in
+    subst (λ (f : Fixed). KeepsPower f.plan)
+    (sym (ap (λ (v : ControllerIs). v.fixed) found
+    ∙ (c.enter-held.ensures.fixed ∙ ap (λ (s : GatedRamIs). s.gate.fixed) c.self.view_is)))
+    c.requires

@@ -1,0 +1,13 @@
+use Rattle.std.proofs.Common.{IsTrue, None, rules}
+use Rattle.controller_core.proofs.NextEntry.{legal_went, reply_may}
+use Rattle.controller_core.proofs.controller.Controller.follow_off.Goals as goal
+
+pub returns-clause-legal : goal.returns-clause-legal
+returns-clause-legal c =
+    let told = c.in_ok-made.ensures in
+    let both = c.is_silence.ensures in
+    reply_may c.args.self.now c.args.id c.args.request.now None c.in_ok-made.made told.reply
+    (legal_went _ _ c.args.self.now c.peer.new.self told.went_on) c.is_silence.result (
+      λ yes. let is : IsTrue c.is_silence.result = search rules in both.0 is,
+      λ same. let is = both.1 same in search rules,
+    )
